@@ -16,3 +16,4 @@ pub mod ItemsNoted
 pub mod ParentDamages
 pub mod ChainDamages
 pub mod FirstDamages
+pub mod Fetched

@@ -1,6 +1,8 @@
 -- The pages of a store as a check has read them.
-use Rattle.std.specs.Prelude.{◌≡◌, ℕ, ◌≤◌, true, false, None, List, [], length, replicate, vec_capacity}
+use Rattle.std.specs.Prelude.{◌≡◌, ℕ, zero, suc, ◌≤◌, true, false, None, List, [], ◌∷◌, ◌++◌, length, replicate, filter, take, drop, vec_capacity}
+use Rattle.latch_table.specs.Holdings.{pinned_blocks}
 use Rattle.page_codec.specs.declared.page.Page.{Page}
+use Rattle.page_action.specs.Frames.{Memory, is_among, TakesFrames}
 use Rattle.page_action.specs.States.{State, Backing}
 use Rattle.page_action.specs.Stored.{AreStored}
 use Rattle.amcheck.specs.Marks.{IsMet}
@@ -23,3 +25,21 @@ pub record AreRead (st : State) (backing : Backing) (pages : List Page) : Type 0
   pub count : length pages ≡ length st.pages
   pub stored : AreStored st.limits 0 pages
   pub same : backing.honest ≡ true → pages ≡ st.pages
+
+-- the blocks below this number, in order
+abbrev pub blocks_below : ℕ → List ℕ
+blocks_below zero = []
+blocks_below (suc n) = blocks_below n ++ n ∷ []
+
+-- each page in use was brought into memory once, in the order of blocks, at what a frame costs; nothing else was written or forced
+abbrev pub AreFetched : State → Memory → Memory → Backing → Backing → Type 0
+AreFetched st m m' old new = TakesFrames st.frames (pinned_blocks st.table) (blocks_below (length st.pages)) m m' old new
+
+-- these blocks without the first so many, but for those of them that are pinned
+abbrev pub without_first : List ℕ → ℕ → List ℕ → List ℕ
+without_first pinned count blocks = filter (is_among pinned) (take count blocks) ++ drop count blocks
+
+-- of the blocks that wait some first ones don't any more, but for pinned ones; the others wait in their order
+pub record IsRestBut (pinned rest blocks : List ℕ) : Type 0 where
+  pub count : ℕ
+  pub is : rest ≡ without_first pinned count blocks

@@ -1,12 +1,15 @@
 //! The checks of a store's pages, over any search for the first bad stop of a chain.
 
 ghost use Rattle.std.specs.Prelude.{◌≡◌, true, false, Err, IfOk, IfErr, OnOk};
+ghost use Rattle.latch_table.specs.Holdings.{pinned_blocks};
 ghost use Rattle.page_action.specs.Room.{KeepsRoom};
 ghost use Rattle.page_action.specs.States.{Continues};
 ghost use Rattle.tree_acts.specs.TheoremTree.{IsTree};
 ghost use Rattle.damages.specs.Levels.{HasLevels};
 ghost use Rattle.amcheck.specs.Answers.{IsAnswer};
 ghost use Rattle.amcheck.specs.Checks.{IsCheckFault};
+ghost use Rattle.amcheck.specs.Laws.{IsAnswered};
+ghost use Rattle.amcheck.specs.Reading.{AreFetched, IsRestBut};
 ghost use Rattle.amcheck.specs.Reports.{IsReport};
 ghost use Rattle.amcheck.specs.Searching.{MaySearch, FindsFirst};
 
@@ -45,6 +48,13 @@ pub(crate) fn check_by<F: Fn(&Pages, Option<u32>, &[Stop]) -> Option<usize>, S: 
     ensures steps { Continues S.follows store.old store.new }
     ensures state { S.state store.new ≡ S.state store.old }
     ensures room { KeepsRoom (S.state store.old) (S.backing store.old) (S.backing store.new) }
+    // Nothing is forced or written but for the frames that the pages take, and the log isn't stopped where a check answers.
+    ensures frames { AreFetched (S.state store.old) (S.memory store.old) (S.memory store.new)
+        (S.backing store.old) (S.backing store.new) }
+    ensures order { IsRestBut (pinned_blocks (S.state store.old).table)
+        (S.backing store.new).changed (S.backing store.old).changed }
+    ensures alive { IsAnswered result
+        → (S.backing store.new).stopped ≡ true → (S.backing store.old).stopped ≡ true }
     ensures levels { (S.backing store.new).honest ≡ true
         → OnOk result (HasLevels (S.state store.old).pages) }
     ensures report { (S.backing store.new).honest ≡ true
@@ -89,6 +99,13 @@ pub(crate) fn check_parents_by<F: Fn(&Pages, Option<u32>, &[Stop]) -> Option<usi
     ensures steps { Continues S.follows store.old store.new }
     ensures state { S.state store.new ≡ S.state store.old }
     ensures room { KeepsRoom (S.state store.old) (S.backing store.old) (S.backing store.new) }
+    // Nothing is forced or written but for the frames that the pages take, and the log isn't stopped where a check answers.
+    ensures frames { AreFetched (S.state store.old) (S.memory store.old) (S.memory store.new)
+        (S.backing store.old) (S.backing store.new) }
+    ensures order { IsRestBut (pinned_blocks (S.state store.old).table)
+        (S.backing store.new).changed (S.backing store.old).changed }
+    ensures alive { IsAnswered result
+        → (S.backing store.new).stopped ≡ true → (S.backing store.old).stopped ≡ true }
     ensures tree { (S.backing store.new).honest ≡ true
         → OnOk result (IsTree (S.state store.old).pages) }
     ensures report { (S.backing store.new).honest ≡ true

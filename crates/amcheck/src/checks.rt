@@ -1,6 +1,7 @@
 //! The checks of a store's pages, in one thread and in many.
 
 ghost use Rattle.std.specs.Prelude.{◌≡◌, true, false, Err, IfOk, IfErr, OnOk};
+ghost use Rattle.latch_table.specs.Holdings.{pinned_blocks};
 ghost use Rattle.page_action.specs.Room.{KeepsRoom};
 ghost use Rattle.page_action.specs.States.{Continues};
 ghost use Rattle.tree_shape.specs.Nodes.{nodes_of};
@@ -8,7 +9,8 @@ ghost use Rattle.tree_acts.specs.TheoremTree.{IsTree};
 ghost use Rattle.damages.specs.Levels.{HasLevels};
 ghost use Rattle.amcheck.specs.Answers.{IsAnswer};
 ghost use Rattle.amcheck.specs.Checks.{IsCheckFault};
-ghost use Rattle.amcheck.specs.Laws.{AnswersAreOne, ParentsSeeMore};
+ghost use Rattle.amcheck.specs.Laws.{AnswersAreOne, IsAnswered, ParentsSeeMore};
+ghost use Rattle.amcheck.specs.Reading.{AreFetched, IsRestBut};
 ghost use Rattle.amcheck.specs.Reports.{IsReport};
 ghost use Rattle.amcheck.specs.Searching.{AreSearchable};
 ghost use Rattle.amcheck.specs.Stops.{IsBad, IsFirstPlace};
@@ -25,8 +27,9 @@ use page_action::PageStore;
 use std::alloc::Global;
 use std::thread::Threads;
 
-/// Judges the levels of an index and their links: a report, or the first damage. It makes its room, reads each page in use
-/// once, and changes nothing. The pages of a level are judged in as many threads as serve. Parents and children are not judged.
+/// Judges the levels of an index and their links: a report, or the first damage. It makes its room, brings each page in use into
+/// memory once, and changes none. The pages of a level are judged in as many threads as serve. Parents and children are not
+/// judged.
 ///
 /// Over a device that kept its model, a report means that each level, from the root's to the leaves, is one chain of pages,
 /// linked both ways, whose bounds and entries ascend; and its numbers are those of the pages. On pages that are a B-link tree
@@ -40,6 +43,13 @@ pub fn check<R: Threads + Sync, S: PageStore>(
     ensures steps { Continues S.follows store.old store.new }
     ensures state { S.state store.new ≡ S.state store.old }
     ensures room { KeepsRoom (S.state store.old) (S.backing store.old) (S.backing store.new) }
+    // Nothing is forced or written but for the frames that the pages take, and the log isn't stopped where a check answers.
+    ensures frames { AreFetched (S.state store.old) (S.memory store.old) (S.memory store.new)
+        (S.backing store.old) (S.backing store.new) }
+    ensures order { IsRestBut (pinned_blocks (S.state store.old).table)
+        (S.backing store.new).changed (S.backing store.old).changed }
+    ensures alive { IsAnswered result
+        → (S.backing store.new).stopped ≡ true → (S.backing store.old).stopped ≡ true }
     ensures levels { (S.backing store.new).honest ≡ true
         → OnOk result (HasLevels (S.state store.old).pages) }
     ensures report { (S.backing store.new).honest ≡ true
@@ -66,6 +76,13 @@ pub fn check_one<S: PageStore>(alloc: Global, store: &mut S) -> Result<Report, C
     ensures steps { Continues S.follows store.old store.new }
     ensures state { S.state store.new ≡ S.state store.old }
     ensures room { KeepsRoom (S.state store.old) (S.backing store.old) (S.backing store.new) }
+    // Nothing is forced or written but for the frames that the pages take, and the log isn't stopped where a check answers.
+    ensures frames { AreFetched (S.state store.old) (S.memory store.old) (S.memory store.new)
+        (S.backing store.old) (S.backing store.new) }
+    ensures order { IsRestBut (pinned_blocks (S.state store.old).table)
+        (S.backing store.new).changed (S.backing store.old).changed }
+    ensures alive { IsAnswered result
+        → (S.backing store.new).stopped ≡ true → (S.backing store.old).stopped ≡ true }
     ensures levels { (S.backing store.new).honest ≡ true
         → OnOk result (HasLevels (S.state store.old).pages) }
     ensures report { (S.backing store.new).honest ≡ true
@@ -87,7 +104,7 @@ pub fn check_one<S: PageStore>(alloc: Global, store: &mut S) -> Result<Report, C
 }
 
 /// Judges the levels of an index, their links, and its parents and children: a report, or the first damage. It makes its room,
-/// reads each page in use once, and changes nothing. The pages of a level are judged in as many threads as serve.
+/// brings each page in use into memory once, and changes none. The pages of a level are judged in as many threads as serve.
 ///
 /// Over a device that kept its model, a report means that the pages are a B-link tree, and its numbers are those of the pages;
 /// and on pages that are a B-link tree no damage is found. Refused as [`check`].
@@ -99,6 +116,13 @@ pub fn check_parents<R: Threads + Sync, S: PageStore>(
     ensures steps { Continues S.follows store.old store.new }
     ensures state { S.state store.new ≡ S.state store.old }
     ensures room { KeepsRoom (S.state store.old) (S.backing store.old) (S.backing store.new) }
+    // Nothing is forced or written but for the frames that the pages take, and the log isn't stopped where a check answers.
+    ensures frames { AreFetched (S.state store.old) (S.memory store.old) (S.memory store.new)
+        (S.backing store.old) (S.backing store.new) }
+    ensures order { IsRestBut (pinned_blocks (S.state store.old).table)
+        (S.backing store.new).changed (S.backing store.old).changed }
+    ensures alive { IsAnswered result
+        → (S.backing store.new).stopped ≡ true → (S.backing store.old).stopped ≡ true }
     ensures tree { (S.backing store.new).honest ≡ true
         → OnOk result (IsTree (S.state store.old).pages) }
     ensures report { (S.backing store.new).honest ≡ true
@@ -125,6 +149,13 @@ pub fn check_parents_one<S: PageStore>(alloc: Global, store: &mut S) -> Result<R
     ensures steps { Continues S.follows store.old store.new }
     ensures state { S.state store.new ≡ S.state store.old }
     ensures room { KeepsRoom (S.state store.old) (S.backing store.old) (S.backing store.new) }
+    // Nothing is forced or written but for the frames that the pages take, and the log isn't stopped where a check answers.
+    ensures frames { AreFetched (S.state store.old) (S.memory store.old) (S.memory store.new)
+        (S.backing store.old) (S.backing store.new) }
+    ensures order { IsRestBut (pinned_blocks (S.state store.old).table)
+        (S.backing store.new).changed (S.backing store.old).changed }
+    ensures alive { IsAnswered result
+        → (S.backing store.new).stopped ≡ true → (S.backing store.old).stopped ≡ true }
     ensures tree { (S.backing store.new).honest ≡ true
         → OnOk result (IsTree (S.state store.old).pages) }
     ensures report { (S.backing store.new).honest ≡ true

@@ -1,12 +1,12 @@
 //! All pages of a store are read, in room that was made before.
 
-ghost use Rattle.std.specs.Prelude.{◌≡◌, ◌≢◌, [], IfOk, IfErr, length};
+ghost use Rattle.std.specs.Prelude.{◌≡◌, ◌≢◌, [], true, IfOk, IfErr, OnOk, length};
 ghost use Rattle.index_model.specs.Faults.{HasCause};
 ghost use Rattle.page_action.specs.Room.{KeepsRoom};
 ghost use Rattle.page_action.specs.States.{Continues};
 ghost use Rattle.amcheck.specs.Checks.{where_checked};
 ghost use Rattle.amcheck.specs.PageRooms.{HasPageRoom};
-ghost use Rattle.amcheck.specs.Reading.{HasRoom, AreRead};
+ghost use Rattle.amcheck.specs.Reading.{HasRoom, AreRead, AreFetched};
 
 use crate::marks::Met;
 use crate::page_room::PageRoom;
@@ -73,6 +73,10 @@ pub(crate) fn read_pages<S: PageStore>(store: &mut S, room: PageRoom) -> Result<
     ensures state { S.state store.new ≡ S.state store.old }
     ensures read { IfOk result (AreRead (S.state store.old) (S.backing store.new)) }
     ensures room { KeepsRoom (S.state store.old) (S.backing store.old) (S.backing store.new) }
+    ensures frames { AreFetched (S.state store.old) (S.memory store.old) (S.memory store.new)
+        (S.backing store.old) (S.backing store.new) }
+    ensures alive { OnOk result
+        ((S.backing store.new).stopped ≡ true → (S.backing store.old).stopped ≡ true) }
     ensures memory { IfErr result (λ fault. fault ≢ Fault.NoMemory) }
     ensures cause { IfErr result (HasCause
         (where_checked (S.state store.old) (S.backing store.old) (S.backing store.new))) }

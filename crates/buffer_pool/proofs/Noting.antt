@@ -9,7 +9,7 @@ use Rattle.page_codec.specs.declared.page.Page.{Page}
 use Rattle.buffer_pool.specs.Orders.{waiting_in}
 use Rattle.buffer_pool.specs.declared.pool.Pool.{Pool}
 use Rattle.buffer_pool.specs.Frames.{blocks_in, has_block, AreApart, frame_in, act_in, AreChanged}
-use Rattle.buffer_pool.specs.Pools.{most_of, reach_of, count_of, page_at, frame_of, held_page, act_of, changed_of, HasSamePages, HasSameChanges, IsChanged, IsWritten, AreWritten}
+use Rattle.buffer_pool.specs.Pools.{most_of, reach_of, count_of, blocks_of, page_at, frame_of, held_page, act_of, changed_of, HasSamePages, HasSameChanges, IsChanged, IsWritten, AreWritten}
 use Rattle.buffer_pool.proofs.Placing.{placed_within, as_frame, frame_is}
 use Rattle.buffer_pool.proofs.Changing.{frame_cases, act_at, act_none, act_same, act_other, changed_first, changed_again, changed_act, has_block-at}
 use Rattle.buffer_pool.proofs.Lists.{slice_get-set_same, slice_get-set_other}
@@ -87,11 +87,12 @@ changed_either changed blocks acts block at act before h is less before_is some 
 
 -- pages and places as they were hold the same
 pub same_pages : (old new : Pool) → new.most ≡ old.most → new.pages.items ≡ old.pages.items → new.places.items ≡ old.places.items → HasSamePages old new
-unfolding most_of reach_of count_of page_at frame_of held_page
+unfolding most_of reach_of count_of blocks_of page_at frame_of held_page
 same_pages old new most pages places = record {
   most = most;
   reach = ap (λ (ps : List ℕ). length ps) places;
   count = ap (λ (ps : List Page). length ps) pages;
+  blocks = ap blocks_in pages;
   frames = λ at. ap (λ (ps : List Page). slice_get ps at) pages;
   places = λ block. ap (λ (ps : List Page). frame_in (blocks_in ps) block) pages;
   held = λ block. ap (λ (ps : List Page). option_and_then (slice_get ps) (frame_in (blocks_in ps) block)) pages;
@@ -103,6 +104,7 @@ pages_both a b c f s = record {
   most = s.most ∙ f.most;
   reach = s.reach ∙ f.reach;
   count = s.count ∙ f.count;
+  blocks = s.blocks ∙ f.blocks;
   frames = λ at. s.frames at ∙ f.frames at;
   places = λ block. s.places block ∙ f.places block;
   held = λ block. s.held block ∙ f.held block;

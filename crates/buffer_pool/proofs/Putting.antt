@@ -8,7 +8,7 @@ use Rattle.page_codec.specs.declared.page.Page.{Page}
 use Rattle.buffer_pool.specs.Orders.{waiting_in}
 use Rattle.buffer_pool.specs.declared.pool.Pool.{Pool}
 use Rattle.buffer_pool.specs.Frames.{blocks_in, act_in, ArePlaces, AreChanged}
-use Rattle.buffer_pool.specs.Pools.{most_of, reach_of, count_of, page_at, frame_of, held_page, act_of, changed_of, HasSameChanges, CanBeTaken, IsPut}
+use Rattle.buffer_pool.specs.Pools.{most_of, reach_of, count_of, blocks_of, page_at, frame_of, held_page, act_of, changed_of, HasSameChanges, CanBeTaken, IsPut}
 use Rattle.buffer_pool.proofs.Placing.{as_frame, act_by, act_is, frame_is, place_cases, place_of_frame, place_of_none, placed_push, placed_set, placed_within}
 use Rattle.buffer_pool.proofs.Changing.{frame_cases, act_at, act_none}
 use Rattle.buffer_pool.proofs.Lists.{block_of_page, slice_get-set_same, slice_get-set_other, slice_get-push_same, slice_get-push_other}
@@ -80,9 +80,11 @@ pub put_from : (old new : Pool) (at : ℕ) (page : Page)
     → ((block : ℕ) → get_or old.places.items block 0 ≡ suc at → get_or new.places.items block 0 ≡ 0)
     → ((block : ℕ) → block ≢ page.block → get_or old.places.items block 0 ≢ suc at → get_or new.places.items block 0 ≡ get_or old.places.items block 0)
     → frame_of old page.block ≡ None → ((block : ℕ) → 0 < act_of old block → frame_of old block ≢ Some at)
+    → (at < length old.pages.items → blocks_in new.pages.items ≡ set (blocks_in old.pages.items) at page.block)
+    → (at ≡ length old.pages.items → blocks_in new.pages.items ≡ blocks_in old.pages.items ++ page.block ∷ [])
     → HasSameChanges old new → IsPut old new at page
-unfolding most_of reach_of count_of page_at
-put_from old new at page most reach count there pages came left stayed absent taken changes =
+unfolding most_of reach_of count_of blocks_of page_at
+put_from old new at page most reach count there pages came left stayed absent taken over behind changes =
     let elsewhere = λ (block : ℕ) (other : block ≢ page.block) (not : frame_of old block ≢ Some at).
     same_frame old new block (stayed block other (λ is. not (frame_from old block at is))) in
     let others = λ (block : ℕ) (other : block ≢ page.block) (not : frame_of old block ≢ Some at).
@@ -92,6 +94,8 @@ put_from old new at page most reach count there pages came left stayed absent ta
       most = most;
       reach = reach;
       count = count;
+      over = over;
+      behind = behind;
       frame = frame_from new page.block at came;
       there = there;
       held = held_at new page.block at (frame_from new page.block at came) ∙ there;
@@ -253,6 +257,8 @@ module _ (pool : Pool) (at : ℕ) (was page : Page) (next : ℕ) (less : at < le
       (λ block there. place block ∙ given_left pool.places.items blocks at page.block next pool.placed in_blocks (no_place_from pool page.block absent) within next_is block there)
       (λ block other not. place block ∙ given_stays pool.places.items blocks at page.block next pool.placed in_blocks (no_place_from pool page.block absent) within next_is block other not)
       absent taken.clean
+      (λ within. ap blocks_in pages ∙ blocks_is)
+      (λ same. absurd (omega (arith, same, less)))
       (same_changes pool new changed (λ block. ap (λ (ps : List Page). act_in (blocks_in ps) new.acts.items block) pages
       ∙ (ap (λ (xs : List ℕ). act_in (blocks_in (set pool.pages.items at page)) xs block) acts ∙ replaced_acts block)))
 
@@ -300,5 +306,7 @@ module _ (pool : Pool) (page : Page) (next : ℕ) (next_is : next ≡ suc (lengt
       (λ block there. absurd (omega (arith, many_held, pool.placed.within block end there)))
       (λ block other not. place block ∙ get_or-set_other pool.places.items page.block block next 0 other)
       absent (λ block some there. omega (arith, many_held, pool.placed.within block end (place_from pool block end there)))
+      (λ beyond. absurd (omega (arith, beyond)))
+      (λ same. ap blocks_in pages ∙ held_is)
       (same_changes pool new changed (λ block. ap (λ (ps : List Page). act_in (blocks_in ps) new.acts.items block) pages
       ∙ (ap (λ (xs : List ℕ). act_in (blocks_in (pool.pages.items ++ page ∷ [])) xs block) acts ∙ pushed_acts block)))

@@ -2,7 +2,7 @@
 use Rattle.std.proofs.Common.{◌≡◌, ℕ, zero, suc, ◌<◌, ◌≤◌, Bool, true, false, not, cond, eqb, ltb, Option, Some, None, List, [], ◌∷◌, length, get_or, slice_get, refl, sym, ap, inl, inr, ◌∙◌, arith}
 use Rattle.std.specs.Option.{IsSome, IfSome, IfNone, is_some}
 use Rattle.std.specs.List.{All, position, position_or_len}
-use Rattle.std.proofs.lemmas.Bool.{cases_lt, cases_Bool, lt-ltb, ltb-false, not-false, not-true}
+use Rattle.std.proofs.lemmas.Bool.{cases_lt, cases_Bool, lt-ltb, ltb-false, not-false, not-true, false_from_ne_true}
 use Rattle.std.proofs.lemmas.List.{length-map, get_or_default}
 use Rattle.std.proofs.lemmas.List.Elements.{All-from_get_or}
 use Rattle.std.proofs.lemmas.List.Folds.{Any-from_list_any}
@@ -79,6 +79,34 @@ blocks_apart pool = λ i j d less within same.
     let zero_j = get_or_default blocks j d 0 within in
     omega (arith, less, pool.placed.told i (omega (arith, less, within)), pool.placed.told j within, ap (λ (b : ℕ). get_or pool.places.items b 0) (sym zero_i ∙ (same ∙ zero_j)))
 
+-- the block of a frame in use has that frame
+frame_of_block : (pool : Pool) (at : ℕ) → at < length pool.pages.items → frame_of pool (get_or (blocks_in pool.pages.items) at 0) ≡ Some at
+frame_of_block pool at less = frame_from pool (get_or (blocks_in pool.pages.items) at 0) at (pool.placed.told at (omega (arith, less, many_blocks pool)))
+
+-- what is in a frame has one
+among_framed : (pool : Pool) (block : ℕ) → has_block (blocks_in pool.pages.items) block ≡ true → (at : ℕ) × (frame_of pool block ≡ Some at)
+among_framed pool block among =
+    let there = Any-from_list_any (λ b. eqb b block) (blocks_in pool.pages.items) among in
+    let is : get_or (blocks_in pool.pages.items) there.0 0 ≡ block =
+    get_or_default (blocks_in pool.pages.items) there.0 0 there.1 there.2 ∙ (there.3 ∙ eqb-true there.1 block there.4) in
+    (there.0, ap (frame_of pool) (sym is) ∙ frame_of_block pool there.0 (omega (arith, there.2, many_blocks pool)))
+
+framed_there : (pool : Pool) (block : ℕ) → has_block (blocks_of pool) block ≡ is_some (frame_of pool block)
+unfolding blocks_of
+framed_there pool block =
+    let blocks = blocks_in pool.pages.items in
+    elim (frame_cases (frame_of pool block)) [
+      | inl e ↦
+          false_from_ne_true (has_block blocks block) (λ among.
+          let there = among_framed pool block among in
+          let both : None ≡ Some there.0 = sym e ∙ there.1 in absurd cc)
+          ∙ sym (ap {B = Bool} (λ (o : Option ℕ). is_some o) e)
+      | inr p ↦
+          ap (has_block blocks) (sym (block_there pool block p.0 p.1))
+          ∙ has_block-at blocks p.0 0 (omega (arith, many_blocks pool, frame_within pool block p.0 p.1))
+          ∙ sym (ap {B = Bool} (λ (o : Option ℕ). is_some o) p.1)
+    ]
+
 pub pool_is : (pool : Pool) → IsPool pool
 unfolding most_of count_of blocks_of act_of changed_of
 pool_is pool = record {
@@ -92,14 +120,12 @@ pool_is pool = record {
   same = held_same pool;
   within = held_within pool;
   among = held_among pool;
+  frames = frame_of_block pool;
+  there = framed_there pool;
   changed = pool.ordered.told;
   kept = changed_kept pool;
   once = pool.ordered.apart;
 }
-
--- the block of a frame in use has that frame
-frame_of_block : (pool : Pool) (at : ℕ) → at < length pool.pages.items → frame_of pool (get_or (blocks_in pool.pages.items) at 0) ≡ Some at
-frame_of_block pool at less = frame_from pool (get_or (blocks_in pool.pages.items) at 0) at (pool.placed.told at (omega (arith, less, many_blocks pool)))
 
 -- what is true of the block of each frame in use
 pub all_blocks : (pool : Pool) (P : ℕ → Type 0) → ((at : ℕ) → at < length pool.pages.items → P (get_or (blocks_in pool.pages.items) at 0)) → All P (blocks_of pool)

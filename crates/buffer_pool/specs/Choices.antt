@@ -11,6 +11,11 @@ pub record IsFree (pool : Pool) (pinned : List ℕ) (at : ℕ) : Type 0 where
   pub taken : CanBeTaken pool at
   pub unpinned : (block : ℕ) → has_block pinned block ≡ true → frame_of pool block ≢ Some at
 
+-- the frame is free; where some are unused, it is the next of those
+pub record IsFreeFirst (pool : Pool) (pinned : List ℕ) (at : ℕ) : Type 0 where
+  pub free : IsFree pool pinned at
+  pub unused : count_of pool < most_of pool → at ≡ count_of pool
+
 -- each clean page is pinned
 abbrev pub AreCleanPinned : Pool → List ℕ → Type 0
 AreCleanPinned pool pinned = All (λ b. act_of pool b ≡ 0 → has_block pinned b ≡ true) (blocks_of pool)
@@ -37,6 +42,6 @@ pub record AreAllPinned (pool : Pool) (pinned : List ℕ) : Type 0 where
 
 -- what is chosen where these blocks are pinned
 abbrev pub IsChoice : Pool → List ℕ → Choice → Type 0
-IsChoice pool pinned (Free at) = IsFree pool pinned at
+IsChoice pool pinned (Free at) = IsFreeFirst pool pinned at
 IsChoice pool pinned (Oldest place block act) = IsOldest pool pinned place block act
 IsChoice pool pinned AllPinned = AreAllPinned pool pinned

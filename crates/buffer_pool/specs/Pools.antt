@@ -1,5 +1,5 @@
 -- What a pool holds, and what was changed of it.
-use Rattle.std.specs.Prelude.{◌≡◌, ◌≢◌, ℕ, suc, max, ◌<◌, ◌≤◌, true, false, nat_lt, if◌then◌else◌, Option, Some, None, IsSome, List, [], ◌∷◌, ◌++◌, length, take, drop, remove, slice_get, slice_index}
+use Rattle.std.specs.Prelude.{◌≡◌, ◌≢◌, ℕ, suc, max, ◌<◌, ◌≤◌, true, false, nat_lt, if◌then◌else◌, Option, Some, None, IsSome, is_some, List, [], ◌∷◌, ◌++◌, length, take, drop, remove, slice_get, slice_index, slice_set}
 use Rattle.std.specs.Option.{option_and_then}
 use Rattle.page_codec.specs.declared.page.Page.{Page}
 use Rattle.buffer_pool.specs.Frames.{blocks_in, has_block, AreApart, frame_in, act_in}
@@ -48,6 +48,7 @@ pub record HasSamePages (old new : Pool) : Type 0 where
   pub most : most_of new ≡ most_of old
   pub reach : reach_of new ≡ reach_of old
   pub count : count_of new ≡ count_of old
+  pub blocks : blocks_of new ≡ blocks_of old
   pub frames : (at : ℕ) → page_at new at ≡ page_at old at
   pub places : (block : ℕ) → frame_of new block ≡ frame_of old block
   pub held : (block : ℕ) → held_page new block ≡ held_page old block
@@ -68,6 +69,8 @@ pub record IsPut (old new : Pool) (at : ℕ) (page : Page) : Type 0 where
   pub most : most_of new ≡ most_of old
   pub reach : reach_of new ≡ reach_of old
   pub count : count_of new ≡ max (count_of old) (suc at)
+  pub over : at < count_of old → blocks_of new ≡ slice_set (blocks_of old) at page.block
+  pub behind : at ≡ count_of old → blocks_of new ≡ blocks_of old ++ page.block ∷ []
   pub frame : frame_of new page.block ≡ Some at
   pub there : page_at new at ≡ Some page
   pub held : held_page new page.block ≡ Some page
@@ -125,6 +128,8 @@ pub record IsPool (pool : Pool) : Type 0 where
   pub within : (block : ℕ) (page : Page) → held_page pool block ≡ Some page → block < reach_of pool
   pub among : (block : ℕ) (page : Page) → held_page pool block ≡ Some page
       → has_block (blocks_of pool) block ≡ true
+  pub frames : (at : ℕ) → at < count_of pool → frame_of pool (slice_index (blocks_of pool) at) ≡ Some at
+  pub there : (block : ℕ) → has_block (blocks_of pool) block ≡ is_some (frame_of pool block)
   pub changed : (block : ℕ) → has_block (changed_of pool) block ≡ nat_lt 0 (act_of pool block)
   pub kept : (block : ℕ) → 0 < act_of pool block → IsSome (held_page pool block)
   pub once : AreApart (changed_of pool)

@@ -1,5 +1,5 @@
 -- What a store keeps of each page, and which pages an act may change.
-use Rattle.std.specs.Prelude.{◌≡◌, ◌≢◌, ℕ, suc, ◌≤◌, ◌<◌, List, [], ◌∷◌}
+use Rattle.std.specs.Prelude.{◌≡◌, ◌≢◌, ◌⊎◌, ℕ, suc, ◌≤◌, ◌<◌, List, [], ◌∷◌}
 use Rattle.index_model.specs.declared.limits.Limits.{Limits}
 use Rattle.page_codec.specs.Grammar.{IsPage}
 use Rattle.page_codec.specs.Spelling.{count_of}
@@ -30,9 +30,23 @@ IsApartFrom block (page ∷ pages) = (page.block ≢ block) × IsApartFrom block
 abbrev pub IsPlaceable : Limits → ℕ → ℕ → Type 0
 IsPlaceable limits used block = (block ≤ used) × (block < limits.pages)
 
+-- an act may change the page beside those behind it: it may be stored, at a block that is in use or the next unused one, which none
+-- of them names
+pub record IsPlaced (limits : Limits) (used : ℕ) (page : Page) (behind : List Page) : Type 0 where
+  pub storable : IsStorable limits page
+  pub placeable : IsPlaceable limits used page.block
+  pub apart : IsApartFrom page.block behind
+
 -- the pages of an act: each may be stored, at a block that is in use or the next unused one; no block is named twice
 abbrev pub AreActable : Limits → ℕ → List Page → Type 0
 AreActable limits used [] = Unit {0}
 AreActable limits used (page ∷ pages) =
     IsStorable limits page × IsPlaceable limits used page.block × IsApartFrom page.block pages
     × AreActable limits used pages
+
+-- the first of these pages that an act may not change beside those behind it is of this block
+abbrev pub IsFirstMisplaced : Limits → ℕ → List Page → ℕ → Type 0
+IsFirstMisplaced limits used [] block = ⊥
+IsFirstMisplaced limits used (page ∷ pages) block =
+    ((page.block ≡ block) × (IsPlaced limits used page pages → ⊥))
+    ⊎ (IsPlaced limits used page pages × IsFirstMisplaced limits used pages block)

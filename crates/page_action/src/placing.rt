@@ -1,7 +1,7 @@
 //! Pages that may be stored, and where they are put.
 
 ghost use Rattle.std.specs.Prelude.{◌≡◌, ◌≤◌, ◌<◌, [], ◌∷◌, ◌++◌, vec_len, vec_capacity, IsTrue, ◌↔◌, IfNone, IfSome};
-ghost use Rattle.page_action.specs.Stored.{AreStored, IsStorable, IsApartFrom, IsPlaceable, AreActable};
+ghost use Rattle.page_action.specs.Stored.{AreStored, IsStorable, IsApartFrom, IsPlaceable, AreActable, IsFirstMisplaced};
 ghost use Rattle.page_action.specs.States.{with_page, with_pages};
 
 use index_model::Limits;
@@ -38,6 +38,7 @@ fn is_placeable(block: u32, used: u32, limits: Limits) -> bool
 pub fn find_misplaced(pages: &[Page], used: u32, limits: Limits) -> Option<u32>
     ensures none { IfNone result (AreActable limits used pages.now) }
     ensures some { IfSome result (λ block. AreActable limits used pages.now → ⊥) }
+    ensures first { IfSome result (IsFirstMisplaced limits used pages.now) }
 {
     for at in 0..pages.len() {
         let page = &pages[at];

@@ -1,36 +1,14 @@
--- What is written for a frame.
+-- Which changed pages are written behind the first.
 use Rattle.std.proofs.Common.{◌≡◌, ℕ, zero, suc, ◌+◌, ◌<◌, ◌≤◌, ◌/◌, true, false, Some, List, [], ◌∷◌, ◌++◌, length, take, drop, slice_get, get_or, inl, inr, refl, sym, ap, subst, ◌∙◌, arith}
 use Rattle.std.specs.Prelude.{All, remove}
 use Rattle.std.proofs.lemmas.Bool.{cases_eq, ne_eqb}
 use Rattle.std.proofs.lemmas.List.{length-append, length-take, take-append-drop, append_assoc}
 use Rattle.std.proofs.lemmas.List.Elements.{All-cons, All-append}
-use Rattle.buffer_pool.specs.Choices.{IsOldest}
 use Rattle.buffer_pool.specs.Frames.{has_block}
-use Rattle.buffer_pool.specs.Pools.{most_of, act_of, changed_of, HasSamePages, HasSameChanges}
+use Rattle.buffer_pool.specs.Pools.{most_of, act_of, changed_of}
 use Rattle.buffer_pool.specs.declared.pool.Pool.{Pool}
-use Rattle.page_store.specs.Taking.{IsWrittenNext, AreWrittenAhead, IsWrittenOver, WritesLeast}
+use Rattle.page_store.specs.Taking.{IsWrittenNext, AreWrittenAhead}
 use Rattle.page_store.proofs.Pooling.{first_has, later_has, has_at}
-
--- what was written stays so, where nothing else is
-pub writes_on : (pinned : List ℕ) (before after : ℕ) (old mid new : Pool) → WritesLeast pinned before after old mid → changed_of new ≡ changed_of mid → WritesLeast pinned before after old new
-writes_on pinned before after old mid new (inl none) same = inl (same ∙ none)
-writes_on pinned before after old mid new (inr over) same = inr (record {
-  chosen = over.chosen;
-  pages = over.pages;
-  changes = over.changes;
-  place = over.place;
-  block = over.block;
-  act = over.act;
-  oldest = over.oldest;
-  front = over.front;
-  more = over.more;
-  rest = over.rest;
-  was = over.was;
-  left = same ∙ over.left;
-  few = over.few;
-  each = over.each;
-  forced = over.forced;
-})
 
 -- behind these blocks this one comes first of the rest
 next_of : (front rest : List ℕ) (b : ℕ) → slice_get (front ++ rest) (length front) ≡ Some b → (r : List ℕ) × (rest ≡ b ∷ r)
@@ -43,7 +21,7 @@ remove_next [] rest b = refl
 remove_next (x ∷ front) rest b = ap (λ (l : List ℕ). x ∷ l) (remove_next front rest b)
 
 -- what is left where one was removed behind these, is all without it
-put_back : (xs front rest : List ℕ) (b : ℕ) → slice_get xs (length front) ≡ Some b → remove xs (length front) ≡ front ++ rest → xs ≡ front ++ b ∷ rest
+pub put_back : (xs front rest : List ℕ) (b : ℕ) → slice_get xs (length front) ≡ Some b → remove xs (length front) ≡ front ++ rest → xs ≡ front ++ b ∷ rest
 put_back [] front rest b at left = absurd cc
 put_back (x ∷ xs) [] rest b at left = cc
 put_back (x ∷ xs) (f ∷ front) rest b at left =
@@ -59,8 +37,13 @@ has_more (y ∷ front) rest x b h = elim (cases_eq y b) [
   | inr ne ↦ later_has y b (front ++ x ∷ rest) (has_more front rest x b (sym (rw (ne_eqb y b ne) refl) ∙ h))
 ]
 
+-- ... with others between
+pub has_wide : (front more rest : List ℕ) (b : ℕ) → has_block (front ++ rest) b ≡ true → has_block (front ++ (more ++ rest)) b ≡ true
+has_wide front [] rest b h = h
+has_wide front (x ∷ more) rest b h = has_more front (more ++ rest) x b (has_wide front more rest b h)
+
 -- what stands between is there
-has_between : (front more rest : List ℕ) (k d : ℕ) → k < length more → has_block (front ++ (more ++ rest)) (get_or more k d) ≡ true
+pub has_between : (front more rest : List ℕ) (k d : ℕ) → k < length more → has_block (front ++ (more ++ rest)) (get_or more k d) ≡ true
 has_between [] [] rest k d less = absurd (omega (arith, less))
 has_between [] (x ∷ more) rest zero d less = first_has x x (more ++ rest) refl
 has_between [] (x ∷ more) rest (suc k) d less = later_has x (get_or more k d) (more ++ rest) (has_between [] more rest k d (omega (arith, less)))
@@ -130,33 +113,5 @@ module _ (pinned : List ℕ) (durable place count : ℕ) (old mid : Pool) (g : G
     left = g.left;
     few = omega (arith, g.many, few);
     each = g.each;
+    others = g.same;
   }
-
--- the first one was written, and some behind it
-pub over_of : (pinned : List ℕ) (before after place block act : ℕ) (old chosen mid new : Pool) → HasSamePages old chosen → HasSameChanges old chosen → IsOldest chosen pinned place block act
-    → changed_of mid ≡ remove (changed_of chosen) place → most_of mid ≡ most_of chosen → ((b : ℕ) → has_block (changed_of mid) b ≡ true → act_of mid b ≡ act_of chosen b) → (act ≤ before → after ≡ before)
-    → AreWrittenAhead pinned after place mid new → IsWrittenOver pinned before after old new
-over_of pinned before after place block act old chosen mid new pages changes oldest order most acts forced ahead = record {
-  chosen = chosen;
-  pages = pages;
-  changes = changes;
-  place = place;
-  block = block;
-  act = act;
-  oldest = oldest;
-  front = ahead.front;
-  more = ahead.more;
-  rest = ahead.rest;
-  was = sym changes.order
-      ∙ put_back (changed_of chosen) ahead.front (ahead.more ++ ahead.rest) block
-      (subst (λ (k : ℕ). slice_get (changed_of chosen) k ≡ Some block) (sym ahead.behind) oldest.at)
-      (subst (λ (k : ℕ). remove (changed_of chosen) k ≡ ahead.front ++ (ahead.more ++ ahead.rest)) (sym ahead.behind) (sym order ∙ ahead.was));
-  left = ahead.left;
-  few = subst (λ (n : ℕ). length ahead.more ≤ n / 4) (most ∙ pages.most) ahead.few;
-  each = λ k d less.
-      let one = ahead.each k d less in
-      let b = get_or ahead.more k d in
-      let there : has_block (changed_of mid) b ≡ true = ap (λ (l : List ℕ). has_block l b) ahead.was ∙ has_between ahead.front ahead.more ahead.rest k d less in
-      (one.0, omega (arith, one.1, acts b there, changes.acts b));
-  forced = forced;
-}

@@ -19,4 +19,5 @@ pub mod Reading
 pub mod Keeping
 pub mod Misfits
 pub mod Evicting
+pub mod Costing
 pub mod Logging

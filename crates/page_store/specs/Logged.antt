@@ -3,10 +3,12 @@ use Rattle.std.specs.Prelude.{◌≡◌, ℕ, ◌+◌, ◌<◌, ◌≤◌, Bool,
 use Rattle.device.specs.Disk.{Moment, Trace}
 use Rattle.device.specs.Places.{Has, OnDisk}
 use Rattle.device.specs.declared.device.Device.{Ghosts}
-use Rattle.buffer_pool.specs.Pools.{act_of, changed_of}
+use Rattle.buffer_pool.specs.Pools.{act_of, changed_of, blocks_of}
+use Rattle.buffer_pool.specs.declared.pool.Pool.{Pool}
 use Rattle.index_model.specs.declared.limits.Limits.{Limits}
 use Rattle.page_codec.specs.Spelling.{page_bytes}
 use Rattle.page_codec.specs.declared.page.Page.{Page}
+use Rattle.page_action.specs.Frames.{Memory}
 use Rattle.page_action.specs.States.{Backing}
 use Rattle.page_action.specs.Stored.{AreStored}
 use Rattle.redo_log.specs.Images.{last_image, images_of}
@@ -87,6 +89,10 @@ backing_of held = record {
   changed = held.changed;
   waiting = waiting_blocks held.log;
 }
+
+-- the pages in memory
+abbrev pub memory_in : Pool → Memory
+memory_in pool = record { held = blocks_of pool; unwritten = act_of pool }
 
 -- each block that has no image among these stands at its place: its page, or zeros where it has none
 pub record AreHome (limits : Limits) (images pages : List Page) (m : Moment) : Type 0 where

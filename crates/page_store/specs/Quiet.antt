@@ -17,3 +17,9 @@ pub record IsQuiet {D : Type 0} (g : Ghosts D) (old new : LoggedPages D g) : Typ
   pub idle : old.durable ≡ old.acts → new.room ≡ old.room
   pub order : IsPartOf (changed_of new.pool) (changed_of old.pool)
   pub waits : WaitsOn old.acts (backing_of (held_of g old)) (backing_of (held_of g new))
+
+-- the log was not forced
+pub record IsUnforced {D : Type 0} (g : Ghosts D) (old new : LoggedPages D g) : Type 0 where
+  pub log : new.log ≡ old.log
+  pub durable : new.durable ≡ old.durable
+  pub room : new.room ≡ old.room

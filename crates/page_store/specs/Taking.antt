@@ -2,10 +2,14 @@
 use Rattle.std.specs.Prelude.{◌≡◌, ◌⊎◌, ℕ, ◌<◌, ◌≤◌, ◌/◌, Bool, true, false, Some, None, IsSome, List, ◌∷◌, ◌++◌, length, slice_get, All}
 use Rattle.index_model.specs.declared.fault.Fault.{Fault}
 use Rattle.index_model.specs.declared.fault.Fault.TheVariants.{Io, Stopped, NoFrame, PageDamaged}
-use Rattle.buffer_pool.specs.Choices.{IsOldest, count_apart}
+use Rattle.device.specs.declared.device.Device.{Ghosts}
+use Rattle.buffer_pool.specs.Choices.{count_apart}
 use Rattle.buffer_pool.specs.Frames.{has_block}
-use Rattle.buffer_pool.specs.Pools.{most_of, frame_of, act_of, changed_of, HasSamePages, HasSameChanges, IsWritten}
+use Rattle.buffer_pool.specs.Pools.{most_of, frame_of, act_of, changed_of, IsWritten}
 use Rattle.buffer_pool.specs.declared.pool.Pool.{Pool}
+use Rattle.page_action.specs.Frames.{FrameCosts, TakesFrame, TakesFrames}
+use Rattle.page_store.specs.Logged.{held_of, backing_of, memory_in}
+use Rattle.page_store.specs.declared.logged_pages.LoggedPages.{LoggedPages}
 
 -- which of the pinned pages was held, is held still
 pub record KeepsFrames (pinned : List ℕ) (old new : Pool) : Type 0 where
@@ -33,31 +37,26 @@ pub record AreWrittenAhead (pinned : List ℕ) (durable place : ℕ) (old new : 
   pub left : changed_of new ≡ front ++ rest
   pub few : length more ≤ most_of old / 4
   pub each : All (λ b. (has_block pinned b ≡ false) × (act_of old b ≤ durable)) more
+  pub others : (b : ℕ) → has_block (changed_of new) b ≡ true → act_of new b ≡ act_of old b
 
--- No frame was free, and of the changed pages the first one was written that isn't pinned; and some right behind it, of which none is
--- pinned, and for none of which the log was forced: at most a quarter of what there are frames. The log was forced for the first one
--- alone. The pool is told of as its hand stood when this was chosen; `before` and `after` say how many acts were durable.
-pub record IsWrittenOver (pinned : List ℕ) (before after : ℕ) (old new : Pool) : Type 0 where
-  pub chosen : Pool
-  pub pages : HasSamePages old chosen
-  pub changes : HasSameChanges old chosen
-  pub place : ℕ
-  pub block : ℕ
-  pub act : ℕ
-  pub oldest : IsOldest chosen pinned place block act
-  pub front : List ℕ
-  pub more : List ℕ
-  pub rest : List ℕ
-  pub was : changed_of old ≡ front ++ (block ∷ (more ++ rest))
-  pub left : changed_of new ≡ front ++ rest
-  pub few : length more ≤ most_of old / 4
-  pub each : All (λ b. (has_block pinned b ≡ false) × (act_of old b ≤ after)) more
-  pub forced : act ≤ before → after ≡ before
+module _ {D : Type 0} (g : Ghosts D) where
+  -- what a frame costs, where the pages of these blocks are pinned
+  abbrev pub CostsFrame : List ℕ → LoggedPages D g → LoggedPages D g → Type 0
+  CostsFrame pinned old new =
+      FrameCosts (most_of old.pool) pinned (memory_in old.pool) (memory_in new.pool)
+      (backing_of (held_of g old)) (backing_of (held_of g new))
 
--- what is written for a frame: no page; or the oldest changed one that isn't pinned, where no frame was free, and some behind it
-abbrev pub WritesLeast : List ℕ → ℕ → ℕ → Pool → Pool → Type 0
-WritesLeast pinned before after old new =
-    (changed_of new ≡ changed_of old) ⊎ IsWrittenOver pinned before after old new
+  -- the page of this block is brought into memory
+  abbrev pub GetsFrame : List ℕ → ℕ → LoggedPages D g → LoggedPages D g → Type 0
+  GetsFrame pinned block old new =
+      TakesFrame (most_of old.pool) pinned block (memory_in old.pool) (memory_in new.pool)
+      (backing_of (held_of g old)) (backing_of (held_of g new))
+
+  -- the pages of these blocks are, one after the other
+  abbrev pub GetFrames : List ℕ → List ℕ → LoggedPages D g → LoggedPages D g → Type 0
+  GetFrames pinned blocks old new =
+      TakesFrames (most_of old.pool) pinned blocks (memory_in old.pool) (memory_in new.pool)
+      (backing_of (held_of g old)) (backing_of (held_of g new))
 
 -- the pinned blocks with one that isn't held are more than the frames
 abbrev pub AreTooMany : Pool → List ℕ → Type 0

@@ -12,7 +12,7 @@ ghost use Rattle.page_codec.specs.declared.page.Page.{Page};
 ghost use Rattle.redo_log.specs.Kept.{IoOrStopped, is_stopped, waiting_count, waiting_blocks};
 ghost use Rattle.page_store.specs.Following.{Follows};
 ghost use Rattle.page_store.specs.Logged.{held_of, backing_of, SamePages, SameRoom, SameButDevice};
-ghost use Rattle.page_store.specs.Quiet.{IsQuiet};
+ghost use Rattle.page_store.specs.Quiet.{IsQuiet, IsUnforced};
 ghost use Rattle.page_store.specs.Writing.{AreWrittenUpTo, IsFirm, IsClean};
 
 use crate::logged_pages::LoggedPages;
@@ -84,7 +84,7 @@ impl<D: Device> LoggedPages<D> {
         ensures quiet { IsQuiet D.Device self.old self.new }
         ensures pool { self.new.pool ≡ self.old.pool }
         ensures durable { OnOk result (act ≤ self.new.durable) }
-        ensures forced { act ≤ self.old.durable → self.new.durable ≡ self.old.durable }
+        ensures forced { act ≤ self.old.durable → IsUnforced D.Device self.old self.new }
         ensures alive { OnOk result (is_stopped self.new.log ≡ false) }
         ensures cause { IoOrStopped result (is_stopped self.old.log)
             (D.failures self.old.device) (D.failures self.new.device) }
@@ -110,7 +110,7 @@ impl<D: Device> LoggedPages<D> {
         ensures quiet { IsQuiet D.Device self.old self.new }
         ensures written { OnOk result (IsWritten self.old.pool self.new.pool place) }
         ensures refused { OnErr result (self.new.pool ≡ self.old.pool) }
-        ensures forced { act ≤ self.old.durable → self.new.durable ≡ self.old.durable }
+        ensures forced { act ≤ self.old.durable → IsUnforced D.Device self.old self.new }
         ensures alive { OnOk result (is_stopped self.new.log ≡ false) }
         ensures cause { IoOrStopped result (is_stopped self.old.log)
             (D.failures self.old.device) (D.failures self.new.device) }
@@ -132,6 +132,7 @@ impl<D: Device> LoggedPages<D> {
         ensures log { self.new.log ≡ self.old.log }
         ensures device { self.new.device ≡ self.old.device }
         ensures durable { self.new.durable ≡ self.old.durable }
+        ensures room { self.new.room ≡ self.old.room }
     {
         self.pool.law();
         self.pool.note_written(place);

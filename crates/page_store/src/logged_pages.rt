@@ -181,6 +181,7 @@ impl<D: Device> LoggedPages<D> {
         ensures durable { self.new.durable ≡ self.old.durable }
         ensures stopped { is_stopped self.new.log ≡ is_stopped self.old.log }
         ensures failures { D.failures self.new.device ≡ D.failures self.old.device }
+        ensures honest { D.is_honest self.new.device ≡ D.is_honest self.old.device }
         ensures refused { OnErr result (SamePages D.Device self.old self.new) }
         ensures kept { OnErr result (SameRoom D.Device self.old self.new) }
         ensures frames { OnErr result (self.new.pool ≡ self.old.pool) }

@@ -43,7 +43,7 @@ impl<D: Device> Store<D> {
     ghost use Rattle.page_store.specs.Quiet.{IsQuiet};
     ghost use Rattle.page_store.specs.Rooms.{limits_of_room, frames_of_room, pages_of_room, counts_of_room};
     ghost use Rattle.page_store.specs.Stores.{state_of, held_by, device_of, store_history, opened_state, IsOwnStore};
-    ghost use Rattle.page_store.specs.Taking.{TakingFails};
+    ghost use Rattle.page_store.specs.Taking.{GetFrames, TakingFails};
     ghost use Rattle.page_store.specs.Writing.{AreSeen};
 
     /// A store of the pages that were read from this device, whose log was just opened and closed. `counter` is the last
@@ -111,6 +111,9 @@ impl<D: Device> Store<D> {
         requires actable { AreActable self.old.held.limits
             (length (pages_now self.old.held.history)) pages.now }
         ensures quiet { IsQuiet D.Device self.old.held self.new.held }
+        ensures frames { GetFrames D.Device
+            (map (λ page. page.block) pages.now ++ pinned_blocks self.old.calls.table)
+            (map (λ page. page.block) pages.now) self.old.held self.new.held }
         ensures calls { self.new.calls ≡ self.old.calls }
         ensures most { most_of self.new.held.pool ≡ most_of self.old.held.pool }
         ensures has { OnOk result
@@ -148,13 +151,15 @@ fn with_blocks(pages: &[Page], pinned: &ArrayVec<u32, 128>) -> ArrayVec<u32, 132
 impl<D: Device> PageStore for Store<D> {
     ghost use Rattle.std.specs.Prelude.{◌<◌, IsSome};
     ghost use Rattle.buffer_pool.specs.Pools.{frame_of};
-    ghost use Rattle.page_store.specs.Logged.{backing_of};
+    ghost use Rattle.page_store.specs.Logged.{backing_of, memory_in};
     ghost use Rattle.page_store.specs.Stores.{state_of, held_by, IsOwnStore};
     ghost use Rattle.page_store.specs.StoreLaws.{follows_by, past_of, leaves_by, restarts_by, store_laws};
 
     ghost state = { λ s. state_of D.Device s };
 
     ghost backing = { λ s. backing_of (held_by D.Device s) };
+
+    ghost memory = { λ s. memory_in s.held.pool };
 
     ghost follows = { follows_by D.Device };
 

@@ -1,15 +1,15 @@
 //! Pages are brought into memory, in the place of others where there is no room.
 
-ghost use Rattle.std.specs.Prelude.{◌≡◌, ◌≢◌, ◌<◌, ◌≤◌, Some, None, Err, OnErr, IfOk, IfErr, OnOk, IsSome, is_some, ℕ, true, false, length, remove, slice_get, All};
+ghost use Rattle.std.specs.Prelude.{◌≡◌, ◌≢◌, ◌<◌, ◌≤◌, Some, None, Err, OnErr, IfOk, IfErr, OnOk, IsSome, is_some, ℕ, true, false, length, remove, slice_get, map, All};
 ghost use Rattle.buffer_pool.specs.Choices.{IsChoice};
 ghost use Rattle.buffer_pool.specs.Frames.{has_block};
-ghost use Rattle.buffer_pool.specs.Pools.{most_of, act_of, changed_of, frame_of, CanBeTaken, HasSamePages, HasSameChanges, IsPut};
+ghost use Rattle.buffer_pool.specs.Pools.{most_of, count_of, blocks_of, act_of, changed_of, frame_of, CanBeTaken, HasSamePages, HasSameChanges, IsPut};
 ghost use Rattle.device.specs.Disk.{CountsFailures};
 ghost use Rattle.page_action.specs.Stored.{IsStored, AreActable};
 ghost use Rattle.redo_log.specs.Kept.{IoOrStopped, is_stopped};
 ghost use Rattle.page_store.specs.Histories.{pages_now};
-ghost use Rattle.page_store.specs.Quiet.{IsQuiet};
-ghost use Rattle.page_store.specs.Taking.{KeepsFrames, WritesLeast, IsWrittenNext, AreWrittenAhead, FrameFails, TakingFails, FetchFails};
+ghost use Rattle.page_store.specs.Quiet.{IsQuiet, IsUnforced};
+ghost use Rattle.page_store.specs.Taking.{KeepsFrames, CostsFrame, GetsFrame, GetFrames, IsWrittenNext, AreWrittenAhead, FrameFails, TakingFails, FetchFails};
 ghost use Rattle.page_store.specs.Writing.{ReadingFails};
 ghost use Rattle.page_codec.specs.declared.page.Page.{Page};
 
@@ -30,6 +30,7 @@ impl<D: Device> LoggedPages<D> {
         ensures log { self.new.log ≡ self.old.log }
         ensures device { self.new.device ≡ self.old.device }
         ensures durable { self.new.durable ≡ self.old.durable }
+        ensures room { self.new.room ≡ self.old.room }
     {
         self.pool.choose(pinned)
     }
@@ -37,6 +38,7 @@ impl<D: Device> LoggedPages<D> {
     /// Whether the page of this block is in memory. If so, it's noted that somebody looked at it.
     pub fn look(&mut self, block: u32) -> bool
         ensures held { result ≡ is_some (frame_of self.old.pool block) }
+        ensures there { result ≡ has_block (blocks_of self.old.pool) block }
         ensures quiet { IsQuiet D.Device self.old self.new }
         ensures same { HasSamePages self.old.pool self.new.pool }
         ensures changes { HasSameChanges self.old.pool self.new.pool }
@@ -45,6 +47,7 @@ impl<D: Device> LoggedPages<D> {
         ensures durable { self.new.durable ≡ self.old.durable }
         ensures room { self.new.room ≡ self.old.room }
     {
+        self.pool.law();
         self.pool.look(block)
     }
 
@@ -57,8 +60,8 @@ impl<D: Device> LoggedPages<D> {
         ensures same { HasSamePages self.old.pool self.new.pool }
         ensures order { OnOk result
             (changed_of self.new.pool ≡ remove (changed_of self.old.pool) place) }
-        ensures refused { OnErr result (changed_of self.new.pool ≡ changed_of self.old.pool) }
-        ensures forced { act ≤ self.old.durable → self.new.durable ≡ self.old.durable }
+        ensures refused { OnErr result (self.new.pool ≡ self.old.pool) }
+        ensures forced { act ≤ self.old.durable → IsUnforced D.Device self.old self.new }
         ensures acts { OnOk result ((b : ℕ) → has_block (changed_of self.new.pool) b ≡ true
             → act_of self.new.pool b ≡ act_of self.old.pool b) }
         ensures frame { IfOk result (λ at. frame_of self.old.pool block ≡ Some at) }
@@ -87,6 +90,7 @@ impl<D: Device> LoggedPages<D> {
         ensures not { IfOk result (λ did. did ≡ false → self.new.pool ≡ self.old.pool) }
         ensures refused { OnErr result (self.new.pool ≡ self.old.pool) }
         ensures durable { self.new.durable ≡ self.old.durable }
+        ensures room { self.new.room ≡ self.old.room }
         ensures log { self.new.log ≡ self.old.log }
         ensures failures { CountsFailures result
             (D.failures self.old.device) (D.failures self.new.device) }
@@ -114,6 +118,7 @@ impl<D: Device> LoggedPages<D> {
             self.old.pool self.new.pool }
         ensures acts { (b : ℕ) → act_of self.new.pool b ≤ act_of self.old.pool b }
         ensures durable { self.new.durable ≡ self.old.durable }
+        ensures room { self.new.room ≡ self.old.room }
         ensures log { self.new.log ≡ self.old.log }
         ensures failures { CountsFailures result
             (D.failures self.old.device) (D.failures self.new.device) }
@@ -133,12 +138,14 @@ impl<D: Device> LoggedPages<D> {
     // page is written before, and some behind it. Refused with `NoFrame`, `Io` and `Stopped`.
     fn free_frame(&mut self, pinned: &[u32]) -> Result<usize, Fault>
         ensures quiet { IsQuiet D.Device self.old self.new }
-        ensures writes { WritesLeast pinned.now self.old.durable self.new.durable
-            self.old.pool self.new.pool }
+        ensures cost { CostsFrame D.Device pinned.now self.old self.new }
         ensures same { HasSamePages self.old.pool self.new.pool }
         ensures free { IfOk result (CanBeTaken self.new.pool) }
         ensures unpinned { IfOk result (λ at. (block : ℕ) → has_block pinned.now block ≡ true
             → frame_of self.old.pool block ≢ Some at) }
+        // An unused frame is taken first.
+        ensures unused { IfOk result (λ at. count_of self.old.pool < most_of self.old.pool
+            → at ≡ count_of self.old.pool) }
         ensures alive { OnOk result
             (is_stopped self.new.log ≡ true → is_stopped self.old.log ≡ true) }
         ensures cause { IfErr result (FrameFails self.old.pool pinned.now (is_stopped self.old.log)
@@ -172,6 +179,7 @@ impl<D: Device> LoggedPages<D> {
         ensures log { self.new.log ≡ self.old.log }
         ensures device { self.new.device ≡ self.old.device }
         ensures durable { self.new.durable ≡ self.old.durable }
+        ensures room { self.new.room ≡ self.old.room }
     {
         self.pool.law();
         self.pool.put(at, &self.decoded);
@@ -186,6 +194,7 @@ impl<D: Device> LoggedPages<D> {
         ensures pool { self.new.pool ≡ self.old.pool }
         ensures log { self.new.log ≡ self.old.log }
         ensures durable { self.new.durable ≡ self.old.durable }
+        ensures room { self.new.room ≡ self.old.room }
         ensures stored { OnOk result (IsStored self.old.limits block self.new.decoded.value) }
         ensures right { OnOk result (D.is_honest self.new.device ≡ true
             → slice_get (pages_now self.old.history) block ≡ Some self.new.decoded.value) }
@@ -203,10 +212,9 @@ impl<D: Device> LoggedPages<D> {
     pub fn fetch(&mut self, block: u32, pinned: &[u32]) -> Result<(), Fault>
         requires used { block < self.old.used }
         ensures quiet { IsQuiet D.Device self.old self.new }
-        // No page is written to its place for it where a frame is free.
-        ensures writes { WritesLeast pinned.now self.old.durable self.new.durable
-            self.old.pool self.new.pool }
+        ensures frame { GetsFrame D.Device pinned.now block self.old self.new }
         ensures has { OnOk result (IsSome (frame_of self.new.pool block)) }
+        ensures there { OnOk result (has_block (blocks_of self.new.pool) block ≡ true) }
         ensures kept { KeepsFrames pinned.now self.old.pool self.new.pool }
         ensures alive { OnOk result
             (is_stopped self.new.log ≡ true → is_stopped self.old.log ≡ true) }
@@ -216,46 +224,68 @@ impl<D: Device> LoggedPages<D> {
             (D.failures self.old.device) (D.failures self.new.device) block
             (D.is_honest self.new.device)) }
     {
+        self.pool.law();
         if self.holds(block) {
             return Ok(());
         }
         let at = self.free_frame(pinned)?;
         self.read(block)?;
         self.put(at);
+        self.pool.law();
         Ok(())
     }
 
-    // Takes a frame for a page that isn't held, of a block that is not in use or that the device doesn't give. Nobody looks
-    // at it before the act that changes it is done.
-    fn take_blank(&mut self, page: &Page, pinned: &[u32]) -> Result<(), Fault>
-        requires stored { IsStored self.old.limits page.now.block page.now }
-        requires below { page.now.block < self.old.limits.pages }
-        requires blank { D.is_honest self.old.device ≡ true → self.old.used ≤ page.now.block }
-        requires pinned { has_block pinned.now page.now.block ≡ true }
+    // Copies the page to where one is decoded.
+    fn copy(&mut self, page: &Page)
         ensures quiet { IsQuiet D.Device self.old self.new }
-        ensures has { OnOk result (IsSome (frame_of self.new.pool page.now.block)) }
-        ensures kept { KeepsFrames pinned.now self.old.pool self.new.pool }
-        ensures alive { OnOk result
-            (is_stopped self.new.log ≡ true → is_stopped self.old.log ≡ true) }
-        ensures cause { IfErr result (TakingFails self.old.pool pinned.now (is_stopped self.old.log)
-            (D.failures self.old.device) (D.failures self.new.device)) }
+        ensures pool { self.new.pool ≡ self.old.pool }
+        ensures log { self.new.log ≡ self.old.log }
+        ensures device { self.new.device ≡ self.old.device }
+        ensures durable { self.new.durable ≡ self.old.durable }
+        ensures room { self.new.room ≡ self.old.room }
+        ensures copied { self.new.decoded.value ≡ page.now }
     {
-        if self.holds(page.block) {
+        page.copy_to(&mut self.decoded);
+    }
+
+    // Decodes the page of a block that an act is to change, where the block is in use and the device gives it; else copies the
+    // page itself. Nobody looks at it before the act is done. Refused with `Io`.
+    fn read_or_copy(&mut self, page: &Page) -> Result<(), Fault>
+        requires stored { IsStored self.old.limits page.now.block page.now }
+        requires absent { frame_of self.old.pool page.now.block ≡ None }
+        ensures quiet { IsQuiet D.Device self.old self.new }
+        ensures pool { self.new.pool ≡ self.old.pool }
+        ensures log { self.new.log ≡ self.old.log }
+        ensures durable { self.new.durable ≡ self.old.durable }
+        ensures room { self.new.room ≡ self.old.room }
+        ensures stored { OnOk result
+            (IsStored self.old.limits page.now.block self.new.decoded.value) }
+        ensures right { OnOk result (D.is_honest self.new.device ≡ true → (there : Page)
+            → slice_get (pages_now self.old.history) page.now.block ≡ Some there
+            → self.new.decoded.value ≡ there) }
+        ensures cause { IfErr result (λ e. (e ≡ Fault.Io)
+            × (D.failures self.old.device < D.failures self.new.device)) }
+    {
+        if page.block >= self.used {
+            self.copy(page);
             return Ok(());
         }
-        let at = self.free_frame(pinned)?;
-        page.copy_to(&mut self.decoded);
-        self.put(at);
-        Ok(())
+        match self.read(page.block) {
+            Err(Fault::PageDamaged(_)) => {
+                self.copy(page);
+                Ok(())
+            }
+            other => other,
+        }
     }
 
-    // Takes a frame for a page that an act is to change: with the page of its block, where that is in use and the device
-    // gives it; else with the page itself.
+    // Takes a frame for a page that an act is to change. Refused with `NoFrame`, `Io` and `Stopped`.
     fn take_frame(&mut self, page: &Page, pinned: &[u32]) -> Result<(), Fault>
         requires stored { IsStored self.old.limits page.now.block page.now }
         requires below { page.now.block < self.old.limits.pages }
         requires pinned { has_block pinned.now page.now.block ≡ true }
         ensures quiet { IsQuiet D.Device self.old self.new }
+        ensures frame { GetsFrame D.Device pinned.now page.now.block self.old self.new }
         ensures has { OnOk result (IsSome (frame_of self.new.pool page.now.block)) }
         ensures kept { KeepsFrames pinned.now self.old.pool self.new.pool }
         ensures alive { OnOk result
@@ -263,13 +293,14 @@ impl<D: Device> LoggedPages<D> {
         ensures cause { IfErr result (TakingFails self.old.pool pinned.now (is_stopped self.old.log)
             (D.failures self.old.device) (D.failures self.new.device)) }
     {
-        if page.block >= self.used {
-            return self.take_blank(page, pinned);
+        self.pool.law();
+        if self.holds(page.block) {
+            return Ok(());
         }
-        match self.fetch(page.block, pinned) {
-            Err(Fault::PageDamaged(_)) => self.take_blank(page, pinned),
-            other => other,
-        }
+        let at = self.free_frame(pinned)?;
+        self.read_or_copy(page)?;
+        self.put(at);
+        Ok(())
     }
 
     /// Takes a frame for each of these pages, where the pages of these blocks are pinned, their own among them. Refused with
@@ -278,6 +309,8 @@ impl<D: Device> LoggedPages<D> {
         requires actable { AreActable self.old.limits (length (pages_now self.old.history)) pages.now }
         requires pinned { All (λ page. has_block pinned.now page.block ≡ true) pages.now }
         ensures quiet { IsQuiet D.Device self.old self.new }
+        ensures frames { GetFrames D.Device pinned.now (map (λ page. page.block) pages.now)
+            self.old self.new }
         ensures has { OnOk result
             (All (λ page. IsSome (frame_of self.new.pool page.block)) pages.now) }
         ensures most { most_of self.new.pool ≡ most_of self.old.pool }

@@ -1,7 +1,11 @@
-use Rattle.std.proofs.Common.{false, List, subst}
+use Rattle.std.proofs.Common.{false, List, length, refl, subst}
 use Rattle.index_model.specs.declared.fault.Fault.TheVariants.{NoMemory}
 use Rattle.page_codec.specs.declared.page.Page.{Page}
+use Rattle.latch_table.specs.Holdings.{pinned_blocks}
+use Rattle.page_action.proofs.Framing.{takes_none}
 use Rattle.amcheck.specs.Answers.{IsAnswer}
+use Rattle.amcheck.specs.Reading.{blocks_below}
+use Rattle.amcheck.proofs.Fetched.{rest_all}
 use Rattle.amcheck.proofs.FirstDamages.{answer_told, same_fault, never_refused}
 use Rattle.amcheck.specs.Places.{StandAtTheirBlocks}
 use Rattle.amcheck.proofs.Judged.{they_stand, they_are_few}
@@ -28,3 +32,31 @@ returns-in-Err-read_pages-clause-unread g c same = absurd (c.in-Err-read_pages.e
 
 pub returns-clause-unread : goal.returns-clause-unread
 returns-clause-unread g c same = absurd (never_refused c.judge_chains.result c.told.result NoMemory c.told.ensures.ok c.told.ensures.err same)
+
+pub returns-in-Err-clause-frames : goal.returns-in-Err-clause-frames
+returns-in-Err-clause-frames g c =
+    let st = g.S.PageStore.state c.args.store.now in
+    takes_none st.frames (pinned_blocks st.table) (blocks_below (length st.pages)) (g.S.PageStore.memory c.args.store.now) (g.S.PageStore.backing c.args.store.now)
+
+pub returns-in-Err-clause-order : goal.returns-in-Err-clause-order
+returns-in-Err-clause-order g c = record { count = 0; is = refl }
+
+pub returns-in-Err-new-clause-frames : goal.returns-in-Err-new-clause-frames
+returns-in-Err-new-clause-frames g c =
+    let st = g.S.PageStore.state c.args.store.now in
+    takes_none st.frames (pinned_blocks st.table) (blocks_below (length st.pages)) (g.S.PageStore.memory c.args.store.now) (g.S.PageStore.backing c.args.store.now)
+
+pub returns-in-Err-new-clause-order : goal.returns-in-Err-new-clause-order
+returns-in-Err-new-clause-order g c = record { count = 0; is = refl }
+
+pub returns-in-Err-read_pages-clause-order : goal.returns-in-Err-read_pages-clause-order
+returns-in-Err-read_pages-clause-order g c =
+    let st = g.S.PageStore.state c.args.store.now in
+    rest_all st.frames (pinned_blocks st.table) (blocks_below (length st.pages)) (g.S.PageStore.memory c.args.store.now) (g.S.PageStore.memory c.read_pages.new.store)
+    (g.S.PageStore.backing c.args.store.now) (g.S.PageStore.backing c.read_pages.new.store) c.read_pages.ensures.frames
+
+pub returns-clause-order : goal.returns-clause-order
+returns-clause-order g c =
+    let st = g.S.PageStore.state c.args.store.now in
+    rest_all st.frames (pinned_blocks st.table) (blocks_below (length st.pages)) (g.S.PageStore.memory c.args.store.now) (g.S.PageStore.memory c.read_pages.new.store)
+    (g.S.PageStore.backing c.args.store.now) (g.S.PageStore.backing c.read_pages.new.store) c.read_pages.ensures.frames

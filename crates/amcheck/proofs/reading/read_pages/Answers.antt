@@ -1,13 +1,18 @@
-use Rattle.std.proofs.Common.{◌≡◌, ◌+◌, ◌++◌, ◌∷◌, [], ℕ, ◌<◌, List, length, slice_get, sym, ap, subst, ◌∙◌, arith, length-append}
+use Rattle.std.proofs.Common.{◌≡◌, ◌+◌, ◌++◌, ◌∷◌, [], ℕ, ◌<◌, List, length, slice_get, sym, ap, subst, ◌∙◌, arith, add-one, length-append}
 use Rattle.std.proofs.lemmas.Bool.{lt-leb}
 use Rattle.index_model.specs.Faults.{HasCause}
 use Rattle.page_codec.specs.declared.page.Page.{Page}
+use Rattle.latch_table.specs.Holdings.{pinned_blocks}
+use Rattle.page_action.proofs.Framing.{takes_next, takes_rest}
 use Rattle.page_action.proofs.StoredPages.{stored-add}
+use Rattle.page_action.specs.Frames.{TakesFrame, TakesFrames}
 use Rattle.page_action.specs.Causes.{where_read}
 use Rattle.page_action.specs.Room.{KeepsRoom}
 use Rattle.page_action.specs.States.{State, IsLater}
 use Rattle.page_action.specs.Stored.{IsStored, AreStored}
 use Rattle.amcheck.specs.PageRooms.{HasPageRoom}
+use Rattle.amcheck.specs.Reading.{blocks_below}
+use Rattle.amcheck.proofs.Fetched.{below_next}
 use Rattle.amcheck.proofs.ReadOn.{kept_on, cause_on, never_memory, take_get}
 use Rattle.amcheck.proofs.reading.read_pages.Given.{Over}
 use Rattle.amcheck.proofs.reading.read_pages.Goals.{After-fetch, After-view}
@@ -28,6 +33,34 @@ room_on g c =
     let acts = ap (λ (s : State). s.acts) old.state_is in
     kept_on (g.S.PageStore.state c.args.store.now) (g.S.PageStore.backing c.args.store.now) (g.S.PageStore.backing c.loop-block.store) (g.S.PageStore.backing c.fetch.new.self) old.kept
     (subst (λ (s : State). KeepsRoom s (g.S.PageStore.backing c.loop-block.store) (g.S.PageStore.backing c.fetch.new.self)) old.state_is c.fetch.ensures.room) (later g c) (omega (arith, few, acts))
+
+-- the pages before this one, and this one
+frames_on : (g : Over) (c : After-fetch g) → TakesFrames (g.S.PageStore.state c.args.store.now).frames (pinned_blocks (g.S.PageStore.state c.args.store.now).table) (blocks_below c.loop-block.block ++ c.loop-block.block ∷ [])
+    (g.S.PageStore.memory c.args.store.now) (g.S.PageStore.memory c.fetch.new.self) (g.S.PageStore.backing c.args.store.now) (g.S.PageStore.backing c.fetch.new.self)
+frames_on g c =
+    let st = g.S.PageStore.state c.args.store.now in
+    let mid = c.loop-block.store in
+    takes_next st.frames (pinned_blocks st.table) (blocks_below c.loop-block.block) c.loop-block.block
+    (g.S.PageStore.memory c.args.store.now) (g.S.PageStore.memory mid) (g.S.PageStore.memory c.fetch.new.self) (g.S.PageStore.backing c.args.store.now) (g.S.PageStore.backing mid) (g.S.PageStore.backing c.fetch.new.self)
+    c.loop-block.invariant.frames
+    (subst (λ (s : State). TakesFrame s.frames (pinned_blocks s.table) c.loop-block.block (g.S.PageStore.memory mid) (g.S.PageStore.memory c.fetch.new.self) (g.S.PageStore.backing mid) (g.S.PageStore.backing c.fetch.new.self))
+    c.loop-block.invariant.state_is c.fetch.ensures.frame)
+
+pub returns-in-Err-clause-frames : goal.returns-in-Err-clause-frames
+returns-in-Err-clause-frames g c =
+    let here = (goal.at.returns-in-Err-clause-frames g c).After-fetch in
+    let st = g.S.PageStore.state c.args.store.now in
+    let others = below_next (length st.pages) c.loop-block.block (omega (arith, c.loop-block-test.true, c.used-used.ensures)) in
+    subst (λ (bs : List ℕ). TakesFrames st.frames (pinned_blocks st.table) bs (g.S.PageStore.memory c.args.store.now) (g.S.PageStore.memory c.fetch.new.self) (g.S.PageStore.backing c.args.store.now) (g.S.PageStore.backing c.fetch.new.self)) (sym others.1)
+    (takes_rest st.frames (pinned_blocks st.table) (blocks_below c.loop-block.block ++ c.loop-block.block ∷ []) others.0
+    (g.S.PageStore.memory c.args.store.now) (g.S.PageStore.memory c.fetch.new.self) (g.S.PageStore.backing c.args.store.now) (g.S.PageStore.backing c.fetch.new.self) (frames_on g here))
+
+pub returns-clause-frames : goal.returns-clause-frames
+returns-clause-frames g c =
+    let st = g.S.PageStore.state c.args.store.now in
+    let all : c.loop-block.block ≡ length st.pages = omega (arith, c.loop-block-test.false, c.loop-block.auto.block-end, c.used-used.ensures) in
+    subst (λ (n : ℕ). TakesFrames st.frames (pinned_blocks st.table) (blocks_below n) (g.S.PageStore.memory c.args.store.now) (g.S.PageStore.memory c.loop-block.store) (g.S.PageStore.backing c.args.store.now) (g.S.PageStore.backing c.loop-block.store))
+    all c.loop-block.invariant.frames
 
 pub returns-in-Err-clause-room : goal.returns-in-Err-clause-room
 returns-in-Err-clause-room g c = room_on g (goal.at.returns-in-Err-clause-room g c).After-fetch
@@ -74,5 +107,7 @@ loop-block-preserved g c =
           ∙ take_get pages c.loop-block.block page (ap (λ (s : State). slice_get s.pages c.loop-block.block) (sym same_state) ∙ c.view.ensures.page honest);
       room_is = subst (HasPageRoom c.add.new.self) c.used-used.ensures c.add.ensures.room;
       kept = room_on g before;
+      frames = subst (λ (n : ℕ). TakesFrames (g.S.PageStore.state c.args.store.now).frames (pinned_blocks (g.S.PageStore.state c.args.store.now).table) (blocks_below n)
+          (g.S.PageStore.memory c.args.store.now) (g.S.PageStore.memory c.fetch.new.self) (g.S.PageStore.backing c.args.store.now) (g.S.PageStore.backing c.fetch.new.self)) (sym (add-one c.loop-block.block)) (frames_on g before);
       alive = λ stopped. old.alive (c.in-Ok.ensures.alive stopped);
     }

@@ -1,8 +1,11 @@
 use Rattle.std.proofs.Common.{◌≡◌, true, length, take}
+use Rattle.latch_table.specs.Holdings.{pinned_blocks}
+use Rattle.page_action.specs.Frames.{TakesFrames}
 use Rattle.page_action.specs.Room.{KeepsRoom}
 use Rattle.page_action.specs.States.{Continues}
 use Rattle.page_action.specs.Stored.{AreStored}
 use Rattle.amcheck.specs.PageRooms.{HasPageRoom}
+use Rattle.amcheck.specs.Reading.{blocks_below}
 use Rattle.amcheck.proofs.reading.read_pages.Given as goal
 
 abbrev pub invariant-loop-block : goal.invariant-loop-block
@@ -17,5 +20,7 @@ invariant-loop-block g l =
       same : (backing l.store).honest ≡ true → l.room.list.pages ≡ take l.block (state l.fn.store).pages;
       room_is : HasPageRoom l.room (length (state l.fn.store).pages);
       kept : KeepsRoom (state l.fn.store) (backing l.fn.store) (backing l.store);
+      frames : TakesFrames (state l.fn.store).frames (pinned_blocks (state l.fn.store).table) (blocks_below l.block)
+          (g.S.PageStore.memory l.fn.store) (g.S.PageStore.memory l.store) (backing l.fn.store) (backing l.store);
       alive : (backing l.store).stopped ≡ true → (backing l.fn.store).stopped ≡ true;
     }

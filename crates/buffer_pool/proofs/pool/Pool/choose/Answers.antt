@@ -6,16 +6,23 @@ use Rattle.buffer_pool.proofs.Sound.{unused_free, free_stays, oldest_at, oldest_
 use Rattle.buffer_pool.proofs.pool.Pool.choose.Goals as goal
 
 pub returns-then-held-self-clause-choice : goal.returns-then-held-self-clause-choice
-returns-then-held-self-clause-choice c = unused_free c.args.self.now c.args.pinned.now c.len-held.result (omega arith) c.if-held-self.true
+unfolding count_of
+returns-then-held-self-clause-choice c = record {
+  free = unused_free c.args.self.now c.args.pinned.now c.len-held.result (omega arith) c.if-held-self.true;
+  unused = λ some. omega arith;
+}
 
 pub overflow_add-self : goal.overflow_add-self
 unfolding most_of
 overflow_add-self c = omega (arith, c.in-Some.ensures.found.taken.within)
 
 pub returns-in-Some-clause-choice : goal.returns-in-Some-clause-choice
-returns-in-Some-clause-choice c =
-    free_stays c.free_frame.new.self _ c.args.pinned.now c.in-Some.at
-    (same_pages c.free_frame.new.self _ refl refl refl) (same_changes c.free_frame.new.self _ refl (λ b. refl)) c.in-Some.ensures.found
+unfolding most_of count_of
+returns-in-Some-clause-choice c = record {
+  free = free_stays c.free_frame.new.self _ c.args.pinned.now c.in-Some.at
+      (same_pages c.free_frame.new.self _ refl refl refl) (same_changes c.free_frame.new.self _ refl (λ b. refl)) c.in-Some.ensures.found;
+  unused = λ some. absurd (omega (arith, some, c.if-held-self.false, c.free_frame.ensures.pages.most, c.free_frame.ensures.pages.count));
+}
 
 pub returns-in-Some-clause-pages : goal.returns-in-Some-clause-pages
 returns-in-Some-clause-pages c = pages_both c.args.self.now c.free_frame.new.self _ c.free_frame.ensures.pages (same_pages c.free_frame.new.self _ refl refl refl)

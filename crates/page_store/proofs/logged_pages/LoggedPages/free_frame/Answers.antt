@@ -1,8 +1,12 @@
-use Rattle.std.proofs.Common.{◌≡◌, ◌<◌, ◌≤◌, ◌∙◌, ℕ, true, false, sym, ap, subst, inr}
+use Rattle.std.proofs.Common.{◌≡◌, ◌<◌, ◌≤◌, ◌∙◌, ℕ, true, false, sym, ap, subst}
 use Rattle.buffer_pool.specs.Frames.{has_block}
+use Rattle.buffer_pool.specs.Pools.{act_of, changed_of}
+use Rattle.buffer_pool.specs.declared.pool.Pool.{Pool}
 use Rattle.page_store.specs.Quiet.{IsQuiet}
-use Rattle.page_store.specs.Taking.{IsWrittenOver}
-use Rattle.page_store.proofs.Evicting.{over_of}
+use Rattle.page_action.specs.Frames.{LogStays}
+use Rattle.page_store.specs.Logged.{held_of, backing_of}
+use Rattle.page_store.specs.Taking.{CostsFrame}
+use Rattle.page_store.proofs.Costing.{stays, stays_both, over_failed, over_written}
 use Rattle.page_store.proofs.Pooling.{changed_at, same_block}
 use Rattle.page_store.proofs.Quieting.{quiet_both}
 use Rattle.page_store.proofs.logged_pages.LoggedPages.free_frame.Given.{Over}
@@ -25,16 +29,32 @@ ahead g c =
     (quiet_both g.D.Device c.args.self.now c.choose-choice.new.self c.write_over.new.self c.choose-choice.ensures.quiet c.write_over.ensures.quiet)
     c.write_ahead.ensures.quiet
 
-over : (g : Over) (c : After-write_ahead g) → IsWrittenOver c.args.pinned.now c.args.self.now.durable c.write_ahead.new.self.durable c.args.self.now.pool c.write_ahead.new.self.pool
+-- where the act of the first one is durable, the log isn't forced for it
+stays_first : (g : Over) (c : After-write_over g) → c.in-Oldest.act ≤ c.args.self.now.durable → LogStays (backing_of (held_of g.D.Device c.args.self.now)) (backing_of (held_of g.D.Device c.write_over.new.self))
+stays_first g c early =
+    let chosen = c.choose-choice in
+    stays_both g.D.Device c.args.self.now chosen.new.self c.write_over.new.self
+    (stays g.D.Device c.args.self.now chosen.new.self (record { log = chosen.ensures.log; durable = chosen.ensures.durable; room = chosen.ensures.room }) chosen.ensures.quiet.promised)
+    (stays g.D.Device chosen.new.self c.write_over.new.self (c.write_over.ensures.forced (subst (λ (n : ℕ). c.in-Oldest.act ≤ n) (sym chosen.ensures.durable) early)) c.write_over.ensures.quiet.promised)
+
+over : (g : Over) (c : After-write_ahead g) → CostsFrame g.D.Device c.args.pinned.now c.args.self.now c.write_ahead.new.self
 over g c =
     let chosen = c.choose-choice in
-    let was : chosen.new.self.durable ≡ c.args.self.now.durable = chosen.ensures.durable in
-    subst (λ (n : ℕ). IsWrittenOver c.args.pinned.now c.args.self.now.durable n c.args.self.now.pool c.write_ahead.new.self.pool) (sym c.write_ahead.ensures.durable)
-    (over_of c.args.pinned.now c.args.self.now.durable c.write_over.new.self.durable c.in-Oldest.place c.in-Oldest.block c.in-Oldest.act
-    c.args.self.now.pool chosen.new.self.pool c.write_over.new.self.pool c.write_ahead.new.self.pool chosen.ensures.same chosen.ensures.changes c.in-Oldest.ensures.choice
-    c.in_ok-at-in-Oldest.ensures.order c.write_over.ensures.same.most c.in_ok-at-in-Oldest.ensures.acts
-    (λ early. c.write_over.ensures.forced (subst (λ (n : ℕ). c.in-Oldest.act ≤ n) (sym was) early) ∙ was)
-    c.write_ahead.ensures.ahead)
+    let ahead = c.write_ahead.ensures in
+    over_written g.D.Device c.args.pinned.now c.args.self.now chosen.new.self c.write_ahead.new.self c.in-Oldest.place c.in-Oldest.block c.in-Oldest.act
+    chosen.ensures.same chosen.ensures.changes c.in-Oldest.ensures.choice c.law.ensures
+    (λ early. stays_both g.D.Device c.args.self.now c.write_over.new.self c.write_ahead.new.self (stays_first g (goal.at.After-write_ahead g c).After-write_over early)
+    (stays g.D.Device c.write_over.new.self c.write_ahead.new.self (record { log = ahead.log; durable = ahead.durable; room = ahead.room }) ahead.quiet.promised))
+    c.write_over.new.self c.in_ok-at-in-Oldest.ensures.order c.write_over.ensures.same.most c.in_ok-at-in-Oldest.ensures.acts ahead.ahead ahead.durable
+
+pub returns-in_err-at-in-Oldest-clause-cost : goal.returns-in_err-at-in-Oldest-clause-cost
+returns-in_err-at-in-Oldest-clause-cost g c =
+    let chosen = c.choose-choice in
+    let same = c.in_err-at-in-Oldest.ensures.refused in
+    over_failed g.D.Device c.args.pinned.now c.args.self.now chosen.new.self c.write_over.new.self c.in-Oldest.place c.in-Oldest.block c.in-Oldest.act
+    chosen.ensures.same chosen.ensures.changes c.in-Oldest.ensures.choice c.law.ensures
+    (stays_first g (goal.at.returns-in_err-at-in-Oldest-clause-cost g c).After-write_over)
+    (ap changed_of same) (λ b. ap (λ (p : Pool). act_of p b) same)
 
 pub returns-in_err-at-in-Oldest-clause-quiet : goal.returns-in_err-at-in-Oldest-clause-quiet
 returns-in_err-at-in-Oldest-clause-quiet g c = first g (goal.at.returns-in_err-at-in-Oldest-clause-quiet g c).After-write_over
@@ -42,14 +62,14 @@ returns-in_err-at-in-Oldest-clause-quiet g c = first g (goal.at.returns-in_err-a
 pub returns-in_err-write_ahead-in-Oldest-clause-quiet : goal.returns-in_err-write_ahead-in-Oldest-clause-quiet
 returns-in_err-write_ahead-in-Oldest-clause-quiet g c = ahead g (goal.at.returns-in_err-write_ahead-in-Oldest-clause-quiet g c).After-write_ahead
 
-pub returns-in_err-write_ahead-in-Oldest-clause-writes : goal.returns-in_err-write_ahead-in-Oldest-clause-writes
-returns-in_err-write_ahead-in-Oldest-clause-writes g c = inr (over g (goal.at.returns-in_err-write_ahead-in-Oldest-clause-writes g c).After-write_ahead)
+pub returns-in_err-write_ahead-in-Oldest-clause-cost : goal.returns-in_err-write_ahead-in-Oldest-clause-cost
+returns-in_err-write_ahead-in-Oldest-clause-cost g c = over g (goal.at.returns-in_err-write_ahead-in-Oldest-clause-cost g c).After-write_ahead
 
 pub returns-in_ok-write_ahead-in-Oldest-clause-quiet : goal.returns-in_ok-write_ahead-in-Oldest-clause-quiet
 returns-in_ok-write_ahead-in-Oldest-clause-quiet g c = ahead g (goal.at.returns-in_ok-write_ahead-in-Oldest-clause-quiet g c).After-write_ahead
 
-pub returns-in_ok-write_ahead-in-Oldest-clause-writes : goal.returns-in_ok-write_ahead-in-Oldest-clause-writes
-returns-in_ok-write_ahead-in-Oldest-clause-writes g c = inr (over g (goal.at.returns-in_ok-write_ahead-in-Oldest-clause-writes g c).After-write_ahead)
+pub returns-in_ok-write_ahead-in-Oldest-clause-cost : goal.returns-in_ok-write_ahead-in-Oldest-clause-cost
+returns-in_ok-write_ahead-in-Oldest-clause-cost g c = over g (goal.at.returns-in_ok-write_ahead-in-Oldest-clause-cost g c).After-write_ahead
 
 pub returns-in_ok-write_ahead-in-Oldest-clause-unpinned : goal.returns-in_ok-write_ahead-in-Oldest-clause-unpinned
 returns-in_ok-write_ahead-in-Oldest-clause-unpinned g c = λ block pinned e.

@@ -1,27 +1,61 @@
-use Rattle.std.proofs.Common.{◌≡◌, Err, true, ap, ◌∙◌}
-use Rattle.redo_log.specs.Kept.{is_stopped}
-use Rattle.page_store.proofs.Frames.{taking_on, if_err_map}
-use Rattle.page_store.proofs.Places.{on_ok_map}
-use Rattle.page_store.proofs.Quieting.{quiet_both}
+use Rattle.std.proofs.Common.{◌≡◌, ℕ, None, subst, ap, ◌∙◌}
+use Rattle.buffer_pool.specs.Pools.{IsPut, frame_of, blocks_of}
+use Rattle.buffer_pool.specs.declared.pool.Pool.{Pool}
+use Rattle.page_store.specs.Quiet.{IsQuiet}
+use Rattle.page_store.specs.Taking.{CostsFrame, GetsFrame}
+use Rattle.page_store.proofs.Costing.{changes_same, none_of, costs_on, gets_none, gets_one}
+use Rattle.page_store.proofs.Frames.{kept_put}
+use Rattle.page_store.proofs.Quieting.{quiet_same, quiet_both}
 use Rattle.page_store.proofs.logged_pages.LoggedPages.take_frame.Given.{Over}
-use Rattle.page_store.proofs.logged_pages.LoggedPages.take_frame.Goals.{In-Err-PageDamaged}
+use Rattle.page_store.proofs.logged_pages.LoggedPages.take_frame.Goals.{After-read_or_copy, After-put}
 use Rattle.page_store.proofs.logged_pages.LoggedPages.take_frame.Goals as goal
 
--- the log that failed had failed before
-alive : (g : Over) (c : In-Err-PageDamaged g) → is_stopped c.fetch.new.self.log ≡ true → is_stopped c.args.self.now.log ≡ true
-alive g c = c.fetch.ensures.damaged c.in-Err-PageDamaged.field-0-0 (c.in-Err-PageDamaged.is ∙ ap Err c.in-Err-PageDamaged.field-0-is)
+-- a frame is had, and the page was read or not
+read : (g : Over) (c : After-read_or_copy g) → IsQuiet g.D.Device c.args.self.now c.read_or_copy.new.self
+read g c = quiet_both g.D.Device c.args.self.now c.free_frame.new.self c.read_or_copy.new.self c.free_frame.ensures.quiet c.read_or_copy.ensures.quiet
 
-pub returns-in-Err-PageDamaged-clause-quiet : goal.returns-in-Err-PageDamaged-clause-quiet
-returns-in-Err-PageDamaged-clause-quiet g c =
-    quiet_both g.D.Device c.args.self.now c.fetch.new.self c.take_blank-in-Err-PageDamaged.new.self c.fetch.ensures.quiet c.take_blank-in-Err-PageDamaged.ensures.quiet
+-- no frame held it
+none : (g : Over) (c : After-read_or_copy g) → frame_of c.args.self.now.pool c.args.page.now.block ≡ None
+none g c = none_of (frame_of c.args.self.now.pool c.args.page.now.block) c.holds.result c.holds.ensures c.if-holds.false
 
-pub returns-in-Err-PageDamaged-clause-alive : goal.returns-in-Err-PageDamaged-clause-alive
-returns-in-Err-PageDamaged-clause-alive g c =
-    on_ok_map c.take_blank-in-Err-PageDamaged.result c.take_blank-in-Err-PageDamaged.ensures.alive
-    (λ still stopped. alive g (goal.at.returns-in-Err-PageDamaged-clause-alive g c).In-Err-PageDamaged (still stopped))
+cost_read : (g : Over) (c : After-read_or_copy g) → CostsFrame g.D.Device c.args.pinned.now c.args.self.now c.read_or_copy.new.self
+cost_read g c =
+    let r = c.read_or_copy.ensures in
+    costs_on g.D.Device c.args.pinned.now c.args.self.now c.free_frame.new.self c.read_or_copy.new.self c.free_frame.ensures.cost (changes_same c.free_frame.new.self.pool c.read_or_copy.new.self.pool r.pool)
+    (record { log = r.log; durable = r.durable; room = r.room }) r.quiet.promised
 
-pub returns-in-Err-PageDamaged-clause-cause : goal.returns-in-Err-PageDamaged-clause-cause
-returns-in-Err-PageDamaged-clause-cause g c =
-    if_err_map c.take_blank-in-Err-PageDamaged.result _ _ c.take_blank-in-Err-PageDamaged.ensures.cause
-    (λ e fails. taking_on c.args.self.now.pool c.fetch.new.self.pool c.args.pinned.now _ _ _ _ _ e c.fetch.ensures.kept.most
-    (alive g (goal.at.returns-in-Err-PageDamaged-clause-cause g c).In-Err-PageDamaged) c.fetch.ensures.quiet.follows.later.failures fails)
+put_there : (g : Over) (c : After-put g) → IsPut c.free_frame.new.self.pool c.put.new.self.pool c.in_ok-at.at c.read_or_copy.new.self.decoded.value
+put_there g c = subst (λ (p : Pool). IsPut p c.put.new.self.pool c.in_ok-at.at c.read_or_copy.new.self.decoded.value) c.read_or_copy.ensures.pool c.put.ensures.pool
+
+pub returns-in_err-read_or_copy-clause-quiet : goal.returns-in_err-read_or_copy-clause-quiet
+returns-in_err-read_or_copy-clause-quiet g c = read g (goal.at.returns-in_err-read_or_copy-clause-quiet g c).After-read_or_copy
+
+pub returns-in_err-read_or_copy-clause-frame : goal.returns-in_err-read_or_copy-clause-frame
+returns-in_err-read_or_copy-clause-frame g c =
+    let here = (goal.at.returns-in_err-read_or_copy-clause-frame g c).After-read_or_copy in
+    gets_none g.D.Device c.args.pinned.now c.args.page.now.block c.args.self.now c.read_or_copy.new.self c.law.ensures (none g here) (cost_read g here)
+    (ap blocks_of c.read_or_copy.ensures.pool ∙ c.free_frame.ensures.same.blocks)
+
+pub returns-clause-quiet : goal.returns-clause-quiet
+returns-clause-quiet g c =
+    quiet_both g.D.Device c.args.self.now c.read_or_copy.new.self c.put.new.self (read g (goal.at.returns-clause-quiet g c).After-read_or_copy) c.put.ensures.quiet
+
+pub returns-clause-kept : goal.returns-clause-kept
+returns-clause-kept g c =
+    kept_put c.args.self.now.pool c.free_frame.new.self.pool c.put.new.self.pool c.args.pinned.now c.in_ok-at.at c.read_or_copy.new.self.decoded.value c.free_frame.ensures.same c.in_ok-at.ensures.unpinned
+    (put_there g (goal.at.returns-clause-kept g c).After-put)
+
+pub returns-then-holds-clause-quiet : goal.returns-then-holds-clause-quiet
+returns-then-holds-clause-quiet g c = quiet_same g.D.Device c.args.self.now
+
+pub returns-clause-frame : goal.returns-clause-frame
+returns-clause-frame g c =
+    let here = goal.at.returns-clause-frame g c in
+    let page = c.read_or_copy.new.self.decoded.value in
+    let is : page.block ≡ c.args.page.now.block = c.in_ok-read_or_copy.ensures.stored.block_is in
+    let p = c.put.ensures in
+    let cost = costs_on g.D.Device c.args.pinned.now c.args.self.now c.read_or_copy.new.self c.put.new.self (cost_read g here.After-read_or_copy) p.pool.changes
+    (record { log = p.log; durable = p.durable; room = p.room }) p.quiet.promised in
+    subst (λ (b : ℕ). GetsFrame g.D.Device c.args.pinned.now b c.args.self.now c.put.new.self) is
+    (gets_one g.D.Device c.args.pinned.now c.in_ok-at.at c.args.self.now c.free_frame.new.self c.put.new.self page c.law.ensures (ap (frame_of c.args.self.now.pool) is ∙ none g here.After-read_or_copy)
+    c.free_frame.ensures.same c.in_ok-at.ensures.free c.in_ok-at.ensures.unpinned c.in_ok-at.ensures.unused (put_there g here.After-put) cost)

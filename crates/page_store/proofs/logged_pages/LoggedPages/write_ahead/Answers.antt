@@ -1,5 +1,5 @@
-use Rattle.std.proofs.Common.{ℕ, ◌≤◌, refl, sym, ap, subst, ◌∙◌, arith}
-use Rattle.buffer_pool.specs.Pools.{changed_of, HasSamePages}
+use Rattle.std.proofs.Common.{ℕ, refl, sym, subst, ◌∙◌, arith}
+use Rattle.buffer_pool.specs.Pools.{HasSamePages}
 use Rattle.buffer_pool.specs.declared.pool.Pool.{Pool}
 use Rattle.buffer_pool.proofs.Noting.{pages_both}
 use Rattle.page_store.specs.Quiet.{IsQuiet}
@@ -20,11 +20,12 @@ held g c = pages_both c.args.self.now.pool c.loop-count.self.pool c.write_next.n
 pub loop-count-init : goal.loop-count-init
 loop-count-init g c = record {
   quiet = quiet_same g.D.Device c.args.self.now;
-  same = record { most = refl; reach = refl; count = refl; frames = λ at. refl; places = λ block. refl; held = λ block. refl };
+  same = record { most = refl; reach = refl; count = refl; blocks = refl; frames = λ at. refl; places = λ block. refl; held = λ block. refl };
   goes = goes_none c.args.pinned.now c.args.self.now.durable c.args.place c.args.self.now.pool c.requires.place;
   few = omega arith;
   durable = refl;
   log = refl;
+  room = refl;
   failures = refl;
 }
 
@@ -64,6 +65,7 @@ loop-count-preserved g c =
       few = omega (arith, c.loop-count-test.true, c.frames-most.ensures);
       durable = c.write_next.ensures.durable ∙ i.durable;
       log = c.write_next.ensures.log ∙ i.log;
+      room = c.write_next.ensures.room ∙ i.room;
       failures = c.in_ok-write_next.ensures.failures ∙ i.failures;
     }
 

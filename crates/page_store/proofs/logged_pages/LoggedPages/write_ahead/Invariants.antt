@@ -12,6 +12,7 @@ invariant-loop-count g l = record {
   few : l.count ≤ most_of l.fn.self.pool / 4;
   durable : l.self.durable ≡ l.fn.self.durable;
   log : l.self.log ≡ l.fn.self.log;
+  room : l.self.room ≡ l.fn.self.room;
   failures : g.D.Device.failures l.self.device ≡ g.D.Device.failures l.fn.self.device;
 }
 

@@ -1,4 +1,10 @@
-use Rattle.std.proofs.Common.{◌∙◌}
+use Rattle.std.proofs.Common.{ℕ, List, ◌++◌, ap, subst, ◌∙◌}
+use Rattle.latch_table.specs.Holdings.{pinned_blocks}
+use Rattle.buffer_pool.specs.Pools.{most_of}
+use Rattle.page_action.specs.Frames.{blocks_of}
+use Rattle.page_action.proofs.Framing.{takes_none}
+use Rattle.page_store.specs.Logged.{held_of, backing_of, memory_in}
+use Rattle.page_store.specs.Taking.{GetFrames}
 use Rattle.page_store.proofs.Frames.{own_pinned}
 use Rattle.page_store.proofs.Quieting.{quiet_same}
 use Rattle.page_store.proofs.store.Store.take_frames.Goals as goal
@@ -9,3 +15,14 @@ take_frames-requires-clause-pinned g c =
 
 pub returns-then-holds_all-clause-quiet : goal.returns-then-holds_all-clause-quiet
 returns-then-holds_all-clause-quiet g c = quiet_same g.D.Device c.args.self.now.held
+
+pub returns-then-holds_all-clause-frames : goal.returns-then-holds_all-clause-frames
+returns-then-holds_all-clause-frames g c =
+    let held = c.args.self.now.held in
+    let blocks = blocks_of c.args.pages.now in
+    takes_none (most_of held.pool) (blocks ++ pinned_blocks c.args.self.now.calls.table) blocks (memory_in held.pool) (backing_of (held_of g.D.Device held))
+
+pub returns-clause-frames : goal.returns-clause-frames
+returns-clause-frames g c =
+    subst (λ (bs : List ℕ). GetFrames g.D.Device bs (blocks_of c.args.pages.now) c.args.self.now.held c.take_frames.new.self)
+    (c.as_slice.ensures.value ∙ (c.with_blocks-pinned.ensures ∙ ap (λ (bs : List ℕ). blocks_of c.args.pages.now ++ bs) c.pinned.ensures)) c.take_frames.ensures.frames

@@ -1,20 +1,26 @@
-use Rattle.std.proofs.Common.{◌≡◌, ◌∙◌, suc, List, length, refl, ap, sym, subst, arith}
+use Rattle.std.proofs.Common.{◌≡◌, ◌∙◌, ◌++◌, inl, Result, Ok, Err, suc, List, length, refl, ap, sym, subst, arith}
+use Rattle.std.specs.Prelude.{OnErr}
+use Rattle.index_model.specs.declared.fault.Fault.{Fault}
 use Rattle.index_model.specs.declared.limits.Limits.{Limits}
 use Rattle.page_codec.specs.declared.page.Page.{Page}
 use Rattle.page_action.specs.CallTables.{TableOfCalls}
-use Rattle.page_action.specs.States.{with_pages, with_counts}
+use Rattle.latch_table.specs.Holdings.{pinned_blocks}
+use Rattle.page_action.specs.Frames.{Memory, TakesFrames, blocks_of}
+use Rattle.page_action.specs.States.{Backing, with_pages, with_counts}
+use Rattle.page_action.proofs.Framing.{takes_none}
+use Rattle.page_store.proofs.Costing.{backing_same}
 use Rattle.page_action.specs.Waiting.{AreWaiting, with_all_waiting}
 use Rattle.page_action.proofs.Waiting.{write_waits, length-with_all_waiting}
 use Rattle.page_action.proofs.StoredPages.{length-with_counts}
 use Rattle.page_store.specs.Following.{Follows}
 use Rattle.page_store.specs.Histories.{pages_now}
-use Rattle.page_store.specs.Logged.{backing_of, held_of}
+use Rattle.page_store.specs.Logged.{backing_of, held_of, memory_in}
 use Rattle.page_store.specs.Stores.{state_of, held_by}
 use Rattle.page_store.proofs.Causes.{taking_cause}
 use Rattle.page_store.proofs.FollowLaws.{follows_both}
 use Rattle.page_store.proofs.Stating.{state_alike}
 use Rattle.page_store.proofs.Ordering.{part_same, part_is}
-use Rattle.buffer_pool.specs.Pools.{changed_of}
+use Rattle.buffer_pool.specs.Pools.{most_of, changed_of}
 use Rattle.page_store.proofs.store.StorePageStore.act.Given.{Over}
 use Rattle.page_store.proofs.store.StorePageStore.act.Goals.{After-take_frames, After-act, After-note}
 use Rattle.page_store.proofs.store.StorePageStore.act.Goals as goal
@@ -91,4 +97,36 @@ returns-clause-order g c = record {
   before = changed_of c.take_frames.new.self.held.pool;
   written = c.take_frames.ensures.quiet.order;
   changed = part_is _ _ c.in_ok-number.ensures.pool.order;
+}
+
+on_err : {T : Type 0} (r : Result T Fault) (P : Type 0) → P → OnErr r P
+on_err (Ok x) P h = tt
+on_err (Err e) P h = h
+
+pub returns-then-is_stopped-clause-taken : goal.returns-then-is_stopped-clause-taken
+returns-then-is_stopped-clause-taken g c =
+    let store = c.args.self.now in
+    let blocks = blocks_of c.args.pages.now in
+    takes_none (most_of store.held.pool) (blocks ++ pinned_blocks store.calls.table) blocks (memory_in store.held.pool) (backing_of (held_by g.D.Device store))
+
+pub returns-in_err-number-clause-taken : goal.returns-in_err-number-clause-taken
+returns-in_err-number-clause-taken g c =
+    let store = c.args.self.now in
+    let taken = c.take_frames.new.self.held in
+    let blocks = blocks_of c.args.pages.now in
+    let a = c.act.ensures in
+    let err = c.in_err-number.ensures in
+    let pool = err.frames in
+    on_err c.from_residual.result _
+    (subst (λ (m : Memory). TakesFrames (most_of store.held.pool) (blocks ++ pinned_blocks store.calls.table) blocks (memory_in store.held.pool) m (backing_of (held_by g.D.Device store)) (backing_of (held_of g.D.Device c.act.new.self)))
+    (sym (ap memory_in pool))
+    (subst (λ (b : Backing). TakesFrames (most_of store.held.pool) (blocks ++ pinned_blocks store.calls.table) blocks (memory_in store.held.pool) (memory_in taken.pool) (backing_of (held_by g.D.Device store)) b)
+    (sym (backing_same g.D.Device taken c.act.new.self (ap changed_of pool) err.log a.honest a.failures a.durable err.kept.room err.kept.promised)) c.take_frames.ensures.frames))
+
+pub returns-clause-frames : goal.returns-clause-frames
+returns-clause-frames g c = record {
+  taken = memory_in c.take_frames.new.self.held.pool;
+  between = backing_of (held_of g.D.Device c.take_frames.new.self.held);
+  frames = c.take_frames.ensures.frames;
+  done = inl (record { changed = c.in_ok-number.ensures.pool.order; waiting = c.in_ok-number.ensures.waiting; durable = c.act.ensures.durable });
 }

@@ -1,14 +1,19 @@
-use Rattle.std.proofs.Common.{Bool, List, ℕ, sym, ap, subst, ◌∙◌}
+use Rattle.std.proofs.Common.{◌≡◌, Bool, List, ℕ, sym, ap, subst, ◌∙◌}
 use Rattle.redo_log.specs.Kept.{is_stopped}
-use Rattle.page_store.specs.Logged.{backing_of, held_of}
+use Rattle.page_store.specs.Logged.{backing_of, held_of, memory_in}
 use Rattle.page_store.specs.Stores.{state_of, held_by}
-use Rattle.page_store.specs.Taking.{FetchFails}
+use Rattle.page_store.specs.Taking.{FetchFails, GetsFrame}
+use Rattle.latch_table.specs.Holdings.{pinned_blocks}
+use Rattle.buffer_pool.specs.Frames.{has_block}
+use Rattle.page_store.proofs.Costing.{same_memory, backing_same, gets_from, gets_there}
 use Rattle.page_store.proofs.Causes.{fetch_cause}
 use Rattle.page_store.proofs.FollowLaws.{follows_both}
 use Rattle.page_store.proofs.Frames.{if_err_map}
 use Rattle.page_store.proofs.Ordering.{part_same}
 use Rattle.page_store.proofs.Quieting.{quiet_both}
 use Rattle.buffer_pool.specs.Pools.{changed_of}
+use Rattle.page_store.proofs.store.StorePageStore.fetch.Given.{Over}
+use Rattle.page_store.proofs.store.StorePageStore.fetch.Goals.{After-look}
 use Rattle.page_store.proofs.store.StorePageStore.fetch.Goals as goal
 
 pub returns-then-block-self-clause-order : goal.returns-then-block-self-clause-order
@@ -30,3 +35,29 @@ returns-clause-cause g c =
     (subst (λ (bs : List ℕ). FetchFails looked.pool bs old.stopped old.failures new.failures c.args.block new.honest e) (c.as_slice.ensures.value ∙ c.pinned-pinned.ensures)
     (subst (λ (n : ℕ). FetchFails looked.pool c.as_slice.result.now old.stopped n new.failures c.args.block new.honest e) (ap g.D.Device.failures c.look.ensures.device)
     (subst (λ (b : Bool). FetchFails looked.pool c.as_slice.result.now b (g.D.Device.failures looked.device) new.failures c.args.block new.honest e) (ap is_stopped c.look.ensures.log) fails))))
+
+-- a look leaves the pages in memory, the log and the device
+memory_looked : (g : Over) (c : After-look g) → memory_in c.look.new.self.pool ≡ memory_in c.args.self.now.held.pool
+memory_looked g c = same_memory c.args.self.now.held.pool c.look.new.self.pool c.look.ensures.same c.look.ensures.changes
+
+backing_looked : (g : Over) (c : After-look g) → backing_of (held_of g.D.Device c.look.new.self) ≡ backing_of (held_of g.D.Device c.args.self.now.held)
+backing_looked g c =
+    let l = c.look.ensures in
+    backing_same g.D.Device c.args.self.now.held c.look.new.self l.changes.order l.log (ap g.D.Device.is_honest l.device) (ap g.D.Device.failures l.device) l.durable l.room l.quiet.promised
+
+pub returns-then-look-clause-frame : goal.returns-then-look-clause-frame
+returns-then-look-clause-frame g c =
+    let here = (goal.at.returns-then-look-clause-frame g c).After-look in
+    gets_there g.D.Device (pinned_blocks c.args.self.now.calls.table) c.args.block c.args.self.now.held c.look.new.self (memory_looked g here) (backing_looked g here)
+
+pub returns-then-look-clause-in_memory : goal.returns-then-look-clause-in_memory
+returns-then-look-clause-in_memory g c = ap (λ (bs : List ℕ). has_block bs c.args.block) c.look.ensures.same.blocks ∙ (sym c.look.ensures.there ∙ c.if-look.true)
+
+pub returns-clause-frame : goal.returns-clause-frame
+returns-clause-frame g c =
+    let here = (goal.at.returns-clause-frame g c).After-look in
+    subst (λ (bs : List ℕ). GetsFrame g.D.Device bs c.args.block c.args.self.now.held c.fetch.new.self) (c.as_slice.ensures.value ∙ c.pinned-pinned.ensures)
+    (gets_from g.D.Device c.as_slice.result.now c.args.block c.args.self.now.held c.look.new.self c.fetch.new.self c.look.ensures.same.most (memory_looked g here) (backing_looked g here) c.fetch.ensures.frame)
+
+pub returns-clause-in_memory : goal.returns-clause-in_memory
+returns-clause-in_memory g c = c.fetch.ensures.there
