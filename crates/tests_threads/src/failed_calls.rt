@@ -1,14 +1,14 @@
 //! Runs of jobs during which calls of the device fail: one once, or one and all behind it.
 
 use crate::indexes::{InMemory, all_entries, made, opened};
-use crate::judge::{Addition, are_those_by, count};
+use crate::judge::{Addition, are_those_by, count, tells_of_failure};
 use crate::judged::ran;
 use crate::lists::{entry, range};
 use amcheck::check_parents;
 use device::{CrashImage, MemDevice};
-use index_model::{Fault, Limits};
+use index_model::Limits;
 use session_calls::Answer;
-use sessions::{Job, NoGate, Record};
+use sessions::{Job, Record};
 use std::alloc::{AllocError, Global};
 use std::process::Abort;
 use std::sync::Wait;
@@ -83,20 +83,6 @@ fn last_forced(history: &[Record]) -> u64 {
     durable
 }
 
-/// Whether a record says that a call of the device failed.
-fn tells_of_it(history: &[Record]) -> bool {
-    history.iter().any(|record| {
-        matches!(
-            &record.answer,
-            Answer::Refused(Fault::Io)
-                | Answer::Added {
-                    unfinished: Some(Fault::Io),
-                    ..
-                }
-        )
-    })
-}
-
 /// Opens what a crash left: its entries are those that some first part of the actions added, which holds the durable ones, and
 /// the verifier finds no damage.
 fn opens_right(
@@ -133,14 +119,14 @@ fn fails_right(
     let fresh = calls_of(made(rt.alloc(), &LIMITS, workers)?);
     let mut world = made(rt.alloc(), &LIMITS, workers)?;
     will_fail(&mut world, how, n);
-    let (done, added) = ran(rt, world, jobs, workers, &NoGate)?;
+    let (done, added) = ran(rt, world, jobs, workers, LIMITS.pages, true)?;
     let durable = last_forced(done.history.as_slice());
     let last = done.world.actions();
     for image in [CrashImage::Keep, CrashImage::Drop, CrashImage::Tear] {
         let found = done.world.crash(rt.alloc(), image)?;
         opens_right(rt, found, added.as_slice(), durable, last, counted)?;
     }
-    let has_told = tells_of_it(done.history.as_slice());
+    let has_told = done.history.as_slice().iter().any(tells_of_failure);
     let has_failed = calls_of(done.world).saturating_sub(fresh) >= n;
     assert_eq!(rt; has_told, has_failed, "{how:?} {n}");
     if has_failed {

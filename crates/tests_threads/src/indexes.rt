@@ -16,10 +16,13 @@ use world::World;
 /// An index on a device in memory.
 pub type InMemory = World<Store<MemDevice>, Blocks>;
 
-/// The world of the index on a device, with so many sessions. The sets of dead rows are those of block 1 and of block 2.
+/// How many sets of dead rows there are: the first has those of block 1, the next those of block 2.
+pub const SETS: u32 = 2;
+
+/// The world of the index on a device, with so many sessions.
 pub fn opened(alloc: Global, device: MemDevice, sessions: u32) -> Result<InMemory, Fail> {
     let mut sets = Vec::new(alloc);
-    for block in 1..3 {
+    for block in 1..=SETS {
         sets.push(Blocks {
             from: block,
             to: block,

@@ -1,5 +1,6 @@
 //! Whether what a run told is right: plainly, from its records alone.
 
+use crate::indexes::SETS;
 use index_model::{Entry, Fault, Key, Range, RowAddr};
 use session_calls::Answer;
 use sessions::{Job, Receipt, Record};
@@ -25,15 +26,6 @@ fn added_of<'a>(added: &'a [Option<Addition>], key: &Key) -> Option<&'a Addition
     added.get(number(key)?)?.as_ref()
 }
 
-/// A table of additions for the keys whose numbers are below this bound.
-fn no_additions(alloc: Global, bound: usize) -> Result<Vec<Option<Addition>>, AllocError> {
-    let mut added = Vec::new(alloc);
-    for _ in 0..bound {
-        added.push(None)?;
-    }
-    Ok(added)
-}
-
 /// What was added, by the numbers of the keys, which are below this bound.
 pub fn additions(
     alloc: Global,
@@ -41,7 +33,7 @@ pub fn additions(
     history: &[Record],
     bound: usize,
 ) -> Result<Vec<Option<Addition>>, AllocError> {
-    let mut added = no_additions(alloc, bound)?;
+    let mut added = vec![in alloc; None; bound]?;
     for record in history {
         if let Answer::Added { action, .. } = &record.answer
             && let Some(Job::Insert(entry)) = jobs.get(record.job as usize)
@@ -70,15 +62,6 @@ fn told(history: &[Record]) -> usize {
         .count()
 }
 
-/// So many places of which none was seen.
-fn unseen(alloc: Global, count: usize) -> Result<Vec<bool>, AllocError> {
-    let mut seen = Vec::new(alloc);
-    for _ in 0..count {
-        seen.push(false)?;
-    }
-    Ok(seen)
-}
-
 /// Whether each job has its one receipt and its one record, at a place of its own, and each worker's calls are its records.
 pub fn has_each_once(
     alloc: Global,
@@ -90,7 +73,7 @@ pub fn has_each_once(
     if history.len() != count || receipts.len() != count {
         return Ok(false);
     }
-    let mut seen = unseen(alloc, count)?;
+    let mut seen = vec![in alloc; false; count]?;
     for (number, receipt) in receipts.iter().enumerate() {
         let Some(record) = history.get(receipt.place as usize) else {
             return Ok(false);
@@ -124,22 +107,6 @@ fn are_calls(history: &[Record], calls: &[u64]) -> bool {
     total == history.len() as u64
 }
 
-fn is_in(range: &Range, key: &Key) -> bool {
-    let from = match &range.from {
-        Some(from) => from.bytes() <= key.bytes(),
-        None => true,
-    };
-    let below = match &range.below {
-        Some(below) => key.bytes() < below.bytes(),
-        None => true,
-    };
-    from && below
-}
-
-fn are_ascending(given: &[Entry]) -> bool {
-    given.windows(2).all(|pair| pair[0] < pair[1])
-}
-
 /// Whether it was added by the action of this number or one before.
 fn is_added(added: &[Option<Addition>], entry: &Entry, by: u64) -> bool {
     match added_of(added, &entry.key) {
@@ -148,72 +115,201 @@ fn is_added(added: &[Option<Addition>], entry: &Entry, by: u64) -> bool {
     }
 }
 
-/// Whether each entry of the range that was added by then, and isn't above the last one, stands in the list.
-fn has_all(
-    range: &Range,
-    given: &[Entry],
-    added: &[Option<Addition>],
-    by: u64,
-    last: Option<&Entry>,
-) -> bool {
-    let mut count = 0usize;
-    for one in added {
-        if let Some(one) = one
-            && one.action <= by
-            && is_in(range, &one.entry.key)
-            && !last.is_some_and(|last| *last < one.entry)
-        {
-            count = count.saturating_add(1);
-        }
-    }
-    let early = given.iter().filter(|entry| is_added(added, entry, by));
-    early.count() == count
+/// What a run told, and what its judge knows besides.
+#[derive(Drop)]
+pub struct Run<'a> {
+    pub jobs: &'a [Job],
+    pub history: &'a [Record],
+    pub added: &'a [Option<Addition>],
+    /// How many actions there were before.
+    pub start: u64,
+    /// Whether calls of the device were made to fail.
+    pub may_fail: bool,
+    /// Whether each block is in use behind it.
+    pub is_full: bool,
 }
 
-/// Whether a scan gave, strictly ascending, each entry of its range that was there as it began, up to where it was cut, and none
-/// that wasn't added by the time it ended. No entry of the range is removed.
-fn is_scan(range: &Range, room: u32, record: &Record, added: &[Option<Addition>]) -> bool {
-    let given = record.given.as_slice();
-    let is_cut = matches!(&record.answer, Answer::Ended);
-    let last = if is_cut { given.last() } else { None };
-    are_ascending(given)
-        && given.len() <= room as usize
-        && (!is_cut || given.len() == room as usize)
-        && has_all(range, given, added, record.from, last)
-        && given.iter().all(|entry| {
-            is_in(range, &entry.key) && is_added(added, entry, record.to)
+/// A record, with those that ended before it began, those that ended meanwhile, and those behind it.
+#[derive(Drop)]
+struct Placed<'a> {
+    record: &'a Record,
+    earlier: &'a [Record],
+    beside: &'a [Record],
+    behind: &'a [Record],
+}
+
+/// The record at a place; none where it says that it began behind it.
+fn record_at<'a>(history: &'a [Record], place: usize) -> Option<Placed<'a>> {
+    let record = history.get(place)?;
+    let seen = record.seen as usize;
+    if seen > place || place >= history.len() {
+        return None;
+    }
+    Some(Placed {
+        record,
+        earlier: &history[..seen],
+        beside: &history[seen..place],
+        behind: &history[place + 1..],
+    })
+}
+
+/// Whether its interval begins no earlier than what had ended before, and ends no earlier than what ended meanwhile, which was begun
+/// by other workers.
+fn is_in_time(start: u64, at: &Placed<'_>) -> bool {
+    let (from, to) = (at.record.from, at.record.to);
+    let ended = match at.earlier.last() {
+        Some(last) => last.to,
+        None => start,
+    };
+    ended <= from
+        && from <= to
+        && at.beside.iter().all(|other| {
+            other.worker != at.record.worker && from <= other.to && other.to <= to
         })
 }
 
-/// Whether an answer is one that such a job may end with.
-fn is_answer(job: &Job, record: &Record, added: &[Option<Addition>]) -> bool {
-    match (job, &record.answer) {
-        (_, Answer::Refused(fault)) => !matches!(fault, Fault::Blocked(_) | Fault::NoMemory),
-        (Job::Insert(_), Answer::Added { action, .. }) => {
-            record.from < *action && *action <= record.to
+/// The part of the table of additions where the keys of a range stand.
+fn part_of<'a>(range: &Range, added: &'a [Option<Addition>]) -> &'a [Option<Addition>] {
+    let from = match &range.from {
+        Some(key) => number(key).unwrap_or(0),
+        None => 0,
+    };
+    let below = match &range.below {
+        Some(key) => number(key).unwrap_or(usize::MAX).min(added.len()),
+        None => added.len(),
+    };
+    if from <= below {
+        &added[from..below]
+    } else {
+        &added[..0]
+    }
+}
+
+/// Whether these are, in their order, some of the additions of this part of the table: of those by the first number each, up to the
+/// last of these unless they are to be all; and none behind the second number. No set may name a row of the part, which might have
+/// been removed meanwhile.
+fn are_of(entries: &[Entry], part: &[Option<Addition>], from: u64, to: u64, are_all: bool) -> bool {
+    let mut next = 0usize;
+    for one in part {
+        let Some(one) = one else {
+            continue;
+        };
+        if entries.get(next).is_some_and(|entry| *entry == one.entry) {
+            next = next.saturating_add(1);
+            if to < one.action || is_dead(one.entry.row) {
+                return false;
+            }
+        } else if is_dead(one.entry.row)
+            || one.action <= from && (are_all || next < entries.len())
+        {
+            return false;
         }
-        (Job::Scan { range, room }, Answer::Done | Answer::Ended) => {
-            is_scan(range, *room, record, added)
+    }
+    next == entries.len()
+}
+
+/// Whether a scan gave what it may. It was cut only where its room was full.
+fn is_scan(run: &Run<'_>, range: &Range, room: u32, record: &Record) -> bool {
+    let given = record.given.as_slice();
+    let is_done = matches!(&record.answer, Answer::Done);
+    let is_cut = matches!(&record.answer, Answer::Ended);
+    let part = part_of(range, run.added);
+    given.len() <= room as usize
+        && (!is_cut || given.len() == room as usize)
+        && are_of(given, part, record.from, record.to, is_done)
+}
+
+/// Whether a record tells that a call of the device failed.
+pub fn tells_of_failure(record: &Record) -> bool {
+    matches!(
+        &record.answer,
+        Answer::Refused(Fault::Io)
+            | Answer::Added {
+                unfinished: Some(Fault::Io),
+                ..
+            }
+    )
+}
+
+/// Whether a bulk delete or a cleanup has its record among these, and began when there were so many records or fewer.
+fn has_vacuum(jobs: &[Job], records: &[Record], seen: u64) -> bool {
+    records.iter().any(|record| {
+        let job = jobs.get(record.job as usize);
+        matches!(job, Some(Job::Bulk(_) | Job::Cleanup)) && record.seen <= seen
+    })
+}
+
+/// Whether a job may be refused with this fault, or leave a split unfinished for it.
+fn has_cause(run: &Run<'_>, at: &Placed<'_>, job: &Job, fault: &Fault) -> bool {
+    let record = at.record;
+    let is_begin = record.from == record.to && at.beside.is_empty();
+    match (job, fault) {
+        (_, Fault::Io) => run.may_fail,
+        // The log has failed before.
+        (_, Fault::Stopped) => {
+            at.earlier.iter().any(tells_of_failure) || at.beside.iter().any(tells_of_failure)
         }
-        (Job::Bulk(_) | Job::Cleanup, Answer::Finished(_)) => true,
-        (Job::Commit, Answer::Forced(action)) => *action == record.to,
-        (Job::Checkpoint, Answer::Checkpointed(action)) => *action == record.to,
+        (Job::Insert(_), Fault::IndexFull) => run.is_full,
+        (Job::Bulk(set), Fault::NoSession) => is_begin && *set >= SETS,
+        (Job::Bulk(_) | Job::Cleanup, Fault::VacuumRunning) => {
+            is_begin && has_vacuum(run.jobs, at.behind, record.seen)
+        }
         _ => false,
     }
 }
 
-/// Whether each record's interval lies in order, its answer is right, and each that tells of an addition added a key of its own.
-pub fn are_right(jobs: &[Job], history: &[Record], added: &[Option<Addition>], start: u64) -> bool {
-    told(history) == count(added)
-        && history.iter().enumerate().all(|(place, record)| {
-            let Some(job) = jobs.get(record.job as usize) else {
-                return false;
-            };
-            start <= record.from
-                && record.from <= record.to
-                && record.seen <= place as u64
-                && is_answer(job, record, added)
-        })
+/// Whether an answer is one that such a job may end with.
+fn is_answer(run: &Run<'_>, at: &Placed<'_>, job: &Job) -> bool {
+    let record = at.record;
+    match (job, &record.answer) {
+        (Job::Insert(entry), Answer::Refused(Fault::Exists)) => {
+            is_added(run.added, entry, record.to)
+        }
+        (_, Answer::Refused(fault)) => has_cause(run, at, job, fault),
+        (Job::Insert(_), Answer::Added { action, unfinished }) => {
+            record.from < *action
+                && *action <= record.to
+                && !unfinished.is_some_and(|fault| !has_cause(run, at, job, &fault))
+        }
+        (Job::Scan { .. }, Answer::Done | Answer::Ended) => true,
+        (Job::Bulk(set), Answer::Finished(stats)) => {
+            *set < SETS && stats.pages_newly_deleted == 0
+        }
+        (Job::Cleanup, Answer::Finished(stats)) => stats.tuples_removed == 0,
+        (Job::Commit, Answer::Forced(action)) | (Job::Checkpoint, Answer::Checkpointed(action)) => {
+            record.from == record.to && *action == record.to
+        }
+        _ => false,
+    }
+}
+
+/// Whether the record at a place is right: its interval, its answer, and what it gave.
+fn is_right(run: &Run<'_>, place: usize) -> bool {
+    let Some(at) = record_at(run.history, place) else {
+        return false;
+    };
+    let Some(job) = run.jobs.get(at.record.job as usize) else {
+        return false;
+    };
+    let gave = match job {
+        Job::Scan { range, room } => is_scan(run, range, *room, at.record),
+        _ => at.record.given.is_empty(),
+    };
+    gave && is_in_time(run.start, &at) && is_answer(run, &at, job)
+}
+
+/// The first place whose record is wrong, if there is one. The length where each is right, but two tell of one addition.
+pub fn first_wrong(run: &Run<'_>) -> Option<usize> {
+    for place in 0..run.history.len() {
+        if !is_right(run, place) {
+            return Some(place);
+        }
+    }
+    if told(run.history) == count(run.added) {
+        None
+    } else {
+        Some(run.history.len())
+    }
 }
 
 /// Whether the sets name the row.
@@ -221,30 +317,52 @@ fn is_dead(row: RowAddr) -> bool {
     row.block() != 0
 }
 
-/// Whether these are, but for the rows of the sets, just the entries that were added.
-pub fn are_those_added(entries: &[Entry], added: &[Option<Addition>]) -> bool {
-    let live = added
-        .iter()
-        .filter(|one| one.as_ref().is_some_and(|one| !is_dead(one.entry.row)))
-        .count();
-    let found = entries.iter().filter(|entry| !is_dead(entry.row)).count();
-    live == found
-        && are_ascending(entries)
-        && entries.iter().all(|entry| is_dead(entry.row) || is_added(added, entry, u64::MAX))
+/// How many entries the bulk deletes that finished removed.
+fn removed(history: &[Record]) -> u64 {
+    let mut count = 0u64;
+    for record in history {
+        if let Answer::Finished(stats) = &record.answer {
+            count = count.saturating_add(stats.tuples_removed);
+        }
+    }
+    count
 }
 
-/// Whether the action of this number or one before added it.
-fn is_by(one: &Option<Addition>, by: u64) -> bool {
-    match one {
-        Some(one) => one.action <= by,
-        None => false,
+/// Whether a bulk delete that finished began when the entry was there, and had its row in its set.
+fn is_removed(run: &Run<'_>, one: &Addition) -> bool {
+    is_dead(one.entry.row)
+        && run.history.iter().any(|record| {
+            let set = match run.jobs.get(record.job as usize) {
+                Some(Job::Bulk(set)) => set.saturating_add(1),
+                _ => 0,
+            };
+            let has_finished = matches!(&record.answer, Answer::Finished(_));
+            has_finished && one.action <= record.from && one.entry.row.block() == set
+        })
+}
+
+/// Whether these are, in their order, the entries that were added, but for as many rows of the sets as the bulk deletes say that they
+/// removed.
+pub fn are_those_left(run: &Run<'_>, entries: &[Entry]) -> bool {
+    let mut next = 0usize;
+    for one in run.added {
+        let Some(one) = one else {
+            continue;
+        };
+        if entries.get(next).is_some_and(|entry| *entry == one.entry) {
+            next = next.saturating_add(1);
+            if is_removed(run, one) {
+                return false;
+            }
+        } else if !is_dead(one.entry.row) {
+            return false;
+        }
     }
+    let all = removed(run.history).saturating_add(entries.len() as u64);
+    next == entries.len() && all == count(run.added) as u64
 }
 
 /// Whether these are just the entries that the actions up to this one added. None is removed.
 pub fn are_those_by(entries: &[Entry], added: &[Option<Addition>], by: u64) -> bool {
-    let count = added.iter().filter(|one| is_by(one, by)).count();
-    entries.len() == count
-        && are_ascending(entries)
-        && entries.iter().all(|entry| is_added(added, entry, by))
+    are_of(entries, added, by, by, true)
 }

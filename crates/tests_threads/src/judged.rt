@@ -2,7 +2,7 @@
 
 use crate::dead::Blocks;
 use crate::indexes::{InMemory, all_entries, made};
-use crate::judge::{Addition, additions, are_right, are_those_added, count, has_each_once};
+use crate::judge::{Addition, Run, additions, are_those_left, count, first_wrong, has_each_once};
 use crate::lists::{Dice, entry, mixed, range, shuffled};
 use amcheck::check_parents_one;
 use device::MemDevice;
@@ -10,28 +10,47 @@ use index_model::{Fault, Limits};
 use page_store::Store;
 use schedule::Event;
 use session_calls::Answer;
-use sessions::{Finished, Gate, Job, NoGate, run_jobs};
+use sessions::{Finished, Job, NoGate, run_jobs};
 use std::process::Abort;
 use std::sync::Wait;
 use std::test::{Fail, *};
 use std::thread::Threads;
 
 /// The keys of all jobs here have numbers below this.
-const KEYS: usize = 1_024;
+const KEYS: usize = 4_096;
 
 /// What a run leaves of an index in memory.
 pub type Done = Finished<Store<MemDevice>, Blocks>;
 
-/// Runs these jobs, and looks at all that they told. Answers what was added, too.
-pub fn ran<G: Gate + Sync>(
+/// What the judge is told of a run on an index of these limits.
+fn told<'a>(
+    jobs: &'a [Job],
+    done: &'a Done,
+    added: &'a [Option<Addition>],
+    pages: u32,
+    may_fail: bool,
+) -> Run<'a> {
+    Run {
+        jobs,
+        history: done.history.as_slice(),
+        added,
+        start: done.start,
+        may_fail,
+        is_full: done.world.used() >= pages,
+    }
+}
+
+/// Runs these jobs on an index of so many pages at most, and looks at all that they told. Answers what was added, too.
+pub fn ran(
     rt: &(impl Abort + AllocGlobal + Print + Eprint + Threads + Wait + Sync),
     world: InMemory,
     jobs: &[Job],
     workers: u32,
-    gate: &G,
+    pages: u32,
+    may_fail: bool,
 ) -> Result<(Done, Vec<Option<Addition>>), Fail> {
     let start = world.actions();
-    let done = match run_jobs(rt, rt.alloc(), world, jobs, workers, gate) {
+    let done = match run_jobs(rt, rt.alloc(), world, jobs, workers, &NoGate) {
         Ok(done) => done,
         Err(not_run) => return Err(Fail::from(not_run.fault)),
     };
@@ -46,7 +65,8 @@ pub fn ran<G: Gate + Sync>(
     assert!(rt; once);
     assert_eq!(rt; done.calls.len(), workers as usize);
     let added = additions(rt.alloc(), jobs, done.history.as_slice(), KEYS)?;
-    assert!(rt; are_right(jobs, done.history.as_slice(), added.as_slice(), start));
+    let run = told(jobs, &done, added.as_slice(), pages, may_fail);
+    assert_eq!(rt; first_wrong(&run), None);
     for session in 0..workers {
         assert!(rt; !done.world.is_running(session));
     }
@@ -59,47 +79,30 @@ const LIMITS: Limits = Limits {
     log_bytes: 1_048_576,
 };
 
-/// A thousand jobs of eight workers: inserts, scans, two bulk deletes and a cleanup.
-fn a_thousand_jobs(
-    rt: &(impl Abort + AllocGlobal + Print + Eprint + Threads + Wait + Sync),
-    seed: u64,
-) -> Result<(), Fail> {
-    let jobs = mixed(rt.alloc(), 898, &mut Dice::new(seed))?;
-    assert_eq!(rt; jobs.len(), 1_000);
+/// Four thousand jobs of eight workers: inserts, scans, two bulk deletes and a cleanup.
+#[test]
+fn four_thousand_jobs(rt: HostRuntime) -> Result<(), Fail> {
+    let jobs = mixed(rt.alloc(), 3_598, &mut Dice::new(1))?;
+    assert_eq!(rt; jobs.len(), 4_000);
     let world = made(rt.alloc(), &LIMITS, 8)?;
-    let (done, added) = ran(rt, world, jobs.as_slice(), 8, &NoGate)?;
+    let (mut done, added) = ran(&rt, world, jobs.as_slice(), 8, LIMITS.pages, false)?;
     assert_eq!(rt; done.start, 0);
-    let mut world = done.world;
-    let entries = all_entries(rt.alloc(), &mut world)?;
-    assert!(rt; are_those_added(entries.as_slice(), added.as_slice()));
-    let mut store = world.into_store();
+    assert_eq!(rt; count(added.as_slice()), 3_598);
+    let entries = all_entries(rt.alloc(), &mut done.world)?;
+    let run = told(
+        jobs.as_slice(),
+        &done,
+        added.as_slice(),
+        LIMITS.pages,
+        false,
+    );
+    assert!(rt; are_those_left(&run, entries.as_slice()));
+    let mut store = done.world.into_store();
     assert!(rt; check_parents_one(rt.alloc(), &mut store).is_ok());
     Ok(())
 }
 
-// Four thousand jobs, in four runs: a test has a minute, also beside other work.
-
-#[test]
-fn first_thousand(rt: HostRuntime) -> Result<(), Fail> {
-    a_thousand_jobs(&rt, 1)
-}
-
-#[test]
-fn second_thousand(rt: HostRuntime) -> Result<(), Fail> {
-    a_thousand_jobs(&rt, 2)
-}
-
-#[test]
-fn third_thousand(rt: HostRuntime) -> Result<(), Fail> {
-    a_thousand_jobs(&rt, 3)
-}
-
-#[test]
-fn fourth_thousand(rt: HostRuntime) -> Result<(), Fail> {
-    a_thousand_jobs(&rt, 4)
-}
-
-/// Eight workers that insert into one leaf wait for each other's latches, and each job is done once.
+/// Eight workers that insert into one leaf wait for each other's latches. Each entry is inserted twice, and one of the two is refused.
 #[test]
 fn one_leaf(rt: HostRuntime) -> Result<(), Fail> {
     let limits = Limits {
@@ -112,12 +115,34 @@ fn one_leaf(rt: HostRuntime) -> Result<(), Fail> {
         let mut jobs = Vec::new(rt.alloc());
         for number in numbers.as_slice() {
             jobs.push(Job::Insert(entry(*number, 0)))?;
+            jobs.push(Job::Insert(entry(*number, 0)))?;
         }
         let world = made(rt.alloc(), &limits, 8)?;
-        let (done, added) = ran(&rt, world, jobs.as_slice(), 8, &NoGate)?;
+        let (done, added) = ran(&rt, world, jobs.as_slice(), 8, 8, false)?;
         assert_eq!(rt; count(added.as_slice()), 48);
         assert_eq!(rt; done.world.actions(), 48);
     }
+    Ok(())
+}
+
+/// Four workers fill an index of eight pages: inserts are refused once it is full, and the verifier finds no damage.
+#[test]
+fn full_index(rt: HostRuntime) -> Result<(), Fail> {
+    let limits = Limits {
+        items: 4,
+        pages: 8,
+        log_bytes: 65_536,
+    };
+    let mut jobs = Vec::new(rt.alloc());
+    for number in 0..60 {
+        jobs.push(Job::Insert(entry(number, 0)))?;
+    }
+    let world = made(rt.alloc(), &limits, 4)?;
+    let (done, added) = ran(&rt, world, jobs.as_slice(), 4, 8, false)?;
+    // Seven pages beside the metapage, one of them the root, hold 24 entries at most.
+    assert!(rt; count(added.as_slice()) <= 24);
+    let mut store = done.world.into_store();
+    assert!(rt; check_parents_one(rt.alloc(), &mut store).is_ok());
     Ok(())
 }
 
@@ -135,7 +160,7 @@ fn rooms_of_scans(rt: HostRuntime) -> Result<(), Fail> {
         })?;
     }
     let world = made(rt.alloc(), &LIMITS, 1)?;
-    let (done, _) = ran(&rt, world, jobs.as_slice(), 1, &NoGate)?;
+    let (done, _) = ran(&rt, world, jobs.as_slice(), 1, LIMITS.pages, false)?;
     for (place, (is_cut, count)) in [(false, 9), (true, 8), (true, 1), (false, 9)]
         .iter()
         .enumerate()
@@ -150,10 +175,15 @@ fn rooms_of_scans(rt: HostRuntime) -> Result<(), Fail> {
     Ok(())
 }
 
-/// What isn't run: too many workers before a call that runs, and the world comes back as it was.
+/// What isn't run: too many workers and too wide a scan before a call that runs; the world comes back as it was. Without a job
+/// nothing is recorded.
 #[test]
 fn not_run(rt: HostRuntime) -> Result<(), Fail> {
     let jobs = [Job::Insert(entry(1, 0))];
+    let wide = [Job::Scan {
+        range: range(0, 1),
+        room: 1_048_577,
+    }];
     let mut world = made(rt.alloc(), &LIMITS, 4)?;
     for workers in [0, 5, 65] {
         match run_jobs(&rt, rt.alloc(), world, &jobs, workers, &NoGate) {
@@ -165,8 +195,12 @@ fn not_run(rt: HostRuntime) -> Result<(), Fail> {
         }
     }
     assert!(rt; matches!(world.one(Event::Insert(3, entry(2, 0))), Answer::Begun));
-    for (workers, fault) in [(5, Fault::BadLimits), (1, Fault::SessionBusy)] {
-        match run_jobs(&rt, rt.alloc(), world, &jobs, workers, &NoGate) {
+    for (jobs, workers, fault) in [
+        (&jobs, 5, Fault::BadLimits),
+        (&wide, 1, Fault::BadLimits),
+        (&jobs, 1, Fault::SessionBusy),
+    ] {
+        match run_jobs(&rt, rt.alloc(), world, jobs, workers, &NoGate) {
             Ok(_) => return Err(Fail::from(Fault::Exists)),
             Err(not_run) => {
                 assert!(rt; not_run.fault == fault);
@@ -175,7 +209,8 @@ fn not_run(rt: HostRuntime) -> Result<(), Fail> {
         }
     }
     assert!(rt; matches!(world.abandon(3), Answer::Ended));
-    let (done, _) = ran(&rt, world, &jobs, 4, &NoGate)?;
+    let (done, _) = ran(&rt, world, &[], 2, LIMITS.pages, false)?;
+    let (done, _) = ran(&rt, done.world, &jobs, 4, LIMITS.pages, false)?;
     assert_eq!(rt; done.history.len(), 1);
     Ok(())
 }

@@ -83,13 +83,13 @@ pub fn mixed(alloc: Global, inserts: u16, dice: &mut Dice) -> Result<Vec<Job>, A
                 room,
             })?;
         }
-        if done == inserts / 3 {
+        if done == inserts / 5 {
             jobs.push(Job::Bulk(0))?;
         }
         if done == inserts / 2 {
             jobs.push(Job::Bulk(1))?;
         }
-        if done == inserts / 3 * 2 {
+        if done == inserts / 5 * 4 {
             jobs.push(Job::Cleanup)?;
         }
     }

@@ -1,12 +1,10 @@
 //! Runs of jobs by threads.
 
 use crate::dead::Blocks;
-use crate::plain::{ALL, entry, run};
-use index_model::Fault;
+use crate::plain::{entry, run};
 use page_action::MapStore;
 use session_calls::Answer;
-use sessions::{Finished, Gate, Job, NoGate};
-use std::alloc::{AllocError, Global};
+use sessions::{Finished, Gate, Job};
 use std::sync::atomic::{AtomicBool, Ordering};
 use std::test::{Fail, *};
 
@@ -64,46 +62,5 @@ fn two_workers_are_seen_beside_each_other(rt: HostRuntime) -> Result<(), Fail> {
     assert!(rt; gate.met_here.load(Ordering::SeqCst));
     assert!(rt; gate.met_there.load(Ordering::SeqCst));
     assert!(rt; added(&done) == 2);
-    Ok(())
-}
-
-// Inserts of so many entries, with a scan that has room for one behind each eighth.
-fn many(alloc: Global, count: u16) -> Result<Vec<Job>, AllocError> {
-    let mut jobs = Vec::new(alloc);
-    for number in 1..=count {
-        jobs.push(Job::Insert(entry(number)))?;
-        if number % 8 == 0 {
-            jobs.push(Job::Scan {
-                range: ALL,
-                room: 1,
-            })?;
-        }
-    }
-    jobs.push(Job::Commit)?;
-    Ok(jobs)
-}
-
-#[test]
-fn eight_workers_do_many_jobs(rt: HostRuntime) -> Result<(), Fail> {
-    let jobs = many(rt.alloc(), 800)?;
-    let done = run(&rt, rt.alloc(), jobs.as_slice(), 8, 8, &NoGate)?;
-    assert!(rt; done.start == 0);
-    assert!(rt; done.history.len() == 901);
-    assert!(rt; added(&done) == 800);
-    Ok(())
-}
-
-#[test]
-fn runs_that_are_refused(rt: HostRuntime) -> Result<(), Fail> {
-    let jobs = [Job::Commit];
-    assert!(rt; run(&rt, rt.alloc(), &jobs, 0, 2, &NoGate).err() == Some(Fault::BadLimits));
-    assert!(rt; run(&rt, rt.alloc(), &jobs, 3, 2, &NoGate).err() == Some(Fault::BadLimits));
-    let wide = [Job::Scan {
-        range: ALL,
-        room: 1_048_577,
-    }];
-    assert!(rt; run(&rt, rt.alloc(), &wide, 1, 2, &NoGate).err() == Some(Fault::BadLimits));
-    let none = run(&rt, rt.alloc(), &[], 2, 2, &NoGate)?;
-    assert!(rt; none.history.is_empty());
     Ok(())
 }
