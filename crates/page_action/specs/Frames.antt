@@ -46,7 +46,7 @@ pub record AreWrittenBehind (frames : ℕ) (pinned front behind : List ℕ) (m :
 -- behind it; or none is, since a call of the device failed. The log is forced for that first page alone, if its act isn't durable.
 pub record IsWrittenFor (frames : ℕ) (pinned : List ℕ) (m m' : Memory) (old new : Backing) : Type 0 where
   pub full : length m.held ≡ frames
-  pub clean : All (λ b. m.unwritten b ≡ 0 → is_among pinned b ≡ true) m.held
+  pub clean : All (λ b. is_among old.changed b ≡ false → is_among pinned b ≡ true) m.held
   pub front : List ℕ
   pub block : ℕ
   pub behind : List ℕ

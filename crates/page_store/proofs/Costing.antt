@@ -23,7 +23,7 @@ use Rattle.page_store.specs.Quiet.{IsUnforced}
 use Rattle.page_store.specs.Taking.{AreWrittenAhead, CostsFrame, GetsFrame, GetFrames}
 use Rattle.page_store.specs.declared.logged_pages.LoggedPages.{LoggedPages}
 use Rattle.page_store.proofs.Evicting.{put_back, has_between, has_wide}
-use Rattle.page_store.proofs.Pooling.{bool_cases}
+use Rattle.page_store.proofs.Pooling.{bool_cases, unchanged}
 
 -- the block at a place, with those before and behind it
 split_at : (xs : List ℕ) (k b : ℕ) → slice_get xs k ≡ Some b → xs ≡ take k xs ++ b ∷ drop (suc k) xs
@@ -132,10 +132,12 @@ module _ {D : Type 0} (g : Ghosts D) where
     full : length (blocks_of old.pool) ≡ most_of old.pool
     full = sym (ap (λ (l : List ℕ). length l) pages.blocks) ∙ (law.count ∙ (oldest.full ∙ pages.most))
 
-    clean : All (λ b. act_of old.pool b ≡ 0 → has_block pinned b ≡ true) (blocks_of old.pool)
+    clean : All (λ b. has_block (changed_of old.pool) b ≡ false → has_block pinned b ≡ true) (blocks_of old.pool)
     clean =
         let all = subst (λ (bs : List ℕ). All (λ b. act_of chosen.pool b ≡ 0 → has_block pinned b ≡ true) bs) pages.blocks oldest.clean in
-        λ k d less none. all k d less (changes.acts (get_or (blocks_of old.pool) k d) ∙ none)
+        λ k d less out.
+        let b = get_or (blocks_of old.pool) k d in
+        all k d less (unchanged chosen.pool law b (ap (λ (l : List ℕ). has_block l b) changes.order ∙ out))
 
     passed : (front rest : List ℕ) → changed_of chosen.pool ≡ front ++ rest → length front ≡ place → All (λ b. has_block pinned b ≡ true) front
     passed front rest is many =
