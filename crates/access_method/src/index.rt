@@ -443,7 +443,7 @@ impl<S: PageStore> Index<S> {
 }
 
 impl<D: Device> Index<Store<D>> {
-    ghost use Rattle.std.specs.Prelude.{◌≡◌, ℕ, Bool, List, IsTrue, IfOk, IfErr, OnOk, MatchResult};
+    ghost use Rattle.std.specs.Prelude.{◌≡◌, ℕ, Bool, List, length, IsTrue, IfOk, IfErr, OnOk, MatchResult};
     ghost use Rattle.device.specs.Moments.{Goes, MayHaveLeft};
     ghost use Rattle.index_model.specs.Actions.{Action};
     ghost use Rattle.index_model.specs.Calls.{Call};
@@ -479,6 +479,8 @@ impl<D: Device> Index<Store<D>> {
             → HasIndex limits pages (D.trace device).now.seen
             → Goes (LeavesPages limits pages) (D.trace device)
             (D.trace (index_device D.Device result)) }
+        ensures len { length (D.trace (index_device D.Device result)).now.seen
+            ≡ length (D.trace device).now.seen }
         ensures cause { IfErr result (λ refused.
             IsIoOr (IsRefusal (D.is_honest refused.device) frames (D.trace device) (D.trace refused.device))
             (D.failures device) (D.failures refused.device) refused.fault) }

@@ -6,3 +6,4 @@ pub mod Record
 pub mod Past
 pub mod Memory
 pub mod Event
+pub mod Unknown

@@ -47,7 +47,9 @@ pub trait Device {
         ensures honest { is_honest self.new ≡ is_honest self.old }
         ensures failures { CountsFailures result (failures self.old) (failures self.new) };
 
-    /// Makes all that was written stand through a crash. At `Io` the device is as it was.
+    /// Makes all that was written stand through a crash, also what an earlier sync that failed did not. At `Io` the device is as
+    /// it was. A device whose later syncs may pass over what a failed one lost, as those of a file do, refuses each call from
+    /// that failure on.
     fn sync(&mut self) -> Result<(), Fault>
         ensures trace { Syncs result (trace self.old) (trace self.new) }
         ensures len { length (trace self.new).now.seen ≡ length (trace self.old).now.seen }

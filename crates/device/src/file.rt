@@ -1,15 +1,15 @@
 //! A device over a file. Each method makes one call of the file, and notes it with its answer: what the clauses say of a
 //! file rests on these notes.
 
-ghost use Rattle.std.specs.Prelude.{◌≡◌, ◌↔◌, ◌+◌, ◌<◌, ◌≤◌, ◌^◌, ◌∷◌, ℕ, List, true, false, IsTrue, Err, length, replicate, OnOk, OnErr, IfOk, IfErr};
-ghost use Rattle.device.specs.Disk.{first, Reads, Writes, Syncs, CountsFailures};
+ghost use Rattle.std.specs.Prelude.{◌≡◌, ◌↔◌, ◌+◌, ◌<◌, ◌≤◌, ◌^◌, ◌∷◌, [], ℕ, List, true, false, IsTrue, Err, length, OnOk, OnErr, IfOk, IfErr};
+ghost use Rattle.device.specs.Disk.{first, next, wrote, Reads, Writes, Syncs, CountsFailures};
 ghost use Rattle.device.specs.Event.{behind_calls, failed_in, are_right};
-ghost use Rattle.std.proofs.lemmas.List.{length-replicate};
+ghost use Rattle.device.specs.Unknown.{some_bytes, length-some_bytes};
 
 use crate::device::Device;
 use crate::events::Events;
 use index_model::Fault;
-use std::fs::{File, OpenFile, OpenOptions};
+use std::fs::{self, File, OpenFile, OpenOptions};
 use std::marker::PhantomData;
 use std::os::unix::fs::FileExt;
 use std::path::Path;
@@ -18,26 +18,28 @@ use std::rt::Files;
 static ZEROS: [u8; 65_536] = [0; 65_536];
 
 /// What a file of so many bytes held when it was opened, which no code can read: what is proved for all such types holds of
-/// each file.
+/// each file. So a function over a file is generic over it, one parameter for each opening of which its clauses speak.
 pub trait Start {
     ghost bytes: { ℕ → List ℕ };
 
     ghost sized: { (len : ℕ) → length (bytes len) ≡ len };
 }
 
-/// For a program to name.
+/// For `main` to name: some bytes, of which no proof can learn more than how many they are. So what is proved of them holds of
+/// whatever the file held.
 #[derive(Drop)]
 pub struct Unknown;
 
 impl Start for Unknown {
-    ghost bytes = { λ len. replicate len 0 };
+    ghost bytes = { some_bytes };
 
-    ghost sized = { λ len. length-replicate len 0 };
+    ghost sized = { length-some_bytes };
 }
 
 /// A file, which held what `S` says when it was opened. The file's lock is held as long as this value stands, so that no
-/// other one stands for the same file, in this process or another. After a failed write or sync each call answers `Io`, as
-/// what the file holds then is not known: a later sync must not make it look firm.
+/// other one stands for the same file, in this process or another. A write that fails leaves any bytes in its range. After a
+/// failed write or sync each call answers `Io`, as what the file holds then is not known: a later sync must not make it look
+/// firm.
 #[derive(Drop)]
 pub struct FileDevice<S: Start> {
     file: File,
@@ -70,7 +72,7 @@ impl<S: Start> FileDevice<S> {
 
     /// A new file of so many bytes, all zero and written, so that each has its place on the disk; it and its folder are synced.
     /// Refused with `Io` where the path is there, another has taken the file's lock by now, or a call fails, as where the disk
-    /// has no room for it; then a file may be left there, an empty one where a write failed.
+    /// has no room for it: the file that was made is removed then, if the system lets it be.
     pub fn create<R: Files<File = File>>(
         rt: &R,
         path: &str,
@@ -91,16 +93,13 @@ impl<S: Start> FileDevice<S> {
         let Ok(file) = File::create_new(rt, path) else {
             return Err(Fault::Io);
         };
-        lock(&file)?;
-        let Ok(()) = file.set_len(len) else {
-            return Err(Fault::Io);
-        };
-        fill(&file, len)?;
-        let Ok(()) = file.sync_all() else {
-            return Err(Fault::Io);
-        };
-        sync_folder(rt, path)?;
-        Ok(FileDevice::of_file(file, len))
+        match write_zeros(rt, &file, path, len) {
+            Ok(()) => Ok(FileDevice::of_file(file, len)),
+            Err(fault) => {
+                let _ = fs::remove_file(rt, path);
+                Err(fault)
+            }
+        }
     }
 
     /// A file that is there, for reading and writing, with all its bytes. It is synced first, so that what it holds stands
@@ -128,8 +127,21 @@ impl<S: Start> FileDevice<S> {
         Ok(FileDevice::of_file(file, len))
     }
 
+    /// Notes a call that is not made, since the file has stopped.
+    fn refuse(&mut self) -> Fault
+        ensures noted { self.new.events.list ≡ (3, 0, 0, false, []) ∷ self.old.events.list }
+        ensures len { self.new.len ≡ self.old.len }
+        ensures stays { self.new.stopped ≡ self.old.stopped }
+        ensures io { result ≡ Fault.Io }
+    {
+        self.events.note(3, 0, 0, false, &[]);
+        Fault::Io
+    }
+
     /// Notes a write or a sync that failed: from now on each call answers `Io`.
     fn stop(&mut self, kind: u64, at: u64, bytes: &[u8]) -> Fault
+        requires range { kind ≡ 1 → at + length bytes.now ≤ length (behind_calls
+            (S.Start.bytes self.old.len) self.old.events.list).now.seen }
         ensures noted { self.new.events.list
             ≡ (kind, at, 0, false, bytes.now) ∷ self.old.events.list }
         ensures len { self.new.len ≡ self.old.len }
@@ -152,8 +164,28 @@ fn lock(file: &File) -> Result<(), Fault>
     }
 }
 
+/// Makes a new file this long, with its lock and its zeros, and syncs it and its folder. Refused with `Io`.
+fn write_zeros<R: Files<File = File>>(
+    rt: &R,
+    file: &File,
+    path: &str,
+    len: u64,
+) -> Result<(), Fault>
+    ensures fault { IfErr result (λ e. e ≡ Fault.Io) }
+{
+    lock(file)?;
+    let Ok(()) = file.set_len(len) else {
+        return Err(Fault::Io);
+    };
+    fill(file, len)?;
+    let Ok(()) = file.sync_all() else {
+        return Err(Fault::Io);
+    };
+    sync_folder(rt, path)
+}
+
 /// Writes zeros to all of a new file. So a later write finds no full disk, and a later sync has only what was written to bring
-/// there, and not where it lies. Refused with `Io`; what was written is cut off then.
+/// there, and not where it lies. Refused with `Io`.
 fn fill(file: &File, len: u64) -> Result<(), Fault>
     ensures fault { IfErr result (λ e. e ≡ Fault.Io) }
 {
@@ -164,16 +196,13 @@ fn fill(file: &File, len: u64) -> Result<(), Fault>
     fill_at(file, 65_536 * pieces, &ZEROS[..(len % 65_536) as usize])
 }
 
-/// Writes zeros at a place. Refused with `Io`, and the file has no byte then, if the system lets it be cut.
+/// Writes zeros at a place. Refused with `Io`.
 fn fill_at(file: &File, at: u64, zeros: &[u8]) -> Result<(), Fault>
     ensures fault { IfErr result (λ e. e ≡ Fault.Io) }
 {
     match file.write_all_at(zeros, at) {
         Ok(()) => Ok(()),
-        Err(_) => {
-            let _ = file.set_len(0);
-            Err(Fault::Io)
-        }
+        Err(_) => Err(Fault::Io),
     }
 }
 
@@ -230,8 +259,7 @@ impl<S: Start> Device for FileDevice<S> {
         ensures stays { self.new.stopped ≡ self.old.stopped }
     {
         if self.stopped {
-            self.events.note(0, at, 0, false, &[]);
-            return Err(Fault::Io);
+            return Err(self.refuse());
         }
         match self.file.read_exact_at(buf, at) {
             Ok(()) => {
@@ -259,10 +287,18 @@ impl<S: Start> Device for FileDevice<S> {
             (failed_in self.new.events.list) }
         ensures stopped { self.old.stopped ≡ true → result ≡ Err Fault.Io }
         ensures stops { OnErr result (self.new.stopped ≡ true) }
+        // One that was made and failed leaves any bytes in its range; one that was not made leaves all as it was.
+        ensures loose { self.old.stopped ≡ false → OnErr result
+            (behind_calls (S.Start.bytes self.new.len) self.new.events.list
+            ≡ next (wrote at bytes.now
+            (behind_calls (S.Start.bytes self.old.len) self.old.events.list).now)
+            (behind_calls (S.Start.bytes self.old.len) self.old.events.list)) }
+        ensures not_made { self.old.stopped ≡ true
+            → behind_calls (S.Start.bytes self.new.len) self.new.events.list
+            ≡ behind_calls (S.Start.bytes self.old.len) self.old.events.list }
     {
         if self.stopped {
-            self.events.note(1, at, 0, false, bytes);
-            return Err(Fault::Io);
+            return Err(self.refuse());
         }
         match self.file.write_all_at(bytes, at) {
             Ok(()) => {
@@ -287,8 +323,7 @@ impl<S: Start> Device for FileDevice<S> {
         ensures stops { OnErr result (self.new.stopped ≡ true) }
     {
         if self.stopped {
-            self.events.note(2, 0, 0, false, &[]);
-            return Err(Fault::Io);
+            return Err(self.refuse());
         }
         match self.file.sync_data() {
             Ok(()) => {

@@ -5,3 +5,4 @@ pub mod Named
 pub mod Restoring
 pub mod Answering
 pub mod Emptying
+pub mod Outside

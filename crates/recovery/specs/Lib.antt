@@ -5,3 +5,4 @@ pub mod Fresh
 pub mod Reading
 pub mod Homing
 pub mod Opening
+pub mod Outside

@@ -8,6 +8,7 @@ ghost use Rattle.page_codec.specs.Spelling.{page_bytes};
 ghost use Rattle.device_layout.specs.Layout.{log_start, place, needed_length};
 ghost use Rattle.recovery.specs.Calls.{OnlyWrites};
 ghost use Rattle.recovery.specs.Fresh.{IsFirstMeta, IsFirstLeaf, AreZero, HasPages, HasBody, WritesFront, IsMaking, IsEmptyIndex, LeavesEmpty, CreateEnds};
+ghost use Rattle.recovery.specs.Outside.{ChangesItsBytes, ChangesBehindFront, KeepsLogBytes};
 
 use crate::superblock::spell_superblock;
 use arrayvec::ArrayVec;
@@ -120,10 +121,8 @@ fn place_body<D: Device>(device: &mut D, limits: &Limits) -> Result<(), Fault>
     requires allowed { AreLimits limits.now }
     requires inside { needed_length limits.now ≤ length (D.trace device.old).now.seen }
     ensures there { OnOk result (HasBody limits.now (D.trace device.new).now) }
-    ensures moments { Goes
-        (ChangesOnly log_start (limits.now.log_bytes + 4096 * limits.now.pages)
-        (D.trace device.old).now)
-        (D.trace device.old) (D.trace device.new) }
+    ensures moments { ChangesBehindFront limits.now (D.trace device.old) (D.trace device.new) }
+    ensures log { KeepsLogBytes limits.now (D.trace device.old) (D.trace device.new) }
     ensures calls { OnlyWrites D.Device result device.old device.new }
 {
     place(device, LOG_START, &[0])?;
@@ -151,6 +150,8 @@ fn write_index<D: Device>(device: &mut D, limits: &Limits) -> Result<(), Fault>
     ensures made { OnOk result (IsEmptyIndex limits.now (D.trace device.new).now) }
     ensures moments { Goes (IsMaking limits.now (D.trace device.old).now)
         (D.trace device.old) (D.trace device.new) }
+    ensures outside { ChangesItsBytes limits.now (D.trace device.old) (D.trace device.new) }
+    ensures log { KeepsLogBytes limits.now (D.trace device.old) (D.trace device.new) }
     ensures calls { OnlyWrites D.Device result device.old device.new }
 {
     let mut front = [0; 4096];
@@ -161,7 +162,8 @@ fn write_index<D: Device>(device: &mut D, limits: &Limits) -> Result<(), Fault>
 }
 
 /// Makes an empty index of these limits on the device, over whatever it holds: the superblock, a closed log, the
-/// metapage, one empty leaf, and zeros in all other blocks, all of it synced.
+/// metapage, one empty leaf, and zeros in all other blocks, all of it synced. Of the log it writes the first gate alone:
+/// what stands behind that stays, and so do bytes behind the last block.
 ///
 /// Refused, with the device as it was: limits out of their ranges (`BadLimits`); a device shorter than
 /// 4,096 + `log_bytes` + 4,096 * `pages` bytes (`DeviceTooSmall`). A failed device call answers `Io`; then, and after a
@@ -174,6 +176,9 @@ pub fn create<D: Device>(device: &mut D, limits: &Limits) -> Result<(), Fault>
     // new one.
     ensures moments { Goes (IsMaking limits.now (D.trace device.old).now)
         (D.trace device.old) (D.trace device.new) }
+    // Bytes behind the index stay as they are, and those of its log behind the first gate.
+    ensures outside { ChangesItsBytes limits.now (D.trace device.old) (D.trace device.new) }
+    ensures log { KeepsLogBytes limits.now (D.trace device.old) (D.trace device.new) }
     ensures ends { CreateEnds limits.now result (D.trace device.old) (D.trace device.new)
         (D.failures device.old) (D.failures device.new) }
     ensures len { length (D.trace device.new).now.seen ≡ length (D.trace device.old).now.seen }

@@ -16,6 +16,7 @@ ghost use Rattle.redo_log.specs.Reading.{IsOpened, IsDamaged, ReplayFails};
 ghost use Rattle.recovery.specs.Calls.{OnlyReads, ReadsAndWrites, IsIoOr, FailsWithIoOr};
 ghost use Rattle.recovery.specs.Index.{HasIndex};
 ghost use Rattle.recovery.specs.Opening.{AreFrames, HasGroups, IsFront, IsFrontRefusal, IsRestoreRefusal, IsSynced, IsRestored, IsFound, IsRefusal, AreSamePages, IsNoMemoryOrIo, IsFreshlyOpened, StandsOnDevice, IsSameIndex, device_left};
+ghost use Rattle.recovery.specs.Outside.{ChangesBehindFront, StaysInside};
 
 use crate::homing::bring_home;
 use crate::reading::{Found, read_pages};
@@ -90,6 +91,7 @@ fn restore_log<D: Device>(alloc: Global, device: &mut D, limits: Limits) -> Resu
     ensures moments { IsTrue (D.is_honest device.new) → IsSynced (D.trace device.old).now
         → (pages : List Page) → RestartsTo limits (D.trace device.old).now.seen pages
         → Goes (LeavesPages limits pages) (D.trace device.old) (D.trace device.new) }
+    ensures outside { ChangesBehindFront limits (D.trace device.old) (D.trace device.new) }
     ensures damaged { IfErr result (λ e. e ≡ Fault.LogDamaged
         → (D.trace device.new ≡ D.trace device.old)
         × (IsTrue (D.is_honest device.new) → IsDamaged limits (D.trace device.old).now)) }
@@ -128,6 +130,7 @@ fn restore<D: Device>(
     ensures moments { IsTrue (D.is_honest device.new) → (pages : List Page)
         → RestartsTo limits (D.trace device.old).now.seen pages
         → Goes (LeavesPages limits pages) (D.trace device.old) (D.trace device.new) }
+    ensures outside { ChangesBehindFront limits (D.trace device.old) (D.trace device.new) }
     ensures calls { ReadsAndWrites D.Device device.old device.new }
     ensures cause { FailsWithIoOr
         (IsRestoreRefusal limits (D.is_honest device.new) (D.trace device.old) (D.trace device.new))
@@ -154,6 +157,8 @@ fn read_index<D: Device>(alloc: Global, device: &mut D, frames: u32) -> Result<P
     ensures moments { IsTrue (D.is_honest device.new) → (limits : Limits) (pages : List Page)
         → HasIndex limits pages (D.trace device.old).now.seen
         → Goes (LeavesPages limits pages) (D.trace device.old) (D.trace device.new) }
+    ensures outside { StaysInside (D.is_honest device.new)
+        (D.trace device.old) (D.trace device.new) }
     ensures calls { ReadsAndWrites D.Device device.old device.new }
     ensures cause { FailsWithIoOr
         (IsRefusal (D.is_honest device.new) frames (D.trace device.old) (D.trace device.new))
@@ -196,6 +201,9 @@ pub fn open<D: Device>(alloc: Global, device: D, frames: u32) -> Result<Store<D>
     ensures moments { IsTrue (D.is_honest (device_left D.Device result))
         → (limits : Limits) (pages : List Page) → HasIndex limits pages (D.trace device).now.seen
         → Goes (LeavesPages limits pages) (D.trace device) (D.trace (device_left D.Device result)) }
+    // Nothing but the log and the pages of the index is written.
+    ensures outside { StaysInside (D.is_honest (device_left D.Device result))
+        (D.trace device) (D.trace (device_left D.Device result)) }
     ensures cause { IfErr result (λ refused.
         IsIoOr
         (IsRefusal (D.is_honest refused.device) frames (D.trace device) (D.trace refused.device))

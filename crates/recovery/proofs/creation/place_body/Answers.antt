@@ -1,4 +1,4 @@
-use Rattle.std.proofs.Common.{ℕ, ◌+◌, ◌*◌, arith}
+use Rattle.std.proofs.Common.{ℕ, ◌+◌, ◌-◌, ◌*◌, ◌≤◌, arith}
 use Rattle.device.specs.Moments.{Goes}
 use Rattle.device.specs.Places.{ChangesOnly}
 use Rattle.device_layout.specs.Layout.{place}
@@ -6,6 +6,8 @@ use Rattle.index_model.specs.declared.limits.Limits.{Limits}
 use Rattle.recovery.proofs.Creating.{only_now, wider_goes, more_goes, synced_goes, body_made}
 use Rattle.recovery.proofs.creation.place_body.Given.{Over}
 use Rattle.recovery.proofs.creation.place_body.Goals.{After-place, After-place_pages}
+use Rattle.recovery.specs.Outside.{KeepsLogBytes}
+use Rattle.recovery.proofs.Outside.{untouched_on, sync_untouched, gate_keeps, pages_keep}
 use Rattle.recovery.proofs.creation.place_body.Goals as goal
 
 -- the bytes behind the superblock
@@ -35,3 +37,23 @@ returns-clause-there g c =
 
 pub returns-clause-moments : goal.returns-clause-moments
 returns-clause-moments g c = synced_goes 4096 (behind c.args.limits.now) c.sync.result _ _ _ (pages_go g (goal.at.returns-clause-moments g c).After-place_pages) c.sync.ensures.trace
+
+-- the bytes of the log behind the gate stay
+gate_stays : (g : Over) (c : After-place g) → KeepsLogBytes c.args.limits.now (g.D.Device.trace c.args.device.now) (g.D.Device.trace c.place.new.device)
+gate_stays g c = gate_keeps c.args.limits.now _ _ c.place.ensures.moments
+
+pages_stay : (g : Over) (c : After-place_pages g) → KeepsLogBytes c.args.limits.now (g.D.Device.trace c.args.device.now) (g.D.Device.trace c.place_pages.new.device)
+pages_stay g c =
+    untouched_on 4097 (c.args.limits.now.log_bytes - 1) _ _ _ (gate_stays g (goal.at.After-place_pages g c).After-place)
+    (pages_keep c.args.limits.now _ _ (omega (arith, c.requires.allowed.log_from)) c.place_pages.ensures.moments)
+
+pub returns-in_err-place-clause-log : goal.returns-in_err-place-clause-log
+returns-in_err-place-clause-log g c = gate_stays g (goal.at.returns-in_err-place-clause-log g c).After-place
+
+pub returns-in_err-place_pages-clause-log : goal.returns-in_err-place_pages-clause-log
+returns-in_err-place_pages-clause-log g c = pages_stay g (goal.at.returns-in_err-place_pages-clause-log g c).After-place_pages
+
+pub returns-clause-log : goal.returns-clause-log
+returns-clause-log g c =
+    untouched_on 4097 (c.args.limits.now.log_bytes - 1) _ _ _ (pages_stay g (goal.at.returns-clause-log g c).After-place_pages)
+    (sync_untouched 4097 (c.args.limits.now.log_bytes - 1) c.sync.result _ _ c.sync.ensures.trace)

@@ -1,5 +1,6 @@
-use Rattle.std.proofs.Common.{◌+◌, ◌*◌}
+use Rattle.std.proofs.Common.{◌+◌, ◌-◌, ◌*◌}
 use Rattle.recovery.proofs.Creating.{fresh_made, clearing_goes, placing_goes, finishing_goes}
+use Rattle.recovery.proofs.Outside.{untouched_on, front_inside, front_keeps, body_inside, inside_on}
 use Rattle.recovery.proofs.creation.write_index.Goals as goal
 
 pub returns-in_err-place_front-clause-moments : goal.returns-in_err-place_front-clause-moments
@@ -17,3 +18,29 @@ returns-clause-moments g c =
     let limits = c.args.limits.now in
     finishing_goes limits _ _ c.place_front.ensures.moments _ (limits.log_bytes + 4096 * limits.pages) c.in_ok-place_front.ensures.there c.place_body.ensures.moments
     _ _ c.spell_superblock.ensures c.in_ok-place_body.ensures.there c.place_front-2.ensures.moments
+
+pub returns-in_err-place_front-clause-outside : goal.returns-in_err-place_front-clause-outside
+returns-in_err-place_front-clause-outside g c = front_inside c.args.limits.now _ _ _ c.place_front.ensures.moments
+
+pub returns-in_err-place_front-clause-log : goal.returns-in_err-place_front-clause-log
+returns-in_err-place_front-clause-log g c = front_keeps c.args.limits.now _ _ _ c.place_front.ensures.moments
+
+pub returns-in_err-place_body-clause-outside : goal.returns-in_err-place_body-clause-outside
+returns-in_err-place_body-clause-outside g c =
+    inside_on c.args.limits.now _ _ _ (front_inside c.args.limits.now _ _ _ c.place_front.ensures.moments) (body_inside c.args.limits.now _ _ c.place_body.ensures.moments)
+
+pub returns-in_err-place_body-clause-log : goal.returns-in_err-place_body-clause-log
+returns-in_err-place_body-clause-log g c =
+    untouched_on 4097 (c.args.limits.now.log_bytes - 1) _ _ _ (front_keeps c.args.limits.now _ _ _ c.place_front.ensures.moments) c.place_body.ensures.log
+
+pub returns-clause-outside : goal.returns-clause-outside
+returns-clause-outside g c =
+    let limits = c.args.limits.now in
+    inside_on limits _ _ _ (inside_on limits _ _ _ (front_inside limits _ _ _ c.place_front.ensures.moments) (body_inside limits _ _ c.place_body.ensures.moments))
+    (front_inside limits _ _ _ c.place_front-2.ensures.moments)
+
+pub returns-clause-log : goal.returns-clause-log
+returns-clause-log g c =
+    let limits = c.args.limits.now in
+    untouched_on 4097 (limits.log_bytes - 1) _ _ _ (untouched_on 4097 (limits.log_bytes - 1) _ _ _ (front_keeps limits _ _ _ c.place_front.ensures.moments) c.place_body.ensures.log)
+    (front_keeps limits _ _ _ c.place_front-2.ensures.moments)

@@ -10,6 +10,7 @@ use Rattle.recovery.proofs.Blocks.{refused}
 use Rattle.recovery.proofs.Answering.{front_of, one_front, found_same, found_index, fails_behind, restore_refuses}
 use Rattle.recovery.proofs.opening.read_index.Given.{Over}
 use Rattle.recovery.proofs.opening.read_index.Goals.{After-restore}
+use Rattle.recovery.proofs.Outside.{one_index}
 use Rattle.recovery.proofs.opening.read_index.Goals as goal
 
 pub returns-in_err-limits-clause-same : goal.returns-in_err-limits-clause-same
@@ -55,3 +56,8 @@ returns-clause-found g c =
     let long : place c.in_ok-limits.limits c.in_ok-limits.limits.pages ≤ length (g.D.Device.trace c.restore.new.device).now.seen = omega (arith, c.restore.ensures.calls.len, ap (λ (t : Trace). length t.now.seen) c.find_limits.ensures.calls.trace, c.in_ok-limits.ensures.long) in
     found_index c.restore.result c.in_ok-limits.limits (g.D.Device.is_honest c.restore.new.device) (g.D.Device.trace c.args.device.now) (g.D.Device.trace c.find_limits.new.device) (g.D.Device.trace c.restore.new.device).now.seen
     c.find_limits.ensures.calls.trace c.in_ok-limits.ensures.allowed long (λ honest. c.in_ok-limits.ensures.front (c.restore.ensures.calls.honest honest)) c.restore.ensures.restored c.restore.ensures.undamaged
+
+pub returns-clause-outside : goal.returns-clause-outside
+returns-clause-outside g c =
+    inr (one_index c.in_ok-limits.limits _ (g.D.Device.trace c.args.device.now) (g.D.Device.trace c.find_limits.new.device) _ c.in_ok-limits.ensures.allowed c.in_ok-limits.ensures.long
+    (λ honest. c.in_ok-limits.ensures.front (c.restore.ensures.calls.honest honest)) c.find_limits.ensures.calls.trace c.restore.ensures.outside)

@@ -12,6 +12,8 @@ use Rattle.recovery.proofs.Blocks.{refused}
 use Rattle.recovery.proofs.Answering.{firm_then, restarts_then, log_refuses, opened_in_use, pages_refuse, same_pages}
 use Rattle.recovery.proofs.opening.restore.Given.{Over}
 use Rattle.recovery.proofs.opening.restore.Goals.{After-restore_log, In_ok-log, After-read_pages}
+use Rattle.recovery.specs.Outside.{ChangesBehindFront}
+use Rattle.recovery.proofs.Outside.{behind_on, sync_inside}
 use Rattle.recovery.proofs.opening.restore.Goals as goal
 
 -- behind the sync the same index stands, through a crash too
@@ -83,3 +85,26 @@ returns-clause-moments g c = pages_leave g (goal.at.returns-clause-moments g c).
 
 pub returns-clause-undamaged : goal.returns-clause-undamaged
 returns-clause-undamaged g c = λ honest. subst (λ (w : Trace). HasGroups c.args.limits w.now.seen) c.in_ok-sync.ensures.trace (c.in_ok-log.ensures.undamaged (c.read_pages.ensures.calls.honest honest))
+
+-- a sync writes nothing
+synced_inside : (g : Over) (c : After-restore_log g) → ChangesBehindFront c.args.limits (g.D.Device.trace c.args.device.now) (g.D.Device.trace c.sync.new.self)
+synced_inside g c = sync_inside c.args.limits c.sync.result _ _ c.sync.ensures.trace
+
+log_inside : (g : Over) (c : After-restore_log g) → ChangesBehindFront c.args.limits (g.D.Device.trace c.args.device.now) (g.D.Device.trace c.restore_log.new.device)
+log_inside g c = behind_on c.args.limits _ _ _ (synced_inside g c) c.restore_log.ensures.outside
+
+pages_inside : (g : Over) (c : After-read_pages g) → ChangesBehindFront c.args.limits (g.D.Device.trace c.args.device.now) (g.D.Device.trace c.read_pages.new.device)
+pages_inside g c =
+    subst (λ (w : Trace). ChangesBehindFront c.args.limits (g.D.Device.trace c.args.device.now) w) (sym c.read_pages.ensures.calls.trace) (log_inside g (goal.at.After-read_pages g c).After-restore_log)
+
+pub returns-in_err-sync-clause-outside : goal.returns-in_err-sync-clause-outside
+returns-in_err-sync-clause-outside g c = sync_inside c.args.limits c.sync.result _ _ c.sync.ensures.trace
+
+pub returns-in_err-log-clause-outside : goal.returns-in_err-log-clause-outside
+returns-in_err-log-clause-outside g c = log_inside g (goal.at.returns-in_err-log-clause-outside g c).After-restore_log
+
+pub returns-in_err-found-clause-outside : goal.returns-in_err-found-clause-outside
+returns-in_err-found-clause-outside g c = pages_inside g (goal.at.returns-in_err-found-clause-outside g c).After-read_pages
+
+pub returns-clause-outside : goal.returns-clause-outside
+returns-clause-outside g c = pages_inside g (goal.at.returns-clause-outside g c).After-read_pages

@@ -10,6 +10,9 @@ use Rattle.recovery.specs.Opening.{IsSynced}
 use Rattle.recovery.proofs.Restoring.{IsReplayed, named_from, written_leaves, closed_goes, closed_stands, replay_refuses}
 use Rattle.recovery.proofs.opening.restore_log.Given.{Over}
 use Rattle.recovery.proofs.opening.restore_log.Goals.{After-bring_home, After-reset, In_ok-bring_home}
+use Rattle.redo_log.specs.Kept.{ChangesItsRange}
+use Rattle.recovery.specs.Outside.{ChangesBehindFront}
+use Rattle.recovery.proofs.Outside.{named_inside, log_inside, behind_on, same_inside}
 use Rattle.recovery.proofs.opening.restore_log.Goals as goal
 
 pub returns-in-Err-clause-same : goal.returns-in-Err-clause-same
@@ -89,3 +92,24 @@ returns-clause-same g c = λ honest firm pages restarts.
 
 pub returns-clause-undamaged : goal.returns-clause-undamaged
 returns-clause-undamaged g c = λ honest. (let found = c.in-Ok.ensures.ok.replays (subst IsTrue (c.reset.ensures.honest ∙ c.bring_home.ensures.calls.honest) honest) in (found.groups, found.spells))
+
+-- nothing but the log and the pages is written
+home_inside : (g : Over) (c : After-bring_home g) → ChangesBehindFront c.args.limits (g.D.Device.trace c.args.device.now) (g.D.Device.trace c.bring_home.new.device)
+home_inside g c = named_inside c.args.limits c.in-Ok.found _ _ (named g c)
+
+pub returns-in-Err-clause-outside : goal.returns-in-Err-clause-outside
+returns-in-Err-clause-outside g c = same_inside c.args.limits _ _ c.replay.ensures.trace
+
+pub returns-in_err-bring_home-clause-outside : goal.returns-in_err-bring_home-clause-outside
+returns-in_err-bring_home-clause-outside g c = home_inside g (goal.at.returns-in_err-bring_home-clause-outside g c).After-bring_home
+
+reset_inside : (g : Over) (c : After-reset g) → ChangesBehindFront c.args.limits (g.D.Device.trace c.args.device.now) (g.D.Device.trace c.reset.new.device)
+reset_inside g c =
+    let range = subst (λ (limits : Limits). ChangesItsRange limits (g.D.Device.trace c.bring_home.new.device) (g.D.Device.trace c.reset.new.device)) c.in-Ok.ensures.opened.limits_are c.reset.ensures.outside in
+    behind_on c.args.limits _ _ _ (home_inside g (found g c)) (log_inside c.args.limits _ _ range)
+
+pub returns-in_err-reset-clause-outside : goal.returns-in_err-reset-clause-outside
+returns-in_err-reset-clause-outside g c = reset_inside g (goal.at.returns-in_err-reset-clause-outside g c).After-reset
+
+pub returns-clause-outside : goal.returns-clause-outside
+returns-clause-outside g c = reset_inside g (goal.at.returns-clause-outside g c).After-reset
