@@ -329,10 +329,10 @@ fn removed(history: &[Record]) -> u64 {
 }
 
 /// Whether a bulk delete that finished began when the entry was there, and had its row in its set.
-fn is_removed(run: &Run<'_>, one: &Addition) -> bool {
+fn is_removed(jobs: &[Job], history: &[Record], one: &Addition) -> bool {
     is_dead(one.entry.row)
-        && run.history.iter().any(|record| {
-            let set = match run.jobs.get(record.job as usize) {
+        && history.iter().any(|record| {
+            let set = match jobs.get(record.job as usize) {
                 Some(Job::Bulk(set)) => set.saturating_add(1),
                 _ => 0,
             };
@@ -343,23 +343,28 @@ fn is_removed(run: &Run<'_>, one: &Addition) -> bool {
 
 /// Whether these are, in their order, the entries that were added, but for as many rows of the sets as the bulk deletes say that they
 /// removed.
-pub fn are_those_left(run: &Run<'_>, entries: &[Entry]) -> bool {
+pub fn are_those_left(
+    entries: &[Entry],
+    jobs: &[Job],
+    history: &[Record],
+    added: &[Option<Addition>],
+) -> bool {
     let mut next = 0usize;
-    for one in run.added {
+    for one in added {
         let Some(one) = one else {
             continue;
         };
         if entries.get(next).is_some_and(|entry| *entry == one.entry) {
             next = next.saturating_add(1);
-            if is_removed(run, one) {
+            if is_removed(jobs, history, one) {
                 return false;
             }
         } else if !is_dead(one.entry.row) {
             return false;
         }
     }
-    let all = removed(run.history).saturating_add(entries.len() as u64);
-    next == entries.len() && all == count(run.added) as u64
+    let all = removed(history).saturating_add(entries.len() as u64);
+    next == entries.len() && all == count(added) as u64
 }
 
 /// Whether these are just the entries that the actions up to this one added. None is removed.

@@ -22,24 +22,6 @@ const KEYS: usize = 4_096;
 /// What a run leaves of an index in memory.
 pub type Done = Finished<Store<MemDevice>, Blocks>;
 
-/// What the judge is told of a run on an index of these limits.
-fn told<'a>(
-    jobs: &'a [Job],
-    done: &'a Done,
-    added: &'a [Option<Addition>],
-    pages: u32,
-    may_fail: bool,
-) -> Run<'a> {
-    Run {
-        jobs,
-        history: done.history.as_slice(),
-        added,
-        start: done.start,
-        may_fail,
-        is_full: done.world.used() >= pages,
-    }
-}
-
 /// Runs these jobs on an index of so many pages at most, and looks at all that they told. Answers what was added, too.
 pub fn ran(
     rt: &(impl Abort + AllocGlobal + Print + Eprint + Threads + Wait + Sync),
@@ -65,7 +47,14 @@ pub fn ran(
     assert!(rt; once);
     assert_eq!(rt; done.calls.len(), workers as usize);
     let added = additions(rt.alloc(), jobs, done.history.as_slice(), KEYS)?;
-    let run = told(jobs, &done, added.as_slice(), pages, may_fail);
+    let run = Run {
+        jobs,
+        history: done.history.as_slice(),
+        added: added.as_slice(),
+        start,
+        may_fail,
+        is_full: done.world.used() >= pages,
+    };
     assert_eq!(rt; first_wrong(&run), None);
     for session in 0..workers {
         assert!(rt; !done.world.is_running(session));
@@ -73,7 +62,7 @@ pub fn ran(
     Ok((done, added))
 }
 
-const LIMITS: Limits = Limits {
+pub const LIMITS: Limits = Limits {
     items: 4,
     pages: 4_096,
     log_bytes: 1_048_576,
@@ -89,14 +78,8 @@ fn four_thousand_jobs(rt: HostRuntime) -> Result<(), Fail> {
     assert_eq!(rt; done.start, 0);
     assert_eq!(rt; count(added.as_slice()), 3_598);
     let entries = all_entries(rt.alloc(), &mut done.world)?;
-    let run = told(
-        jobs.as_slice(),
-        &done,
-        added.as_slice(),
-        LIMITS.pages,
-        false,
-    );
-    assert!(rt; are_those_left(&run, entries.as_slice()));
+    let (entries, history) = (entries.as_slice(), done.history.as_slice());
+    assert!(rt; are_those_left(entries, jobs.as_slice(), history, added.as_slice()));
     let mut store = done.world.into_store();
     assert!(rt; check_parents_one(rt.alloc(), &mut store).is_ok());
     Ok(())

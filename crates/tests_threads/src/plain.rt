@@ -1,14 +1,9 @@
 //! Calls without their contracts: a test looks at the answers alone.
 
-use crate::dead::Blocks;
 use index_model::{Entry, Fault, Key, Limits, Range, RowAddr};
 use page_action::MapStore;
 use page_codec::{Items, Page, PageState};
-use sessions::{Finished, Gate, Job, run_jobs};
 use std::alloc::Global;
-use std::sync::Wait;
-use std::thread::Threads;
-use world::World;
 
 /// Each entry.
 pub const ALL: Range = Range {
@@ -52,24 +47,4 @@ pub fn pages(alloc: Global) -> Result<MapStore, Fault> {
     store.add(page(0, Some(1), Items::Meta))?;
     store.add(page(1, None, Items::Entries(arrayvec::ArrayVec::new())))?;
     Ok(store)
-}
-
-/// What a run of these jobs on an index without entries answers.
-pub fn run<G: Gate + Sync, R: Threads + Wait + Sync>(
-    rt: &R,
-    alloc: Global,
-    jobs: &[Job],
-    workers: u32,
-    sessions: u32,
-    gate: &G,
-) -> Result<Finished<MapStore, Blocks>, Fault> {
-    let store = pages(alloc)?;
-    let world = match World::new(alloc, store, sessions, Vec::new(alloc)) {
-        Ok(world) => world,
-        Err(not_made) => return Err(not_made.fault),
-    };
-    match run_jobs(rt, alloc, world, jobs, workers, gate) {
-        Ok(done) => Ok(done),
-        Err(not_run) => Err(not_run.fault),
-    }
 }

@@ -1,10 +1,10 @@
 //! Runs of jobs by threads.
 
-use crate::dead::Blocks;
-use crate::plain::{entry, run};
-use page_action::MapStore;
+use crate::indexes::made;
+use crate::judged::LIMITS;
+use crate::plain::entry;
 use session_calls::Answer;
-use sessions::{Finished, Gate, Job};
+use sessions::{Gate, Job, run_jobs};
 use std::sync::atomic::{AtomicBool, Ordering};
 use std::test::{Fail, *};
 
@@ -38,17 +38,6 @@ impl Gate for Meeting {
     }
 }
 
-// How many records say that an entry was added.
-fn added(done: &Finished<MapStore, Blocks>) -> u64 {
-    let mut count = 0;
-    for record in &done.history {
-        if let Answer::Added { .. } = record.answer {
-            count += 1;
-        }
-    }
-    count
-}
-
 #[test]
 fn two_workers_are_seen_beside_each_other(rt: HostRuntime) -> Result<(), Fail> {
     let jobs = [Job::Insert(entry(1)), Job::Insert(entry(2))];
@@ -58,9 +47,16 @@ fn two_workers_are_seen_beside_each_other(rt: HostRuntime) -> Result<(), Fail> {
         met_here: AtomicBool::new(false),
         met_there: AtomicBool::new(false),
     };
-    let done = run(&rt, rt.alloc(), &jobs, 2, 2, &gate)?;
+    let world = made(rt.alloc(), &LIMITS, 2)?;
+    let done = match run_jobs(&rt, rt.alloc(), world, &jobs, 2, &gate) {
+        Ok(done) => done,
+        Err(not_run) => return Err(Fail::from(not_run.fault)),
+    };
     assert!(rt; gate.met_here.load(Ordering::SeqCst));
     assert!(rt; gate.met_there.load(Ordering::SeqCst));
-    assert!(rt; added(&done) == 2);
+    assert_eq!(rt; done.history.len(), 2);
+    for record in &done.history {
+        assert!(rt; matches!(&record.answer, Answer::Added { .. }));
+    }
     Ok(())
 }
