@@ -2,6 +2,7 @@
 #![tactic(auto)]
 
 use command_line::execute;
+use device::Unknown;
 use std::process::ExitCode;
 use std::{env, io};
 
@@ -10,7 +11,7 @@ fn main(rt: HostRuntime) -> io::Result<ExitCode> {
     let mut input = rt.stdin();
     let mut out = rt.stdout();
     let mut err = rt.stderr();
-    let status = execute(
+    let status = execute::<_, Unknown, _, _, _, _>(
         &rt,
         rt.alloc(),
         words.as_slice(),

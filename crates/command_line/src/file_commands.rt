@@ -11,7 +11,7 @@ use crate::checking::{check_pages, check_pages_one};
 use crate::end::End;
 use crate::files::{make_index, open_index};
 use crate::listing::list_pages;
-use device::Unknown;
+use device::Start;
 use index_model::{Fault, Limits};
 use std::alloc::Global;
 use std::fs::File;
@@ -20,7 +20,7 @@ use std::rt::Files;
 use std::thread::Threads;
 
 /// Makes a new file with an empty index, and says so. Refused as `make_index` is: nothing is printed then.
-pub fn create<R: Files<File = File>, W: Write>(
+pub fn create<R: Files<File = File>, S: Start, W: Write>(
     rt: &R,
     path: &str,
     limits: &Limits,
@@ -35,7 +35,7 @@ pub fn create<R: Files<File = File>, W: Write>(
     ensures silent { (fault : Fault) → result ≡ Ok (End.Refused fault)
         → W.contents out.new ≡ W.contents out.old }
 {
-    match make_index::<R, Unknown>(rt, path, limits) {
+    match make_index::<R, S>(rt, path, limits) {
         Ok(_) => {
             writeln!(out, "created")?;
             Ok(End::Done)
@@ -46,7 +46,7 @@ pub fn create<R: Files<File = File>, W: Write>(
 
 /// Prints what a check of the index in a file answers, as `check_pages` does: with parents and children where that is asked
 /// for. Refused as `open_index` and `check_pages` are: nothing is printed then.
-pub fn check<R: Files<File = File> + Threads + Sync, W: Write>(
+pub fn check<R: Files<File = File> + Threads + Sync, S: Start, W: Write>(
     rt: &R,
     alloc: Global,
     path: &str,
@@ -61,14 +61,14 @@ pub fn check<R: Files<File = File> + Threads + Sync, W: Write>(
     ensures silent { (fault : Fault) → result ≡ Ok (End.Refused fault)
         → W.contents out.new ≡ W.contents out.old }
 {
-    match open_index::<R, Unknown>(rt, alloc, path) {
+    match open_index::<R, S>(rt, alloc, path) {
         Ok(mut store) => check_pages(rt, alloc, &mut store, parents, out),
         Err(fault) => Ok(End::Refused(fault)),
     }
 }
 
 /// Prints the same as [`check`], in this thread alone, as `check_pages_one` does.
-pub fn check_one<R: Files<File = File>, W: Write>(
+pub fn check_one<R: Files<File = File>, S: Start, W: Write>(
     rt: &R,
     alloc: Global,
     path: &str,
@@ -83,14 +83,14 @@ pub fn check_one<R: Files<File = File>, W: Write>(
     ensures silent { (fault : Fault) → result ≡ Ok (End.Refused fault)
         → W.contents out.new ≡ W.contents out.old }
 {
-    match open_index::<R, Unknown>(rt, alloc, path) {
+    match open_index::<R, S>(rt, alloc, path) {
         Ok(mut store) => check_pages_one(alloc, &mut store, parents, out),
         Err(fault) => Ok(End::Refused(fault)),
     }
 }
 
 /// Prints each page in use of the index in a file, as `list_pages` does. Refused as `open_index` and `list_pages` are.
-pub fn dump<R: Files<File = File>, W: Write>(
+pub fn dump<R: Files<File = File>, S: Start, W: Write>(
     rt: &R,
     alloc: Global,
     path: &str,
@@ -98,7 +98,7 @@ pub fn dump<R: Files<File = File>, W: Write>(
 ) -> io::Result<End>
     ensures ends { IfOk result IsDoneOrRefused }
 {
-    match open_index::<R, Unknown>(rt, alloc, path) {
+    match open_index::<R, S>(rt, alloc, path) {
         Ok(mut store) => list_pages(&mut store, out),
         Err(fault) => Ok(End::Refused(fault)),
     }

@@ -18,7 +18,7 @@ use index_model::{Fault, Limits};
 use page_store::Store;
 use recovery::{create, open};
 use std::alloc::Global;
-use std::fs::File;
+use std::fs::{self, File};
 use std::rt::Files;
 
 /// Pages of an index in a file that are held in memory.
@@ -26,7 +26,7 @@ const FRAMES: u32 = 64;
 
 /// Makes an empty index of these limits in a new file of exactly its length, all of it synced. Refused with `BadLimits` (18)
 /// for limits out of their ranges, before anything is done; with `Io` (2) where the path is there, or a call of the file
-/// fails: then a file may be left there.
+/// fails: the file that was made is removed then.
 pub fn make_index<R: Files<File = File>, S: Start>(
     rt: &R,
     path: &str,
@@ -47,8 +47,13 @@ pub fn make_index<R: Files<File = File>, S: Start>(
         return Err(Fault::BadLimits);
     }
     let mut device = FileDevice::create(rt, path, needed_len(limits))?;
-    create(&mut device, limits)?;
-    Ok(device)
+    match create(&mut device, limits) {
+        Ok(()) => Ok(device),
+        Err(fault) => {
+            let _ = fs::remove_file(rt, path);
+            Err(fault)
+        }
+    }
 }
 
 /// Opens the index in a file, after any crash, with 64 pages in memory. Refused with `Io` (2) where the path isn't there or

@@ -13,7 +13,7 @@ use crate::end::End;
 use crate::job_file::{JobFile, JobFileError, read_jobs};
 use crate::receipts::print_run;
 use crate::refusal::print_no_job;
-use device::{FileDevice, Unknown};
+use device::{FileDevice, Start};
 use index_model::{DeadRows, Fault};
 use page_action::PageStore;
 use page_store::Store;
@@ -46,7 +46,7 @@ pub struct RunSetting<'a> {
 /// A line that is no job is said on `err`, and nothing is run. Refused with `Io` (2) where a file isn't there or a call of it fails;
 /// as `World::open` is; with `BadLimits` (18) for more than 65,536 jobs, or for more than 1,048,576 entries that scans may give
 /// in all; with `NoMemory` (1). A refusal of the checkpoint comes behind what is printed of the jobs.
-pub fn run<R: Files<File = File> + Threads + Wait + Sync, W: Write, E: Write>(
+pub fn run<R: Files<File = File> + Threads + Wait + Sync, S: Start + Send, W: Write, E: Write>(
     rt: &R,
     alloc: Global,
     asked: &RunSetting<'_>,
@@ -57,7 +57,7 @@ pub fn run<R: Files<File = File> + Threads + Wait + Sync, W: Write, E: Write>(
 {
     let text = read_file(rt, alloc, asked.jobs)?;
     match read_jobs(alloc, text.as_slice()) {
-        Ok(file) => run_file(rt, alloc, asked, file, out),
+        Ok(file) => run_file::<R, S, W>(rt, alloc, asked, file, out),
         Err(JobFileError::NotAJob(line)) => {
             print_no_job(err, line)?;
             Ok(End::Said)
@@ -74,8 +74,8 @@ fn read_file<R: Files<File = File>>(rt: &R, alloc: Global, path: &str) -> io::Re
     Ok(text)
 }
 
-// Runs the jobs of a file that was read.
-fn run_file<R: Files<File = File> + Threads + Wait + Sync, W: Write>(
+// Runs the jobs of a file that was read, over an index in a file that held what `S` says.
+fn run_file<R: Files<File = File> + Threads + Wait + Sync, S: Start + Send, W: Write>(
     rt: &R,
     alloc: Global,
     asked: &RunSetting<'_>,
@@ -84,10 +84,10 @@ fn run_file<R: Files<File = File> + Threads + Wait + Sync, W: Write>(
 ) -> io::Result<End>
     ensures ends { IfOk result IsDoneOrRefused }
     ensures printed { result ≡ Ok End.Done
-        → PrintsSomeRun ⟦<Store<FileDevice<Unknown>> as PageStore>⟧ ⟦<DeadList as DeadRows>⟧
+        → PrintsSomeRun ⟦<Store<FileDevice<S>> as PageStore>⟧ ⟦<DeadList as DeadRows>⟧
         file.jobs.items asked.now.workers (W.contents out.old) (W.contents out.new) End.Done }
 {
-    let device = match FileDevice::<Unknown>::open(rt, asked.path) {
+    let device = match FileDevice::<S>::open(rt, asked.path) {
         Ok(device) => device,
         Err(fault) => return Ok(End::Refused(fault)),
     };

@@ -10,6 +10,7 @@ use crate::play::play;
 use crate::refusal::print_refusal;
 use crate::running;
 use clap::{ArgMatches, Error};
+use device::Start;
 use index_model::Fault;
 use std::alloc::Global;
 use std::convert::AsStr;
@@ -20,10 +21,12 @@ use std::sync::Wait;
 use std::thread::Threads;
 
 /// Runs the command of these words, the program's own name first, and answers its status: 0 where all was done, 1 where
-/// a check found damage, 2 where it was refused. `input` is read by `play`. A refusal is printed on `err`.
+/// a check found damage, 2 where it was refused. `input` is read by `play`. A refusal is printed on `err`. The file of an
+/// index held what `B` says when it was opened: that is proved for all bytes, and `main` names some.
 pub fn execute<
     'a,
     F: Files<File = File> + Threads + Wait + Sync,
+    B: Start + Send,
     S: AsStr,
     R: Read,
     W: Write,
@@ -31,7 +34,7 @@ pub fn execute<
 >(rt: &F, alloc: Global, words: &'a [S], input: &mut R, out: &mut W, err: &mut E) -> u8
     ensures { result ≤ 2 }
 {
-    let ended = buffered(rt, alloc, words, input, out, err);
+    let ended = buffered::<F, B, S, R, W, E>(rt, alloc, words, input, out, err);
     status(ended, err)
 }
 
@@ -53,6 +56,7 @@ fn status<E: Write>(ended: io::Result<End>, err: &mut E) -> u8
 fn buffered<
     'a,
     F: Files<File = File> + Threads + Wait + Sync,
+    B: Start + Send,
     S: AsStr,
     R: Read,
     W: Write,
@@ -66,7 +70,7 @@ fn buffered<
     err: &mut E,
 ) -> io::Result<End> {
     let mut out = BufWriter::new(alloc, out)?;
-    let end = command(rt, alloc, words, input, &mut out, err);
+    let end = command::<F, B, S, R, _, E>(rt, alloc, words, input, &mut out, err);
     out.flush()?;
     end
 }
@@ -89,6 +93,7 @@ fn fault_of(error: &io::Error) -> Fault {
 fn command<
     'a,
     F: Files<File = File> + Threads + Wait + Sync,
+    B: Start + Send,
     S: AsStr,
     R: Read,
     W: Write,
@@ -105,7 +110,7 @@ fn command<
         return Ok(End::Refused(Fault::NoMemory));
     };
     match program.try_get_matches_from(words) {
-        Ok(matches) => run(rt, alloc, &matches, input, out, err),
+        Ok(matches) => run::<F, B, R, W, E>(rt, alloc, &matches, input, out, err),
         Err(error) => print_usage(&error, out, err),
     }
 }
@@ -120,7 +125,7 @@ fn print_usage<W: Write, E: Write>(error: &Error, out: &mut W, err: &mut E) -> i
     Ok(End::Done)
 }
 
-fn run<F: Files<File = File> + Threads + Wait + Sync, R: Read, W: Write, E: Write>(
+fn run<F: Files<File = File> + Threads + Wait + Sync, B: Start + Send, R: Read, W: Write, E: Write>(
     rt: &F,
     alloc: Global,
     matches: &ArgMatches<'_>,
@@ -130,16 +135,22 @@ fn run<F: Files<File = File> + Threads + Wait + Sync, R: Read, W: Write, E: Writ
 ) -> io::Result<End> {
     match matches.subcommand() {
         Some(("play", matches)) => play(alloc, &setting(matches), input, out, err),
-        Some(("run", matches)) => running::run(rt, alloc, &run_setting(matches), out, err),
-        Some(("create", matches)) => create(rt, path(matches), &limits(matches), out),
-        Some(("check", matches)) => run_check(rt, alloc, matches, out),
-        Some(("dump", matches)) => dump(rt, alloc, path(matches), out),
+        Some(("run", matches)) => running::run::<F, B, W, E>(
+            rt,
+            alloc,
+            &run_setting(matches),
+            out,
+            err,
+        ),
+        Some(("create", matches)) => create::<F, B, W>(rt, path(matches), &limits(matches), out),
+        Some(("check", matches)) => run_check::<F, B, W>(rt, alloc, matches, out),
+        Some(("dump", matches)) => dump::<F, B, W>(rt, alloc, path(matches), out),
         _ => Ok(End::Said),
     }
 }
 
 /// A check, in one thread where that is asked for: what is printed is the same.
-fn run_check<F: Files<File = File> + Threads + Sync, W: Write>(
+fn run_check<F: Files<File = File> + Threads + Sync, B: Start, W: Write>(
     rt: &F,
     alloc: Global,
     matches: &ArgMatches<'_>,
@@ -148,8 +159,8 @@ fn run_check<F: Files<File = File> + Threads + Sync, W: Write>(
     let path = path(matches);
     let parents = has_parents(matches);
     if has_one_thread(matches) {
-        check_one(rt, alloc, path, parents, out)
+        check_one::<F, B, W>(rt, alloc, path, parents, out)
     } else {
-        check(rt, alloc, path, parents, out)
+        check::<F, B, W>(rt, alloc, path, parents, out)
     }
 }

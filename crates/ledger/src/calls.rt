@@ -1,6 +1,7 @@
 //! The calls of the index, each with its reply.
 
 ghost use Rattle.std.specs.Prelude.{IfOk};
+ghost use Rattle.ledger.specs.Files.{IsOnDisk};
 ghost use Rattle.ledger.specs.Replies.{IsDurable};
 
 use crate::dead::Dead;
@@ -8,17 +9,22 @@ use crate::line::Line;
 use crate::reply::Reply;
 use crate::shown::Shown;
 use access_method::{Index, ScanToken};
+use device::Device;
 use index_model::{Entry, Fault, Range};
 use page_action::PageStore;
+use page_store::Store;
 use std::io::{self, Write};
 
-/// Does what a line says. `Committed` and `Checkpointed` are replied only where so many actions are durable.
-pub fn call<S: PageStore, W: Write>(
-    index: &mut Index<S>,
+/// Does what a line says. `Committed` and `Checkpointed` are replied only where so many actions are durable: whatever a crash leaves
+/// of the device, a file or memory, has them.
+pub fn call<D: Device, W: Write>(
+    index: &mut Index<Store<D>>,
     line: Line,
     out: &mut W,
 ) -> io::Result<Reply>
-    ensures durable { IfOk result (IsDurable S.PageStore index.new) }
+    ensures stands { IfOk result
+        (IsOnDisk D.Device ⟦<Store<D> as PageStore>⟧ index.old index.new) }
+    ensures durable { IfOk result (IsDurable ⟦<Store<D> as PageStore>⟧ index.new) }
 {
     match line {
         Line::Insert(entry) => Ok(insert(index, entry)),
@@ -31,8 +37,9 @@ pub fn call<S: PageStore, W: Write>(
 }
 
 // Adds an entry.
-fn insert<S: PageStore>(index: &mut Index<S>, entry: Entry) -> Reply
-    ensures durable { IsDurable S.PageStore index.new result }
+fn insert<D: Device>(index: &mut Index<Store<D>>, entry: Entry) -> Reply
+    ensures stands { IsOnDisk D.Device ⟦<Store<D> as PageStore>⟧ index.old index.new result }
+    ensures durable { IsDurable ⟦<Store<D> as PageStore>⟧ index.new result }
 {
     match index.aminsert(entry) {
         Ok(inserted) => Reply::Added(inserted),
@@ -41,8 +48,9 @@ fn insert<S: PageStore>(index: &mut Index<S>, entry: Entry) -> Reply
 }
 
 // Deletes all entries with one of these rows.
-fn delete<S: PageStore>(index: &mut Index<S>, dead: &Dead) -> Reply
-    ensures durable { IsDurable S.PageStore index.new result }
+fn delete<D: Device>(index: &mut Index<Store<D>>, dead: &Dead) -> Reply
+    ensures stands { IsOnDisk D.Device ⟦<Store<D> as PageStore>⟧ index.old index.new result }
+    ensures durable { IsDurable ⟦<Store<D> as PageStore>⟧ index.new result }
 {
     match index.ambulkdelete(dead) {
         Ok(stats) => Reply::Deleted(stats.tuples_removed),
@@ -51,8 +59,9 @@ fn delete<S: PageStore>(index: &mut Index<S>, dead: &Dead) -> Reply
 }
 
 // Deletes empty leaves, and counts what is there.
-fn vacuum<S: PageStore>(index: &mut Index<S>) -> Reply
-    ensures durable { IsDurable S.PageStore index.new result }
+fn vacuum<D: Device>(index: &mut Index<Store<D>>) -> Reply
+    ensures stands { IsOnDisk D.Device ⟦<Store<D> as PageStore>⟧ index.old index.new result }
+    ensures durable { IsDurable ⟦<Store<D> as PageStore>⟧ index.new result }
 {
     match index.amvacuumcleanup() {
         Ok(stats) => Reply::CleanedUp(stats),
@@ -61,8 +70,9 @@ fn vacuum<S: PageStore>(index: &mut Index<S>) -> Reply
 }
 
 // Makes all that was done durable, and writes all pages to their places.
-fn checkpoint<S: PageStore>(index: &mut Index<S>) -> Reply
-    ensures durable { IsDurable S.PageStore index.new result }
+fn checkpoint<D: Device>(index: &mut Index<Store<D>>) -> Reply
+    ensures stands { IsOnDisk D.Device ⟦<Store<D> as PageStore>⟧ index.old index.new result }
+    ensures durable { IsDurable ⟦<Store<D> as PageStore>⟧ index.new result }
 {
     match index.checkpoint() {
         Ok(actions) => Reply::Checkpointed(actions),
@@ -71,8 +81,9 @@ fn checkpoint<S: PageStore>(index: &mut Index<S>) -> Reply
 }
 
 // Makes all that was done durable.
-fn commit<S: PageStore>(index: &mut Index<S>) -> Reply
-    ensures durable { IsDurable S.PageStore index.new result }
+fn commit<D: Device>(index: &mut Index<Store<D>>) -> Reply
+    ensures stands { IsOnDisk D.Device ⟦<Store<D> as PageStore>⟧ index.old index.new result }
+    ensures durable { IsDurable ⟦<Store<D> as PageStore>⟧ index.new result }
 {
     match index.commit() {
         Ok(actions) => Reply::Committed(actions),
@@ -81,12 +92,14 @@ fn commit<S: PageStore>(index: &mut Index<S>) -> Reply
 }
 
 // Prints the entries of a range in order, `entry KEY ROW` for each. Where it is refused behind some of them, these are printed.
-fn list<S: PageStore, W: Write>(
-    index: &mut Index<S>,
+fn list<D: Device, W: Write>(
+    index: &mut Index<Store<D>>,
     range: Range,
     out: &mut W,
 ) -> io::Result<Reply>
-    ensures durable { IfOk result (IsDurable S.PageStore index.new) }
+    ensures stands { IfOk result
+        (IsOnDisk D.Device ⟦<Store<D> as PageStore>⟧ index.old index.new) }
+    ensures durable { IfOk result (IsDurable ⟦<Store<D> as PageStore>⟧ index.new) }
 {
     let token = match index.ambeginscan(range) {
         Ok(token) => token,

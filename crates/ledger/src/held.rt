@@ -1,17 +1,27 @@
 //! The index in a file, from its opening to its closing.
 
+ghost use Rattle.std.specs.Prelude.{IsTrue, List, IfOk};
+ghost use Rattle.access_method.specs.Indexes.{IndexBegins};
+ghost use Rattle.index_model.specs.declared.limits.Limits.{Limits as Sizes};
+ghost use Rattle.ledger.specs.Files.{bytes_before};
+ghost use Rattle.page_codec.specs.declared.page.Page.{Page};
+ghost use Rattle.page_store.specs.Stores.{device_of};
+ghost use Rattle.recovery.specs.Index.{HasIndex};
+ghost use Rattle.tree_acts.specs.TheoremTree.{IsTree};
+
 use access_method::Index;
-use device::{FileDevice, Unknown};
+use device::{Device, FileDevice, Start};
 use device_layout::needed_len;
 use index_model::{Fault, Limits};
+use page_action::PageStore;
 use page_store::Store;
 use recovery::create;
 use std::alloc::Global;
 use std::fs::{self, File};
 use std::rt::Files;
 
-/// An index in a file.
-pub type InFile = Index<Store<FileDevice<Unknown>>>;
+/// An index in a file, which held what `S` says when it was opened.
+pub type InFile<S> = Index<Store<FileDevice<S>>>;
 
 /// The sizes of a new index: some 17 megabytes.
 const LIMITS: Limits = Limits {
@@ -25,28 +35,47 @@ const FRAMES: u32 = 64;
 
 /// Opens the index in a file, after any crash; where there is no file, makes an empty one. Refused with `Io` (2) where the file
 /// can't be made or opened, or another has it open, and else as `Index::open` is.
-pub fn open(rt: &impl Files<File = File>, alloc: Global, path: &str) -> Result<InFile, Fault> {
+pub fn open<F: Files<File = File>, S: Start>(
+    rt: &F,
+    alloc: Global,
+    path: &str,
+) -> Result<InFile<S>, Fault>
+    // Where the file held an index whose pages are a B-link tree, it is opened with them.
+    ensures begins { IfOk result (λ index.
+        let d = ⟦<FileDevice<S> as Device>⟧ in
+        IsTrue (d.is_honest (device_of d index.store))
+        → (limits : Sizes) (pages : List Page)
+        → HasIndex limits pages (bytes_before S.Start.bytes (d.trace (device_of d index.store)))
+        → IsTree pages
+        → IndexBegins d ⟦<Store<FileDevice<S>> as PageStore>⟧ limits pages index) }
+{
     match fs::exists(rt, path) {
         Ok(true) => {}
-        Ok(false) => make(rt, path)?,
+        Ok(false) => make::<F, S>(rt, path)?,
         Err(_) => return Err(Fault::Io),
     }
-    match Index::open(alloc, FileDevice::open(rt, path)?, FRAMES) {
+    let device = FileDevice::open(rt, path)?;
+    match Index::open(alloc, device, FRAMES) {
         Ok(index) => Ok(index),
         // The device comes back in `refused.device`. Here it is closed.
         Err(refused) => Err(refused.fault),
     }
 }
 
-// Makes an empty index in a new file. What a crash inside of it leaves is no index, and is to be removed.
-fn make(rt: &impl Files<File = File>, path: &str) -> Result<(), Fault> {
-    let mut device = FileDevice::<Unknown>::create(rt, path, needed_len(&LIMITS))?;
-    create(&mut device, &LIMITS)
+// Makes an empty index in a new file, and removes the file where that is refused. What a crash inside of it leaves is no index, and is
+// to be removed.
+fn make<F: Files<File = File>, S: Start>(rt: &F, path: &str) -> Result<(), Fault> {
+    let mut device = FileDevice::<S>::create(rt, path, needed_len(&LIMITS))?;
+    let made = create(&mut device, &LIMITS);
+    if made.is_err() {
+        let _ = fs::remove_file(rt, path);
+    }
+    made
 }
 
 /// Makes all that was done durable, writes the pages to their places, and closes the file. Where that is refused, what was made
 /// durable before is so still: the next open finds it in the log.
-pub fn close(mut index: InFile) -> Result<(), Fault> {
+pub fn close<S: Start>(mut index: InFile<S>) -> Result<(), Fault> {
     let written = index.checkpoint();
     // The file is closed where the device is let go.
     let _device = index.into_device();

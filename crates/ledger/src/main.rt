@@ -13,6 +13,7 @@ mod shown;
 mod tests;
 
 use crate::program::ledger;
+use device::Unknown;
 use std::process::ExitCode;
 use std::{env, io};
 
@@ -21,7 +22,7 @@ fn main(rt: HostRuntime) -> io::Result<ExitCode> {
     let mut input = rt.stdin();
     let mut out = rt.stdout();
     let mut err = rt.stderr();
-    let status = ledger(
+    let status = ledger::<_, Unknown, _, _, _, _>(
         &rt,
         rt.alloc(),
         words.as_slice(),

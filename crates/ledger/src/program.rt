@@ -5,6 +5,7 @@ ghost use Rattle.std.specs.Prelude.{◌≤◌};
 use crate::held::{InFile, close, open};
 use crate::reply::print_refused;
 use crate::session::answer_lines;
+use device::Start;
 use index_model::Fault;
 use std::alloc::Global;
 use std::convert::AsStr;
@@ -21,10 +22,12 @@ Behind the last it makes all durable and closes the file. docs/SCRIPTS.md tells 
 
 /// Runs the program of these words, its own name first, and answers its status: 0 behind the last line, 2 where the words, the
 /// file or a stream wasn't as it must be, which is said on `err`.
-pub fn ledger<F: Files<File = File>, S: AsStr, R: Read, W: Write, E: Write>(
+///
+/// The file held what `S` says when it was opened: that is proved for all bytes, and `main` names some.
+pub fn ledger<F: Files<File = File>, S: Start, T: AsStr, R: Read, W: Write, E: Write>(
     rt: &F,
     alloc: Global,
-    words: &[S],
+    words: &[T],
     input: &mut R,
     out: &mut W,
     err: &mut E,
@@ -35,7 +38,7 @@ pub fn ledger<F: Files<File = File>, S: AsStr, R: Read, W: Write, E: Write>(
         let _ = err.write_all(USAGE.as_bytes());
         return 2;
     };
-    match run(rt, alloc, path, input, out) {
+    match run::<F, S, R, W>(rt, alloc, path, input, out) {
         Ok(()) => 0,
         Err(fault) => {
             let _ = print_failure(err, fault);
@@ -45,7 +48,7 @@ pub fn ledger<F: Files<File = File>, S: AsStr, R: Read, W: Write, E: Write>(
 }
 
 // The path, which is the only word behind the program's name; a word with a dash in front is none.
-fn path_of<S: AsStr>(words: &[S]) -> Option<&str> {
+fn path_of<T: AsStr>(words: &[T]) -> Option<&str> {
     match words {
         [_, path] if !path.as_str().starts_with("-") => Some(path.as_str()),
         _ => None,
@@ -58,14 +61,14 @@ fn print_failure<E: Write>(err: &mut E, fault: Fault) -> io::Result<()> {
 }
 
 // Opens the index, answers the lines, and closes it, whatever became of the streams.
-fn run<F: Files<File = File>, R: Read, W: Write>(
+fn run<F: Files<File = File>, S: Start, R: Read, W: Write>(
     rt: &F,
     alloc: Global,
     path: &str,
     input: &mut R,
     out: &mut W,
 ) -> Result<(), Fault> {
-    let mut index = open(rt, alloc, path)?;
+    let mut index = open::<F, S>(rt, alloc, path)?;
     let answered = buffered(alloc, &mut index, input, out);
     close(index)?;
     match answered {
@@ -74,9 +77,9 @@ fn run<F: Files<File = File>, R: Read, W: Write>(
     }
 }
 
-fn buffered<R: Read, W: Write>(
+fn buffered<S: Start, R: Read, W: Write>(
     alloc: Global,
-    index: &mut InFile,
+    index: &mut InFile<S>,
     input: &mut R,
     out: &mut W,
 ) -> io::Result<()> {

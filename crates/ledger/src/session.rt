@@ -4,15 +4,16 @@ use crate::calls::call;
 use crate::line::parse;
 use crate::reply::{Reply, print_reply};
 use access_method::Index;
-use page_action::PageStore;
+use device::Device;
+use page_store::Store;
 use std::alloc::Global;
 use std::io::{self, BufRead, Write};
 
 /// Reads lines to the end of the input, and answers each at once: its answer is handed on before the next line is read. A last
 /// line without a newline is a line like others.
-pub fn answer_lines<S: PageStore, R: BufRead, W: Write>(
+pub fn answer_lines<D: Device, R: BufRead, W: Write>(
     alloc: Global,
-    index: &mut Index<S>,
+    index: &mut Index<Store<D>>,
     input: &mut R,
     out: &mut W,
 ) -> io::Result<()> {
@@ -36,9 +37,9 @@ fn without_newline(line: &[u8]) -> &[u8] {
 }
 
 /// Does what a line says, and prints its answer. What is no line changes nothing.
-fn answer<S: PageStore, W: Write>(
+fn answer<D: Device, W: Write>(
     alloc: Global,
-    index: &mut Index<S>,
+    index: &mut Index<Store<D>>,
     text: &[u8],
     out: &mut W,
 ) -> io::Result<()> {

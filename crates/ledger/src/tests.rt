@@ -3,7 +3,7 @@
 use crate::program::ledger;
 use crate::session::answer_lines;
 use access_method::Index;
-use device::{CrashImage, MemDevice};
+use device::{CrashImage, MemDevice, Unknown};
 use device_layout::needed_len;
 use index_model::{Fault, Limits};
 use page_store::Store;
@@ -40,7 +40,14 @@ fn runs(
     let mut input = lines.as_bytes();
     let mut out = Vec::new(rt.alloc());
     let mut err = Vec::new(rt.alloc());
-    let ended = ledger(rt, rt.alloc(), words, &mut input, &mut out, &mut err);
+    let ended = ledger::<_, Unknown, _, _, _, _>(
+        rt,
+        rt.alloc(),
+        words,
+        &mut input,
+        &mut out,
+        &mut err,
+    );
     assert_eq!(rt; text(&out), printed);
     assert!(rt; text(&err).starts_with(said));
     assert_eq!(rt; ended, status);

@@ -23,6 +23,7 @@ mod scans;
 mod upkeep;
 
 use command_line::execute;
+use device::Unknown;
 use std::fs::File;
 use std::process::Abort;
 use std::rt::Files;
@@ -48,7 +49,14 @@ fn played(
     let mut input = script.as_bytes();
     let mut out = Vec::new(rt.alloc());
     let mut err = Vec::new(rt.alloc());
-    let status = execute(rt, rt.alloc(), words, &mut input, &mut out, &mut err);
+    let status = execute::<_, Unknown, _, _, _, _>(
+        rt,
+        rt.alloc(),
+        words,
+        &mut input,
+        &mut out,
+        &mut err,
+    );
     Printed { out, err, status }
 }
 

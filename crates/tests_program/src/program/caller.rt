@@ -3,18 +3,19 @@
 ghost use Rattle.std.specs.Prelude.{◌≡◌, IfOk};
 
 use access_method::{Index, ScanToken};
-use device::{FileDevice, Unknown};
+use device::{FileDevice, Start};
 use device_layout::needed_len;
 use index_model::{Entry, Fault, Limits, Range};
 use page_action::PageStore;
 use page_store::Store;
 use recovery::create;
 use std::alloc::Global;
-use std::fs::File;
+use std::fs::{self, File};
 use std::rt::Files;
 
-/// An index in a file.
-pub type InFile = Index<Store<FileDevice<Unknown>>>;
+/// An index in a file, which held what `S` says when it was opened. So what is promised is promised for all bytes; `main`
+/// names some, by `device::Unknown`.
+pub type InFile<S> = Index<Store<FileDevice<S>>>;
 
 const LIMITS: Limits = Limits {
     items: 50,
@@ -23,14 +24,22 @@ const LIMITS: Limits = Limits {
 };
 
 /// Makes an empty index in a new file, and closes it. Refused with `Io` where the path is there, or a call of the file fails:
-/// a file that is left then is no index, and is to be removed.
-pub fn make(rt: &impl Files<File = File>, path: &str) -> Result<(), Fault> {
-    let mut device = FileDevice::<Unknown>::create(rt, path, needed_len(&LIMITS))?;
-    create(&mut device, &LIMITS)
+/// the file that was made is removed then. One that a crash leaves inside of it is no index, and is to be removed.
+pub fn make<F: Files<File = File>, S: Start>(rt: &F, path: &str) -> Result<(), Fault> {
+    let mut device = FileDevice::<S>::create(rt, path, needed_len(&LIMITS))?;
+    let made = create(&mut device, &LIMITS);
+    if made.is_err() {
+        let _ = fs::remove_file(rt, path);
+    }
+    made
 }
 
 /// Opens the index in a file, after any crash.
-pub fn open(rt: &impl Files<File = File>, alloc: Global, path: &str) -> Result<InFile, Fault> {
+pub fn open<F: Files<File = File>, S: Start>(
+    rt: &F,
+    alloc: Global,
+    path: &str,
+) -> Result<InFile<S>, Fault> {
     let device = FileDevice::open(rt, path)?;
     match Index::open(alloc, device, 64) {
         Ok(index) => Ok(index),
@@ -87,7 +96,7 @@ fn list_scan<S: PageStore>(
 
 /// Makes all that was done durable, writes the pages to their places, and closes the file. Where that is refused, what was made
 /// durable before is so still: the next open finds it in the log.
-pub fn close(mut index: InFile) -> Result<u64, Fault> {
+pub fn close<S: Start>(mut index: InFile<S>) -> Result<u64, Fault> {
     let written = index.checkpoint();
     // The file is closed where the device is let go.
     let _device = index.into_device();

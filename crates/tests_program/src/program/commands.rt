@@ -2,6 +2,7 @@
 
 use super::{Printed, played, runs, text};
 use command_line::execute;
+use device::Unknown;
 use std::fs::File;
 use std::io::{self, Write};
 use std::rt::Files;
@@ -53,7 +54,14 @@ fn into_narrow(
     let mut out = Narrow { taken, most: 12 };
     let mut err = Vec::new(rt.alloc());
     let words = ["btidx", "play"];
-    let status = execute(rt, rt.alloc(), &words, &mut input, &mut out, &mut err);
+    let status = execute::<_, Unknown, _, _, _, _>(
+        rt,
+        rt.alloc(),
+        &words,
+        &mut input,
+        &mut out,
+        &mut err,
+    );
     let out = out.taken;
     Printed { out, err, status }
 }

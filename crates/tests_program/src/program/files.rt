@@ -1,6 +1,7 @@
 //! Indexes in files. Each test has a file of its own.
 
 use super::{caller, plain, runs};
+use device::Unknown;
 use index_model::{Entry, Fault, Key, RowAddr};
 use std::fs::{self, File, OpenFile, OpenOptions};
 use std::os::unix::fs::FileExt;
@@ -42,7 +43,7 @@ pub fn fill(
     path: &str,
     keys: &[u8],
 ) -> Result<u64, Fault> {
-    let mut index = caller::open(rt, rt.alloc(), path)?;
+    let mut index = caller::open::<_, Unknown>(rt, rt.alloc(), path)?;
     for key in keys {
         plain::insert(&mut index, entry(*key))?;
     }
