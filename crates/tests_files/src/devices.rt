@@ -52,7 +52,8 @@ fn empty(rt: HostRuntime) -> Result<(), Fail> {
     Ok(())
 }
 
-/// A file that nobody may write is opened only by whom the system lets write it all the same; its bytes stay.
+/// A file that nobody may write is refused; its bytes stay. The gate runs tests as a user who may not write it, and there the
+/// refusal is asked for. The system's owner may write it all the same: where the tests run as that user it's opened.
 #[test]
 fn read_only(rt: HostRuntime) -> Result<(), Fail> {
     let path = "files_read_only.bin";

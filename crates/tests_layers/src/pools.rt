@@ -184,12 +184,29 @@ fn hand_goes_round(rt: HostRuntime) -> Result<(), Fail> {
     Ok(())
 }
 
-// A pool whose room is refused: under `--fail-alloc` each of its four allocations fails in turn.
+// What was looked at since the hand passed it keeps its frame, as long as another can be taken: the hand passes it, and takes it the
+// next time. Where all were looked at, the first from the hand on is taken.
 #[test]
-fn refused_room(rt: HostRuntime) -> Result<(), Fail> {
-    match pool(rt.alloc(), 2) {
-        Ok(pool) => assert!(rt; pool.held() == 0),
-        Err(fault) => assert!(rt; fault == Fault::NoMemory),
+fn pages_that_are_looked_at_stay(rt: HostRuntime) -> Result<(), Fail> {
+    let mut pool = pool(rt.alloc(), 3)?;
+    for block in 1..4 {
+        assert!(rt; bring(&mut pool, &[], block));
     }
+    assert!(rt; pool.look(1));
+    assert!(rt; !pool.look(7) && !pool.look(4_000_000_000));
+    assert!(rt; choose(&mut pool, &[]) == Choice::Free(1));
+    assert!(rt; choose(&mut pool, &[]) == Choice::Free(2));
+    assert!(rt; choose(&mut pool, &[]) == Choice::Free(0));
+    for block in 1..4 {
+        assert!(rt; pool.look(block));
+    }
+    assert!(rt; choose(&mut pool, &[]) == Choice::Free(1));
+    // Block 4 comes for block 3, since the hand has come there, and block 5 for block 2, since block 1 was looked at.
+    assert!(rt; pool.look(1));
+    assert!(rt; bring(&mut pool, &[], 4));
+    assert!(rt; pool.find(3) == None);
+    assert!(rt; bring(&mut pool, &[], 5));
+    assert!(rt; pool.find(2) == None);
+    assert!(rt; pool.find(1) == Some(0));
     Ok(())
 }

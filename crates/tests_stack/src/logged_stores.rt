@@ -204,18 +204,19 @@ const GOING: [(Call, Result<u64, Fault>); 2] = [
     (Call::Checkpoint, Ok(1)),
 ];
 
-// Four calls force, one writes the page and one syncs it, two close the log.
+// Four calls force, one writes the page and one syncs it, two close the log; a ninth isn't made.
 #[test]
 fn each_call_of_a_checkpoint_fails(rt: HostRuntime) -> Result<(), Fail> {
-    for n in 1..9 {
+    for n in 1..10 {
         let mut store = store(rt.alloc())?;
         let rows = [
             (Call::Act(1, 7), Ok(1)),
             (Call::FailAt(n), Ok(0)),
-            (Call::Checkpoint, Err(Fault::Io)),
+            (Call::Checkpoint, if n < 9 { Err(Fault::Io) } else { Ok(1) }),
+            (Call::FailAt(0), Ok(0)),
         ];
         assert_eq!(rt; wrong(&mut store, &rows), 0);
-        if n <= 4 || n >= 7 {
+        if n <= 4 || n == 7 || n == 8 {
             assert_eq!(rt; wrong(&mut store, &STOPPED), 0);
         } else {
             assert_eq!(rt; wrong(&mut store, &GOING), 0);
@@ -381,7 +382,7 @@ fn pinned_pages_stay(rt: HostRuntime) -> Result<(), Fail> {
     Ok(())
 }
 
-// A read that fails, and a page that can't be written to make room, leave all as it was.
+// A read that fails leaves all as it was.
 #[test]
 fn a_failed_fetch_is_made_again(rt: HostRuntime) -> Result<(), Fail> {
     let mut store = checkpointed(rt.alloc())?;
@@ -393,5 +394,72 @@ fn a_failed_fetch_is_made_again(rt: HostRuntime) -> Result<(), Fail> {
     ];
     assert_eq!(rt; wrong(&mut store, &rows), 0);
     assert!(rt; has_all(&mut store, 0));
+    Ok(())
+}
+
+/// A store of 40 pages of which 16 are in memory: block 39, which is pinned, and the blocks 1 to 15, which were changed in this order.
+fn crowded(alloc: Global) -> Result<Store<MemDevice>, Fault> {
+    let mut store = checkpointed(alloc)?;
+    cycle_of(&mut store, 39)?;
+    pin(&mut store, 0, 39)?;
+    for block in 1..16u32 {
+        act(&mut store, &[marked(block, block.saturating_add(100))])?;
+    }
+    Ok(store)
+}
+
+// Block 20 comes for block 1, which is written before, and the next four of the changed ones behind it: a quarter of the frames.
+// Then block 20 is read. What wasn't written by the call that failed is changed as before, and first in the order.
+#[test]
+fn pages_that_cannot_be_written_stay(rt: HostRuntime) -> Result<(), Fail> {
+    for n in 1..8u64 {
+        let mut store = crowded(rt.alloc())?;
+        let rows = [
+            (Call::Force, Ok(54)),
+            (Call::FailAt(n), Ok(0)),
+            (Call::Cycle(20), if n < 7 { Err(Fault::Io) } else { Ok(20) }),
+            (Call::FailAt(0), Ok(0)),
+            (Call::IsStopped, Ok(0)),
+            (Call::Flush, Ok(n.min(6))),
+            (Call::Cycle(20), Ok(20)),
+        ];
+        assert_eq!(rt; wrong(&mut store, &rows), 0, "call {n}");
+        for block in 1..40u32 {
+            let cycle = if block < 16 { block + 100 } else { block };
+            assert_eq!(rt; cycle_of(&mut store, block), Ok(cycle), "call {n}");
+        }
+    }
+    Ok(())
+}
+
+// The same where the acts aren't forced: that takes four calls before, and where one of these fails the log is stopped.
+#[test]
+fn pages_that_cannot_be_forced_stay(rt: HostRuntime) -> Result<(), Fail> {
+    for n in 1..12u64 {
+        let mut store = crowded(rt.alloc())?;
+        let rows = [
+            (Call::FailAt(n), Ok(0)),
+            (
+                Call::Cycle(20),
+                if n < 11 { Err(Fault::Io) } else { Ok(20) },
+            ),
+            (Call::FailAt(0), Ok(0)),
+            (Call::IsStopped, Ok(u64::from(n < 5))),
+            (
+                Call::Flush,
+                if n < 5 {
+                    Err(Fault::Stopped)
+                } else {
+                    Ok(n.min(10) - 4)
+                },
+            ),
+            (
+                Call::Cycle(20),
+                if n < 5 { Err(Fault::Stopped) } else { Ok(20) },
+            ),
+            (Call::Cycle(1), Ok(101)),
+        ];
+        assert_eq!(rt; wrong(&mut store, &rows), 0, "call {n}");
+    }
     Ok(())
 }

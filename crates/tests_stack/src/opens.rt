@@ -9,6 +9,7 @@ use index_model::Fault;
 use page_action::PageStore;
 use page_store::Store;
 use std::alloc::Global;
+use std::process::Abort;
 use std::test::{Fail, *};
 
 /// So many bytes of the device from there on.
@@ -59,15 +60,15 @@ fn refusals(rt: HostRuntime) -> Result<(), Fail> {
     let mut few = limits(64);
     few.items = 3;
     assert!(rt; create(&mut short, &few) == Err(Fault::BadLimits));
-    // Each of its 69 calls fails once: zeros, sync, gate, 62 blocks, two pages, sync, superblock, sync.
+    // Each of its 70 calls fails once, and a 71st isn't made: zeros, sync, gate, 62 blocks, two pages, sync, superblock, sync.
     let mut device = device(rt.alloc(), 331_776)?;
-    device.fail_at(71);
-    assert!(rt; create(&mut device, &limits(64)) == Ok(()));
+    for n in 1..72u64 {
+        device.fail_at(n);
+        let wanted = if n < 71 { Err(Fault::Io) } else { Ok(()) };
+        assert!(rt; create(&mut device, &limits(64)) == wanted, "call {n}");
+    }
     device.fail_at(0);
-    device.stop_at(5);
-    assert!(rt; create(&mut device, &limits(64)) == Err(Fault::Io));
-    device.stop_at(0);
-    assert!(rt; create(&mut device, &limits(64)) == Ok(()));
+    assert!(rt; used(rt.alloc(), device) == 2);
     Ok(())
 }
 
@@ -172,32 +173,47 @@ fn cycles(alloc: Global, device: MemDevice) -> Option<(u32, u32, u32)> {
     }
 }
 
+/// Opens a device a call of which fails, the nth from now on: so that it's refused, up to the twelfth call, and what a crash leaves
+/// then has all that was forced. Answers the device where it was refused.
+fn fails_right(
+    rt: &(impl Abort + AllocGlobal + Print + Eprint),
+    found: MemDevice,
+    n: u64,
+) -> Result<Option<MemDevice>, Fail> {
+    match open(rt.alloc(), found, 16) {
+        Ok(store) => {
+            assert!(rt; (n, store.used()) == (13, 3));
+            Ok(None)
+        }
+        Err(refused) => {
+            assert!(rt; n < 13 && refused.fault == Fault::Io, "call {n}");
+            for again in IMAGES {
+                let twice = left(rt.alloc(), &refused.device, again)?;
+                assert!(rt; cycles(rt.alloc(), twice) == Some((3, 7, 6)), "call {n}");
+            }
+            Ok(Some(refused.device))
+        }
+    }
+}
+
 // It reads the superblock, syncs, reads the log, writes two images and syncs them, closes the log by a write and a
 // sync, and reads three pages and the unused block behind them.
 #[test]
-fn each_call_of_an_open_stops(rt: HostRuntime) -> Result<(), Fail> {
+fn each_call_of_an_open_fails(rt: HostRuntime) -> Result<(), Fail> {
     let device = busy_device(rt.alloc())?;
-    let mut stopped: u32 = 0;
     for image in IMAGES {
         for n in 1..14 {
-            let mut found = left(rt.alloc(), &device, image)?;
-            found.stop_at(n);
-            match open(rt.alloc(), found, 16) {
-                Ok(store) => {
-                    assert!(rt; (n, store.used()) == (13, 3));
-                }
-                Err(refused) => {
-                    assert!(rt; refused.fault == Fault::Io);
-                    stopped = stopped.saturating_add(1);
-                    for again in IMAGES {
-                        let twice = left(rt.alloc(), &refused.device, again)?;
-                        assert!(rt; cycles(rt.alloc(), twice) == Some((3, 7, 6)));
-                    }
-                }
+            let mut stopping = left(rt.alloc(), &device, image)?;
+            stopping.stop_at(n);
+            fails_right(&rt, stopping, n)?;
+            let mut failing = left(rt.alloc(), &device, image)?;
+            failing.fail_at(n);
+            // That call has failed, and the next opening is undisturbed.
+            if let Some(found) = fails_right(&rt, failing, n)? {
+                assert!(rt; cycles(rt.alloc(), found) == Some((3, 7, 6)), "call {n}");
             }
         }
     }
-    assert!(rt; stopped == 36);
     Ok(())
 }
 
