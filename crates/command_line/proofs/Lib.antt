@@ -13,3 +13,4 @@ pub mod Opened
 pub mod Printed
 pub mod Listed
 pub mod Stepped
+pub mod Checked
