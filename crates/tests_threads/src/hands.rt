@@ -7,7 +7,7 @@ ghost use Rattle.index_model.specs.declared.entry.Entry.{Entry as OneEntry};
 ghost use Rattle.worker_seats.specs.Seats.{keeper_of, known_by};
 ghost use Rattle.world.specs.Worlds.{WorldFits, WorldKeeps, inside};
 ghost use Rattle.sessions.specs.Finishing.{AreIdle, handed_of};
-ghost use Rattle.sessions.specs.Handed.{ComesOf};
+ghost use Rattle.sessions.specs.Handed.{IsAsHanded};
 ghost use Rattle.sessions.specs.Jobs.{room_of};
 ghost use Rattle.sessions.specs.Standing.{Stands};
 
@@ -322,8 +322,7 @@ fn seated<S: PageStore, T: DeadRows + Drop, J: Jobs>(
     requires all { blank.parts ≡ 65 }
     requires seats { cell.now.table.shared.table_id ≡ J.seats }
     requires workers { J.workers ≡ workers }
-    requires handed { ComesOf S.PageStore J.handed (S.state world.store).acts
-        (inside T.DeadRows world) }
+    requires handed { IsAsHanded S.PageStore J.handed (inside T.DeadRows world) }
     requires stood { Stands S.PageStore J.stood J.kept_then (inside T.DeadRows world) }
     requires keeper { keeper.table_id ≡ cell.now.table.shared.table_id }
     requires knows { known_by keeper ≡ keeper_of [] [] }
