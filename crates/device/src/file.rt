@@ -10,8 +10,9 @@ use crate::device::Device;
 use crate::events::Events;
 use index_model::Fault;
 use std::fs::{self, File, OpenFile, OpenOptions};
+use std::io::{Seek, SeekFrom};
 use std::marker::PhantomData;
-use std::os::unix::fs::FileExt;
+use std::os::unix::fs::{FileExt, FileTypeExt};
 use std::path::Path;
 use std::rt::Files;
 
@@ -93,7 +94,7 @@ impl<S: Start> FileDevice<S> {
         let Ok(file) = File::create_new(rt, path) else {
             return Err(Fault::Io);
         };
-        match write_zeros(rt, &file, path, len) {
+        match place_zeros(rt, &file, path, len) {
             Ok(()) => Ok(FileDevice::of_file(file, len)),
             Err(fault) => {
                 let _ = fs::remove_file(rt, path);
@@ -102,8 +103,31 @@ impl<S: Start> FileDevice<S> {
         }
     }
 
-    /// A file that is there, for reading and writing, with all its bytes. It is synced first, so that what it holds stands
-    /// through a crash. Refused with `Io`, and so where another has the file's lock; nothing is changed then.
+    /// A file that is open for reading and writing, made anew: so many bytes, all zero, and synced; what it held is gone. The
+    /// first `filled` of them are written, so that each has its place on the disk. The others have none before they are
+    /// written, which a full disk may refuse then. Its folder isn't synced: [`sync_folder`].
+    ///
+    /// Refused with `Io` where another has the file's lock, and then nothing is changed; for 2^63 bytes or more; and where a
+    /// call fails, as where the disk has no room. What the file holds then isn't known. It is closed where it is refused.
+    pub fn made(file: File, len: u64, filled: u64) -> Result<FileDevice<S>, Fault>
+        // It holds what S says of so many bytes, all synced, and no call of it was made.
+        ensures held { IfOk result (λ d. behind_calls (S.Start.bytes d.len) d.events.list
+            ≡ first (S.Start.bytes len)) }
+        ensures honest { IfOk result
+            (λ d. are_right (S.Start.bytes d.len) d.events.list ≡ true) }
+        ensures failures { IfOk result (λ d. failed_in d.events.list ≡ 0) }
+        ensures runs { IfOk result (λ d. d.stopped ≡ false) }
+        ensures fault { IfErr result (λ e. e ≡ Fault.Io) }
+    {
+        if len >= 1 << 63 {
+            return Err(Fault::Io);
+        }
+        write_zeros(&file, len, filled)?;
+        Ok(FileDevice::of_file(file, len))
+    }
+
+    /// A file that is there, for reading and writing, with all its bytes; or a block device. It is synced first, so that what
+    /// it holds stands through a crash. Refused with `Io`, and so where another has the file's lock; nothing is changed then.
     pub fn open<R: Files<File = File>>(rt: &R, path: &str) -> Result<FileDevice<S>, Fault>
         ensures held { IfOk result (λ d. behind_calls (S.Start.bytes d.len) d.events.list
             ≡ first (S.Start.bytes d.len)) }
@@ -116,11 +140,26 @@ impl<S: Start> FileDevice<S> {
         let Ok(file) = OpenOptions::new().read(true).write(true).open(rt, path) else {
             return Err(Fault::Io);
         };
+        FileDevice::held(file)
+    }
+
+    /// A file that is open already, for reading and writing, with all its bytes; or a block device. It is synced first, so
+    /// that what it holds stands through a crash. Refused with `Io` where another has the file's lock, where it is neither
+    /// a file nor a block device, or a call fails: nothing is changed then, and it is closed.
+    pub fn held(file: File) -> Result<FileDevice<S>, Fault>
+        ensures held { IfOk result (λ d. behind_calls (S.Start.bytes d.len) d.events.list
+            ≡ first (S.Start.bytes d.len)) }
+        ensures honest { IfOk result
+            (λ d. are_right (S.Start.bytes d.len) d.events.list ≡ true) }
+        ensures failures { IfOk result (λ d. failed_in d.events.list ≡ 0) }
+        ensures runs { IfOk result (λ d. d.stopped ≡ false) }
+        ensures fault { IfErr result (λ e. e ≡ Fault.Io) }
+    {
         lock(&file)?;
-        let (Ok(()), Ok(metadata)) = (file.sync_all(), file.metadata()) else {
+        let Ok(()) = file.sync_all() else {
             return Err(Fault::Io);
         };
-        let len = metadata.len();
+        let len = len_of(&file)?;
         if len >= 1 << 63 {
             return Err(Fault::Io);
         }
@@ -164,8 +203,29 @@ fn lock(file: &File) -> Result<(), Fault>
     }
 }
 
-/// Makes a new file this long, with its lock and its zeros, and syncs it and its folder. Refused with `Io`.
-fn write_zeros<R: Files<File = File>>(
+/// How many bytes a file has, or a block device, whose metadata doesn't tell it. Refused with `Io` for what is neither.
+fn len_of(file: &File) -> Result<u64, Fault>
+    ensures fault { IfErr result (λ e. e ≡ Fault.Io) }
+{
+    let Ok(metadata) = file.metadata() else {
+        return Err(Fault::Io);
+    };
+    if metadata.is_file() {
+        return Ok(metadata.len());
+    }
+    if !metadata.file_type().is_block_device() {
+        return Err(Fault::Io);
+    }
+    // Reads and writes name their place: nothing else uses the file's position.
+    let mut file = file;
+    match file.seek(SeekFrom::End(0)) {
+        Ok(len) => Ok(len),
+        Err(_) => Err(Fault::Io),
+    }
+}
+
+/// Makes a file this long, all of it written with zeros, and syncs it and its folder. Refused with `Io`.
+fn place_zeros<R: Files<File = File>>(
     rt: &R,
     file: &File,
     path: &str,
@@ -173,19 +233,28 @@ fn write_zeros<R: Files<File = File>>(
 ) -> Result<(), Fault>
     ensures fault { IfErr result (λ e. e ≡ Fault.Io) }
 {
-    lock(file)?;
-    let Ok(()) = file.set_len(len) else {
-        return Err(Fault::Io);
-    };
-    fill(file, len)?;
-    let Ok(()) = file.sync_all() else {
-        return Err(Fault::Io);
-    };
+    write_zeros(file, len, len)?;
     sync_folder(rt, path)
 }
 
-/// Writes zeros to all of a new file. So a later write finds no full disk, and a later sync has only what was written to bring
-/// there, and not where it lies. Refused with `Io`.
+/// Takes the file's lock, makes it this long, all zero, with so many bytes written, and syncs it. Refused with `Io`.
+fn write_zeros(file: &File, len: u64, filled: u64) -> Result<(), Fault>
+    ensures fault { IfErr result (λ e. e ≡ Fault.Io) }
+{
+    lock(file)?;
+    // What it held goes with its old length.
+    let (Ok(()), Ok(())) = (file.set_len(0), file.set_len(len)) else {
+        return Err(Fault::Io);
+    };
+    fill(file, filled.min(len))?;
+    match file.sync_all() {
+        Ok(()) => Ok(()),
+        Err(_) => Err(Fault::Io),
+    }
+}
+
+/// Writes zeros over the first bytes of a file. So a later write there finds no full disk, and a later sync has only what was
+/// written to bring there, and not where it lies. Refused with `Io`.
 fn fill(file: &File, len: u64) -> Result<(), Fault>
     ensures fault { IfErr result (λ e. e ≡ Fault.Io) }
 {
@@ -206,8 +275,9 @@ fn fill_at(file: &File, at: u64, zeros: &[u8]) -> Result<(), Fault>
     }
 }
 
-/// Syncs the folder of a path. Refused with `Io`.
-fn sync_folder<R: Files<File = File>>(rt: &R, path: &str) -> Result<(), Fault>
+/// Syncs the folder of a path: so a name that was given or taken there, by a link, a removal or a new file, is so behind a
+/// crash too. Refused with `Io`, as where the folder isn't there or may not be read.
+pub fn sync_folder<R: Files<File = File>>(rt: &R, path: &str) -> Result<(), Fault>
     ensures fault { IfErr result (λ e. e ≡ Fault.Io) }
 {
     let folder = match Path::new(path).parent() {
