@@ -3,3 +3,5 @@ pub mod Results
 pub mod Sweeps
 pub mod Cleanups
 pub mod Refusals
+pub mod Opened
+pub mod Closing

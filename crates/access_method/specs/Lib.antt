@@ -2,3 +2,4 @@ pub mod Tokens
 pub mod Counted
 pub mod Indexes
 pub mod Refusals
+pub mod Files

@@ -1,9 +1,15 @@
-//! The index of one user: its calls, each run to its end.
+//! The index of one user: its calls, each run to its end; and one in a file, made, opened and closed.
 #![tactic(auto)]
 
+mod draft;
+pub mod in_file;
 mod index;
 mod token;
 
+// What a caller names beside them.
+pub use device::{FileDevice, Start, Unknown};
 pub use index::{Index, NotMade};
+pub use index_model::{DeadRows, Entry, Fault, Key, Limits, Range, RowAddr, VacuumStats};
+pub use page_action::PageStore;
 pub use token::ScanToken;
 pub use whole_calls::Inserted;

@@ -1,0 +1,40 @@
+use Rattle.std.proofs.Common.{ℕ, List, sym, ap, subst, ◌∙◌}
+use Rattle.std.proofs.lemmas.Result.{IfErr-weaker, on_ok_weaker}
+use Rattle.device.specs.Disk.{MayLeave}
+use Rattle.index_model.specs.Actions.{Action}
+use Rattle.index_model.specs.declared.limits.Limits.{Limits}
+use Rattle.page_store.specs.Crashing.{left_now}
+use Rattle.page_store.specs.Following.{follows_same}
+use Rattle.page_store.specs.Stores.{state_of, held_by}
+use Rattle.world.proofs.Leaving.{left_index}
+use Rattle.world.specs.Reopening.{IsIndexAfterFirstPart}
+use Rattle.access_method.proofs.Closing.{both_told}
+use Rattle.access_method.proofs.in_file.close.Goals as goal
+
+-- nothing was done but to make durable, so a crash leaves all of the same actions; the device is that of the index behind it
+pub returns-clause-stands : goal.returns-clause-stands
+returns-clause-stands g c =
+    let d = g.D.Device in
+    let old = c.args.index.store in
+    let store = c.checkpoint-written.new.self.store in
+    let device = c.into_device.ensures in
+    both_told c.checkpoint-written.result _ _ _
+    (λ n number durable honest start history calls fits keeps image may.
+    let run = c.checkpoint-written.ensures.runs (sym (ap (λ x. d.is_honest x) device) ∙ honest) start history calls fits in
+    let kept = (run.ran.crash keeps).keeps in
+    let on = (c.checkpoint-written.ensures.steps old (follows_same (held_by d old))).grows keeps.own in
+    let same = sym store.held.log_limits ∙ on.limits ∙ old.held.log_limits in
+    let there = subst (λ x. MayLeave (d.trace x).now image) device may in
+    let left = left_index d store store kept.own (follows_same (held_by d store)) start run.then_history run.ran.fits.explains.count kept.parts image (left_now (held_by d store) image there) in
+    subst (λ (limits : Limits). IsIndexAfterFirstPart limits start history n image) same
+    (subst (λ (m : ℕ). IsIndexAfterFirstPart (state_of d store).limits start history m image) (durable ∙ sym number)
+    (subst (λ (actions : List Action). IsIndexAfterFirstPart (state_of d store).limits start actions (held_by d store).durable image) run.tells.history_is left)))
+    c.checkpoint-written.ensures.number c.checkpoint-written.ensures.durable
+
+pub returns-clause-empties : goal.returns-clause-empties
+returns-clause-empties g c =
+    on_ok_weaker c.checkpoint-written.result (λ room. (c.checkpoint-written.new.self.store, c.into_device.ensures, room)) c.checkpoint-written.ensures.room
+
+pub returns-clause-cause : goal.returns-clause-cause
+returns-clause-cause g c =
+    IfErr-weaker c.checkpoint-written.result _ _ (λ fault has. (c.checkpoint-written.new.self.store, c.into_device.ensures, has)) c.checkpoint-written.ensures.cause

@@ -1,0 +1,170 @@
+//! An index in a file: made, opened and closed.
+
+ghost use Rattle.std.specs.Prelude.{◌≡◌, ◌⊎◌, IsTrue, List, length, IfOk, IfErr, OnOk};
+ghost use Rattle.access_method.specs.Files.{bytes_before, IsOpenFault, StaysOnDevice, IsLastOver};
+ghost use Rattle.access_method.specs.Indexes.{IndexBegins};
+ghost use Rattle.device.specs.Event.{behind_calls};
+ghost use Rattle.device_layout.specs.Layout.{needed_length};
+ghost use Rattle.index_model.specs.Faults.{HasCause};
+ghost use Rattle.index_model.specs.Limits.{AreLimits};
+ghost use Rattle.index_model.specs.declared.limits.Limits.{Limits as Sizes};
+ghost use Rattle.page_action.specs.Causes.{where_forced};
+ghost use Rattle.page_action.specs.Room.{HasWholeRoom};
+ghost use Rattle.page_codec.specs.declared.page.Page.{Page};
+ghost use Rattle.page_store.specs.Stores.{state_of, device_of};
+ghost use Rattle.page_store.specs.declared.store.Store.{Store as StoreOver};
+ghost use Rattle.recovery.specs.Fresh.{IsEmptyIndex, LeavesEmpty};
+ghost use Rattle.recovery.specs.Index.{HasIndex};
+ghost use Rattle.recovery.specs.Opening.{AreFrames, IsFreshlyOpened, IsSameIndex, StandsOnDevice};
+ghost use Rattle.tree_acts.specs.TheoremTree.{IsTree};
+
+use crate::draft::{draft_of, make_draft, place_draft, want_free};
+use crate::index::Index;
+use device::{Device, FileDevice, Start};
+use device_layout::{needed_len, page_place};
+use index_model::{Fault, Limits};
+use page_action::PageStore;
+use page_store::Store;
+use std::alloc::Global;
+use std::fs::{self, File};
+use std::rt::Files;
+
+/// An index in a file, which held what `S` says when it was opened.
+pub type InFile<S> = Index<Store<FileDevice<S>>>;
+
+/// Makes an empty index of these limits in a new file of exactly its length, all of it written and synced. The file is at the
+/// path only once it is whole: a crash at any moment leaves it there, or nothing at this path. Until then it stands beside
+/// it, under the same name with `.nardsill-draft` behind, where nothing else is to stand: what a stopped making left there is
+/// written over.
+///
+/// Refused with `BadLimits` (18) for limits out of their ranges, before anything is done. Refused with `Io` (2) where the path
+/// is there, before anything is done; where a name has more bytes than the system allows, with those 15; where another makes
+/// an index at this path, or a call of the file fails, as where the disk has no room: what was made is removed then.
+pub fn create<R: Files<File = File>, S: Start>(
+    rt: &R,
+    path: &str,
+    limits: &Limits,
+) -> Result<FileDevice<S>, Fault>
+    ensures allowed { OnOk result (AreLimits limits.now) }
+    ensures made { IfOk result (λ device.
+        IsEmptyIndex limits.now (⟦<FileDevice<S> as Device>⟧.trace device).now) }
+    // So it can be opened, also after a crash.
+    ensures own { IfOk result (λ device.
+        LeavesEmpty limits.now (⟦<FileDevice<S> as Device>⟧.trace device).now) }
+    ensures exact { IfOk result (λ device.
+        length (⟦<FileDevice<S> as Device>⟧.trace device).now.seen ≡ needed_length limits.now) }
+    ensures cause { IfErr result (λ fault.
+        ((fault ≡ Fault.BadLimits) × (AreLimits limits.now → ⊥))
+        ⊎ ((fault ≡ Fault.Io) × AreLimits limits.now)) }
+{
+    if !limits.are_valid() {
+        return Err(Fault::BadLimits);
+    }
+    let draft = draft_of(path)?;
+    want_free(rt, path)?;
+    // All but the log is written by what makes the index.
+    let filled = page_place(limits, 0);
+    let mut device = make_draft(rt, draft.as_str(), needed_len(limits), filled)?;
+    match recovery::create(&mut device, limits) {
+        Ok(()) => {}
+        Err(fault) => {
+            let _ = fs::remove_file(rt, draft.as_str());
+            return Err(fault);
+        }
+    }
+    place_draft(rt, draft.as_str(), path)?;
+    Ok(device)
+}
+
+/// Opens the pages of the index in a file, after any crash, for so many pages in memory at once (16 to 1,024). Refused with `Io`
+/// (2) where the path isn't there, can't be opened for writing, or another has it open, and else as `recovery::open` is.
+pub fn open_store<R: Files<File = File>, S: Start>(
+    rt: &R,
+    alloc: Global,
+    path: &str,
+    frames: u32,
+) -> Result<Store<FileDevice<S>>, Fault>
+    ensures opened { IfOk result (λ store.
+        IsFreshlyOpened frames (state_of ⟦<FileDevice<S> as Device>⟧ store)) }
+    ensures range { OnOk result (AreFrames frames) }
+    // What it has is what stood in the file.
+    ensures read { IfOk result (λ store.
+        let g = ⟦<FileDevice<S> as Device>⟧ in
+        IsTrue (g.is_honest (device_of g store))
+        → StandsOnDevice (state_of g store)
+        (bytes_before S.Start.bytes (g.trace (device_of g store)))
+        (g.trace (device_of g store)).now.seen) }
+    // An index is opened with its pages.
+    ensures same { IfOk result (λ store.
+        let g = ⟦<FileDevice<S> as Device>⟧ in
+        IsTrue (g.is_honest (device_of g store))
+        → (limits : Sizes) (pages : List Page)
+        → HasIndex limits pages (bytes_before S.Start.bytes (g.trace (device_of g store)))
+        → IsSameIndex g limits pages store) }
+    ensures fault { IfErr result IsOpenFault }
+{
+    let device = FileDevice::open(rt, path)?;
+    match recovery::open(alloc, device, frames) {
+        Ok(store) => Ok(store),
+        Err(refused) => Err(refused.fault),
+    }
+}
+
+/// Opens the index in a file, after any crash, for so many pages in memory at once (16 to 1,024). Refused with `Io` (2) where
+/// the path isn't there, can't be opened for writing, or another has it open, and else as `Index::open` is.
+pub fn open<R: Files<File = File>, S: Start>(
+    rt: &R,
+    alloc: Global,
+    path: &str,
+    frames: u32,
+) -> Result<InFile<S>, Fault>
+    // Where the file held an index whose pages are a B-link tree, it is opened with them.
+    ensures begins { IfOk result (λ index.
+        let d = ⟦<FileDevice<S> as Device>⟧ in
+        IsTrue (d.is_honest (device_of d index.store))
+        → (limits : Sizes) (pages : List Page)
+        → HasIndex limits pages (bytes_before S.Start.bytes (d.trace (device_of d index.store)))
+        → IsTree pages
+        → IndexBegins d ⟦<Store<FileDevice<S>> as PageStore>⟧ limits pages index) }
+    // It has as many frames as were asked for, 16 or more.
+    ensures frames { IfOk result (λ index.
+        (state_of ⟦<FileDevice<S> as Device>⟧ index.store).frames ≡ frames) }
+    ensures range { OnOk result (AreFrames frames) }
+    ensures fault { IfErr result IsOpenFault }
+{
+    let device = FileDevice::open(rt, path)?;
+    match Index::open(alloc, device, frames) {
+        Ok(index) => Ok(index),
+        Err(refused) => Err(refused.fault),
+    }
+}
+
+/// An index that was closed: what its last checkpoint answered, and the device, whose file is closed where it is let go.
+#[derive(Drop)]
+pub struct Closed<D> {
+    pub written: Result<u64, Fault>,
+    pub device: D,
+}
+
+/// Closes an index: makes all that was done durable, writes the pages to their places, closes the log, and gives the device back.
+/// `written` is how many actions there were since the opening. It is refused with `Io` (2) and `Stopped` (3): what was made
+/// durable before is so still, and the next open finds it in the log.
+pub fn close<D: Device>(index: Index<Store<D>>) -> Closed<D>
+    ensures number { IfOk result.written (λ n. n ≡ (state_of D.Device index.store).acts) }
+    // All of them are on the disk: whatever a crash leaves has them.
+    ensures stands { IfOk result.written (λ n.
+        StaysOnDevice D.Device ⟦<Store<D> as PageStore>⟧ n index result.device) }
+    // None of them waits in the log.
+    ensures empties { OnOk result.written (IsLastOver D.Device result.device (λ last.
+        HasWholeRoom (state_of D.Device index.store).limits (⟦<Store<D> as PageStore>⟧.backing last))) }
+    ensures cause { IfErr result.written (λ fault. IsLastOver D.Device result.device (λ last.
+        HasCause (where_forced (⟦<Store<D> as PageStore>⟧.backing index.store)
+        (⟦<Store<D> as PageStore>⟧.backing last)) fault)) }
+{
+    let mut index = index;
+    let written = index.checkpoint();
+    Closed {
+        written,
+        device: index.into_device(),
+    }
+}
