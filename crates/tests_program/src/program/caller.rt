@@ -2,20 +2,11 @@
 
 ghost use Rattle.std.specs.Prelude.{◌≡◌, IfOk};
 
-use access_method::{Index, ScanToken};
-use device::{FileDevice, Start};
-use device_layout::needed_len;
-use index_model::{Entry, Fault, Limits, Range};
-use page_action::PageStore;
-use page_store::Store;
-use recovery::create;
+use access_method::in_file::{self, InFile};
+use access_method::{Entry, Fault, FileDevice, Index, Limits, PageStore, Range, ScanToken, Start};
 use std::alloc::Global;
-use std::fs::{self, File};
+use std::fs::File;
 use std::rt::Files;
-
-/// An index in a file, which held what `S` says when it was opened. So what is promised is promised for all bytes; `main`
-/// names some, by `device::Unknown`.
-pub type InFile<S> = Index<Store<FileDevice<S>>>;
 
 const LIMITS: Limits = Limits {
     items: 50,
@@ -24,28 +15,22 @@ const LIMITS: Limits = Limits {
 };
 
 /// Makes an empty index in a new file, and closes it. Refused with `Io` where the path is there, or a call of the file fails:
-/// the file that was made is removed then. One that a crash leaves inside of it is no index, and is to be removed.
+/// nothing is left then. A crash inside of it leaves the whole index at the path, or nothing.
+///
+/// What it held is `S`, as no code can read it: so what is promised of an index in a file is promised for all bytes. `main`
+/// names some, by `access_method::Unknown`.
 pub fn make<F: Files<File = File>, S: Start>(rt: &F, path: &str) -> Result<(), Fault> {
-    let mut device = FileDevice::<S>::create(rt, path, needed_len(&LIMITS))?;
-    let made = create(&mut device, &LIMITS);
-    if made.is_err() {
-        let _ = fs::remove_file(rt, path);
-    }
-    made
+    let _device: FileDevice<S> = in_file::create(rt, path, &LIMITS)?;
+    Ok(())
 }
 
-/// Opens the index in a file, after any crash.
+/// Opens the index in a file, after any crash, with 64 pages in memory.
 pub fn open<F: Files<File = File>, S: Start>(
     rt: &F,
     alloc: Global,
     path: &str,
 ) -> Result<InFile<S>, Fault> {
-    let device = FileDevice::open(rt, path)?;
-    match Index::open(alloc, device, 64) {
-        Ok(index) => Ok(index),
-        // The device comes back in `refused.device`, and could be opened again. Here it is closed.
-        Err(refused) => Err(refused.fault),
-    }
+    in_file::open(rt, alloc, path, 64)
 }
 
 /// Adds an entry, unless it is there, and makes all that was done durable. Answers how many actions are, since the opening.
@@ -96,9 +81,7 @@ fn list_scan<S: PageStore>(
 
 /// Makes all that was done durable, writes the pages to their places, and closes the file. Where that is refused, what was made
 /// durable before is so still: the next open finds it in the log.
-pub fn close<S: Start>(mut index: InFile<S>) -> Result<u64, Fault> {
-    let written = index.checkpoint();
-    // The file is closed where the device is let go.
-    let _device = index.into_device();
-    written
+pub fn close<S: Start>(index: InFile<S>) -> Result<u64, Fault> {
+    // The file is closed where the device, which comes back, is let go.
+    in_file::close(index).written
 }
