@@ -1,27 +1,22 @@
-//! The index in a file, from its opening to its closing.
+//! The index in a file, as it is opened.
 
 ghost use Rattle.std.specs.Prelude.{IsTrue, List, IfOk};
+ghost use Rattle.access_method.specs.Files.{bytes_before};
 ghost use Rattle.access_method.specs.Indexes.{IndexBegins};
 ghost use Rattle.index_model.specs.declared.limits.Limits.{Limits as Sizes};
-ghost use Rattle.ledger.specs.Files.{bytes_before};
 ghost use Rattle.page_codec.specs.declared.page.Page.{Page};
 ghost use Rattle.page_store.specs.Stores.{device_of};
 ghost use Rattle.recovery.specs.Index.{HasIndex};
 ghost use Rattle.tree_acts.specs.TheoremTree.{IsTree};
 
-use access_method::Index;
+use access_method::in_file::{self, InFile};
 use device::{Device, FileDevice, Start};
-use device_layout::needed_len;
 use index_model::{Fault, Limits};
 use page_action::PageStore;
 use page_store::Store;
-use recovery::create;
 use std::alloc::Global;
 use std::fs::{self, File};
 use std::rt::Files;
-
-/// An index in a file, which held what `S` says when it was opened.
-pub type InFile<S> = Index<Store<FileDevice<S>>>;
 
 /// The sizes of a new index: some 17 megabytes.
 const LIMITS: Limits = Limits {
@@ -54,33 +49,11 @@ pub fn open<F: Files<File = File>, S: Start>(
         Ok(false) => make::<F, S>(rt, path)?,
         Err(_) => return Err(Fault::Io),
     }
-    let device = FileDevice::open(rt, path)?;
-    match Index::open(alloc, device, FRAMES) {
-        Ok(index) => Ok(index),
-        // The device comes back in `refused.device`. Here it is closed.
-        Err(refused) => Err(refused.fault),
-    }
+    in_file::open(rt, alloc, path, FRAMES)
 }
 
-// Makes an empty index in a new file, and removes the file where that is refused. What a crash inside of it leaves is no index, and is
-// to be removed.
+// Makes an empty index in a new file, and closes that.
 fn make<F: Files<File = File>, S: Start>(rt: &F, path: &str) -> Result<(), Fault> {
-    let mut device = FileDevice::<S>::create(rt, path, needed_len(&LIMITS))?;
-    let made = create(&mut device, &LIMITS);
-    if made.is_err() {
-        let _ = fs::remove_file(rt, path);
-    }
-    made
-}
-
-/// Makes all that was done durable, writes the pages to their places, and closes the file. Where that is refused, what was made
-/// durable before is so still: the next open finds it in the log.
-pub fn close<S: Start>(mut index: InFile<S>) -> Result<(), Fault> {
-    let written = index.checkpoint();
-    // The file is closed where the device is let go.
-    let _device = index.into_device();
-    match written {
-        Ok(_actions) => Ok(()),
-        Err(fault) => Err(fault),
-    }
+    let _device: FileDevice<S> = in_file::create(rt, path, &LIMITS)?;
+    Ok(())
 }

@@ -2,9 +2,10 @@
 
 ghost use Rattle.std.specs.Prelude.{◌≤◌};
 
-use crate::held::{InFile, close, open};
+use crate::held::open;
 use crate::reply::print_refused;
 use crate::session::answer_lines;
+use access_method::in_file::{self, InFile};
 use device::Start;
 use index_model::Fault;
 use std::alloc::Global;
@@ -70,7 +71,8 @@ fn run<F: Files<File = File>, S: Start, R: Read, W: Write>(
 ) -> Result<(), Fault> {
     let mut index = open::<F, S>(rt, alloc, path)?;
     let answered = buffered(alloc, &mut index, input, out);
-    close(index)?;
+    // The file is closed where the device, which comes back, is let go.
+    in_file::close(index).written?;
     match answered {
         Ok(()) => Ok(()),
         Err(error) => Err(fault_of(&error)),
