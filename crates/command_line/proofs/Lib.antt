@@ -1,16 +1,9 @@
-pub mod Parts
-pub mod Numerals
-pub mod Commas
-pub mod RowText
-pub mod Keys
 pub mod Scripts
-pub mod Newlines
 pub mod Workers
 pub mod JobsRead
 pub mod Finished
 pub mod Fresh
 pub mod Opened
-pub mod Printed
 pub mod Listed
 pub mod Stepped
 pub mod Checked

@@ -6,7 +6,7 @@ use Rattle.std.proofs.lemmas.Option.{get_or_from_slice_get, slice_get_within}
 use Rattle.std.specs.Io.KnownBytes.{Appends}
 use Rattle.std.specs.Prelude.{Option, Bool, get_or}
 use Rattle.page_codec.specs.declared.page.Page.{Page}
-use Rattle.command_line.specs.Dumping.{page_text, pages_text}
+use Rattle.text_forms.specs.Dumping.{page_text, pages_text}
 use Rattle.command_line.specs.Listing.{Lists}
 
 -- the lines of a page stand behind those of the pages before it

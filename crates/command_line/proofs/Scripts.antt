@@ -1,10 +1,10 @@
 -- Lines by their words.
 use Rattle.std.proofs.Common.{◌≡◌, ℕ, List}
-use Rattle.command_line.specs.Spelling.{words_of}
+use Rattle.text_forms.specs.Spelling.{words_of}
 use Rattle.command_line.specs.Script.{line_words, Spells}
 use Rattle.command_line.specs.declared.line.Line.{Line}
 use Rattle.command_line.specs.declared.line.Line.TheVariants.{Nothing}
-use Rattle.command_line.proofs.Parts.{words_of-some}
+use Rattle.text_forms.proofs.Parts.{words_of-some}
 
 -- the words of a line spell it
 pub spells_by_words : (text : List ℕ) (line : Line) → words_of text ≡ line_words line → Spells text line

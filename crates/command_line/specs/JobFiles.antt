@@ -1,8 +1,8 @@
 -- The lines of a job file, as they are spelled.
 use Rattle.std.specs.Prelude.{◌≡◌, ◌≤◌, ◌+◌, ℕ, List, [], ◌∷◌, ◌++◌, codes, ⊤}
 use Rattle.std.specs.Fmt.{decimal}
-use Rattle.command_line.specs.Script.{entry_words, range_words}
-use Rattle.command_line.specs.Spelling.{words_of}
+use Rattle.text_forms.specs.Spelling.{words_of}
+use Rattle.text_forms.specs.Values.{entry_words, range_words}
 use Rattle.command_line.specs.declared.job_line.JobLine.{JobLine}
 use Rattle.command_line.specs.declared.job_line.JobLine.TheVariants.{Insert, Scan, Bulk, Cleanup, Commit, Checkpoint}
 use Rattle.sessions.specs.declared.job.Job.{Job}
@@ -12,7 +12,7 @@ use Rattle.sessions.specs.declared.job.Job.TheVariants.{Insert as InsertJob, Sca
 abbrev pub job_words : JobLine → List (List ℕ)
 job_words (Insert entry) = codes "insert" ∷ entry_words entry
 job_words (Scan range room) = codes "scan" ∷ (range_words range ++ decimal room ∷ [])
-job_words (Bulk rows) = codes "bulk" ∷ rows.words
+job_words (Bulk rows) = codes "bulk" ∷ rows
 job_words Cleanup = codes "cleanup" ∷ []
 job_words Commit = codes "commit" ∷ []
 job_words Checkpoint = codes "checkpoint" ∷ []

@@ -1,7 +1,5 @@
-pub mod Spelling
-pub mod Left
-pub mod Printing
 pub mod Script
+pub mod Refusals
 pub mod Events
 pub mod JobFiles
 pub mod Receipts
@@ -9,7 +7,6 @@ pub mod Running
 pub mod Settings
 pub mod Files
 pub mod Reporting
-pub mod Dumping
 pub mod Listing
 pub mod Ends
 pub mod CommandLine

@@ -2,7 +2,7 @@
 use Rattle.std.specs.Prelude.{◌≡◌, true, Bool, ℕ, ◌<◌, Option, List, length, take, ⊤}
 use Rattle.std.specs.Io.KnownBytes.{Appends}
 use Rattle.page_codec.specs.declared.page.Page.{Page}
-use Rattle.command_line.specs.Dumping.{pages_text}
+use Rattle.text_forms.specs.Dumping.{pages_text}
 use Rattle.command_line.specs.declared.end.End.{End}
 use Rattle.command_line.specs.declared.end.End.TheVariants.{Done, Damaged, Said, Refused}
 

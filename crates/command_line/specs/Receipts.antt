@@ -1,8 +1,8 @@
 -- The lines that a run of jobs is printed as.
 use Rattle.std.specs.Prelude.{ℕ, suc, Option, Some, None, List, [], ◌∷◌, ◌++◌, codes, length, flat_map, slice_get}
 use Rattle.index_model.specs.declared.entry.Entry.{Entry}
-use Rattle.command_line.specs.Dumping.{entry_line}
-use Rattle.command_line.specs.Printing.{numbered, answer_text}
+use Rattle.text_forms.specs.Dumping.{entry_line}
+use Rattle.text_forms.specs.Printing.{numbered, answer_text}
 use Rattle.session_calls.specs.declared.answer.Answer.{Answer}
 use Rattle.session_calls.specs.declared.answer.Answer.TheVariants.{Done, Ended, Forced}
 use Rattle.sessions.specs.declared.record.Record.{Record}

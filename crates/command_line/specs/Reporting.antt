@@ -7,7 +7,7 @@ use Rattle.amcheck.specs.Reports.{IsReport}
 use Rattle.amcheck.specs.declared.report.CheckFault.{CheckFault}
 use Rattle.amcheck.specs.declared.report.CheckFault.TheVariants.{Damage, Refused as NotChecked}
 use Rattle.amcheck.specs.declared.report.Report.{Report}
-use Rattle.command_line.specs.Printing.{numbered}
+use Rattle.text_forms.specs.Printing.{numbered}
 use Rattle.command_line.specs.declared.end.End.{End}
 use Rattle.command_line.specs.declared.end.End.TheVariants.{Done, Damaged, Said, Refused}
 use Rattle.page_codec.specs.declared.page.Page.{Page}

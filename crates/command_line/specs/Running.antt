@@ -12,7 +12,7 @@ use Rattle.sessions.specs.declared.job.Job.{Job}
 use Rattle.sessions.specs.declared.outcome.Finished.{Finished}
 use Rattle.world.specs.Worlds.{inside}
 use Rattle.world.specs.declared.world.World.{World}
-use Rattle.command_line.specs.Printing.{answer_text}
+use Rattle.text_forms.specs.Printing.{answer_text}
 use Rattle.command_line.specs.Receipts.{run_text}
 use Rattle.command_line.specs.declared.end.End.{End}
 use Rattle.command_line.specs.declared.end.End.TheVariants.{Done, Damaged, Said, Refused}

@@ -4,7 +4,7 @@ ghost use Rattle.std.specs.Prelude.{◌≡◌, true, Ok, IfOk};
 ghost use Rattle.index_model.specs.Faults.{HasCause};
 ghost use Rattle.page_action.specs.States.{Continues};
 ghost use Rattle.amcheck.specs.Checks.{where_checked};
-ghost use Rattle.command_line.specs.Printing.{PrintsLine};
+ghost use Rattle.text_forms.specs.Printing.{PrintsLine};
 ghost use Rattle.command_line.specs.Reporting.{TellsReport, TellsDamage, AreSound, IsCheckEnd, IsTold, report_text, damage_text};
 
 use crate::end::End;

@@ -1,8 +1,9 @@
 //! The sets of dead rows that `bulk` lines name.
 
-use crate::line::{Line, Rows};
+use crate::line::Line;
 use index_model::{DeadRows, RowAddr};
 use std::alloc::{AllocError, Global};
+use text_forms::Rows;
 
 /// The rows of a `bulk` line.
 #[derive(Drop)]

@@ -2,14 +2,13 @@
 
 ghost use Rattle.std.specs.Prelude.{◌≡◌, ◌+◌, IfOk, vec_len};
 ghost use Rattle.command_line.specs.JobFiles.{SpellJobs, job_of, sets_with, sets_behind};
-ghost use Rattle.command_line.specs.Spelling.{lines_of};
+ghost use Rattle.text_forms.specs.Spelling.{lines_of};
 
 use crate::dead::{DeadList, listed};
 use crate::job_line::{JobLine, parse_job};
-use crate::line::Rows;
-use crate::lines::first_line;
 use sessions::Job;
 use std::alloc::Global;
+use text_forms::{Rows, first_line};
 
 /// The jobs of a job file, in their order, and the sets of dead rows that its bulk deletes name by their places.
 #[derive(Drop)]

@@ -3,13 +3,10 @@
 ghost use Rattle.std.specs.Prelude.{◌≡◌, ◌≤◌, ◌∷◌, ◌++◌, [], IfSome, codes};
 ghost use Rattle.std.specs.Fmt.{decimal};
 ghost use Rattle.command_line.specs.JobFiles.{job_words, HasRoom};
-ghost use Rattle.command_line.specs.Script.{range_words};
-ghost use Rattle.command_line.specs.Spelling.{words_of};
+ghost use Rattle.text_forms.specs.Spelling.{words_of};
 
-use crate::line::{Rows, bulk_rows, entry, is, range};
-use crate::number::number_u32;
-use crate::words::Words;
 use index_model::{Entry, Range};
+use text_forms::{Rows, Words, all_rows, entry, is_word, number_u32, range};
 
 /// A line of a job file.
 #[derive(Drop)]
@@ -50,13 +47,13 @@ fn job_of_a_word(name: &[u8]) -> Option<JobLine<'static>>
     ensures words { IfSome result (λ line. name.now ∷ [] ≡ job_words line) }
     ensures room { IfSome result HasRoom }
 {
-    if is(name, b"cleanup") {
+    if is_word(name, b"cleanup") {
         return Some(JobLine::Cleanup);
     }
-    if is(name, b"commit") {
+    if is_word(name, b"commit") {
         return Some(JobLine::Commit);
     }
-    if is(name, b"checkpoint") {
+    if is_word(name, b"checkpoint") {
         return Some(JobLine::Checkpoint);
     }
     None
@@ -94,7 +91,7 @@ fn bulk<'a>(words: &mut Words<'a>) -> Option<JobLine<'a>>
         codes "bulk" ∷ words.old ≡ job_words line ++ words.new) }
     ensures room { IfSome result HasRoom }
 {
-    match bulk_rows(words)? {
+    match all_rows(words)? {
         Ok(rows) => Some(JobLine::Bulk(rows)),
         Err(_) => None,
     }

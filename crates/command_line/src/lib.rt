@@ -2,11 +2,9 @@
 //! [`execute`] the streams of its process. All else that is public here is for tests.
 #![tactic(auto)]
 
-mod answer;
 mod checking;
 mod command;
 mod dead;
-mod dump;
 mod end;
 mod engine;
 mod file_commands;
@@ -15,24 +13,19 @@ mod help;
 mod job_file;
 mod job_line;
 mod line;
-mod lines;
 mod listing;
-mod number;
 mod play;
 mod receipts;
 mod refusal;
 mod running;
-mod show;
 mod stepping;
 mod streams;
-mod words;
 
-pub use answer::print_answer;
 pub use checking::{check_pages, check_pages_one};
 pub use dead::DeadList;
 pub use end::End;
 pub use job_file::{JobFile, JobFileError, read_jobs};
 pub use job_line::{JobLine, parse_job};
-pub use line::{Crash, Line, LineError, Rows, parse};
+pub use line::{Crash, Line, LineError, parse};
 pub use running::{Ran, run_world};
 pub use streams::execute;

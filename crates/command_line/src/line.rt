@@ -1,14 +1,11 @@
 //! The lines of a script.
 
-ghost use Rattle.std.specs.Prelude.{◌≡◌, ℕ, ◌<◌, ◌^◌, Some, None, Ok, Err, List, [], ◌∷◌, ◌++◌, IfSome, IfOk, IsOk, ◌↔◌, IsTrue, codes};
+ghost use Rattle.std.specs.Prelude.{◌≡◌, ℕ, ◌<◌, ◌^◌, Some, Ok, [], ◌∷◌, ◌++◌, IfSome, IfOk, codes};
 ghost use Rattle.std.specs.Fmt.{decimal};
-ghost use Rattle.index_model.specs.Row.{Row};
-ghost use Rattle.command_line.specs.Spelling.{key_text, row_text};
-ghost use Rattle.command_line.specs.Script.{line_words, entry_words, range_words, end_text, crash_text, IsQuiet, Spells};
+ghost use Rattle.command_line.specs.Script.{line_words, crash_text, IsQuiet, Spells};
 
-use crate::number::{key, number, number_u32, row};
-use crate::words::Words;
-use index_model::{Entry, Fault, Key, Range, RowAddr};
+use index_model::{Entry, Fault, Range};
+use text_forms::{Rows, Words, all_rows, entry, is_word, number, number_u32, range};
 
 /// What a crash leaves of the bytes that weren't synced.
 #[derive(Clone, Copy, Debug, PartialEq, Eq)]
@@ -19,26 +16,6 @@ pub enum Crash {
     Drop,
     /// The first half of each write.
     Tear,
-}
-
-/// The rows of a `bulk` line.
-#[derive(Drop)]
-pub struct Rows<'a> {
-    words: Words<'a>,
-}
-
-impl<'a> Rows<'a> {
-    /// The next row, or None behind the last.
-    pub fn next(&mut self) -> Option<RowAddr>
-        ensures { (row : Row) → result ≡ Some row
-            → self.old.words ≡ row_text row ∷ self.new.words }
-    {
-        let word = self.words.next()?;
-        match row(word)? {
-            Ok(row) => Some(row),
-            Err(_) => None,
-        }
-    }
 }
 
 /// A line of a script. Its first number is that of a session.
@@ -129,13 +106,6 @@ fn one_session<'a>(
     with_values(name, session, words)
 }
 
-/// Whether a word is this one.
-pub fn is(name: &[u8], word: &[u8]) -> bool
-    ensures { IsTrue result ↔ (name.now ≡ word.now) }
-{
-    name == word
-}
-
 /// A line of one word.
 fn plain(name: &[u8]) -> Option<Line<'static>>
     ensures found { IfSome result (λ line. name.now ∷ [] ≡ line_words line) }
@@ -144,7 +114,7 @@ fn plain(name: &[u8]) -> Option<Line<'static>>
     ensures checkpoint { name.now ≡ codes "checkpoint" → result ≡ Some Line.Checkpoint }
     ensures dump { name.now ≡ codes "dump" → result ≡ Some Line.Dump }
 {
-    if is(name, b"checkpoint") {
+    if is_word(name, b"checkpoint") {
         return Some(Line::Checkpoint);
     }
     match name {
@@ -198,7 +168,7 @@ fn of_session(name: &[u8], session: u32) -> Option<Line<'static>>
     ensures next { name.now ≡ codes "next" → result ≡ Some (Line.Next session) }
     ensures end { name.now ≡ codes "end" → result ≡ Some (Line.End session) }
 {
-    if is(name, b"cleanup") {
+    if is_word(name, b"cleanup") {
         return Some(Line::Cleanup(session));
     }
     match name {
@@ -222,7 +192,7 @@ fn with_values<'a>(
     match name {
         b"insert" => Some(entry(words)?.map(|entry| Line::Insert(session, entry))),
         b"put" => Some(entry(words)?.map(|entry| Line::Put(session, entry))),
-        b"bulk" => Some(bulk_rows(words)?.map(|rows| Line::Bulk(session, rows))),
+        b"bulk" => Some(all_rows(words)?.map(|rows| Line::Bulk(session, rows))),
         _ => with_range(name, session, words),
     }
 }
@@ -241,79 +211,4 @@ fn with_range<'a>(
         b"list" => Some(range(words)?.map(|range| Line::List(session, range))),
         _ => None,
     }
-}
-
-/// A key and a row. The key's fault comes before the row's.
-pub fn entry(words: &mut Words<'_>) -> Option<Result<Entry, Fault>>
-    ensures { IfSome result (λ read. IfOk read
-        (λ entry. words.old ≡ entry_words entry ++ words.new)) }
-{
-    let key = key(words.next()?)?;
-    let row = row(words.next()?)?;
-    Some(entry_of(key, row))
-}
-
-fn entry_of(key: Result<Key, Fault>, row: Result<RowAddr, Fault>) -> Result<Entry, Fault>
-    ensures ok { IfOk result (λ entry. (key ≡ Ok entry.key) × (row ≡ Ok entry.row)) }
-    ensures key_first { (fault : Fault) → key ≡ Err fault → result ≡ Err fault }
-    ensures then_row { (fault : Fault) → IsOk key → row ≡ Err fault → result ≡ Err fault }
-    ensures both { IsOk key → IsOk row → IsOk result }
-{
-    let key = key?;
-    let row = row?;
-    Ok(Entry { key, row })
-}
-
-/// Two ends of a range.
-pub fn range(words: &mut Words<'_>) -> Option<Result<Range, Fault>>
-    ensures { IfSome result (λ read. IfOk read
-        (λ range. words.old ≡ range_words range ++ words.new)) }
-{
-    let from = end(words.next()?)?;
-    let below = end(words.next()?)?;
-    Some(range_of(from, below))
-}
-
-fn range_of(
-    from: Result<Option<Key>, Fault>,
-    below: Result<Option<Key>, Fault>,
-) -> Result<Range, Fault>
-    ensures ok { IfOk result (λ range. (from ≡ Ok range.from) × (below ≡ Ok range.below)) }
-    ensures from_first { (fault : Fault) → from ≡ Err fault → result ≡ Err fault }
-    ensures then_below { (fault : Fault) → IsOk from → below ≡ Err fault → result ≡ Err fault }
-    ensures both { IsOk from → IsOk below → IsOk result }
-{
-    let from = from?;
-    let below = below?;
-    Ok(Range { from, below })
-}
-
-/// A key, or `*` for an open end.
-fn end(text: &[u8]) -> Option<Result<Option<Key>, Fault>>
-    ensures { IfSome result (λ read. IfOk read (λ key. text.now ≡ end_text key)) }
-{
-    if text == b"*".as_slice() {
-        return Some(Ok(None));
-    }
-    match key(text)? {
-        Ok(key) => Some(Ok(Some(key))),
-        Err(fault) => Some(Err(fault)),
-    }
-}
-
-/// All words that are left, each a row.
-pub fn bulk_rows<'a>(words: &mut Words<'a>) -> Option<Result<Rows<'a>, Fault>>
-    ensures { IfSome result (λ read. IfOk read (λ rows. words.old ≡ rows.words ++ words.new)) }
-{
-    let all = words.copy();
-    let mut is_bad = false;
-    while let Some(word) = words.next() {
-        if row(word)?.is_err() {
-            is_bad = true;
-        }
-    }
-    if is_bad {
-        return Some(Err(Fault::BadRow));
-    }
-    Some(Ok(Rows { words: all }))
 }

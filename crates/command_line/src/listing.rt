@@ -4,11 +4,11 @@ ghost use Rattle.std.specs.Prelude.{◌≡◌, Ok, IfOk};
 ghost use Rattle.page_action.specs.States.{Continues};
 ghost use Rattle.command_line.specs.Listing.{Lists, ListsFirst, IsDoneOrRefused};
 
-use crate::dump::print_page;
 use crate::end::End;
 use index_model::Fault;
 use page_action::PageStore;
 use std::io::{self, Write};
+use text_forms::print_page;
 
 /// Prints each page in use, lowest block first. Refused as `PageStore::fetch` is; the pages before that one are printed then.
 pub fn list_pages<S: PageStore, W: Write>(store: &mut S, out: &mut W) -> io::Result<End>

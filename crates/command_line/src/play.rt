@@ -3,13 +3,10 @@
 ghost use Rattle.std.specs.Prelude.{◌≡◌};
 ghost use Rattle.command_line.specs.Events.{event_of};
 
-use crate::answer::{print_answer, print_entry, print_refused};
 use crate::dead::{DeadList, dead_of};
-use crate::dump::print_page;
 use crate::end::End;
 use crate::engine::{Engine, Setting, Sink};
 use crate::line::{Crash, Line, LineError, parse};
-use crate::lines::first_line;
 use crate::refusal::print_no_event;
 use device::CrashImage;
 use index_model::{Entry, Fault, Range};
@@ -17,6 +14,7 @@ use page_codec::Page;
 use schedule::Event;
 use std::alloc::{AllocError, Global};
 use std::io::{self, Read, Write};
+use text_forms::{first_line, print_answer, print_entry, print_page, print_refused};
 
 /// Prints what an engine gives.
 #[derive(Drop)]

@@ -4,12 +4,11 @@ ghost use Rattle.std.specs.Prelude.{◌≡◌, length, OnOk};
 ghost use Rattle.std.specs.Io.KnownBytes.{Appends};
 ghost use Rattle.command_line.specs.Receipts.{scanned_text, outcome_text, record_text, receipt_text, records_text, calls_text, run_text};
 
-use crate::answer::print_answer;
-use crate::dump::print_entries;
 use index_model::Entry;
 use session_calls::Answer;
 use sessions::{Receipt, Record};
 use std::io::{self, Write};
+use text_forms::{print_answer, print_entries};
 
 /// Prints the record of each job, by the jobs' numbers, how many calls each worker recorded, and how many records there are.
 pub fn print_run<W: Write>(

@@ -1,6 +1,7 @@
 //! What a command that fails prints.
 
-ghost use Rattle.command_line.specs.Printing.{PrintsLine, no_event_text, no_job_text};
+ghost use Rattle.text_forms.specs.Printing.{PrintsLine};
+ghost use Rattle.command_line.specs.Refusals.{no_event_text, no_job_text};
 
 use index_model::Fault;
 use std::io::{self, Write};

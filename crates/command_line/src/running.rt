@@ -7,7 +7,6 @@ ghost use Rattle.command_line.specs.Listing.{IsDoneOrRefused};
 ghost use Rattle.command_line.specs.Receipts.{run_text};
 ghost use Rattle.command_line.specs.Running.{IsRunEnd, PrintsDone, PrintsRun, PrintsSomeRun, end_behind, last_text};
 
-use crate::answer::print_answer;
 use crate::dead::DeadList;
 use crate::end::End;
 use crate::job_file::{JobFile, JobFileError, read_jobs};
@@ -26,6 +25,7 @@ use std::io::{self, Read, Write};
 use std::rt::Files;
 use std::sync::Wait;
 use std::thread::Threads;
+use text_forms::print_answer;
 use world::World;
 
 /// What a run is asked for.

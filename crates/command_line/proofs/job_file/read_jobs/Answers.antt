@@ -1,6 +1,6 @@
 use Rattle.std.proofs.Common.{ℕ, List, ◌≡◌, ◌∷◌, ◌++◌, [], ◌∙◌, ap, sym, subst, append-nil}
 use Rattle.command_line.specs.JobFiles.{SpellJobs, SpellsJob, sets_with, sets_behind}
-use Rattle.command_line.specs.Spelling.{lines_of}
+use Rattle.text_forms.specs.Spelling.{lines_of}
 use Rattle.command_line.proofs.JobsRead.{spelled_on, behind_on, none_left, some_left}
 use Rattle.command_line.proofs.job_file.read_jobs.Goals as goal
 

@@ -1,7 +1,7 @@
 use Rattle.std.proofs.Common.{◌≡◌, ◌++◌, List, length}
 use Rattle.std.specs.Prelude.{vec_len}
 use Rattle.command_line.specs.JobFiles.{SpellJobs, sets_behind}
-use Rattle.command_line.specs.Spelling.{lines_of}
+use Rattle.text_forms.specs.Spelling.{lines_of}
 use Rattle.command_line.proofs.job_file.read_jobs.Given as goal
 use Rattle.sessions.specs.declared.job.Job.{Job}
 

@@ -1,7 +1,7 @@
 use Rattle.std.proofs.Common.{◌++◌, ◌∷◌, [], List, ℕ, sym, subst}
 use Rattle.std.specs.Io.KnownBytes.{Appends}
 use Rattle.std.proofs.KnownBytes.{Appends-trans}
-use Rattle.command_line.specs.Printing.{answer_text}
+use Rattle.text_forms.specs.Printing.{answer_text}
 use Rattle.command_line.specs.Receipts.{run_text}
 use Rattle.command_line.proofs.Finished.{not_refused}
 use Rattle.command_line.proofs.running.print_done.Goals as goal

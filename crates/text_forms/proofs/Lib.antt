@@ -1,0 +1,7 @@
+pub mod Parts
+pub mod Numerals
+pub mod Commas
+pub mod RowText
+pub mod Keys
+pub mod Newlines
+pub mod Printed

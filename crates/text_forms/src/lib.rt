@@ -1,0 +1,18 @@
+//! The forms of what users write and read: words, numbers, keys, rows, entries, ranges, answers and pages as text.
+#![tactic(auto)]
+
+mod answer;
+mod dump;
+mod lines;
+mod numbers;
+mod show;
+mod values;
+mod words;
+
+pub use answer::{print_answer, print_entry, print_refused};
+pub use dump::{print_entries, print_page};
+pub use lines::first_line;
+pub use numbers::{key, number, number_u32, row};
+pub use show::{ShownBound, ShownEntry, ShownKey, ShownLink, ShownRow};
+pub use values::{Rows, all_rows, end, entry, range};
+pub use words::{Words, is_word};
