@@ -8,8 +8,8 @@ ghost use Rattle.index_model.specs.Actions.{Action};
 ghost use Rattle.index_model.specs.Calls.{Call};
 ghost use Rattle.index_model.specs.declared.entry.Entry.{Entry};
 ghost use Rattle.page_action.specs.States.{Continues};
-ghost use Rattle.page_store.specs.Stores.{held_by, device_of};
-ghost use Rattle.world.specs.Worlds.{WorldFits, WorldKeeps};
+ghost use Rattle.page_store.specs.Stores.{state_of, held_by, device_of};
+ghost use Rattle.world.specs.Worlds.{WorldFits, WorldKeeps, KeepsSessions};
 
 use crate::world::World;
 use device::{CrashImage, Device, MemDevice};
@@ -24,6 +24,9 @@ impl<T: DeadRows + Drop> World<Store<MemDevice>, T> {
     pub fn fail_at(&mut self, n: u64)
         ensures plan { plan_of (device_of ⟦<MemDevice as Device>⟧ self.new.store)
             ≡ failing_at n (plan_of (device_of ⟦<MemDevice as Device>⟧ self.old.store)) }
+        ensures state { state_of ⟦<MemDevice as Device>⟧ self.new.store
+            ≡ state_of ⟦<MemDevice as Device>⟧ self.old.store }
+        ensures same { KeepsSessions self.old self.new }
         ensures steps { Continues ⟦<Store<MemDevice> as PageStore>⟧.follows
             self.old.store self.new.store }
         ensures fits { (start : Entry → Bool) (history : List Action) (calls : List Call)
@@ -42,6 +45,9 @@ impl<T: DeadRows + Drop> World<Store<MemDevice>, T> {
     pub fn stop_at(&mut self, n: u64)
         ensures plan { plan_of (device_of ⟦<MemDevice as Device>⟧ self.new.store)
             ≡ stopping_at n (plan_of (device_of ⟦<MemDevice as Device>⟧ self.old.store)) }
+        ensures state { state_of ⟦<MemDevice as Device>⟧ self.new.store
+            ≡ state_of ⟦<MemDevice as Device>⟧ self.old.store }
+        ensures same { KeepsSessions self.old self.new }
         ensures steps { Continues ⟦<Store<MemDevice> as PageStore>⟧.follows
             self.old.store self.new.store }
         ensures fits { (start : Entry → Bool) (history : List Action) (calls : List Call)

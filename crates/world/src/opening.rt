@@ -1,12 +1,13 @@
 //! A world over the index that a device holds.
 
-ghost use Rattle.std.specs.Prelude.{◌≡◌, ◌⊎◌, ◌≤◌, ◌<◌, suc, List, IsTrue, IfOk, IfErr, MatchResult, length};
+ghost use Rattle.std.specs.Prelude.{◌≡◌, ◌⊎◌, ◌≤◌, ◌<◌, suc, List, IsTrue, IfOk, IfErr, OnOk, MatchResult, length};
 ghost use Rattle.device.specs.Moments.{Goes};
 ghost use Rattle.index_model.specs.declared.limits.Limits.{Limits};
 ghost use Rattle.page_codec.specs.declared.page.Page.{Page};
 ghost use Rattle.page_store.specs.Restart.{LeavesPages};
+ghost use Rattle.page_store.specs.Stores.{state_of};
 ghost use Rattle.recovery.specs.Index.{HasIndex};
-ghost use Rattle.recovery.specs.Opening.{AreFrames, IsNoMemoryOrIo, IsRefusal};
+ghost use Rattle.recovery.specs.Opening.{AreFrames, IsFreshlyOpened, IsNoMemoryOrIo, IsRefusal};
 ghost use Rattle.tree_acts.specs.TheoremTree.{IsTree};
 ghost use Rattle.world.specs.Reopening.{BeginsWith, world_device};
 
@@ -39,6 +40,9 @@ impl<D: Device, T: DeadRows + Drop> World<Store<D>, T> {
         sets: Vec<T>,
     ) -> Result<World<Store<D>, T>, NotOpened<D, T>>
         ensures sessions { IfOk result (λ world. length world.calls.slots.items ≡ sessions) }
+        ensures frames { IfOk result (λ world.
+            IsFreshlyOpened frames (state_of D.Device world.store)) }
+        ensures asked { OnOk result (AreFrames frames × (1 ≤ sessions) × (sessions ≤ 64)) }
         ensures sets { IfOk result (λ world. world.sets ≡ sets) }
         ensures sets_back { IfErr result (λ not_opened. not_opened.sets ≡ sets) }
         // An index whose pages are a B-link tree is opened with them, or refused for want of memory or of the device.
@@ -55,6 +59,8 @@ impl<D: Device, T: DeadRows + Drop> World<Store<D>, T> {
             → HasIndex limits pages (D.trace device).now.seen
             → Goes (LeavesPages limits pages) (D.trace device)
             (D.trace (world_device D.Device result)) }
+        ensures len { length (D.trace (world_device D.Device result)).now.seen
+            ≡ length (D.trace device).now.seen }
         ensures cause { IfErr result (λ not_opened.
             ((not_opened.fault ≡ Fault.BadLimits) × ((sessions ≡ 0) ⊎ (64 < sessions)))
             ⊎ (not_opened.fault ≡ Fault.NoMemory)

@@ -1,7 +1,10 @@
+use Rattle.std.specs.Prelude.{length}
 use Rattle.std.proofs.Common.{arith, inl, inr, sym, ap, subst, ◌∙◌, ⊎_elim, IsTrue}
 use Rattle.device.specs.Moments.{Goes}
 use Rattle.page_store.specs.Restart.{LeavesPages}
+use Rattle.page_action.specs.States.{State}
 use Rattle.page_store.specs.Stores.{state_of, device_of}
+use Rattle.recovery.specs.Opening.{IsFreshlyOpened}
 use Rattle.tree_acts.specs.TheoremTree.{IsTree}
 use Rattle.schedule.specs.Snapshots.{IsUnused}
 use Rattle.world.proofs.Opened.{freshly_unused, same_start, same_kept}
@@ -48,3 +51,15 @@ returns-in-Err-new-clause-moments g c honest limits pages index =
     let same = c.into_device.ensures ∙ ap (device_of g.D.Device) c.in-Err-new.ensures.given_back in
     subst (λ (d : g.row.D.Denot). Goes (LeavesPages limits pages) (g.D.Device.trace c.args.device) (g.D.Device.trace d)) (sym same)
     (c.in-Ok.ensures.moments (subst (λ (d : g.row.D.Denot). IsTrue (g.D.Device.is_honest d)) same honest) limits pages index)
+
+pub returns-in-Ok-new-clause-frames : goal.returns-in-Ok-new-clause-frames
+returns-in-Ok-new-clause-frames g c =
+    subst (λ (st : State). IsFreshlyOpened c.args.frames st) (ap (state_of g.D.Device) (sym c.in-Ok-new.ensures.store)) c.in-Ok.ensures.opened
+
+pub returns-in-Ok-new-clause-len : goal.returns-in-Ok-new-clause-len
+returns-in-Ok-new-clause-len g c =
+    ap (λ d. length (g.D.Device.trace d).now.seen) (ap (device_of g.D.Device) c.in-Ok-new.ensures.store) ∙ c.in-Ok.ensures.len
+
+pub returns-in-Err-new-clause-len : goal.returns-in-Err-new-clause-len
+returns-in-Err-new-clause-len g c =
+    ap (λ d. length (g.D.Device.trace d).now.seen) (c.into_device.ensures ∙ ap (device_of g.D.Device) c.in-Err-new.ensures.given_back) ∙ c.in-Ok.ensures.len
