@@ -428,11 +428,12 @@ impl Judge {
         }
     }
 
-    /// A failed checkpoint may have written some pages: then it isn't known which page waits longest.
+    /// A failed checkpoint may have written some pages, and a page that is brought into few frames may have: then it isn't known which
+    /// page waits longest.
     fn flushes(&mut self, answer: &Answer) -> bool {
         match answer {
             Answer::Flushed(block) if self.is_in_memory => block.is_none(),
-            Answer::Flushed(block) => self.waiting.writes(*block) || self.is_failing,
+            Answer::Flushed(block) => self.waiting.writes(*block, self.is_failing),
             Answer::Refused(Fault::Io) => self.is_failing,
             _ => false,
         }

@@ -177,7 +177,7 @@ impl Watched {
             Err(Fault::LogFull) => {
                 count(&mut tally.log_full);
                 self.is_full = true;
-                Ok(self.store.room() as usize <= pages.len())
+                Ok((self.store.room() as usize) < pages.len())
             }
             Err(fault) => Ok(self.hears(fault, tally)),
         }

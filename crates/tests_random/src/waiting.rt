@@ -46,16 +46,17 @@ impl Waiting {
         Ok(())
     }
 
-    /// Takes the block that was written: whether it has waited longest; None where nothing waits.
-    pub fn writes(&mut self, written: Option<u32>) -> bool {
+    /// Takes the block that was written: whether it waited, and longest; None where nothing waits. Where others may have been written
+    /// unseen, it isn't known which waits longest, nor whether one does.
+    pub fn writes(&mut self, written: Option<u32>, are_others: bool) -> bool {
         let Some(block) = written else {
-            return self.blocks.is_empty();
+            return are_others || self.blocks.is_empty();
         };
         let Some(at) = self.blocks.iter().position(|waiter| waiter.block == block) else {
             return false;
         };
         let waiter = self.blocks.remove(at);
-        self.blocks.iter().all(|other| waiter.since <= other.since)
+        are_others || self.blocks.iter().all(|other| waiter.since <= other.since)
     }
 
     /// All were written.
