@@ -3,8 +3,8 @@
 /// An open scan. Each number is given once by an index.
 #[derive(Clone, Copy, Debug, PartialEq, Eq)]
 pub struct ScanToken {
-    pub(crate) number: u64,
-    pub(crate) session: u32,
+    pub number: u64,
+    pub session: u32,
 }
 
 /// What a session's open scan is known by.
