@@ -1,8 +1,8 @@
 -- The lines of a job file, as they are spelled.
-use Rattle.std.specs.Prelude.{◌≡◌, ◌≤◌, ◌+◌, ℕ, List, [], ◌∷◌, ◌++◌, codes, ⊤}
+use Rattle.std.specs.Prelude.{◌≡◌, ◌≤◌, ◌+◌, ℕ, Bool, List, [], ◌∷◌, ◌++◌, codes, ⊤}
 use Rattle.std.specs.Fmt.{decimal}
-use Rattle.text_forms.specs.Spelling.{words_of}
-use Rattle.text_forms.specs.Values.{entry_words, range_words}
+use Rattle.text_forms.specs.Spelling.{is_one_of, words_of}
+use Rattle.text_forms.specs.Values.{IsEntryOfBytes, IsRangeOfBytes, AreRows, entry_words, range_words}
 use Rattle.command_line.specs.declared.job_line.JobLine.{JobLine}
 use Rattle.command_line.specs.declared.job_line.JobLine.TheVariants.{Insert, Scan, Bulk, Cleanup, Commit, Checkpoint}
 use Rattle.sessions.specs.declared.job.Job.{Job}
@@ -18,9 +18,25 @@ job_words Commit = codes "commit" ∷ []
 job_words Checkpoint = codes "checkpoint" ∷ []
 
 -- a scan gives 1 to 1,048,576 entries at most
+abbrev pub IsRoom : ℕ → Type 0
+IsRoom room = (1 ≤ room) × (room ≤ 1048576)
+
 abbrev pub HasRoom : JobLine → Type 0
-HasRoom (Scan range room) = (1 ≤ room) × (room ≤ 1048576)
+HasRoom (Scan range room) = IsRoom room
 HasRoom line = ⊤
+
+-- ... of a range whose keys there are; and the entries and rows of the other lines are such
+abbrev pub HasJobValues : JobLine → Type 0
+HasJobValues (Insert entry) = IsEntryOfBytes entry
+HasJobValues (Scan range room) = IsRangeOfBytes range × HasRoom (Scan range room)
+HasJobValues (Bulk rows) = AreRows rows
+HasJobValues Cleanup = ⊤
+HasJobValues Commit = ⊤
+HasJobValues Checkpoint = ⊤
+
+-- the names of the jobs of one word
+abbrev pub is_job_alone : List ℕ → Bool
+is_job_alone name = is_one_of name (codes "cleanup" ∷ codes "commit" ∷ codes "checkpoint" ∷ [])
 
 -- the job that a line is; a bulk delete's set has this place among the sets
 abbrev pub job_of : ℕ → JobLine → Job

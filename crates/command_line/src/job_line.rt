@@ -1,9 +1,12 @@
 //! The lines of a job file.
 
-ghost use Rattle.std.specs.Prelude.{◌≡◌, ◌≤◌, ◌∷◌, ◌++◌, [], IfSome, codes};
+ghost use Rattle.std.specs.Prelude.{◌≡◌, ◌≤◌, ◌∷◌, ◌++◌, [], ℕ, true, Some, IfSome, OnSome, codes};
 ghost use Rattle.std.specs.Fmt.{decimal};
-ghost use Rattle.command_line.specs.JobFiles.{job_words, HasRoom};
+ghost use Rattle.index_model.specs.declared.entry.Entry.{Entry as TheEntry};
+ghost use Rattle.index_model.specs.declared.range.Range.{Range as TheRange};
 ghost use Rattle.text_forms.specs.Spelling.{words_of};
+ghost use Rattle.text_forms.specs.Values.{entry_words, range_words, IsEntryOfBytes, IsRangeOfBytes, AreRows};
+ghost use Rattle.command_line.specs.JobFiles.{job_words, HasJobValues, HasRoom, IsRoom, is_job_alone};
 
 use index_model::{Entry, Range};
 use text_forms::{Rows, Words, all_rows, entry, is_word, number_u32, range};
@@ -25,6 +28,8 @@ pub enum JobLine<'a> {
 pub fn parse_job(text: &[u8]) -> Option<JobLine<'_>>
     ensures words { IfSome result (λ line. words_of text.now ≡ job_words line) }
     ensures room { IfSome result HasRoom }
+    ensures only { (line : JobLine) → HasJobValues line → words_of text.now ≡ job_words line
+        → result ≡ Some line }
 {
     let mut words = Words::new(text);
     let line = job(&mut words)?;
@@ -34,6 +39,8 @@ pub fn parse_job(text: &[u8]) -> Option<JobLine<'_>>
 fn job<'a>(words: &mut Words<'a>) -> Option<JobLine<'a>>
     ensures words { IfSome result (λ line. words.old ≡ job_words line ++ words.new) }
     ensures room { IfSome result HasRoom }
+    ensures only { (line : JobLine) → HasJobValues line → words.old ≡ job_words line
+        → (result ≡ Some line) × (words.new ≡ []) }
 {
     let name = words.next()?;
     if let Some(line) = job_of_a_word(name) {
@@ -46,6 +53,10 @@ fn job<'a>(words: &mut Words<'a>) -> Option<JobLine<'a>>
 fn job_of_a_word(name: &[u8]) -> Option<JobLine<'static>>
     ensures words { IfSome result (λ line. name.now ∷ [] ≡ job_words line) }
     ensures room { IfSome result HasRoom }
+    ensures cleanup { name.now ≡ codes "cleanup" → result ≡ Some JobLine.Cleanup }
+    ensures commit { name.now ≡ codes "commit" → result ≡ Some JobLine.Commit }
+    ensures checkpoint { name.now ≡ codes "checkpoint" → result ≡ Some JobLine.Checkpoint }
+    ensures named { OnSome result (is_job_alone name.now ≡ true) }
 {
     if is_word(name, b"cleanup") {
         return Some(JobLine::Cleanup);
@@ -64,6 +75,14 @@ fn job_with_values<'a>(name: &[u8], words: &mut Words<'a>) -> Option<JobLine<'a>
     ensures words { IfSome result (λ line.
         name.now ∷ words.old ≡ job_words line ++ words.new) }
     ensures room { IfSome result HasRoom }
+    ensures insert { (entry : TheEntry) → IsEntryOfBytes entry → name.now ≡ codes "insert"
+        → words.old ≡ entry_words entry
+        → (result ≡ Some (JobLine.Insert entry)) × (words.new ≡ []) }
+    ensures bulk { AreRows words.old → name.now ≡ codes "bulk"
+        → (result ≡ Some (JobLine.Bulk words.old)) × (words.new ≡ []) }
+    ensures scan { (range : TheRange) (room : ℕ) → IsRangeOfBytes range → IsRoom room
+        → name.now ≡ codes "scan" → words.old ≡ range_words range ++ decimal room ∷ []
+        → (result ≡ Some (JobLine.Scan range room)) × (words.new ≡ []) }
 {
     match name {
         b"insert" => insert(words),
@@ -78,6 +97,8 @@ fn insert<'a>(words: &mut Words<'a>) -> Option<JobLine<'a>>
     ensures words { IfSome result (λ line.
         codes "insert" ∷ words.old ≡ job_words line ++ words.new) }
     ensures room { IfSome result HasRoom }
+    ensures only { (entry : TheEntry) → IsEntryOfBytes entry → words.old ≡ entry_words entry
+        → (result ≡ Some (JobLine.Insert entry)) × (words.new ≡ []) }
 {
     match entry(words)? {
         Ok(entry) => Some(JobLine::Insert(entry)),
@@ -90,6 +111,8 @@ fn bulk<'a>(words: &mut Words<'a>) -> Option<JobLine<'a>>
     ensures words { IfSome result (λ line.
         codes "bulk" ∷ words.old ≡ job_words line ++ words.new) }
     ensures room { IfSome result HasRoom }
+    ensures only { AreRows words.old
+        → (result ≡ Some (JobLine.Bulk words.old)) × (words.new ≡ []) }
 {
     match all_rows(words)? {
         Ok(rows) => Some(JobLine::Bulk(rows)),
@@ -102,6 +125,9 @@ fn scan<'a>(words: &mut Words<'a>) -> Option<JobLine<'a>>
     ensures words { IfSome result (λ line.
         codes "scan" ∷ words.old ≡ job_words line ++ words.new) }
     ensures room { IfSome result HasRoom }
+    ensures only { (range : TheRange) (room : ℕ) → IsRangeOfBytes range → IsRoom room
+        → words.old ≡ range_words range ++ decimal room ∷ []
+        → (result ≡ Some (JobLine.Scan range room)) × (words.new ≡ []) }
 {
     let Ok(range) = range(words)? else {
         return None;
@@ -112,7 +138,8 @@ fn scan<'a>(words: &mut Words<'a>) -> Option<JobLine<'a>>
 
 // How many entries a scan gives at most.
 fn room(text: &[u8]) -> Option<u32>
-    ensures { IfSome result (λ room. (text.now ≡ decimal room) × (1 ≤ room) × (room ≤ 1048576)) }
+    ensures found { IfSome result (λ room. (text.now ≡ decimal room) × IsRoom room) }
+    ensures only { (room : ℕ) → IsRoom room → text.now ≡ decimal room → result ≡ Some room }
 {
     let room = number_u32(text)?;
     if 1 <= room && room <= 1_048_576 {

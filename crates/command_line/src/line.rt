@@ -1,8 +1,12 @@
 //! The lines of a script.
 
-ghost use Rattle.std.specs.Prelude.{◌≡◌, ℕ, ◌<◌, ◌^◌, Some, Ok, [], ◌∷◌, ◌++◌, IfSome, IfOk, codes};
+ghost use Rattle.std.specs.Prelude.{◌≡◌, ◌≢◌, ℕ, ◌<◌, ◌^◌, true, false, Some, Ok, Err, [], ◌∷◌, ◌++◌, IfSome, IfOk, OnSome, codes};
 ghost use Rattle.std.specs.Fmt.{decimal};
-ghost use Rattle.command_line.specs.Script.{line_words, crash_text, IsQuiet, Spells};
+ghost use Rattle.index_model.specs.declared.entry.Entry.{Entry as TheEntry};
+ghost use Rattle.index_model.specs.declared.range.Range.{Range as TheRange};
+ghost use Rattle.text_forms.specs.Spelling.{words_of};
+ghost use Rattle.text_forms.specs.Values.{entry_words, range_words, IsEntryOfBytes, IsRangeOfBytes, AreRows, AreNoRange};
+ghost use Rattle.command_line.specs.Script.{line_words, crash_text, IsCount, IsQuiet, Spells, HasValues, AreNoValues, AreRefused, is_plain, is_counted, is_of_session, has_range};
 
 use index_model::{Entry, Fault, Range};
 use text_forms::{Rows, Words, all_rows, entry, is_word, number, number_u32, range};
@@ -59,6 +63,9 @@ pub enum LineError {
 pub fn parse(text: &[u8]) -> Result<Line<'_>, LineError>
     ensures ok { IfOk result (Spells text.now) }
     ensures quiet { IsQuiet text.now → result ≡ Ok Line.Nothing }
+    ensures only { (line : Line) → HasValues line → Spells text.now line → result ≡ Ok line }
+    ensures refused { (fault : Fault) → result ≡ Err (LineError.Refused fault)
+        → AreRefused fault (words_of text.now) }
 {
     if text.is_empty() || text[0] == b'#' {
         return Ok(Line::Nothing);
@@ -77,7 +84,12 @@ pub fn parse(text: &[u8]) -> Result<Line<'_>, LineError>
 }
 
 fn event<'a>(words: &mut Words<'a>) -> Option<Result<Line<'a>, Fault>>
-    ensures { (line : Line) → result ≡ Some (Ok line) → words.old ≡ line_words line ++ words.new }
+    ensures ok { (line : Line) → result ≡ Some (Ok line)
+        → words.old ≡ line_words line ++ words.new }
+    ensures only { (line : Line) → line ≢ Line.Nothing → HasValues line
+        → words.old ≡ line_words line → (result ≡ Some (Ok line)) × (words.new ≡ []) }
+    ensures refused { (fault : Fault) → result ≡ Some (Err fault) → words.new ≡ []
+        → AreRefused fault words.old }
 {
     let name = words.next()?;
     if let Some(line) = plain(name) {
@@ -96,8 +108,13 @@ fn one_session<'a>(
     value: &[u8],
     words: &mut Words<'a>,
 ) -> Option<Result<Line<'a>, Fault>>
-    ensures { (line : Line) → result ≡ Some (Ok line)
+    ensures ok { (line : Line) → result ≡ Some (Ok line)
         → name.now ∷ value.now ∷ words.old ≡ line_words line ++ words.new }
+    ensures only { (line : Line) → HasValues line → is_plain name.now ≡ false
+        → is_counted name.now ≡ false → name.now ∷ value.now ∷ words.old ≡ line_words line
+        → (result ≡ Some (Ok line)) × (words.new ≡ []) }
+    ensures refused { (fault : Fault) → result ≡ Some (Err fault) → words.new ≡ []
+        → AreRefused fault (name.now ∷ value.now ∷ words.old) }
 {
     let session = number_u32(value)?;
     if let Some(line) = of_session(name, session) {
@@ -113,6 +130,7 @@ fn plain(name: &[u8]) -> Option<Line<'static>>
     ensures flush { name.now ≡ codes "flush" → result ≡ Some Line.Flush }
     ensures checkpoint { name.now ≡ codes "checkpoint" → result ≡ Some Line.Checkpoint }
     ensures dump { name.now ≡ codes "dump" → result ≡ Some Line.Dump }
+    ensures named { OnSome result (is_plain name.now ≡ true) }
 {
     if is_word(name, b"checkpoint") {
         return Some(Line::Checkpoint);
@@ -127,7 +145,14 @@ fn plain(name: &[u8]) -> Option<Line<'static>>
 
 /// A line of the device.
 fn counted(name: &[u8], value: &[u8]) -> Option<Line<'static>>
-    ensures { IfSome result (λ line. name.now ∷ value.now ∷ [] ≡ line_words line) }
+    ensures found { IfSome result (λ line. name.now ∷ value.now ∷ [] ≡ line_words line) }
+    ensures fail { (n : ℕ) → IsCount n → name.now ≡ codes "fail" → value.now ≡ decimal n
+        → result ≡ Some (Line.Fail n) }
+    ensures stop { (n : ℕ) → IsCount n → name.now ≡ codes "stop" → value.now ≡ decimal n
+        → result ≡ Some (Line.Stop n) }
+    ensures crash { (crash : Crash) → name.now ≡ codes "crash" → value.now ≡ crash_text crash
+        → result ≡ Some (Line.Crash crash) }
+    ensures named { OnSome result (is_counted name.now ≡ true) }
 {
     match name {
         b"fail" => Some(Line::Fail(count(value)?)),
@@ -150,6 +175,7 @@ fn crash_named(text: &[u8]) -> Option<Crash>
     ensures keep { text.now ≡ codes "keep" → result ≡ Some Crash.Keep }
     ensures drop { text.now ≡ codes "drop" → result ≡ Some Crash.Drop }
     ensures tear { text.now ≡ codes "tear" → result ≡ Some Crash.Tear }
+    ensures only { (crash : Crash) → text.now ≡ crash_text crash → result ≡ Some crash }
 {
     match text {
         b"keep" => Some(Crash::Keep),
@@ -167,6 +193,7 @@ fn of_session(name: &[u8], session: u32) -> Option<Line<'static>>
     ensures run { name.now ≡ codes "run" → result ≡ Some (Line.Run session) }
     ensures next { name.now ≡ codes "next" → result ≡ Some (Line.Next session) }
     ensures end { name.now ≡ codes "end" → result ≡ Some (Line.End session) }
+    ensures named { OnSome result (is_of_session name.now ≡ true) }
 {
     if is_word(name, b"cleanup") {
         return Some(Line::Cleanup(session));
@@ -186,11 +213,29 @@ fn with_values<'a>(
     session: u32,
     words: &mut Words<'a>,
 ) -> Option<Result<Line<'a>, Fault>>
-    ensures { (line : Line) → result ≡ Some (Ok line)
+    ensures ok { (line : Line) → result ≡ Some (Ok line)
         → name.now ∷ decimal session ∷ words.old ≡ line_words line ++ words.new }
+    ensures insert { (entry : TheEntry) → IsEntryOfBytes entry → name.now ≡ codes "insert"
+        → words.old ≡ entry_words entry
+        → (result ≡ Some (Ok (Line.Insert session entry))) × (words.new ≡ []) }
+    ensures put { (entry : TheEntry) → IsEntryOfBytes entry → name.now ≡ codes "put"
+        → words.old ≡ entry_words entry
+        → (result ≡ Some (Ok (Line.Put session entry))) × (words.new ≡ []) }
+    ensures bulk { AreRows words.old → name.now ≡ codes "bulk"
+        → (result ≡ Some (Ok (Line.Bulk session words.old))) × (words.new ≡ []) }
+    ensures scan { (range : TheRange) → IsRangeOfBytes range → name.now ≡ codes "scan"
+        → words.old ≡ range_words range
+        → (result ≡ Some (Ok (Line.Scan session range))) × (words.new ≡ []) }
+    ensures list { (range : TheRange) → IsRangeOfBytes range → name.now ≡ codes "list"
+        → words.old ≡ range_words range
+        → (result ≡ Some (Ok (Line.List session range))) × (words.new ≡ []) }
+    ensures refused { (fault : Fault) → result ≡ Some (Err fault) → words.new ≡ []
+        → AreNoValues fault name.now words.old }
 {
+    if is_word(name, b"insert") {
+        return Some(entry(words)?.map(|entry| Line::Insert(session, entry)));
+    }
     match name {
-        b"insert" => Some(entry(words)?.map(|entry| Line::Insert(session, entry))),
         b"put" => Some(entry(words)?.map(|entry| Line::Put(session, entry))),
         b"bulk" => Some(all_rows(words)?.map(|rows| Line::Bulk(session, rows))),
         _ => with_range(name, session, words),
@@ -203,8 +248,16 @@ fn with_range<'a>(
     session: u32,
     words: &mut Words<'a>,
 ) -> Option<Result<Line<'a>, Fault>>
-    ensures { (line : Line) → result ≡ Some (Ok line)
+    ensures ok { (line : Line) → result ≡ Some (Ok line)
         → name.now ∷ decimal session ∷ words.old ≡ line_words line ++ words.new }
+    ensures scan { (range : TheRange) → IsRangeOfBytes range → name.now ≡ codes "scan"
+        → words.old ≡ range_words range
+        → (result ≡ Some (Ok (Line.Scan session range))) × (words.new ≡ []) }
+    ensures list { (range : TheRange) → IsRangeOfBytes range → name.now ≡ codes "list"
+        → words.old ≡ range_words range
+        → (result ≡ Some (Ok (Line.List session range))) × (words.new ≡ []) }
+    ensures refused { (fault : Fault) → result ≡ Some (Err fault)
+        → (has_range name.now ≡ true) × AreNoRange fault words.old words.new }
 {
     match name {
         b"scan" => Some(range(words)?.map(|range| Line::Scan(session, range))),

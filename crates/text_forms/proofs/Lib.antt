@@ -5,3 +5,4 @@ pub mod RowText
 pub mod Keys
 pub mod Newlines
 pub mod Printed
+pub mod Read

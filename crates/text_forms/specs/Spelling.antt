@@ -1,8 +1,9 @@
 -- How lines and what stands in them are spelled.
-use Rattle.std.specs.Prelude.{◌≡◌, ℕ, Bool, ◌==◌, if◌then◌else◌, Option, Some, None, List, [], ◌∷◌, ◌++◌, length, Result, MatchResult, ◌<◌, ◌%◌, true, ◌&&◌, ◌||◌, nat_le, codes}
+use Rattle.std.specs.Prelude.{◌≡◌, ℕ, Bool, ◌==◌, if◌then◌else◌, Option, Some, None, List, [], ◌∷◌, ◌++◌, length, Result, MatchResult, ◌<◌, ◌≤◌, ◌^◌, ◌%◌, true, false, ◌&&◌, ◌||◌, nat_le, codes}
 use Rattle.std.specs.List.{list_all}
 use Rattle.std.specs.Fmt.{decimal}
-use Rattle.hex.specs.Hex.{encode_lower}
+use Rattle.std.specs.Str.{bytes_eq}
+use Rattle.hex.specs.Hex.{encode_lower, IsBytes}
 use Rattle.index_model.specs.Row.{Row, IsRow}
 use Rattle.index_model.specs.declared.fault.Fault.{Fault}
 use Rattle.index_model.specs.declared.fault.Fault.TheVariants.{BadRow}
@@ -18,6 +19,11 @@ with_first byte (word ∷ words) = (byte ∷ word) ∷ words
 abbrev pub words_of : List ℕ → List (List ℕ)
 words_of [] = [] ∷ []
 words_of (byte ∷ line) = if byte == 32 then [] ∷ words_of line else with_first byte (words_of line)
+
+-- a word is one of these
+abbrev pub is_one_of : List ℕ → List (List ℕ) → Bool
+is_one_of word [] = false
+is_one_of word (other ∷ others) = bytes_eq word other || is_one_of word others
 
 -- a text's lines, each without the newline that ends it; behind the last newline none begins where nothing is
 abbrev pub lines_of : List ℕ → List (List ℕ)
@@ -36,6 +42,16 @@ row_text row = 40 ∷ (decimal row.block ++ (44 ∷ (decimal row.offset ++ 41 �
 -- a key and a row, parted by a space
 abbrev pub entry_text : Entry → List ℕ
 entry_text entry = key_text entry.key ++ (32 ∷ row_text entry.row)
+
+-- a key of at most 64 bytes
+pub record IsKey (key : List ℕ) : Type 0 where
+  pub bytes : IsBytes key
+  pub short : length key ≤ 64
+
+-- the block is a number of 32 bits, and the offset one of 16
+pub record IsNarrow (row : Row) : Type 0 where
+  pub block : row.block < 2 ^ 32
+  pub offset : row.offset < 2 ^ 16
 
 -- what the row that a text spells is answered with: the row, or that there is no such row
 abbrev pub ReadsRow : Row → Result Row Fault → Type 0

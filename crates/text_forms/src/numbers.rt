@@ -5,7 +5,7 @@ ghost use Rattle.std.specs.List.{position, list_all};
 ghost use Rattle.std.specs.Str.Parse.{AllDigits};
 ghost use Rattle.std.specs.Fmt.{decimal};
 ghost use Rattle.index_model.specs.Row.{Row};
-ghost use Rattle.text_forms.specs.Spelling.{row_text, key_text, ReadsRow, IsLongKeyText, is_key_digit};
+ghost use Rattle.text_forms.specs.Spelling.{row_text, key_text, ReadsRow, IsKey, IsLongKeyText, IsNarrow, is_key_digit};
 ghost use Rattle.hex.specs.Hex.{encode_lower, IsBytes};
 
 use index_model::{Fault, Key, RowAddr};
@@ -143,7 +143,7 @@ fn comma(text: &[u8]) -> Option<usize>
 /// The row of the text `(block,offset)`. None where it isn't such a text; `BadRow` where there is no such row.
 pub fn row(text: &[u8]) -> Option<Result<RowAddr, Fault>>
     ensures found { IfSome result
-        (λ read. (row : Row) × (text.now ≡ row_text row) × ReadsRow row read) }
+        (λ read. (row : Row) × (text.now ≡ row_text row) × IsNarrow row × ReadsRow row read) }
     ensures only { (row : Row) → row.block < 2 ^ 32 → row.offset < 2 ^ 16
         → text.now ≡ row_text row → IsSomeAnd result (ReadsRow row) }
 {
@@ -157,6 +157,7 @@ pub fn key(text: &[u8]) -> Option<Result<Key, Fault>>
     ensures found { (key : List ℕ) → result ≡ Some (Ok key) → text.now ≡ key_text key }
     ensures only { (key : List ℕ) → IsBytes key → length key ≤ 64 → text.now ≡ key_text key
         → result ≡ Some (Ok key) }
+    ensures valid { (key : List ℕ) → result ≡ Some (Ok key) → IsKey key }
     ensures long { (fault : Fault) → result ≡ Some (Err fault)
         → (fault ≡ Fault.KeyTooLong) × IsLongKeyText text.now }
     ensures only_long { IsLongKeyText text.now → result ≡ Some (Err Fault.KeyTooLong) }
@@ -210,6 +211,7 @@ fn short_key(text: &[u8]) -> Option<Result<Key, Fault>>
     ensures ok { IfSome result (λ read. IsOk read) }
     ensures found { (key : List ℕ) → result ≡ Some (Ok key)
         → (text.now ≡ encode_lower key) × (0 < length key) }
+    ensures valid { (key : List ℕ) → result ≡ Some (Ok key) → IsKey key }
     ensures only { (key : List ℕ) → IsBytes key → 0 < length key → text.now ≡ encode_lower key
         → result ≡ Some (Ok key) }
 {

@@ -1,16 +1,17 @@
 //! Entries, ranges and rows from the words of a line.
 
-ghost use Rattle.std.specs.Prelude.{◌≡◌, Some, Ok, Err, ◌∷◌, ◌++◌, IfSome, IfOk, IsOk};
-ghost use Rattle.index_model.specs.Row.{Row};
-ghost use Rattle.text_forms.specs.Spelling.{row_text};
-ghost use Rattle.text_forms.specs.Values.{end_text, entry_words, range_words};
+ghost use Rattle.std.specs.Prelude.{◌≡◌, Some, None, Ok, Err, [], ◌++◌, List, ℕ, Option, IfSome, IfOk, IsOk};
+ghost use Rattle.index_model.specs.declared.entry.Entry.{Entry as TheEntry};
+ghost use Rattle.index_model.specs.declared.range.Range.{Range as TheRange};
+ghost use Rattle.text_forms.specs.Spelling.{IsLongKeyText};
+ghost use Rattle.text_forms.specs.Values.{end_text, entry_words, range_words, IsEnd, IsEntryOfBytes, IsRangeOfBytes, AreNoEntry, AreNoRange, AreRows, AreNoRows};
 
 use crate::numbers::{key, row};
-use crate::words::Words;
+use crate::words::{Words, is_word};
 use index_model::{Entry, Fault, Key, Range, RowAddr};
 use std::marker::Model;
 
-/// Words of a line, each the text of a row. Contracts see the list of them.
+/// Words of a line, each that of a row. Contracts see the list of them.
 #[derive(Drop)]
 pub struct Rows<'a> {
     words: Words<'a>,
@@ -25,10 +26,14 @@ impl<'a> Model for Rows<'a> {
 }
 
 impl<'a> Rows<'a> {
+    ghost use Rattle.std.specs.Prelude.{◌∷◌};
+    ghost use Rattle.index_model.specs.Row.{Row};
+    ghost use Rattle.text_forms.specs.Spelling.{row_text};
+
     /// The next row, or None behind the last.
     pub fn next(&mut self) -> Option<RowAddr>
-        ensures { (row : Row) → result ≡ Some row
-            → self.old ≡ row_text row ∷ self.new }
+        ensures found { (row : Row) → result ≡ Some row → self.old ≡ row_text row ∷ self.new }
+        ensures last { AreRows self.old → result ≡ None → self.old ≡ [] }
     {
         let word = self.words.next()?;
         match row(word)? {
@@ -38,10 +43,19 @@ impl<'a> Rows<'a> {
     }
 }
 
-/// A key and a row. The key's fault comes before the row's.
+/// A key and a row, the next two words. None where these have no such form; `KeyTooLong` (6) where they have, but there is no such
+/// key, and else `BadRow` (7) where there is no such row.
 pub fn entry(words: &mut Words<'_>) -> Option<Result<Entry, Fault>>
-    ensures { IfSome result (λ read. IfOk read
+    ensures ok { IfSome result (λ read. IfOk read
         (λ entry. words.old ≡ entry_words entry ++ words.new)) }
+    ensures valid { IfSome result (λ read. IfOk read IsEntryOfBytes) }
+    ensures only { (entry : TheEntry) (rest : List (List ℕ)) → IsEntryOfBytes entry
+        → words.old ≡ entry_words entry ++ rest
+        → (result ≡ Some (Ok entry)) × (words.new ≡ rest) }
+    ensures refused { (fault : Fault) → result ≡ Some (Err fault)
+        → AreNoEntry fault words.old words.new }
+    ensures only_refused { (fault : Fault) (rest : List (List ℕ)) → AreNoEntry fault words.old rest
+        → (result ≡ Some (Err fault)) × (words.new ≡ rest) }
 {
     let key = key(words.next()?)?;
     let row = row(words.next()?)?;
@@ -59,10 +73,19 @@ fn entry_of(key: Result<Key, Fault>, row: Result<RowAddr, Fault>) -> Result<Entr
     Ok(Entry { key, row })
 }
 
-/// Two ends of a range.
+/// Two ends of a range, the next two words. None where these have no such form; `KeyTooLong` (6) where they have, but there is no
+/// such key.
 pub fn range(words: &mut Words<'_>) -> Option<Result<Range, Fault>>
-    ensures { IfSome result (λ read. IfOk read
+    ensures ok { IfSome result (λ read. IfOk read
         (λ range. words.old ≡ range_words range ++ words.new)) }
+    ensures valid { IfSome result (λ read. IfOk read IsRangeOfBytes) }
+    ensures only { (range : TheRange) (rest : List (List ℕ)) → IsRangeOfBytes range
+        → words.old ≡ range_words range ++ rest
+        → (result ≡ Some (Ok range)) × (words.new ≡ rest) }
+    ensures refused { (fault : Fault) → result ≡ Some (Err fault)
+        → AreNoRange fault words.old words.new }
+    ensures only_refused { (fault : Fault) (rest : List (List ℕ)) → AreNoRange fault words.old rest
+        → (result ≡ Some (Err fault)) × (words.new ≡ rest) }
 {
     let from = end(words.next()?)?;
     let below = end(words.next()?)?;
@@ -83,11 +106,17 @@ fn range_of(
     Ok(Range { from, below })
 }
 
-/// A key, or `*` for an open end.
+/// A key, or `*` for an open end. None where it isn't such a text; `KeyTooLong` (6) where it has more than 64 bytes.
 pub fn end(text: &[u8]) -> Option<Result<Option<Key>, Fault>>
-    ensures { IfSome result (λ read. IfOk read (λ key. text.now ≡ end_text key)) }
+    ensures ok { IfSome result (λ read. IfOk read (λ key. text.now ≡ end_text key)) }
+    ensures valid { IfSome result (λ read. IfOk read IsEnd) }
+    ensures only { (key : Option (List ℕ)) → IsEnd key → text.now ≡ end_text key
+        → result ≡ Some (Ok key) }
+    ensures long { (fault : Fault) → result ≡ Some (Err fault)
+        → (fault ≡ Fault.KeyTooLong) × IsLongKeyText text.now }
+    ensures only_long { IsLongKeyText text.now → result ≡ Some (Err Fault.KeyTooLong) }
 {
-    if text == b"*".as_slice() {
+    if is_word(text, b"*") {
         return Some(Ok(None));
     }
     match key(text)? {
@@ -96,9 +125,16 @@ pub fn end(text: &[u8]) -> Option<Result<Option<Key>, Fault>>
     }
 }
 
-/// All words that are left, each a row.
+/// All words that are left, each a row. None where one has no such form; `BadRow` (7) where all have, but there is no such row for
+/// one of them.
 pub fn all_rows<'a>(words: &mut Words<'a>) -> Option<Result<Rows<'a>, Fault>>
-    ensures { IfSome result (λ read. IfOk read (λ rows. words.old ≡ rows ++ words.new)) }
+    ensures ok { IfSome result (λ read. IfOk read (λ rows. words.old ≡ rows ++ words.new)) }
+    ensures valid { IfSome result (λ read. IfOk read AreRows) }
+    ensures end { IfSome result (λ read. words.new ≡ []) }
+    ensures only { AreRows words.old → result ≡ Some (Ok words.old) }
+    ensures refused { (fault : Fault) → result ≡ Some (Err fault) → AreNoRows fault words.old }
+    ensures only_refused { (fault : Fault) → AreNoRows fault words.old
+        → result ≡ Some (Err fault) }
 {
     let all = words.copy();
     let mut is_bad = false;
