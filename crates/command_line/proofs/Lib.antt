@@ -14,3 +14,4 @@ pub mod Printed
 pub mod Listed
 pub mod Stepped
 pub mod Checked
+pub mod Looked

@@ -8,6 +8,7 @@ pub mod Receipts
 pub mod Running
 pub mod Settings
 pub mod Files
+pub mod RunningFiles
 pub mod Reporting
 pub mod Dumping
 pub mod Listing
