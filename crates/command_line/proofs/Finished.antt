@@ -2,12 +2,14 @@
 use Rattle.std.proofs.Common.{◌≡◌, ◌++◌, ◌∷◌, ℕ, List, [], Option, refl, subst}
 use Rattle.std.specs.Prelude.{Result, Ok, Err, IfOk, OnOk}
 use Rattle.std.specs.Io.KnownBytes.{Appends}
+use Rattle.device.specs.declared.device.Device.{Ghosts as DeviceGhosts}
 use Rattle.index_model.specs.declared.dead_rows.DeadRows.{Ghosts as SetGhosts}
 use Rattle.index_model.specs.declared.fault.Fault.{Fault}
 use Rattle.page_action.specs.declared.page_store.PageStore.{Ghosts}
 use Rattle.schedule.specs.declared.event.Event.TheVariants.{Checkpoint}
 use Rattle.session_calls.specs.declared.answer.Answer.{Answer}
 use Rattle.session_calls.specs.declared.answer.Answer.TheVariants.{Refused as NotMade}
+use Rattle.page_store.specs.declared.store.Store.{Store}
 use Rattle.sessions.specs.Doing.{IsDone}
 use Rattle.sessions.specs.declared.job.Job.{Job}
 use Rattle.sessions.specs.declared.outcome.Finished.{Finished}
@@ -15,7 +17,8 @@ use Rattle.world.specs.Worlds.{inside}
 use Rattle.world.specs.declared.world.World.{World}
 use Rattle.text_forms.specs.Printing.{answer_text}
 use Rattle.command_line.specs.Receipts.{run_text}
-use Rattle.command_line.specs.Running.{PrintsDone, PrintsRun, PrintsSomeRun, end_behind, last_text}
+use Rattle.command_line.specs.Running.{PrintsDone, PrintsRun, end_behind, last_text}
+use Rattle.command_line.specs.RunningFiles.{IsWorldOfFile, PrintsRunOnFile}
 use Rattle.command_line.specs.declared.end.End.{End}
 use Rattle.command_line.specs.declared.end.End.TheVariants.{Done}
 
@@ -31,12 +34,13 @@ pub prints_done : {S T E : Type 0} (g : Ghosts S) (rows : SetGhosts T) (done : F
 prints_done g rows done after old new (Ok end) answer made is printed = record { answer = answer; checkpointed = made; printed = printed; end_is = is }
 prints_done g rows done after old new (Err fault) answer made is printed = tt
 
--- the print of a run that is done is that of some run
-pub prints_some : {S T E : Type 0} (g : Ghosts S) (rows : SetGhosts T) (jobs shown : List Job) (workers : ℕ) (before after : World S T) (old new : Option (List ℕ)) (r : Result End E) → shown ≡ jobs
-    → IfOk r (PrintsRun g rows shown workers before after old new) → r ≡ Ok Done → PrintsSomeRun g rows jobs workers old new Done
-prints_some {S} {T} {E} g rows jobs shown workers before after old new r same printed is = record {
+-- the print of a run on a world that was opened from a file is that of one on the file
+pub prints_on_file : {D T E : Type 0} (d : DeviceGhosts D) (g : Ghosts (Store D d)) (rows : SetGhosts T) (bytes : ℕ → List ℕ) (frames workers : ℕ) (jobs shown : List Job) (sets : List T)
+    (before after : World (Store D d) T) (old new : Option (List ℕ)) (r : Result End E) → shown ≡ jobs → IsWorldOfFile d g rows bytes frames workers sets before
+    → IfOk r (PrintsRun g rows shown workers before after old new) → IfOk r (PrintsRunOnFile d g rows bytes frames workers jobs sets after old new)
+prints_on_file d g rows bytes frames workers jobs shown sets before after old new (Ok end) same opened printed = record {
   before = before;
-  after = after;
-  prints = subst (λ (l : List Job). PrintsRun g rows l workers before after old new Done) same
-      (subst (λ (x : Result End E). IfOk x (PrintsRun g rows shown workers before after old new)) is printed);
+  opened = opened;
+  prints = subst (λ (l : List Job). PrintsRun g rows l workers before after old new end) same printed;
 }
+prints_on_file d g rows bytes frames workers jobs shown sets before after old new (Err fault) same opened printed = tt

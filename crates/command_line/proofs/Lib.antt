@@ -7,3 +7,4 @@ pub mod Opened
 pub mod Listed
 pub mod Stepped
 pub mod Checked
+pub mod Looked

@@ -1,8 +1,18 @@
 -- Files with an index.
-use Rattle.std.specs.Prelude.{ℕ, List, length, ⊤}
+use Rattle.std.specs.Prelude.{◌≡◌, ℕ, IsTrue, List, length, ⊤}
+use Rattle.amcheck.specs.Checks.{where_checked}
 use Rattle.device.specs.Disk.{Trace}
+use Rattle.device.specs.declared.device.Device.{Ghosts as DeviceGhosts}
+use Rattle.index_model.specs.Faults.{HasCause}
 use Rattle.index_model.specs.declared.fault.Fault.{Fault}
 use Rattle.index_model.specs.declared.fault.Fault.TheVariants.{NoMemory, Io, BadSuper, BadVersion, BadLimits, LogDamaged, PageDamaged}
+use Rattle.index_model.specs.declared.limits.Limits.{Limits}
+use Rattle.page_action.specs.declared.page_store.PageStore.{Ghosts}
+use Rattle.page_codec.specs.declared.page.Page.{Page}
+use Rattle.page_store.specs.Stores.{state_of, device_of}
+use Rattle.page_store.specs.declared.store.Store.{Store}
+use Rattle.recovery.specs.Index.{HasIndex}
+use Rattle.recovery.specs.Opening.{IsFreshlyOpened, IsSameIndex, StandsOnDevice}
 
 -- what a file held when it was opened, if it was then as long as it is now
 abbrev pub bytes_before : (ℕ → List ℕ) → Trace → List ℕ
@@ -18,3 +28,28 @@ IsOpenFault BadLimits = ⊤
 IsOpenFault LogDamaged = ⊤
 IsOpenFault (PageDamaged block) = ⊤
 IsOpenFault fault = ⊥
+
+-- The store as it is opened, with 64 pages in memory, from a file that held these bytes. What it has is what stood in the file, and
+-- an index is opened with its pages, as far as the file kept the disk model.
+pub record IsOpenedFromFile {D : Type 0} (d : DeviceGhosts D) (bytes : ℕ → List ℕ) (store : Store D d) : Type 0 where
+  pub opened : IsFreshlyOpened 64 (state_of d store)
+  pub read : IsTrue (d.is_honest (device_of d store))
+      → StandsOnDevice (state_of d store) (bytes_before bytes (d.trace (device_of d store)))
+      (d.trace (device_of d store)).now.seen
+  pub same : IsTrue (d.is_honest (device_of d store)) → (limits : Limits) (pages : List Page)
+      → HasIndex limits pages (bytes_before bytes (d.trace (device_of d store))) → IsSameIndex d limits pages store
+
+-- The store of the index in a file that held these bytes: its pages are those that it was opened with, and only its own calls have
+-- written since.
+pub record IsLookedAt {D : Type 0} (d : DeviceGhosts D) (g : Ghosts (Store D d)) (bytes : ℕ → List ℕ)
+    (store : Store D d) : Type 0 where
+  pub first : Store D d
+  pub opened : IsOpenedFromFile d bytes first
+  pub follows : g.follows first store
+  pub state_is : g.state store ≡ g.state first
+
+-- ... whose check is refused with this fault, which has its cause since it was opened
+pub record IsCheckRefused {D : Type 0} (d : DeviceGhosts D) (g : Ghosts (Store D d)) (bytes : ℕ → List ℕ) (fault : Fault)
+    (store : Store D d) : Type 0 where
+  pub looked : IsLookedAt d g bytes store
+  pub cause : HasCause (where_checked (g.state store) (g.backing looked.first) (g.backing store)) fault

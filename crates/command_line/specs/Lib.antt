@@ -6,6 +6,7 @@ pub mod Receipts
 pub mod Running
 pub mod Settings
 pub mod Files
+pub mod RunningFiles
 pub mod Reporting
 pub mod Listing
 pub mod Ends

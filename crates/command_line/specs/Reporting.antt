@@ -37,17 +37,6 @@ pub record TellsDamage (honest parents : Bool) (pages : List Page) (old new : Op
   pub first : honest ≡ true → IsFirstDamage parents pages number block
   pub unsound : honest ≡ true → IsTree pages → ⊥
 
--- what was printed is a report
-pub record PrintsReport (old new : Option (List ℕ)) : Type 0 where
-  pub report : Report
-  pub printed : Appends old new (report_text report ++ 10 ∷ [])
-
--- what was printed is a damage: its number and its block
-pub record PrintsDamage (old new : Option (List ℕ)) : Type 0 where
-  pub number : ℕ
-  pub block : ℕ
-  pub printed : Appends old new (damage_text number block ++ 10 ∷ [])
-
 -- pages are sound: with parents and children a B-link tree, without them an index of levels
 abbrev pub AreSound : Bool → List Page → Type 0
 AreSound true pages = IsTree pages

@@ -41,12 +41,6 @@ pub record PrintsRun {S T : Type 0} (g : Ghosts S) (rows : SetGhosts T) (jobs : 
   pub ran : IsFinished g rows jobs workers before done
   pub prints : PrintsDone g rows done after old new end
 
--- ... on some world
-pub record PrintsSomeRun {S T : Type 0} (g : Ghosts S) (rows : SetGhosts T) (jobs : List Job) (workers : ℕ) (old new : Option (List ℕ)) (end : End) : Type 0 where
-  pub before : World S T
-  pub after : World S T
-  pub prints : PrintsRun g rows jobs workers before after old new end
-
 -- all was done, what was wrong is said, or a refusal is to be said
 abbrev pub IsRunEnd : End → Type 0
 IsRunEnd Done = ⊤

@@ -1,5 +1,5 @@
 -- The lines `run` and `put`: calls of a session that are stepped until a step doesn't go on.
-use Rattle.std.specs.Prelude.{◌≡◌, ◌⊎◌, ℕ, Bool, List, [], ◌∷◌, ◌++◌, replicate}
+use Rattle.std.specs.Prelude.{◌≡◌, ◌⊎◌, ℕ, Bool, List, [], ◌∷◌, ◌++◌, length, replicate}
 use Rattle.index_model.specs.Actions.{Action}
 use Rattle.index_model.specs.Calls.{Call}
 use Rattle.index_model.specs.declared.dead_rows.DeadRows.{Ghosts as SetGhosts}
@@ -12,6 +12,11 @@ use Rattle.session_calls.specs.declared.answer.Answer.{Answer}
 use Rattle.session_calls.specs.declared.answer.Answer.TheVariants.{Begun, Going, Refused}
 use Rattle.world.specs.Worlds.{WorldRuns}
 use Rattle.world.specs.declared.world.World.{World}
+
+-- there are as many sessions, and as many pages may be in memory
+pub record KeepsSizes {S T : Type 0} (g : Ghosts S) (old new : World S T) : Type 0 where
+  pub sessions : length new.calls.slots.items ≡ length old.calls.slots.items
+  pub frames : (g.state new.store).frames ≡ (g.state old.store).frames
 
 -- so many steps of the session, and one more
 abbrev pub steps_of : ℕ → ℕ → List Event

@@ -1,6 +1,6 @@
 //! The index that a script is run over: a device in memory, and the sessions of a world.
 
-ghost use Rattle.std.specs.Prelude.{◌≡◌, ◌≢◌, ◌∷◌, [], true, Bool, List, IfOk, OnOk, OnErr};
+ghost use Rattle.std.specs.Prelude.{◌≡◌, ◌≢◌, ◌∷◌, [], true, Bool, List, length, IfOk, OnOk, OnErr};
 ghost use Rattle.device.specs.Memory.{trace_of, plan_of, left_by};
 ghost use Rattle.device.specs.Plans.{failing_at, stopping_at};
 ghost use Rattle.index_model.specs.Actions.{Action};
@@ -64,19 +64,23 @@ pub trait Sink {
     fn page(&mut self, page: &Page) -> io::Result<()>;
 }
 
-/// An index on a device in memory, and its sessions.
+/// An index on a device in memory, and its sessions: as many pages are held in memory, and there are as many sessions, as was asked
+/// for.
 #[derive(Drop)]
 pub struct Engine {
     alloc: Global,
     setting: Setting,
     world: World<Store<MemDevice>, DeadList>,
     ghost allowed: { IsSetting setting },
+    ghost frames: { (state_of ⟦<MemDevice as Device>⟧ world.store).frames ≡ setting.frames },
+    ghost sessions: { length world.calls.slots.items ≡ setting.sessions },
 }
 
 impl Engine {
     /// An empty index, made on a device in memory and opened, and the sets of dead rows that its events name by their places.
     /// Refused with `BadLimits` for a size out of its range, and with `NoMemory`.
     pub fn new(alloc: Global, setting: &Setting, sets: Vec<DeadList>) -> Result<Engine, Fault>
+        ensures setting { IfOk result (λ engine. engine.setting ≡ setting.now) }
         ensures sets { IfOk result (λ engine. engine.world.sets ≡ sets) }
         ensures empty { IfOk result (λ engine.
             BeginsEmpty ⟦<MemDevice as Device>⟧ ⟦<Store<MemDevice> as PageStore>⟧
@@ -96,6 +100,7 @@ impl Engine {
 
     /// One event.
     pub fn one(&mut self, event: Event) -> Answer
+        ensures setting { self.new.setting ≡ self.old.setting }
         ensures goes { WorldCarries ⟦<Store<MemDevice> as PageStore>⟧ ⟦<DeadList as DeadRows>⟧
             self.old.world self.new.world
             (WorldGoes ⟦<Store<MemDevice> as PageStore>⟧ ⟦<DeadList as DeadRows>⟧
@@ -106,6 +111,7 @@ impl Engine {
 
     /// Steps of a session's call until one doesn't answer `Going`, and that answer. No checkpoint is made for them.
     pub fn run(&mut self, session: u32) -> Answer
+        ensures setting { self.new.setting ≡ self.old.setting }
         ensures goes { WorldCarries ⟦<Store<MemDevice> as PageStore>⟧ ⟦<DeadList as DeadRows>⟧
             self.old.world self.new.world
             (IsStepped ⟦<Store<MemDevice> as PageStore>⟧ ⟦<DeadList as DeadRows>⟧
@@ -117,6 +123,7 @@ impl Engine {
 
     /// An insert, run until a step doesn't answer `Going`, and that answer.
     pub fn put(&mut self, session: u32, entry: &Entry) -> Answer
+        ensures setting { self.new.setting ≡ self.old.setting }
         ensures goes { WorldCarries ⟦<Store<MemDevice> as PageStore>⟧ ⟦<DeadList as DeadRows>⟧
             self.old.world self.new.world
             (IsSteppedInsert ⟦<Store<MemDevice> as PageStore>⟧ ⟦<DeadList as DeadRows>⟧
@@ -133,7 +140,9 @@ impl Engine {
         session: u32,
         range: &Range,
         sink: &mut S,
-    ) -> io::Result<Result<u64, Fault>> {
+    ) -> io::Result<Result<u64, Fault>>
+        ensures { self.new.setting ≡ self.old.setting }
+    {
         if let Answer::Refused(fault) = self.world.one(Event::Scan(session, *range)) {
             return Ok(Err(fault));
         }
@@ -143,7 +152,9 @@ impl Engine {
     }
 
     /// Runs a session's scan to its end, handing over what it gives, and answers how many entries.
-    fn give_all<S: Sink>(&mut self, session: u32, sink: &mut S) -> io::Result<Result<u64, Fault>> {
+    fn give_all<S: Sink>(&mut self, session: u32, sink: &mut S) -> io::Result<Result<u64, Fault>>
+        ensures { self.new.setting ≡ self.old.setting }
+    {
         let mut count = 0u64;
         // Over a device that keeps its model this many events are never made.
         for _ in 0..u64::MAX {
@@ -161,7 +172,9 @@ impl Engine {
     }
 
     /// Hands over each used page, lowest block first.
-    pub fn dump<S: Sink>(&mut self, sink: &mut S) -> io::Result<Result<(), Fault>> {
+    pub fn dump<S: Sink>(&mut self, sink: &mut S) -> io::Result<Result<(), Fault>>
+        ensures { self.new.setting ≡ self.old.setting }
+    {
         for block in 0..self.world.used() {
             match self.world.page(block) {
                 Ok(page) => sink.page(&page)?,
@@ -173,6 +186,7 @@ impl Engine {
 
     /// The nth device call from now on fails, once.
     pub fn fail_at(&mut self, n: u64)
+        ensures setting { self.new.setting ≡ self.old.setting }
         ensures plan { plan_of (device_of ⟦<MemDevice as Device>⟧ self.new.world.store)
             ≡ failing_at n (plan_of (device_of ⟦<MemDevice as Device>⟧ self.old.world.store)) }
     {
@@ -181,6 +195,7 @@ impl Engine {
 
     /// The nth device call from now on fails, and each later one.
     pub fn stop_at(&mut self, n: u64)
+        ensures setting { self.new.setting ≡ self.old.setting }
         ensures plan { plan_of (device_of ⟦<MemDevice as Device>⟧ self.new.world.store)
             ≡ stopping_at n (plan_of (device_of ⟦<MemDevice as Device>⟧ self.old.world.store)) }
     {
@@ -190,6 +205,7 @@ impl Engine {
     /// A crash, and the index opened again, with as many sessions, and with these sets of dead rows. Refused as `open` is,
     /// and with `NoMemory`; the index is as it was then.
     pub fn crash(&mut self, image: CrashImage, sets: Vec<DeadList>) -> Result<(), Fault>
+        ensures setting { self.new.setting ≡ self.old.setting }
         ensures sets { OnOk result (self.new.world.sets ≡ sets) }
         // What is opened is the index that this image of the device holds.
         ensures image { OnOk result ((limits : Limits) (pages : List Page)
@@ -224,6 +240,10 @@ fn opened(
     setting: &Setting,
     sets: Vec<DeadList>,
 ) -> Result<World<Store<MemDevice>, DeadList>, Fault>
+    ensures frames { IfOk result (λ world.
+        (state_of ⟦<MemDevice as Device>⟧ world.store).frames ≡ setting.now.frames) }
+    ensures sessions { IfOk result (λ world.
+        length world.calls.slots.items ≡ setting.now.sessions) }
     ensures sets { IfOk result (λ world. world.sets ≡ sets) }
     ensures begins { IsSetting setting.now → (limits : Limits) (pages : List Page)
         → HasIndex limits pages (trace_of device).now.seen → IsTree pages

@@ -1,23 +1,35 @@
-//! The commands over a file. What is printed of its pages is told by `check_pages` and `list_pages`, which name them; here
-//! it is told how the end goes with what was printed.
+//! The commands over a file. Each hands back what it worked on, so that its clauses name it: the index that was opened, or the file
+//! that was made. What a check and a dump print is of the pages of that index, which stood in the file.
 
-ghost use Rattle.std.specs.Prelude.{◌≡◌, ◌⊎◌, ◌∷◌, ◌++◌, [], Ok, IfOk, codes};
+ghost use Rattle.std.specs.Prelude.{◌≡◌, ◌⊎◌, ◌∷◌, ◌++◌, [], true, length, Ok, IsSome, IfOk, IfSome, IfNone, IsSomeAnd, MatchOption, codes};
 ghost use Rattle.std.specs.Io.KnownBytes.{Appends};
+ghost use Rattle.device_layout.specs.Layout.{needed_length};
 ghost use Rattle.index_model.specs.Limits.{AreLimits};
-ghost use Rattle.command_line.specs.Listing.{IsDoneOrRefused};
-ghost use Rattle.command_line.specs.Reporting.{PrintsReport, PrintsDamage, IsCheckEnd};
+ghost use Rattle.recovery.specs.Fresh.{IsEmptyIndex, LeavesEmpty};
+ghost use Rattle.command_line.specs.Files.{IsOpenFault, IsLookedAt, IsCheckRefused};
+ghost use Rattle.command_line.specs.Listing.{Lists, ListsFirst, IsDoneOrRefused};
+ghost use Rattle.command_line.specs.Reporting.{TellsReport, TellsDamage, AreSound, IsCheckEnd};
 
 use crate::checking::{check_pages, check_pages_one};
 use crate::end::End;
 use crate::files::{make_index, open_index};
 use crate::listing::list_pages;
-use device::Start;
+use device::{Device, FileDevice, Start};
 use index_model::{Fault, Limits};
+use page_action::PageStore;
+use page_store::Store;
 use std::alloc::Global;
 use std::fs::File;
 use std::io::{self, Write};
 use std::rt::Files;
 use std::thread::Threads;
+
+/// What a creation leaves: the file, if it was made, and how the command ends.
+#[derive(Drop)]
+pub struct Created<D> {
+    pub device: Option<D>,
+    pub end: io::Result<End>,
+}
 
 /// Makes a new file with an empty index, and says so. Refused as `make_index` is: nothing is printed then.
 pub fn create<R: Files<File = File>, S: Start, W: Write>(
@@ -25,23 +37,50 @@ pub fn create<R: Files<File = File>, S: Start, W: Write>(
     path: &str,
     limits: &Limits,
     out: &mut W,
-) -> io::Result<End>
-    ensures ends { IfOk result IsDoneOrRefused }
-    ensures allowed { result ≡ Ok End.Done → AreLimits limits.now }
-    ensures created { result ≡ Ok End.Done
+) -> Created<FileDevice<S>>
+    ensures ends { IfOk result.end IsDoneOrRefused }
+    ensures allowed { result.end ≡ Ok End.Done → AreLimits limits.now }
+    // An empty index was made, which can be opened, also after a crash.
+    ensures made { result.end ≡ Ok End.Done → IsSome result.device }
+    ensures empty { IfSome result.device (λ device.
+        IsEmptyIndex limits.now (⟦<FileDevice<S> as Device>⟧.trace device).now) }
+    ensures own { IfSome result.device (λ device.
+        LeavesEmpty limits.now (⟦<FileDevice<S> as Device>⟧.trace device).now) }
+    ensures exact { IfSome result.device (λ device.
+        length (⟦<FileDevice<S> as Device>⟧.trace device).now.seen ≡ needed_length limits.now) }
+    ensures created { result.end ≡ Ok End.Done
         → Appends (W.contents out.old) (W.contents out.new) (codes "created" ++ 10 ∷ []) }
-    ensures refused { (fault : Fault) → result ≡ Ok (End.Refused fault)
+    ensures refused { (fault : Fault) → result.end ≡ Ok (End.Refused fault)
         → ((fault ≡ Fault.BadLimits) × (AreLimits limits.now → ⊥)) ⊎ (fault ≡ Fault.Io) }
-    ensures silent { (fault : Fault) → result ≡ Ok (End.Refused fault)
+    ensures silent { (fault : Fault) → result.end ≡ Ok (End.Refused fault)
         → W.contents out.new ≡ W.contents out.old }
 {
     match make_index::<R, S>(rt, path, limits) {
-        Ok(_) => {
-            writeln!(out, "created")?;
-            Ok(End::Done)
-        }
-        Err(fault) => Ok(End::Refused(fault)),
+        Ok(device) => Created {
+            device: Some(device),
+            end: say_created(out),
+        },
+        Err(fault) => Created {
+            device: None,
+            end: Ok(End::Refused(fault)),
+        },
     }
+}
+
+fn say_created<W: Write>(out: &mut W) -> io::Result<End>
+    ensures end { IfOk result (λ end. end ≡ End.Done) }
+    ensures printed { result ≡ Ok End.Done
+        → Appends (W.contents out.old) (W.contents out.new) (codes "created" ++ 10 ∷ []) }
+{
+    writeln!(out, "created")?;
+    Ok(End::Done)
+}
+
+/// What a check or a dump leaves: the index in the file, if it was opened, and how the command ends.
+#[derive(Drop)]
+pub struct Looked<S> {
+    pub store: Option<S>,
+    pub end: io::Result<End>,
 }
 
 /// Prints what a check of the index in a file answers, as `check_pages` does: with parents and children where that is asked
@@ -52,18 +91,41 @@ pub fn check<R: Files<File = File> + Threads + Sync, S: Start, W: Write>(
     path: &str,
     parents: bool,
     out: &mut W,
-) -> io::Result<End>
-    ensures ends { IfOk result IsCheckEnd }
-    ensures report { result ≡ Ok End.Done
-        → PrintsReport (W.contents out.old) (W.contents out.new) }
-    ensures damage { result ≡ Ok End.Damaged
-        → PrintsDamage (W.contents out.old) (W.contents out.new) }
-    ensures silent { (fault : Fault) → result ≡ Ok (End.Refused fault)
+) -> Looked<Store<FileDevice<S>>>
+    ensures ends { IfOk result.end IsCheckEnd }
+    ensures opened { IfSome result.store
+        (IsLookedAt ⟦<FileDevice<S> as Device>⟧ ⟦<Store<FileDevice<S>> as PageStore>⟧
+        S.Start.bytes) }
+    ensures report { result.end ≡ Ok End.Done → IsSomeAnd result.store (λ store.
+        let g = ⟦<Store<FileDevice<S>> as PageStore>⟧ in
+        TellsReport (g.backing store).honest (g.state store).pages
+        (W.contents out.old) (W.contents out.new)) }
+    ensures sound { result.end ≡ Ok End.Done → IsSomeAnd result.store (λ store.
+        let g = ⟦<Store<FileDevice<S>> as PageStore>⟧ in
+        (g.backing store).honest ≡ true → AreSound parents (g.state store).pages) }
+    ensures damage { result.end ≡ Ok End.Damaged → IsSomeAnd result.store (λ store.
+        let g = ⟦<Store<FileDevice<S>> as PageStore>⟧ in
+        TellsDamage (g.backing store).honest parents (g.state store).pages
+        (W.contents out.old) (W.contents out.new)) }
+    ensures refused { (fault : Fault) → result.end ≡ Ok (End.Refused fault)
+        → MatchOption result.store (IsOpenFault fault)
+        (IsCheckRefused ⟦<FileDevice<S> as Device>⟧ ⟦<Store<FileDevice<S>> as PageStore>⟧
+        S.Start.bytes fault) }
+    ensures silent { (fault : Fault) → result.end ≡ Ok (End.Refused fault)
         → W.contents out.new ≡ W.contents out.old }
 {
     match open_index::<R, S>(rt, alloc, path) {
-        Ok(mut store) => check_pages(rt, alloc, &mut store, parents, out),
-        Err(fault) => Ok(End::Refused(fault)),
+        Ok(mut store) => {
+            let end = check_pages(rt, alloc, &mut store, parents, out);
+            Looked {
+                store: Some(store),
+                end,
+            }
+        }
+        Err(fault) => Looked {
+            store: None,
+            end: Ok(End::Refused(fault)),
+        },
     }
 }
 
@@ -74,32 +136,78 @@ pub fn check_one<R: Files<File = File>, S: Start, W: Write>(
     path: &str,
     parents: bool,
     out: &mut W,
-) -> io::Result<End>
-    ensures ends { IfOk result IsCheckEnd }
-    ensures report { result ≡ Ok End.Done
-        → PrintsReport (W.contents out.old) (W.contents out.new) }
-    ensures damage { result ≡ Ok End.Damaged
-        → PrintsDamage (W.contents out.old) (W.contents out.new) }
-    ensures silent { (fault : Fault) → result ≡ Ok (End.Refused fault)
+) -> Looked<Store<FileDevice<S>>>
+    ensures ends { IfOk result.end IsCheckEnd }
+    ensures opened { IfSome result.store
+        (IsLookedAt ⟦<FileDevice<S> as Device>⟧ ⟦<Store<FileDevice<S>> as PageStore>⟧
+        S.Start.bytes) }
+    ensures report { result.end ≡ Ok End.Done → IsSomeAnd result.store (λ store.
+        let g = ⟦<Store<FileDevice<S>> as PageStore>⟧ in
+        TellsReport (g.backing store).honest (g.state store).pages
+        (W.contents out.old) (W.contents out.new)) }
+    ensures sound { result.end ≡ Ok End.Done → IsSomeAnd result.store (λ store.
+        let g = ⟦<Store<FileDevice<S>> as PageStore>⟧ in
+        (g.backing store).honest ≡ true → AreSound parents (g.state store).pages) }
+    ensures damage { result.end ≡ Ok End.Damaged → IsSomeAnd result.store (λ store.
+        let g = ⟦<Store<FileDevice<S>> as PageStore>⟧ in
+        TellsDamage (g.backing store).honest parents (g.state store).pages
+        (W.contents out.old) (W.contents out.new)) }
+    ensures refused { (fault : Fault) → result.end ≡ Ok (End.Refused fault)
+        → MatchOption result.store (IsOpenFault fault)
+        (IsCheckRefused ⟦<FileDevice<S> as Device>⟧ ⟦<Store<FileDevice<S>> as PageStore>⟧
+        S.Start.bytes fault) }
+    ensures silent { (fault : Fault) → result.end ≡ Ok (End.Refused fault)
         → W.contents out.new ≡ W.contents out.old }
 {
     match open_index::<R, S>(rt, alloc, path) {
-        Ok(mut store) => check_pages_one(alloc, &mut store, parents, out),
-        Err(fault) => Ok(End::Refused(fault)),
+        Ok(mut store) => {
+            let end = check_pages_one(alloc, &mut store, parents, out);
+            Looked {
+                store: Some(store),
+                end,
+            }
+        }
+        Err(fault) => Looked {
+            store: None,
+            end: Ok(End::Refused(fault)),
+        },
     }
 }
 
-/// Prints each page in use of the index in a file, as `list_pages` does. Refused as `open_index` and `list_pages` are.
+/// Prints each page in use of the index in a file, as `list_pages` does. Refused as `open_index` and `list_pages` are: nothing is
+/// printed of an index that wasn't opened.
 pub fn dump<R: Files<File = File>, S: Start, W: Write>(
     rt: &R,
     alloc: Global,
     path: &str,
     out: &mut W,
-) -> io::Result<End>
-    ensures ends { IfOk result IsDoneOrRefused }
+) -> Looked<Store<FileDevice<S>>>
+    ensures ends { IfOk result.end IsDoneOrRefused }
+    ensures opened { IfSome result.store
+        (IsLookedAt ⟦<FileDevice<S> as Device>⟧ ⟦<Store<FileDevice<S>> as PageStore>⟧
+        S.Start.bytes) }
+    ensures listed { result.end ≡ Ok End.Done → IsSomeAnd result.store (λ store.
+        let g = ⟦<Store<FileDevice<S>> as PageStore>⟧ in
+        Lists (g.backing store).honest (g.state store).pages
+        (W.contents out.old) (W.contents out.new)) }
+    ensures refused { (fault : Fault) → result.end ≡ Ok (End.Refused fault)
+        → MatchOption result.store (IsOpenFault fault) (λ store.
+        let g = ⟦<Store<FileDevice<S>> as PageStore>⟧ in
+        ListsFirst (g.backing store).honest (g.state store).pages
+        (W.contents out.old) (W.contents out.new)) }
+    ensures silent { IfNone result.store (W.contents out.new ≡ W.contents out.old) }
 {
     match open_index::<R, S>(rt, alloc, path) {
-        Ok(mut store) => list_pages(&mut store, out),
-        Err(fault) => Ok(End::Refused(fault)),
+        Ok(mut store) => {
+            let end = list_pages(&mut store, out);
+            Looked {
+                store: Some(store),
+                end,
+            }
+        }
+        Err(fault) => Looked {
+            store: None,
+            end: Ok(End::Refused(fault)),
+        },
     }
 }

@@ -1,6 +1,6 @@
 //! Scripts.
 
-ghost use Rattle.std.specs.Prelude.{◌≡◌};
+ghost use Rattle.std.specs.Prelude.{◌≡◌, Ok, IsSome, IfOk, IfSome, IfNone};
 ghost use Rattle.command_line.specs.Events.{event_of};
 
 use crate::dead::{DeadList, dead_of};
@@ -32,22 +32,71 @@ impl<W: Write> Sink for Printer<'_, W> {
     }
 }
 
-/// Reads a script to its end and runs it, printing an answer for each line. The first line that is no event ends it.
+/// What a script leaves: the index that it was run over, if one was made, and how it ends.
+#[derive(Drop)]
+pub struct RanScript {
+    pub engine: Option<Engine>,
+    pub end: io::Result<End>,
+}
+
+/// Reads a script to its end and runs it, printing an answer for each line. The first line that is no event ends it. Where there is
+/// no index, nothing is printed.
 pub fn play<R: Read, W: Write, E: Write>(
     alloc: Global,
     setting: &Setting,
     input: &mut R,
     out: &mut W,
     err: &mut E,
-) -> io::Result<End> {
+) -> RanScript
+    ensures run { result.end ≡ Ok End.Done → IsSome result.engine }
+    // It was run over an index with the pages in memory and the sessions that were asked for.
+    ensures asked { IfSome result.engine (λ engine. engine.setting ≡ setting.now) }
+    ensures silent { IfNone result.engine (W.contents out.new ≡ W.contents out.old) }
+{
     let mut text = Vec::new(alloc);
-    input.read_to_end(&mut text)?;
-    let Ok(sets) = sets_of(alloc, text.as_slice()) else {
-        return Ok(End::Refused(Fault::NoMemory));
-    };
-    match Engine::new(alloc, setting, sets) {
-        Ok(mut engine) => run(alloc, &mut engine, text.as_slice(), out, err),
-        Err(fault) => Ok(End::Refused(fault)),
+    match input.read_to_end(&mut text) {
+        Ok(_) => play_text(alloc, setting, text.as_slice(), out, err),
+        Err(error) => RanScript {
+            engine: None,
+            end: Err(error),
+        },
+    }
+}
+
+/// The same for a script that was read.
+fn play_text<W: Write, E: Write>(
+    alloc: Global,
+    setting: &Setting,
+    text: &[u8],
+    out: &mut W,
+    err: &mut E,
+) -> RanScript
+    ensures run { result.end ≡ Ok End.Done → IsSome result.engine }
+    ensures asked { IfSome result.engine (λ engine. engine.setting ≡ setting.now) }
+    ensures silent { IfNone result.engine (W.contents out.new ≡ W.contents out.old) }
+{
+    match begin(alloc, setting, text) {
+        Ok(mut engine) => {
+            let end = run(alloc, &mut engine, text, out, err);
+            RanScript {
+                engine: Some(engine),
+                end,
+            }
+        }
+        Err(fault) => RanScript {
+            engine: None,
+            end: Ok(End::Refused(fault)),
+        },
+    }
+}
+
+/// An empty index, with the sets of the `bulk` lines up to the first crash. Refused as `Engine::new` is.
+fn begin(alloc: Global, setting: &Setting, text: &[u8]) -> Result<Engine, Fault>
+    ensures { IfOk result (λ engine. engine.setting ≡ setting.now) }
+{
+    match sets_of(alloc, text) {
+        Ok(sets) => Engine::new(alloc, setting, sets),
+        Err(_) => Err(Fault::NoMemory),
     }
 }
 
@@ -57,7 +106,9 @@ fn run<W: Write, E: Write>(
     text: &[u8],
     out: &mut W,
     err: &mut E,
-) -> io::Result<End> {
+) -> io::Result<End>
+    ensures { engine.new.setting ≡ engine.old.setting }
+{
     let mut number = 0u64;
     // The place of the next `bulk` line among those of its index.
     let mut set = 0u32;
@@ -118,7 +169,9 @@ fn play_line<W: Write>(
     rest: &[u8],
     set: &mut u32,
     out: &mut W,
-) -> io::Result<Played> {
+) -> io::Result<Played>
+    ensures { engine.new.setting ≡ engine.old.setting }
+{
     match parse(text) {
         Ok(line) => play_event(alloc, engine, &line, rest, set, out),
         Err(LineError::NotAnEvent) => Ok(Played::NoEvent),
@@ -137,7 +190,9 @@ fn play_event<W: Write>(
     rest: &[u8],
     set: &mut u32,
     out: &mut W,
-) -> io::Result<Played> {
+) -> io::Result<Played>
+    ensures { engine.new.setting ≡ engine.old.setting }
+{
     if let Some(event) = event_of(line, *set) {
         if let Event::Bulk(_, _) = event {
             *set = set.saturating_add(1);
@@ -192,7 +247,9 @@ fn play_crash<W: Write>(
     rest: &[u8],
     set: &mut u32,
     out: &mut W,
-) -> io::Result<Played> {
+) -> io::Result<Played>
+    ensures { engine.new.setting ≡ engine.old.setting }
+{
     let image = match crash {
         Crash::Keep => CrashImage::Keep,
         Crash::Drop => CrashImage::Drop,
@@ -220,14 +277,18 @@ fn play_list<W: Write>(
     session: u32,
     range: &Range,
     out: &mut W,
-) -> io::Result<()> {
+) -> io::Result<()>
+    ensures { engine.new.setting ≡ engine.old.setting }
+{
     match engine.list(session, range, &mut Printer { out })? {
         Ok(count) => writeln!(out, "done {count}"),
         Err(fault) => print_refused(out, fault),
     }
 }
 
-fn play_dump<W: Write>(engine: &mut Engine, out: &mut W) -> io::Result<()> {
+fn play_dump<W: Write>(engine: &mut Engine, out: &mut W) -> io::Result<()>
+    ensures { engine.new.setting ≡ engine.old.setting }
+{
     match engine.dump(&mut Printer { out })? {
         Ok(()) => Ok(()),
         Err(fault) => print_refused(out, fault),

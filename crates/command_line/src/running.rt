@@ -1,18 +1,19 @@
 //! The command that runs the jobs of a file over the index in another.
 
-ghost use Rattle.std.specs.Prelude.{◌≡◌, ◌++◌, Ok, IfErr, IfOk, OnErr, OnOk};
+ghost use Rattle.std.specs.Prelude.{◌≡◌, ◌++◌, Ok, IfErr, IfOk, OnErr, OnOk, IsSome, IfSome, IfNone};
 ghost use Rattle.std.specs.Io.KnownBytes.{Appends};
 ghost use Rattle.sessions.specs.Finishing.{IsRefusedFor};
 ghost use Rattle.command_line.specs.Listing.{IsDoneOrRefused};
 ghost use Rattle.command_line.specs.Receipts.{run_text};
-ghost use Rattle.command_line.specs.Running.{IsRunEnd, PrintsDone, PrintsRun, PrintsSomeRun, end_behind, last_text};
+ghost use Rattle.command_line.specs.Running.{IsRunEnd, PrintsDone, PrintsRun, end_behind, last_text};
+ghost use Rattle.command_line.specs.RunningFiles.{IsWorldOfFile, PrintsRunOnFile, PrintsRunOfText, PrintsRunOfJobFile};
 
 use crate::dead::DeadList;
 use crate::end::End;
 use crate::job_file::{JobFile, JobFileError, read_jobs};
 use crate::receipts::print_run;
 use crate::refusal::print_no_job;
-use device::{FileDevice, Start};
+use device::{Device, FileDevice, Start};
 use index_model::{DeadRows, Fault};
 use page_action::PageStore;
 use page_store::Store;
@@ -40,6 +41,13 @@ pub struct RunSetting<'a> {
     pub frames: u32,
 }
 
+/// What a run of the jobs of a file leaves: the world behind it, if it was made, and how the command ends.
+#[derive(Drop)]
+pub struct RanFile<S, T> {
+    pub world: Option<World<S, T>>,
+    pub end: io::Result<End>,
+}
+
 /// Runs the jobs of a file: reads them, opens the index with a session for each worker, runs them, makes a checkpoint, and prints
 /// the record of each job, what each worker did, and the checkpoint's answer.
 ///
@@ -52,17 +60,19 @@ pub fn run<R: Files<File = File> + Threads + Wait + Sync, S: Start + Send, W: Wr
     asked: &RunSetting<'_>,
     out: &mut W,
     err: &mut E,
-) -> io::Result<End>
-    ensures ends { IfOk result IsRunEnd }
+) -> RanFile<Store<FileDevice<S>>, DeadList>
+    ensures ends { IfOk result.end IsRunEnd }
+    ensures run { result.end ≡ Ok End.Done → IsSome result.world }
+    ensures silent { IfNone result.world (W.contents out.new ≡ W.contents out.old) }
+    // What was printed is a run, on the index in the file, of the jobs that the lines of a text spell.
+    ensures printed { IfSome result.world (λ after. IfOk result.end
+        (PrintsRunOfJobFile ⟦<FileDevice<S> as Device>⟧ ⟦<Store<FileDevice<S>> as PageStore>⟧
+        ⟦<DeadList as DeadRows>⟧ S.Start.bytes asked.now.frames asked.now.workers after
+        (W.contents out.old) (W.contents out.new))) }
 {
-    let text = read_file(rt, alloc, asked.jobs)?;
-    match read_jobs(alloc, text.as_slice()) {
-        Ok(file) => run_file::<R, S, W>(rt, alloc, asked, file, out),
-        Err(JobFileError::NotAJob(line)) => {
-            print_no_job(err, line)?;
-            Ok(End::Said)
-        }
-        Err(JobFileError::NoMemory) => Ok(End::Refused(Fault::NoMemory)),
+    match read_file(rt, alloc, asked.jobs) {
+        Ok(text) => run_text::<R, S, W, E>(rt, alloc, asked, text.as_slice(), out, err),
+        Err(error) => no_run(Err(error)),
     }
 }
 
@@ -74,6 +84,45 @@ fn read_file<R: Files<File = File>>(rt: &R, alloc: Global, path: &str) -> io::Re
     Ok(text)
 }
 
+// Runs the jobs that the lines of this text spell.
+fn run_text<R: Files<File = File> + Threads + Wait + Sync, S: Start + Send, W: Write, E: Write>(
+    rt: &R,
+    alloc: Global,
+    asked: &RunSetting<'_>,
+    text: &[u8],
+    out: &mut W,
+    err: &mut E,
+) -> RanFile<Store<FileDevice<S>>, DeadList>
+    ensures ends { IfOk result.end IsRunEnd }
+    ensures run { result.end ≡ Ok End.Done → IsSome result.world }
+    ensures silent { IfNone result.world (W.contents out.new ≡ W.contents out.old) }
+    ensures printed { IfSome result.world (λ after. IfOk result.end
+        (PrintsRunOfText ⟦<FileDevice<S> as Device>⟧ ⟦<Store<FileDevice<S>> as PageStore>⟧
+        ⟦<DeadList as DeadRows>⟧ S.Start.bytes asked.now.frames asked.now.workers text.now after
+        (W.contents out.old) (W.contents out.new))) }
+{
+    match read_jobs(alloc, text) {
+        Ok(file) => run_file::<R, S, W>(rt, alloc, asked, file, out),
+        Err(JobFileError::NotAJob(line)) => no_run(say_no_job(err, line)),
+        Err(JobFileError::NoMemory) => no_run(Ok(End::Refused(Fault::NoMemory))),
+    }
+}
+
+fn say_no_job<E: Write>(err: &mut E, line: u64) -> io::Result<End>
+    ensures { IfOk result (λ end. end ≡ End.Said) }
+{
+    print_no_job(err, line)?;
+    Ok(End::Said)
+}
+
+// No run was made.
+fn no_run<S, T>(end: io::Result<End>) -> RanFile<S, T>
+    ensures world { result.world ≡ None }
+    ensures end { result.end ≡ end }
+{
+    RanFile { world: None, end }
+}
+
 // Runs the jobs of a file that was read, over an index in a file that held what `S` says.
 fn run_file<R: Files<File = File> + Threads + Wait + Sync, S: Start + Send, W: Write>(
     rt: &R,
@@ -81,24 +130,45 @@ fn run_file<R: Files<File = File> + Threads + Wait + Sync, S: Start + Send, W: W
     asked: &RunSetting<'_>,
     file: JobFile,
     out: &mut W,
-) -> io::Result<End>
-    ensures ends { IfOk result IsDoneOrRefused }
-    ensures printed { result ≡ Ok End.Done
-        → PrintsSomeRun ⟦<Store<FileDevice<S>> as PageStore>⟧ ⟦<DeadList as DeadRows>⟧
-        file.jobs.items asked.now.workers (W.contents out.old) (W.contents out.new) End.Done }
+) -> RanFile<Store<FileDevice<S>>, DeadList>
+    ensures ends { IfOk result.end IsDoneOrRefused }
+    ensures run { result.end ≡ Ok End.Done → IsSome result.world }
+    ensures silent { IfNone result.world (W.contents out.new ≡ W.contents out.old) }
+    ensures printed { IfSome result.world (λ after. IfOk result.end
+        (PrintsRunOnFile ⟦<FileDevice<S> as Device>⟧ ⟦<Store<FileDevice<S>> as PageStore>⟧
+        ⟦<DeadList as DeadRows>⟧ S.Start.bytes asked.now.frames asked.now.workers
+        file.jobs.items file.sets.items after (W.contents out.old) (W.contents out.new))) }
 {
-    let device = match FileDevice::<S>::open(rt, asked.path) {
-        Ok(device) => device,
-        Err(fault) => return Ok(End::Refused(fault)),
-    };
     let JobFile { jobs, sets } = file;
-    let world = match World::open(alloc, device, asked.frames, asked.workers, sets) {
+    let world = match open_world::<R, S>(rt, alloc, asked, sets) {
         Ok(world) => world,
-        Err(not_opened) => return Ok(End::Refused(not_opened.fault)),
+        Err(fault) => return no_run(Ok(End::Refused(fault))),
     };
     match run_world(rt, alloc, world, jobs.as_slice(), asked.workers, out) {
-        Ok(ran) => ran.end,
-        Err(not_run) => Ok(End::Refused(not_run.fault)),
+        Ok(Ran { world, end }) => RanFile {
+            world: Some(world),
+            end,
+        },
+        Err(not_run) => no_run(Ok(End::Refused(not_run.fault))),
+    }
+}
+
+// Opens the index in a file with a session for each worker, after any crash. Refused with `Io` (2) where the file isn't there or can't
+// be opened for writing, and else as `World::open` is.
+fn open_world<R: Files<File = File>, S: Start>(
+    rt: &R,
+    alloc: Global,
+    asked: &RunSetting<'_>,
+    sets: Vec<DeadList>,
+) -> Result<World<Store<FileDevice<S>>, DeadList>, Fault>
+    ensures { IfOk result
+        (IsWorldOfFile ⟦<FileDevice<S> as Device>⟧ ⟦<Store<FileDevice<S>> as PageStore>⟧
+        ⟦<DeadList as DeadRows>⟧ S.Start.bytes asked.now.frames asked.now.workers sets.items) }
+{
+    let device = FileDevice::<S>::open(rt, asked.path)?;
+    match World::open(alloc, device, asked.frames, asked.workers, sets) {
+        Ok(world) => Ok(world),
+        Err(not_opened) => Err(not_opened.fault),
     }
 }
 

@@ -134,17 +134,19 @@ fn run<F: Files<File = File> + Threads + Wait + Sync, B: Start + Send, R: Read, 
     err: &mut E,
 ) -> io::Result<End> {
     match matches.subcommand() {
-        Some(("play", matches)) => play(alloc, &setting(matches), input, out, err),
+        Some(("play", matches)) => play(alloc, &setting(matches), input, out, err).end,
         Some(("run", matches)) => running::run::<F, B, W, E>(
             rt,
             alloc,
             &run_setting(matches),
             out,
             err,
-        ),
-        Some(("create", matches)) => create::<F, B, W>(rt, path(matches), &limits(matches), out),
+        ).end,
+        Some(("create", matches)) => {
+            create::<F, B, W>(rt, path(matches), &limits(matches), out).end
+        }
         Some(("check", matches)) => run_check::<F, B, W>(rt, alloc, matches, out),
-        Some(("dump", matches)) => dump::<F, B, W>(rt, alloc, path(matches), out),
+        Some(("dump", matches)) => dump::<F, B, W>(rt, alloc, path(matches), out).end,
         _ => Ok(End::Said),
     }
 }
@@ -159,8 +161,8 @@ fn run_check<F: Files<File = File> + Threads + Sync, B: Start, W: Write>(
     let path = path(matches);
     let parents = has_parents(matches);
     if has_one_thread(matches) {
-        check_one::<F, B, W>(rt, alloc, path, parents, out)
+        check_one::<F, B, W>(rt, alloc, path, parents, out).end
     } else {
-        check::<F, B, W>(rt, alloc, path, parents, out)
+        check::<F, B, W>(rt, alloc, path, parents, out).end
     }
 }

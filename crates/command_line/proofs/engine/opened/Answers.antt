@@ -1,8 +1,11 @@
-use Rattle.std.proofs.Common.{refl}
+use Rattle.std.proofs.Common.{refl, ap}
+use Rattle.page_action.specs.States.{State}
 use Rattle.command_line.proofs.engine.opened.Goals as goal
 
 pub returns-in-Ok : goal.returns-in-Ok
 returns-in-Ok c = record {
+  frames = ap (λ (st : State). st.frames) c.in-Ok.ensures.frames.is;
+  sessions = c.in-Ok.ensures.sessions;
   sets = c.in-Ok.ensures.sets;
   begins = λ allowed limits pages index tree.
       c.in-Ok.ensures.begins refl (allowed.frames_from, allowed.frames_to) allowed.sessions_from allowed.sessions_to limits pages index tree;

@@ -8,6 +8,7 @@ pub loop-left-init : goal.loop-left-init
 loop-left-init g c = record {
   steps = λ first h. h;
   limits = refl;
+  sizes = record { sessions = refl; frames = refl };
   gone = gone_nowhere g.S.PageStore g.met.S.PageStore.laws g.T.DeadRows c.args.session c.args.world.now;
   within = λ honest start history calls fits. omega arith;
 }
@@ -20,6 +21,10 @@ loop-left-preserved g c =
     record {
       steps = λ first h. c.one.ensures.steps first (old.steps first h);
       limits = c.one.ensures.always.kept.limits ∙ old.limits;
+      sizes = record {
+        sessions = c.one.ensures.same.sessions ∙ old.sizes.sessions;
+        frames = c.one.ensures.always.kept.frames ∙ old.sizes.frames;
+      };
       gone = gone_more g.S.PageStore g.met.S.PageStore.laws g.T.DeadRows c.args.session c.args.world.now c.loop-left.world c.one.new.self
           old.steps c.one.ensures.steps old.gone c.one.result c.one.ensures.goes going;
       within = within_more g.S.PageStore g.met.S.PageStore.laws g.T.DeadRows c.args.session c.args.world.now c.loop-left.world c.one.new.self
@@ -36,6 +41,10 @@ returns-in_default g c =
     let old = c.loop-left.invariant in
     record {
       steps = λ first h. c.one.ensures.steps first (old.steps first h);
+      sizes = record {
+        sessions = c.one.ensures.same.sessions ∙ old.sizes.sessions;
+        frames = c.one.ensures.always.kept.frames ∙ old.sizes.frames;
+      };
       goes = gone_then g.S.PageStore g.met.S.PageStore.laws g.T.DeadRows c.args.session c.args.world.now c.loop-left.world c.one.new.self
           old.steps c.one.ensures.steps old.gone c.one.result c.one.ensures.goes;
       over = search rules;

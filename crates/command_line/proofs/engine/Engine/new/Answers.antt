@@ -1,4 +1,5 @@
 use Rattle.std.specs.Prelude.{[], ◌∷◌}
+use Rattle.std.proofs.Common.{refl}
 use Rattle.device.proofs.Standing.{seen_stays}
 use Rattle.command_line.proofs.Fresh.{fresh_tree, fresh_empty}
 use Rattle.command_line.proofs.engine.Engine.new.Goals as goal
@@ -8,6 +9,7 @@ returns c =
     let empty = c.in_ok-create.ensures.own in
     let tree = fresh_tree empty.meta empty.leaf empty.is_meta empty.is_leaf in
     record {
+      setting = refl;
       sets = c.in_ok-opened.ensures.sets;
       empty = record {
         pages = empty.meta ∷ empty.leaf ∷ [];
