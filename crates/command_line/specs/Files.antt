@@ -1,11 +1,10 @@
 -- Files with an index.
-use Rattle.std.specs.Prelude.{◌≡◌, ℕ, IsTrue, List, length, ⊤}
+use Rattle.std.specs.Prelude.{◌≡◌, ℕ, IsTrue, List}
+use Rattle.access_method.specs.Files.{bytes_before}
 use Rattle.amcheck.specs.Checks.{where_checked}
-use Rattle.device.specs.Disk.{Trace}
 use Rattle.device.specs.declared.device.Device.{Ghosts as DeviceGhosts}
 use Rattle.index_model.specs.Faults.{HasCause}
 use Rattle.index_model.specs.declared.fault.Fault.{Fault}
-use Rattle.index_model.specs.declared.fault.Fault.TheVariants.{NoMemory, Io, BadSuper, BadVersion, BadLimits, LogDamaged, PageDamaged}
 use Rattle.index_model.specs.declared.limits.Limits.{Limits}
 use Rattle.page_action.specs.declared.page_store.PageStore.{Ghosts}
 use Rattle.page_codec.specs.declared.page.Page.{Page}
@@ -13,21 +12,6 @@ use Rattle.page_store.specs.Stores.{state_of, device_of}
 use Rattle.page_store.specs.declared.store.Store.{Store}
 use Rattle.recovery.specs.Index.{HasIndex}
 use Rattle.recovery.specs.Opening.{IsFreshlyOpened, IsSameIndex, StandsOnDevice}
-
--- what a file held when it was opened, if it was then as long as it is now
-abbrev pub bytes_before : (ℕ → List ℕ) → Trace → List ℕ
-bytes_before bytes trace = bytes (length trace.now.seen)
-
--- the faults that an index in a file is refused with when it is opened
-abbrev pub IsOpenFault : Fault → Type 0
-IsOpenFault NoMemory = ⊤
-IsOpenFault Io = ⊤
-IsOpenFault BadSuper = ⊤
-IsOpenFault BadVersion = ⊤
-IsOpenFault BadLimits = ⊤
-IsOpenFault LogDamaged = ⊤
-IsOpenFault (PageDamaged block) = ⊤
-IsOpenFault fault = ⊥
 
 -- The store as it is opened, with 64 pages in memory, from a file that held these bytes. What it has is what stood in the file, and
 -- an index is opened with its pages, as far as the file kept the disk model.

@@ -13,7 +13,7 @@ use Rattle.sessions.specs.declared.job.Job.{Job}
 use Rattle.tree_acts.specs.TheoremTree.{IsTree}
 use Rattle.world.specs.Reopening.{BeginsWith}
 use Rattle.world.specs.declared.world.World.{World}
-use Rattle.command_line.specs.Files.{bytes_before}
+use Rattle.access_method.specs.Files.{bytes_before}
 use Rattle.command_line.specs.JobFiles.{SpellJobs, sets_behind}
 use Rattle.command_line.specs.Running.{PrintsRun}
 use Rattle.command_line.specs.Spelling.{lines_of}

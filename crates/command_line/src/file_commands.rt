@@ -6,13 +6,14 @@ ghost use Rattle.std.specs.Io.KnownBytes.{Appends};
 ghost use Rattle.device_layout.specs.Layout.{needed_length};
 ghost use Rattle.index_model.specs.Limits.{AreLimits};
 ghost use Rattle.recovery.specs.Fresh.{IsEmptyIndex, LeavesEmpty};
-ghost use Rattle.command_line.specs.Files.{IsOpenFault, IsLookedAt, IsCheckRefused};
+ghost use Rattle.access_method.specs.Files.{IsOpenFault};
+ghost use Rattle.command_line.specs.Files.{IsLookedAt, IsCheckRefused};
 ghost use Rattle.command_line.specs.Listing.{Lists, ListsFirst, IsDoneOrRefused};
 ghost use Rattle.command_line.specs.Reporting.{TellsReport, TellsDamage, AreSound, IsCheckEnd};
 
+use access_method::in_file::{self, open_store};
 use crate::checking::{check_pages, check_pages_one};
 use crate::end::End;
-use crate::files::{make_index, open_index};
 use crate::listing::list_pages;
 use device::{Device, FileDevice, Start};
 use index_model::{Fault, Limits};
@@ -24,6 +25,9 @@ use std::io::{self, Write};
 use std::rt::Files;
 use std::thread::Threads;
 
+/// Pages of an index in a file that are held in memory.
+const FRAMES: u32 = 64;
+
 /// What a creation leaves: the file, if it was made, and how the command ends.
 #[derive(Drop)]
 pub struct Created<D> {
@@ -31,7 +35,7 @@ pub struct Created<D> {
     pub end: io::Result<End>,
 }
 
-/// Makes a new file with an empty index, and says so. Refused as `make_index` is: nothing is printed then.
+/// Makes a new file with an empty index, and says so. Refused as `in_file::create` is: nothing is printed then.
 pub fn create<R: Files<File = File>, S: Start, W: Write>(
     rt: &R,
     path: &str,
@@ -55,7 +59,7 @@ pub fn create<R: Files<File = File>, S: Start, W: Write>(
     ensures silent { (fault : Fault) → result.end ≡ Ok (End.Refused fault)
         → W.contents out.new ≡ W.contents out.old }
 {
-    match make_index::<R, S>(rt, path, limits) {
+    match in_file::create::<R, S>(rt, path, limits) {
         Ok(device) => Created {
             device: Some(device),
             end: say_created(out),
@@ -84,7 +88,7 @@ pub struct Looked<S> {
 }
 
 /// Prints what a check of the index in a file answers, as `check_pages` does: with parents and children where that is asked
-/// for. Refused as `open_index` and `check_pages` are: nothing is printed then.
+/// for. Refused as `open_store` and `check_pages` are: nothing is printed then.
 pub fn check<R: Files<File = File> + Threads + Sync, S: Start, W: Write>(
     rt: &R,
     alloc: Global,
@@ -114,7 +118,7 @@ pub fn check<R: Files<File = File> + Threads + Sync, S: Start, W: Write>(
     ensures silent { (fault : Fault) → result.end ≡ Ok (End.Refused fault)
         → W.contents out.new ≡ W.contents out.old }
 {
-    match open_index::<R, S>(rt, alloc, path) {
+    match open_store::<R, S>(rt, alloc, path, FRAMES) {
         Ok(mut store) => {
             let end = check_pages(rt, alloc, &mut store, parents, out);
             Looked {
@@ -159,7 +163,7 @@ pub fn check_one<R: Files<File = File>, S: Start, W: Write>(
     ensures silent { (fault : Fault) → result.end ≡ Ok (End.Refused fault)
         → W.contents out.new ≡ W.contents out.old }
 {
-    match open_index::<R, S>(rt, alloc, path) {
+    match open_store::<R, S>(rt, alloc, path, FRAMES) {
         Ok(mut store) => {
             let end = check_pages_one(alloc, &mut store, parents, out);
             Looked {
@@ -174,7 +178,7 @@ pub fn check_one<R: Files<File = File>, S: Start, W: Write>(
     }
 }
 
-/// Prints each page in use of the index in a file, as `list_pages` does. Refused as `open_index` and `list_pages` are: nothing is
+/// Prints each page in use of the index in a file, as `list_pages` does. Refused as `open_store` and `list_pages` are: nothing is
 /// printed of an index that wasn't opened.
 pub fn dump<R: Files<File = File>, S: Start, W: Write>(
     rt: &R,
@@ -197,7 +201,7 @@ pub fn dump<R: Files<File = File>, S: Start, W: Write>(
         (W.contents out.old) (W.contents out.new)) }
     ensures silent { IfNone result.store (W.contents out.new ≡ W.contents out.old) }
 {
-    match open_index::<R, S>(rt, alloc, path) {
+    match open_store::<R, S>(rt, alloc, path, FRAMES) {
         Ok(mut store) => {
             let end = list_pages(&mut store, out);
             Looked {

@@ -8,7 +8,6 @@ mod dead;
 mod end;
 mod engine;
 mod file_commands;
-mod files;
 mod help;
 mod job_file;
 mod job_line;
