@@ -1,2 +1,4 @@
+pub mod Lines
 pub mod Replies
 pub mod Files
+pub mod Calls

@@ -1,34 +1,45 @@
 //! The calls of the index, each with its reply.
 
-ghost use Rattle.std.specs.Prelude.{IfOk};
+ghost use Rattle.std.specs.Prelude.{◌≡◌, false, IfOk};
+ghost use Rattle.access_method.specs.Indexes.{seat_with};
+ghost use Rattle.access_method.specs.Tokens.{seat_of};
+ghost use Rattle.text_forms.specs.Values.{AreRows};
+ghost use Rattle.ledger.specs.Calls.{CheckpointReplies, CommitReplies, DeleteReplies, InsertReplies, ListReplies, PrintsScan, Replies, VacuumReplies};
 ghost use Rattle.ledger.specs.Files.{IsOnDisk};
+ghost use Rattle.ledger.specs.Lines.{HasValues};
 ghost use Rattle.ledger.specs.Replies.{IsDurable};
 
-use crate::dead::Dead;
+use crate::dead::{Dead, listed};
 use crate::line::Line;
 use crate::reply::Reply;
-use crate::shown::Shown;
 use access_method::{Index, ScanToken};
 use device::Device;
-use index_model::{Entry, Fault, Range};
+use index_model::{DeadRows, Entry, Fault, Range};
 use page_action::PageStore;
 use page_store::Store;
+use std::alloc::Global;
 use std::io::{self, Write};
+use text_forms::{Rows, print_entry};
 
 /// Does what a line says. `Committed` and `Checkpointed` are replied only where so many actions are durable: whatever a crash leaves
 /// of the device, a file or memory, has them.
 pub fn call<D: Device, W: Write>(
+    alloc: Global,
     index: &mut Index<Store<D>>,
-    line: Line,
+    line: Line<'_>,
     out: &mut W,
 ) -> io::Result<Reply>
     ensures stands { IfOk result
         (IsOnDisk D.Device ⟦<Store<D> as PageStore>⟧ index.old index.new) }
     ensures durable { IfOk result (IsDurable ⟦<Store<D> as PageStore>⟧ index.new) }
+    // What it is replied with is what the index's calls answered, and what a list prints is what its scan gave.
+    ensures replies { HasValues line.entry → IfOk result
+        (Replies ⟦<Store<D> as PageStore>⟧ ⟦<Dead as DeadRows>⟧.is_in line.entry
+        index.old index.new (W.contents out.old) (W.contents out.new)) }
 {
     match line {
         Line::Insert(entry) => Ok(insert(index, entry)),
-        Line::Delete(dead) => Ok(delete(index, &dead)),
+        Line::Delete(rows) => Ok(delete(alloc, index, rows)),
         Line::List(range) => list(index, range, out),
         Line::Vacuum => Ok(vacuum(index)),
         Line::Checkpoint => Ok(checkpoint(index)),
@@ -40,6 +51,7 @@ pub fn call<D: Device, W: Write>(
 fn insert<D: Device>(index: &mut Index<Store<D>>, entry: Entry) -> Reply
     ensures stands { IsOnDisk D.Device ⟦<Store<D> as PageStore>⟧ index.old index.new result }
     ensures durable { IsDurable ⟦<Store<D> as PageStore>⟧ index.new result }
+    ensures replies { InsertReplies ⟦<Store<D> as PageStore>⟧ entry index.old index.new result }
 {
     match index.aminsert(entry) {
         Ok(inserted) => Reply::Added(inserted),
@@ -47,12 +59,17 @@ fn insert<D: Device>(index: &mut Index<Store<D>>, entry: Entry) -> Reply
     }
 }
 
-// Deletes all entries with one of these rows.
-fn delete<D: Device>(index: &mut Index<Store<D>>, dead: &Dead) -> Reply
+// Deletes all entries with one of these rows. Refused with `NoMemory` (1) where there is no memory for them: nothing is changed.
+fn delete<D: Device>(alloc: Global, index: &mut Index<Store<D>>, rows: Rows<'_>) -> Reply
     ensures stands { IsOnDisk D.Device ⟦<Store<D> as PageStore>⟧ index.old index.new result }
     ensures durable { IsDurable ⟦<Store<D> as PageStore>⟧ index.new result }
+    ensures replies { AreRows rows.entry → DeleteReplies ⟦<Store<D> as PageStore>⟧
+        ⟦<Dead as DeadRows>⟧.is_in rows.entry index.old index.new result }
 {
-    match index.ambulkdelete(dead) {
+    let Ok(dead) = listed(alloc, rows) else {
+        return Reply::Refused(Fault::NoMemory);
+    };
+    match index.ambulkdelete(&dead) {
         Ok(stats) => Reply::Deleted(stats.tuples_removed),
         Err(fault) => Reply::Refused(fault),
     }
@@ -62,6 +79,7 @@ fn delete<D: Device>(index: &mut Index<Store<D>>, dead: &Dead) -> Reply
 fn vacuum<D: Device>(index: &mut Index<Store<D>>) -> Reply
     ensures stands { IsOnDisk D.Device ⟦<Store<D> as PageStore>⟧ index.old index.new result }
     ensures durable { IsDurable ⟦<Store<D> as PageStore>⟧ index.new result }
+    ensures replies { VacuumReplies ⟦<Store<D> as PageStore>⟧ index.old index.new result }
 {
     match index.amvacuumcleanup() {
         Ok(stats) => Reply::CleanedUp(stats),
@@ -73,6 +91,7 @@ fn vacuum<D: Device>(index: &mut Index<Store<D>>) -> Reply
 fn checkpoint<D: Device>(index: &mut Index<Store<D>>) -> Reply
     ensures stands { IsOnDisk D.Device ⟦<Store<D> as PageStore>⟧ index.old index.new result }
     ensures durable { IsDurable ⟦<Store<D> as PageStore>⟧ index.new result }
+    ensures replies { CheckpointReplies ⟦<Store<D> as PageStore>⟧ index.old index.new result }
 {
     match index.checkpoint() {
         Ok(actions) => Reply::Checkpointed(actions),
@@ -84,6 +103,7 @@ fn checkpoint<D: Device>(index: &mut Index<Store<D>>) -> Reply
 fn commit<D: Device>(index: &mut Index<Store<D>>) -> Reply
     ensures stands { IsOnDisk D.Device ⟦<Store<D> as PageStore>⟧ index.old index.new result }
     ensures durable { IsDurable ⟦<Store<D> as PageStore>⟧ index.new result }
+    ensures replies { CommitReplies ⟦<Store<D> as PageStore>⟧ index.old index.new result }
 {
     match index.commit() {
         Ok(actions) => Reply::Committed(actions),
@@ -100,6 +120,8 @@ fn list<D: Device, W: Write>(
     ensures stands { IfOk result
         (IsOnDisk D.Device ⟦<Store<D> as PageStore>⟧ index.old index.new) }
     ensures durable { IfOk result (IsDurable ⟦<Store<D> as PageStore>⟧ index.new) }
+    ensures replies { IfOk result (ListReplies ⟦<Store<D> as PageStore>⟧ range index.old
+        (W.contents out.old) (W.contents out.new)) }
 {
     let token = match index.ambeginscan(range) {
         Ok(token) => token,
@@ -119,14 +141,15 @@ fn list_scan<S: PageStore, W: Write>(
     index: &mut Index<S>,
     token: ScanToken,
     out: &mut W,
-) -> io::Result<Result<u64, Fault>> {
+) -> io::Result<Result<u64, Fault>>
+    requires is_open { seat_of index.old.seats token ≡ seat_with token false }
+    ensures prints { IfOk result (λ end. PrintsScan S.PageStore token end index.old index.new
+        (W.contents out.old) (W.contents out.new)) }
+{
     for count in 0..u64::MAX {
         match index.amgettuple(token) {
             Ok(None) => return Ok(Ok(count)),
-            Ok(Some(entry)) => {
-                let entry = Shown { entry };
-                writeln!(out, "entry {entry}")?;
-            }
+            Ok(Some(entry)) => print_entry(out, &entry)?,
             Err(fault) => return Ok(Err(fault)),
         }
     }

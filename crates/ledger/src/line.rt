@@ -1,161 +1,103 @@
-//! The lines of a ledger, and the forms of keys and rows.
+//! The lines of a ledger.
 
-use crate::dead::Dead;
-use index_model::{Entry, Fault, Key, Range, RowAddr};
-use std::alloc::Global;
-use std::str;
+ghost use Rattle.std.specs.Prelude.{◌≡◌, true, Some, Ok, Err, [], ◌∷◌, ◌++◌, IfSome, IfOk, OnSome, codes};
+ghost use Rattle.index_model.specs.declared.entry.Entry.{Entry as TheEntry};
+ghost use Rattle.index_model.specs.declared.range.Range.{Range as TheRange};
+ghost use Rattle.text_forms.specs.Spelling.{words_of};
+ghost use Rattle.text_forms.specs.Values.{entry_words, range_words, IsEntryOfBytes, IsRangeOfBytes, AreRows};
+ghost use Rattle.ledger.specs.Lines.{line_words, HasValues, AreNoValues, AreRefused, is_alone};
+
+use index_model::{Entry, Fault, Range};
+use text_forms::{Rows, Words, all_rows, entry, is_word, range};
 
 /// A line of a ledger.
 #[derive(Drop)]
-pub enum Line {
+pub enum Line<'a> {
     Insert(Entry),
     /// All entries with one of these rows are deleted.
-    Delete(Dead),
+    Delete(Rows<'a>),
     List(Range),
     Vacuum,
     Checkpoint,
     Commit,
 }
 
-/// The words of a line that are left, which single spaces part.
-#[derive(Drop)]
-struct Words<'a> {
-    rest: Option<&'a str>,
-}
-
-impl<'a> Words<'a> {
-    /// The next word, or None where the line has ended.
-    fn next(&mut self) -> Option<&'a str> {
-        let rest = self.rest?;
-        match rest.split_once(' ') {
-            None => {
-                self.rest = None;
-                Some(rest)
-            }
-            Some((word, behind)) => {
-                self.rest = Some(behind);
-                Some(word)
-            }
-        }
-    }
-}
-
 /// The line that a text spells. None where it has no form of a line; refused with `KeyTooLong` (6) or `BadRow` (7) where it has,
-/// but there is no such key, or else no such row; with `NoMemory` (1) where there is no room for its rows.
-pub fn parse(alloc: Global, text: &[u8]) -> Option<Result<Line, Fault>> {
-    let Ok(text) = str::from_utf8(text) else {
-        return None;
-    };
-    let mut words = Words { rest: Some(text) };
+/// but there is no such key, or else no such row.
+pub fn parse(text: &[u8]) -> Option<Result<Line<'_>, Fault>>
+    ensures ok { IfSome result (λ read. IfOk read (λ line. words_of text.now ≡ line_words line)) }
+    ensures valid { IfSome result (λ read. IfOk read HasValues) }
+    ensures only { (line : Line) → HasValues line → words_of text.now ≡ line_words line
+        → result ≡ Some (Ok line) }
+    ensures refused { (fault : Fault) → result ≡ Some (Err fault)
+        → AreRefused fault (words_of text.now) }
+{
+    let mut words = Words::new(text);
+    let line = read(&mut words)?;
+    if words.have_ended() { Some(line) } else { None }
+}
+
+fn read<'a>(words: &mut Words<'a>) -> Option<Result<Line<'a>, Fault>>
+    ensures ok { (line : Line) → result ≡ Some (Ok line)
+        → words.old ≡ line_words line ++ words.new }
+    ensures valid { IfSome result (λ read. IfOk read HasValues) }
+    ensures only { (line : Line) → HasValues line → words.old ≡ line_words line
+        → (result ≡ Some (Ok line)) × (words.new ≡ []) }
+    ensures refused { (fault : Fault) → result ≡ Some (Err fault) → words.new ≡ []
+        → AreRefused fault words.old }
+{
     let name = words.next()?;
-    let line = match name {
-        "insert" => entry(&mut words)?.map(|entry| Line::Insert(entry)),
-        "delete" => rows(alloc, &mut words)?.map(|dead| Line::Delete(dead)),
-        "list" => range(&mut words)?.map(|range| Line::List(range)),
-        "vacuum" => Ok(Line::Vacuum),
-        "checkpoint" => Ok(Line::Checkpoint),
-        "commit" => Ok(Line::Commit),
-        _ => return None,
-    };
-    if words.rest.is_none() {
-        Some(line)
-    } else {
-        None
+    if let Some(line) = alone(name) {
+        return Some(Ok(line));
     }
+    with_values(name, words)
 }
 
-// A key and a row. The key's fault comes before the row's.
-fn entry(words: &mut Words<'_>) -> Option<Result<Entry, Fault>> {
-    let key = key(words.next()?)?;
-    let row = row(words.next()?)?;
-    match (key, row) {
-        (Ok(key), Ok(row)) => Some(Ok(Entry { key, row })),
-        (Err(fault), _) | (_, Err(fault)) => Some(Err(fault)),
+// A line of one word.
+fn alone(name: &[u8]) -> Option<Line<'static>>
+    ensures found { IfSome result (λ line. name.now ∷ [] ≡ line_words line) }
+    ensures valid { IfSome result HasValues }
+    ensures vacuum { name.now ≡ codes "vacuum" → result ≡ Some Line.Vacuum }
+    ensures checkpoint { name.now ≡ codes "checkpoint" → result ≡ Some Line.Checkpoint }
+    ensures commit { name.now ≡ codes "commit" → result ≡ Some Line.Commit }
+    ensures named { OnSome result (is_alone name.now ≡ true) }
+{
+    if is_word(name, b"vacuum") {
+        return Some(Line::Vacuum);
     }
+    if is_word(name, b"checkpoint") {
+        return Some(Line::Checkpoint);
+    }
+    if is_word(name, b"commit") {
+        return Some(Line::Commit);
+    }
+    None
 }
 
-// Two ends of a range.
-fn range(words: &mut Words<'_>) -> Option<Result<Range, Fault>> {
-    let from = end(words.next()?)?;
-    let below = end(words.next()?)?;
-    match (from, below) {
-        (Ok(from), Ok(below)) => Some(Ok(Range { from, below })),
-        (Err(fault), _) | (_, Err(fault)) => Some(Err(fault)),
+// A line of an entry, a range or rows.
+fn with_values<'a>(name: &[u8], words: &mut Words<'a>) -> Option<Result<Line<'a>, Fault>>
+    ensures ok { (line : Line) → result ≡ Some (Ok line)
+        → name.now ∷ words.old ≡ line_words line ++ words.new }
+    ensures valid { IfSome result (λ read. IfOk read HasValues) }
+    ensures insert { (entry : TheEntry) → IsEntryOfBytes entry → name.now ≡ codes "insert"
+        → words.old ≡ entry_words entry
+        → (result ≡ Some (Ok (Line.Insert entry))) × (words.new ≡ []) }
+    ensures delete { AreRows words.old → name.now ≡ codes "delete"
+        → (result ≡ Some (Ok (Line.Delete words.old))) × (words.new ≡ []) }
+    ensures list { (range : TheRange) → IsRangeOfBytes range → name.now ≡ codes "list"
+        → words.old ≡ range_words range
+        → (result ≡ Some (Ok (Line.List range))) × (words.new ≡ []) }
+    ensures refused { (fault : Fault) → result ≡ Some (Err fault) → words.new ≡ []
+        → AreNoValues fault name.now words.old }
+{
+    if is_word(name, b"insert") {
+        return Some(entry(words)?.map(|entry| Line::Insert(entry)));
     }
-}
-
-// A key, or `*` for an open end.
-fn end(text: &str) -> Option<Result<Option<Key>, Fault>> {
-    if text == "*" {
-        return Some(Ok(None));
+    if is_word(name, b"delete") {
+        return Some(all_rows(words)?.map(|rows| Line::Delete(rows)));
     }
-    match key(text)? {
-        Ok(key) => Some(Ok(Some(key))),
-        Err(fault) => Some(Err(fault)),
+    if is_word(name, b"list") {
+        return Some(range(words)?.map(|range| Line::List(range)));
     }
-}
-
-// All words that are left, each a row.
-fn rows(alloc: Global, words: &mut Words<'_>) -> Option<Result<Dead, Fault>> {
-    let mut rows = Vec::new(alloc);
-    let mut fault = None;
-    for _ in 0..u64::MAX {
-        let Some(word) = words.next() else {
-            break;
-        };
-        match row(word)? {
-            Ok(row) => {
-                if rows.push(row).is_err() {
-                    fault = Some(Fault::NoMemory);
-                }
-            }
-            Err(bad) => fault = Some(bad),
-        }
-    }
-    match fault {
-        None => Some(Ok(Dead { rows })),
-        Some(fault) => Some(Err(fault)),
-    }
-}
-
-// The key of a text of lower-case hex digits, or `-` for the empty key.
-fn key(text: &str) -> Option<Result<Key, Fault>> {
-    if text == "-" {
-        return Some(Ok(Key::EMPTY));
-    }
-    let count = text.len() / 2;
-    if count == 0 || text.len() % 2 != 0 || !text.bytes().all(is_digit) {
-        return None;
-    }
-    if count > 64 {
-        return Some(Err(Fault::KeyTooLong));
-    }
-    let mut bytes = [0; 64];
-    let bytes = &mut bytes[..count];
-    match hex::decode_to_slice(text, bytes) {
-        Ok(()) => Some(Key::new(bytes)),
-        Err(_) => None,
-    }
-}
-
-fn is_digit(byte: u8) -> bool {
-    matches!(byte, b'0'..=b'9' | b'a'..=b'f')
-}
-
-// The row of the text `(block,offset)`.
-fn row(text: &str) -> Option<Result<RowAddr, Fault>> {
-    let inner = text.strip_prefix("(")?.strip_suffix(")")?;
-    let (block, offset) = inner.split_once(',')?;
-    if !is_number(block) || !is_number(offset) {
-        return None;
-    }
-    match (block.parse::<u32>(), offset.parse::<u16>()) {
-        (Ok(block), Ok(offset)) => Some(RowAddr::new(block, offset)),
-        _ => None,
-    }
-}
-
-// Whether a text has no sign, and no zero in front of a number.
-fn is_number(text: &str) -> bool {
-    !text.starts_with("+") && (text.len() == 1 || !text.starts_with("0"))
+    None
 }

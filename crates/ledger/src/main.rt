@@ -8,7 +8,6 @@ mod line;
 mod program;
 mod reply;
 mod session;
-mod shown;
 #[cfg(test)]
 mod tests;
 

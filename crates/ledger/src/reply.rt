@@ -1,12 +1,14 @@
 //! What a line is answered with.
 
-ghost use Rattle.std.specs.Prelude.{◌++◌, ◌∷◌, [], OnOk, IfSome};
+ghost use Rattle.std.specs.Prelude.{◌≡◌, ◌++◌, ◌∷◌, [], OnOk, IfSome};
 ghost use Rattle.std.specs.Io.KnownBytes.{Appends};
-ghost use Rattle.ledger.specs.Replies.{added_text, reply_text, stats_text};
+ghost use Rattle.ledger.specs.Replies.{reply_text};
 
 use access_method::Inserted;
 use index_model::{Fault, VacuumStats};
+use session_calls::Answer;
 use std::io::{self, Write};
+use text_forms::print_answer;
 
 /// The reply to a line; a list's entries stand before it.
 #[derive(Clone, Copy)]
@@ -31,45 +33,25 @@ pub fn print_reply<W: Write>(out: &mut W, reply: &Reply) -> io::Result<()>
         Appends (W.contents out.old) (W.contents out.new) (text ++ 10 ∷ []))) }
 {
     match reply {
-        Reply::Added(inserted) => print_added(out, inserted),
+        Reply::Added(inserted) => print_answer(out, &added(inserted)),
         Reply::Deleted(removed) => writeln!(out, "deleted {removed}"),
         Reply::Listed(count) => writeln!(out, "done {count}"),
-        Reply::CleanedUp(stats) => print_stats(out, stats),
-        Reply::Checkpointed(actions) => writeln!(out, "checkpointed {actions}"),
+        Reply::CleanedUp(stats) => print_answer(out, &Answer::Finished(*stats)),
+        Reply::Checkpointed(actions) => print_answer(out, &Answer::Checkpointed(*actions)),
         Reply::Committed(actions) => writeln!(out, "committed {actions}"),
         Reply::Refused(fault) => print_refused(out, *fault),
         Reply::NotALine => writeln!(out, "not a line"),
     }
 }
 
-fn print_added<W: Write>(out: &mut W, inserted: &Inserted) -> io::Result<()>
-    ensures { OnOk result (Appends (W.contents out.old) (W.contents out.new)
-        (added_text inserted.now ++ 10 ∷ [])) }
+// What an insert that is run to its end answers as a step of it does.
+fn added(inserted: &Inserted) -> Answer
+    ensures { result ≡ Answer.Added inserted.now.action inserted.now.unfinished }
 {
-    let action = inserted.action;
-    match inserted.unfinished {
-        None => writeln!(out, "added {action}"),
-        Some(fault) => {
-            let number = fault.number();
-            writeln!(out, "added {action} unfinished {number}")
-        }
+    Answer::Added {
+        action: inserted.action,
+        unfinished: inserted.unfinished,
     }
-}
-
-fn print_stats<W: Write>(out: &mut W, stats: &VacuumStats) -> io::Result<()>
-    ensures { OnOk result (Appends (W.contents out.old) (W.contents out.new)
-        (stats_text stats.now ++ 10 ∷ [])) }
-{
-    let pages = stats.num_pages;
-    let tuples = stats.num_index_tuples;
-    let removed = stats.tuples_removed;
-    let new = stats.pages_newly_deleted;
-    let deleted = stats.pages_deleted;
-    let free = stats.pages_free;
-    writeln!(
-        out,
-        "finished pages={pages} tuples={tuples} removed={removed} new={new} deleted={deleted} free={free}"
-    )
 }
 
 /// Prints `refused N NAME`, with the block that the fault names behind it.

@@ -43,8 +43,8 @@ fn answer<D: Device, W: Write>(
     text: &[u8],
     out: &mut W,
 ) -> io::Result<()> {
-    let reply = match parse(alloc, text) {
-        Some(Ok(line)) => call(index, line, out)?,
+    let reply = match parse(text) {
+        Some(Ok(line)) => call(alloc, index, line, out)?,
         Some(Err(fault)) => Reply::Refused(fault),
         None => Reply::NotALine,
     };
