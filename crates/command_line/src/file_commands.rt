@@ -11,10 +11,10 @@ ghost use Rattle.command_line.specs.Files.{IsLookedAt, IsCheckRefused};
 ghost use Rattle.command_line.specs.Listing.{Lists, ListsFirst, IsDoneOrRefused};
 ghost use Rattle.command_line.specs.Reporting.{TellsReport, TellsDamage, AreSound, IsCheckEnd};
 
-use access_method::in_file::{self, open_store};
 use crate::checking::{check_pages, check_pages_one};
 use crate::end::End;
 use crate::listing::list_pages;
+use access_method::in_file::{self, open_store};
 use device::{Device, FileDevice, Start};
 use index_model::{Fault, Limits};
 use page_action::PageStore;

@@ -1,0 +1,118 @@
+//! What C is answered.
+
+ghost use Rattle.std.specs.Prelude.{◌≡◌, false};
+ghost use Rattle.nardsill.specs.Telling.{GivesNone, IsRefusal, TellsStats, page_of, unfinished_number};
+
+use index_model::{Fault, VacuumStats};
+
+/// An answer: 0, or the number of a fault with the page that it names, and what the call tells. A field that a call doesn't tell
+/// is 0.
+#[repr(C)]
+#[derive(Clone, Copy)]
+pub struct Answer {
+    pub status: u32,
+    pub page: u32,
+    /// The number of an insert's action; how many entries were removed; how many actions are durable; a token's number.
+    pub number: u64,
+    /// The fault that left an insert unfinished, or 0; how many entries are left.
+    pub other: u64,
+    /// A token's session.
+    pub session: u32,
+    /// So many actions as `number` tells are durable.
+    pub is_durable: bool,
+    /// Pages in use; of these, those that were newly deleted, that are deleted, and that may be used again.
+    pub num_pages: u32,
+    pub pages_newly_deleted: u32,
+    pub pages_deleted: u32,
+    pub pages_free: u32,
+}
+
+/// What a scan gives: an entry, or none where it has given all; or the number of a fault with the page that it names.
+#[repr(C)]
+#[derive(Drop)]
+pub struct Given {
+    pub status: u32,
+    pub page: u32,
+    pub block: u32,
+    pub offset: u16,
+    pub len: u8,
+    pub is_given: bool,
+    pub key: [u8; 64],
+}
+
+/// An answer that tells nothing more.
+pub const DONE: Answer = Answer {
+    status: 0,
+    page: 0,
+    number: 0,
+    other: 0,
+    session: 0,
+    is_durable: false,
+    num_pages: 0,
+    pages_newly_deleted: 0,
+    pages_deleted: 0,
+    pages_free: 0,
+};
+
+// The page that a fault names, or 0.
+fn page_of(fault: Fault) -> u32
+    ensures { result ≡ page_of fault }
+{
+    match fault.block() {
+        Some(block) => block,
+        None => 0,
+    }
+}
+
+/// The answer to a call that was refused.
+pub fn refused(fault: Fault) -> Answer
+    ensures { IsRefusal fault result }
+{
+    Answer {
+        status: fault.number() as u32,
+        page: page_of(fault),
+        ..DONE
+    }
+}
+
+/// The number of the fault that left an insert unfinished, or 0.
+pub fn unfinished(fault: Option<Fault>) -> u64
+    ensures { result ≡ unfinished_number fault }
+{
+    match fault {
+        None => 0,
+        Some(fault) => fault.number() as u64,
+    }
+}
+
+/// The answer that tells statistics.
+pub fn counted(stats: &VacuumStats) -> Answer
+    ensures told { TellsStats stats.now result }
+    ensures status { result.status ≡ 0 }
+    ensures quiet { result.is_durable ≡ false }
+{
+    Answer {
+        number: stats.tuples_removed,
+        other: stats.num_index_tuples,
+        num_pages: stats.num_pages,
+        pages_newly_deleted: stats.pages_newly_deleted,
+        pages_deleted: stats.pages_deleted,
+        pages_free: stats.pages_free,
+        ..DONE
+    }
+}
+
+/// No entry, for this fault.
+pub fn none_given(fault: Fault) -> Given
+    ensures { GivesNone fault result }
+{
+    Given {
+        status: fault.number() as u32,
+        page: page_of(fault),
+        block: 0,
+        offset: 0,
+        len: 0,
+        is_given: false,
+        key: [0; 64],
+    }
+}

@@ -1,0 +1,219 @@
+//! The calls of an open index.
+
+ghost use Rattle.std.specs.Prelude.{◌≡◌, ◌⊎◌, ◌≢◌, None, false, true};
+ghost use Rattle.page_action.specs.States.{Continues};
+ghost use Rattle.schedule.specs.TheoremKinds.{Forces, Checkpoints};
+ghost use Rattle.nardsill.specs.Asking.{IsNoEntry, IsNoRange};
+ghost use Rattle.nardsill.specs.Serving.{Begins, BeginsAgain, CleansUp, Closes, Deletes, Inserts, IsMisspelled, IsServed, IsUnknown, MakesDurable, Names, Serves, TellsNothing};
+ghost use Rattle.nardsill.specs.Telling.{IsRefusal, Tells, TellsDurable, TellsInserted, TellsStats, TellsToken};
+
+use crate::answer::{Answer, DONE, counted, refused, unfinished};
+use crate::ask::Ask;
+use crate::dead::Dead;
+use crate::handle::Handle;
+use access_method::{Index, ScanToken};
+use device::{FileDevice, Unknown};
+use index_model::{Fault, VacuumStats};
+use page_action::PageStore;
+use page_store::Store;
+use std::alloc::Global;
+use whole_calls::Inserted;
+
+/// Does what is asked, whatever it is.
+pub fn serve(handle: &mut Handle, ask: Ask) -> Answer
+    ensures { IsServed ⟦<Store<FileDevice<Unknown>> as PageStore>⟧ ask result
+        handle.old.index handle.new.index handle.old.dead handle.new.dead }
+{
+    if ask.what == 10 {
+        *handle = Handle::new(handle.alloc);
+        return DONE;
+    }
+    let alloc = handle.alloc;
+    match &mut handle.index {
+        None => refused(Fault::NoSession),
+        Some(index) => call(alloc, index, &mut handle.dead, &ask),
+    }
+}
+
+// A call of an index that is open.
+fn call<S: PageStore>(alloc: Global, index: &mut Index<S>, dead: &mut Dead, ask: &Ask) -> Answer
+    ensures { Serves S.PageStore ask.now result index.old index.new dead.old dead.new }
+{
+    match ask.what {
+        1 => insert(index, ask),
+        2 => begin(index, ask),
+        3 => again(index, ask),
+        4 => close(index, ask),
+        5 => name(alloc, dead, ask),
+        6 => delete(index, dead),
+        7 => clean_up(index),
+        8 => commit(index),
+        9 => checkpoint(index),
+        _ => refused(Fault::NoSession),
+    }
+}
+
+// Adds an entry.
+fn insert<S: PageStore>(index: &mut Index<S>, ask: &Ask) -> Answer
+    ensures steps { Continues S.follows index.old.store index.new.store }
+    ensures means { Inserts S.PageStore ask.now result index.old index.new
+        ⊎ IsMisspelled (IsNoEntry ask.now) result index.old index.new }
+    ensures quiet { result.is_durable ≡ false }
+{
+    match ask.entry() {
+        Ok(entry) => inserted(index.aminsert(entry)),
+        Err(fault) => refused(fault),
+    }
+}
+
+fn inserted(outcome: Result<Inserted, Fault>) -> Answer
+    ensures told { Tells TellsInserted outcome result }
+    ensures quiet { result.is_durable ≡ false }
+{
+    match outcome {
+        Ok(inserted) => Answer {
+            number: inserted.action,
+            other: unfinished(inserted.unfinished),
+            ..DONE
+        },
+        Err(fault) => refused(fault),
+    }
+}
+
+// Begins a scan.
+fn begin<S: PageStore>(index: &mut Index<S>, ask: &Ask) -> Answer
+    ensures steps { Continues S.follows index.old.store index.new.store }
+    ensures means { Begins S.PageStore ask.now result index.old index.new
+        ⊎ IsMisspelled (IsNoRange ask.now) result index.old index.new }
+    ensures quiet { result.is_durable ≡ false }
+{
+    match ask.range() {
+        Ok(range) => begun(index.ambeginscan(range)),
+        Err(fault) => refused(fault),
+    }
+}
+
+fn begun(outcome: Result<ScanToken, Fault>) -> Answer
+    ensures told { Tells TellsToken outcome result }
+    ensures quiet { result.is_durable ≡ false }
+{
+    match outcome {
+        Ok(token) => Answer {
+            number: token.number,
+            session: token.session,
+            ..DONE
+        },
+        Err(fault) => refused(fault),
+    }
+}
+
+// Begins a scan anew.
+fn again<S: PageStore>(index: &mut Index<S>, ask: &Ask) -> Answer
+    ensures steps { Continues S.follows index.old.store index.new.store }
+    ensures means { BeginsAgain S.PageStore ask.now result index.old index.new
+        ⊎ IsMisspelled (IsNoRange ask.now) result index.old index.new }
+    ensures quiet { result.is_durable ≡ false }
+{
+    match ask.range() {
+        Ok(range) => done(index.amrescan(ask.token(), range)),
+        Err(fault) => refused(fault),
+    }
+}
+
+fn done(outcome: Result<(), Fault>) -> Answer
+    ensures told { Tells TellsNothing outcome result }
+    ensures quiet { result.is_durable ≡ false }
+{
+    match outcome {
+        Ok(()) => DONE,
+        Err(fault) => refused(fault),
+    }
+}
+
+// Closes a scan.
+fn close<S: PageStore>(index: &mut Index<S>, ask: &Ask) -> Answer
+    ensures steps { Continues S.follows index.old.store index.new.store }
+    ensures means { Closes S.PageStore ask.now result index.old index.new }
+    ensures quiet { result.is_durable ≡ false }
+{
+    done(index.amendscan(ask.token()))
+}
+
+// Names a row that the next bulk delete takes.
+fn name(alloc: Global, dead: &mut Dead, ask: &Ask) -> Answer
+    ensures means { Names ask.now result dead.old dead.new }
+    ensures quiet { result.is_durable ≡ false }
+{
+    match ask.row() {
+        Ok(row) => done(dead.name(alloc, row)),
+        Err(fault) => {
+            // Else the next bulk delete would take those that were named before, and not this one.
+            dead.rows = None;
+            refused(fault)
+        }
+    }
+}
+
+// Deletes all entries of the rows that were named, and forgets these.
+fn delete<S: PageStore>(index: &mut Index<S>, dead: &mut Dead) -> Answer
+    ensures steps { Continues S.follows index.old.store index.new.store }
+    ensures means { Deletes S.PageStore dead.old result index.old index.new }
+    ensures forgotten { dead.new.rows ≡ None }
+    ensures quiet { result.is_durable ≡ false }
+{
+    let outcome = index.ambulkdelete(&*dead);
+    dead.rows = None;
+    swept(outcome)
+}
+
+fn swept(outcome: Result<VacuumStats, Fault>) -> Answer
+    ensures told { Tells TellsStats outcome result }
+    ensures quiet { result.is_durable ≡ false }
+{
+    match outcome {
+        Ok(stats) => counted(&stats),
+        Err(fault) => refused(fault),
+    }
+}
+
+// Deletes empty leaves, and counts what is there.
+fn clean_up<S: PageStore>(index: &mut Index<S>) -> Answer
+    ensures steps { Continues S.follows index.old.store index.new.store }
+    ensures means { CleansUp S.PageStore result index.old index.new }
+    ensures quiet { result.is_durable ≡ false }
+{
+    swept(index.amvacuumcleanup())
+}
+
+// Makes all that was done durable.
+fn commit<S: PageStore>(index: &mut Index<S>) -> Answer
+    ensures steps { Continues S.follows index.old.store index.new.store }
+    ensures means { MakesDurable S.PageStore Forces result index.old index.new }
+    ensures durable { result.is_durable ≡ true
+        → (S.backing index.new.store).durable ≡ result.number }
+{
+    durable(index.commit())
+}
+
+// Makes all that was done durable, and writes all pages to their places.
+fn checkpoint<S: PageStore>(index: &mut Index<S>) -> Answer
+    ensures steps { Continues S.follows index.old.store index.new.store }
+    ensures means { MakesDurable S.PageStore Checkpoints result index.old index.new }
+    ensures durable { result.is_durable ≡ true
+        → (S.backing index.new.store).durable ≡ result.number }
+{
+    durable(index.checkpoint())
+}
+
+fn durable(outcome: Result<u64, Fault>) -> Answer
+    ensures { Tells TellsDurable outcome result }
+{
+    match outcome {
+        Ok(number) => Answer {
+            number,
+            is_durable: true,
+            ..DONE
+        },
+        Err(fault) => refused(fault),
+    }
+}

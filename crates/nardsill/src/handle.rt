@@ -1,0 +1,42 @@
+//! A handle of C's.
+
+ghost use Rattle.std.specs.Prelude.{◌≡◌, None};
+
+use crate::dead::Dead;
+use access_method::Index;
+use device::{FileDevice, Unknown};
+use page_store::Store;
+use std::alloc::Global;
+
+/// An index in a file.
+pub type InFile = Index<Store<FileDevice<Unknown>>>;
+
+/// An open index, or none, and the rows that a bulk delete is to take.
+#[derive(Drop)]
+pub struct Handle {
+    pub alloc: Global,
+    pub index: Option<InFile>,
+    pub dead: Dead,
+}
+
+impl Handle {
+    /// One with no index, and no row named: it owns no file, and no memory but its own block.
+    pub fn new(alloc: Global) -> Handle
+        ensures empty { result.index ≡ None }
+        ensures none { result.dead.rows ≡ None }
+    {
+        Handle {
+            alloc,
+            index: None,
+            dead: Dead { rows: None },
+        }
+    }
+}
+
+// A value that another thread may have.
+fn is_sent<T: Send>(_value: &T) {}
+
+/// Does nothing: that it is accepted says that C may give a handle to another thread.
+pub fn may_be_sent(handle: &Handle) {
+    is_sent(handle);
+}

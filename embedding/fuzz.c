@@ -1,0 +1,59 @@
+/* The exports called with random bytes in each field: each answers one of the 20 numbers, or 0. */
+#define _GNU_SOURCE
+#include "nardsill.h"
+#include "nardsill_proved.h"
+#include <pthread.h>
+#include <stdio.h>
+#include <stdlib.h>
+#include <string.h>
+#include <unistd.h>
+
+/* What a handle of the wrapper begins with. */
+struct head {
+    pthread_mutex_t lock;
+    struct nardsill_shell *shell;
+};
+
+/* Random bytes, with fields now and then in a range where something is found. */
+static struct nardsill_ask random_ask(void) {
+    struct nardsill_ask ask;
+    unsigned char *bytes = (unsigned char *)&ask;
+    for (size_t k = 0; k < sizeof ask; k += 4) {
+        int four = (int)random();
+        memcpy(bytes + k, &four, 4);
+    }
+    if (random() % 100 < 95) ask.what = 1 + (uint32_t)(random() % 9);
+    if (ask.what == NARDSILL_LET_GO) ask.what = 12;
+    if ((ask.what == NARDSILL_COMMIT || ask.what == NARDSILL_CHECKPOINT) && random() % 50) ask.what = NARDSILL_INSERT;
+    if (random() % 2) ask.session %= 70;
+    if (random() % 2) ask.number %= 100;
+    if (random() % 2) ask.len %= 66;
+    if (random() % 2) ask.block %= 5000;
+    ask.ends %= 5;
+    return ask;
+}
+
+int main(int argc, char **argv) {
+    long rounds = argc > 1 ? atol(argv[1]) : 300000, seen[21] = {0};
+    nardsill *index;
+    nardsill_limits limits = {4, 1024, 65536};
+    unlink("fuzz.idx");
+    if (nardsill_create("fuzz.idx", &limits) || nardsill_open("fuzz.idx", 16, &index)) return 1;
+    struct nardsill_shell *shell = ((struct head *)index)->shell;
+    srandom(7);
+    for (long i = 0; i < rounds; i++) {
+        struct nardsill_ask ask = random_ask();
+        struct nardsill_given given = nardsill_proved_next(shell, (struct nardsill_token){ask.number, ask.session});
+        struct nardsill_answer answer = nardsill_proved_call(shell, ask);
+        if (given.status > 20 || given.len > 64 || answer.status > 20) {
+            fprintf(stderr, "fuzz: status %u %u\n", given.status, answer.status);
+            return 1;
+        }
+        seen[answer.status]++;
+    }
+    for (int k = 0; k <= 20; k++)
+        if (seen[k]) printf("%s %ld\n", nardsill_errname(k), seen[k]);
+    int status = nardsill_close(index);
+    unlink("fuzz.idx");
+    return status != 0;
+}

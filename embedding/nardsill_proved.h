@@ -1,0 +1,68 @@
+/* The exports of the proved library (crates/nardsill), as C sees them. Programs include nardsill.h. */
+#ifndef NARDSILL_PROVED_H
+#define NARDSILL_PROVED_H
+#include <stdbool.h>
+#include <stdint.h>
+
+/* The calls of nardsill_proved_call, each with the fields that it reads and those that its answer tells. */
+enum nardsill_what {
+    NARDSILL_INSERT = 1,     /* key, len, block, offset; number: the action's, other: the fault that left it unfinished, or 0 */
+    NARDSILL_BEGIN = 2,      /* ends, key, len, below, below_len; number, session: the token */
+    NARDSILL_AGAIN = 3,      /* the same, and number, session: the token */
+    NARDSILL_END = 4,        /* number, session */
+    NARDSILL_NAME_DEAD = 5,  /* block, offset */
+    NARDSILL_DELETE = 6,     /* number: how many entries are removed; other: how many are left; the counts of pages */
+    NARDSILL_VACUUM = 7,     /* the same */
+    NARDSILL_COMMIT = 8,     /* number: how many actions are durable */
+    NARDSILL_CHECKPOINT = 9, /* the same */
+    NARDSILL_LET_GO = 10     /* the handle's block may be freed behind it */
+};
+
+struct nardsill_ask {
+    uint32_t what, session;
+    uint64_t number;
+    uint32_t block;
+    uint16_t offset;
+    uint8_t len, below_len;
+    uint32_t ends; /* 1: the range begins at key, 2: it ends below below, 3: both, 0: neither */
+    uint8_t key[64], below[64];
+};
+
+struct nardsill_open_ask {
+    int32_t descriptor;
+    uint32_t frames, is_new, items, pages, log_bytes;
+};
+
+struct nardsill_answer {
+    uint32_t status, page;
+    uint64_t number, other;
+    uint32_t session;
+    bool is_durable;
+    uint32_t num_pages, pages_newly_deleted, pages_deleted, pages_free;
+};
+
+struct nardsill_token {
+    uint64_t number;
+    uint32_t session;
+};
+
+struct nardsill_given {
+    uint32_t status, page, block;
+    uint16_t offset;
+    uint8_t len;
+    bool is_given;
+    uint8_t key[64];
+};
+
+struct nardsill_shell;
+
+/* A handle without an index, at out: 0, or 1 where there is no memory. */
+uint32_t nardsill_proved_new(struct nardsill_shell **out);
+
+/* Opens the index in a file that is open: file points to its descriptor, which stays the caller's. */
+struct nardsill_answer nardsill_proved_take(struct nardsill_shell *at, int *file, struct nardsill_open_ask ask);
+
+/* One call at a time, on a handle that was not let go. */
+struct nardsill_answer nardsill_proved_call(struct nardsill_shell *at, struct nardsill_ask ask);
+struct nardsill_given nardsill_proved_next(struct nardsill_shell *at, struct nardsill_token token);
+#endif

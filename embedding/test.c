@@ -1,0 +1,101 @@
+/* Each call of nardsill.h, beside a plain list; prints what it saw. Status 1 at the first wrong answer. */
+#include "nardsill.h"
+#include <pthread.h>
+#include <stdio.h>
+#include <stdlib.h>
+#include <string.h>
+#include <sys/wait.h>
+#include <unistd.h>
+
+#define PATH "test.idx"
+#define IS(status, call) is(status, call, __LINE__)
+static void is(int want, int got, int line) {
+    if (want != got) { fprintf(stderr, "line %d: %d %s, not %d\n", line, got, nardsill_strerror(got), want); exit(1); }
+}
+static void key_of(unsigned i, unsigned char *key) { memset(key, 0, 16); for (int k = 0; k < 4; k++) key[k] = (unsigned char)(i * 2654435761u >> (8 * k)); }
+
+static void *insert_some(void *index) {
+    for (unsigned i = 0; i < 500; i++) {
+        unsigned char key[4] = {9, 9, (unsigned char)(i >> 8), (unsigned char)i};
+        int status = nardsill_insert(index, key, 4, (nardsill_row){i, 7}, 0);
+        if (status && status != NARDSILL_EXISTS) IS(0, status);
+    }
+    return 0;
+}
+
+static unsigned count(nardsill *index) {
+    nardsill_scan *scan;
+    static nardsill_entry few[100];
+    size_t n;
+    unsigned all = 0;
+    IS(0, nardsill_scan_open(index, 0, 0, 0, 0, &scan));
+    int status;
+    do { status = nardsill_scan_read(scan, few, 100, &n); all += (unsigned)n; } while (!status);
+    IS(NARDSILL_DONE, status);
+    IS(NARDSILL_DONE, nardsill_scan_read(scan, few, 100, &n));
+    nardsill_scan_close(scan);
+    return all;
+}
+
+int main(void) {
+    nardsill *index, *other;
+    nardsill_limits few = {4, 7, 65536}, limits = {50, 1024, 1048576};
+    unlink(PATH);
+    IS(NARDSILL_IO, nardsill_open(PATH, 64, &index));
+    IS(NARDSILL_BAD_LIMITS, nardsill_create(PATH, &few));
+    IS(NARDSILL_IO, nardsill_open(PATH, 64, &index));
+    IS(0, nardsill_create(PATH, &limits));
+    IS(NARDSILL_IO, nardsill_create(PATH, &limits));
+    IS(NARDSILL_BAD_LIMITS, nardsill_open(PATH, 15, &index));
+    IS(0, nardsill_open(PATH, 64, &index));
+    IS(NARDSILL_LOCKED, nardsill_open(PATH, 64, &other));
+    unsigned char key[65] = {0};
+    for (unsigned i = 0; i < 10000; i++) { key_of(i, key); IS(0, nardsill_insert(index, key, 16, (nardsill_row){i, 1}, 0)); }
+    key_of(77, key);
+    IS(NARDSILL_EXISTS, nardsill_insert(index, key, 16, (nardsill_row){77, 1}, 0));
+    IS(NARDSILL_KEY_TOO_LONG, nardsill_insert(index, key, 65, (nardsill_row){77, 1}, 0));
+    IS(NARDSILL_BAD_ROW, nardsill_insert(index, key, 16, (nardsill_row){77, 0}, 0));
+    IS(NARDSILL_MISUSE, nardsill_insert(0, key, 16, (nardsill_row){77, 1}, 0));
+    uint64_t actions = 0;
+    IS(0, nardsill_commit(index, &actions));
+    if (actions < 10000) IS(0, 1);
+    nardsill_scan *scan;
+    nardsill_entry entry;
+    IS(0, nardsill_scan_open(index, key, 16, 0, 0, &scan));
+    IS(0, nardsill_scan_next(scan, &entry));
+    if (entry.key_len != 16 || memcmp(entry.key, key, 16) || entry.row.block != 77 || entry.row.offset != 1) IS(0, 1);
+    nardsill_row rows[3] = {{77, 1}, {78, 1}, {10000, 1}};
+    nardsill_stats stats;
+    IS(NARDSILL_BLOCKED, nardsill_delete_rows(index, rows, 3, &stats));
+    nardsill_scan_close(scan);
+    IS(0, nardsill_delete_rows(index, rows, 3, &stats));
+    if (stats.entries != 9998) IS(0, 2);
+    IS(NARDSILL_BAD_ROW, nardsill_delete_rows(index, (nardsill_row[]){{5, 1}, {5, 0}}, 2, &stats));
+    IS(0, nardsill_delete_rows(index, rows, 0, &stats));
+    if (stats.removed != 0) IS(0, 3);
+    IS(0, nardsill_vacuum(index, &stats));
+    if (stats.entries != 9998 || count(index) != 9998) IS(0, 4);
+    pthread_t threads[4];
+    for (int i = 0; i < 4; i++) pthread_create(threads + i, 0, insert_some, index);
+    for (int i = 0; i < 4; i++) pthread_join(threads[i], 0);
+    if (count(index) != 10498) IS(0, 5);
+    IS(0, nardsill_close(index));
+    pid_t child = fork();
+    if (!child) {
+        if (nardsill_open(PATH, 64, &index)) _exit(1);
+        if (nardsill_insert(index, "kept", 4, (nardsill_row){1, 1}, 0) || nardsill_commit(index, 0)) _exit(1);
+        nardsill_insert(index, "lost, maybe", 11, (nardsill_row){1, 1}, 0);
+        _exit(0);
+    }
+    int status;
+    waitpid(child, &status, 0);
+    IS(0, status);
+    IS(0, nardsill_open(PATH, 64, &index));
+    if (count(index) != 10499) IS(0, 6);
+    IS(NARDSILL_EXISTS, nardsill_insert(index, "kept", 4, (nardsill_row){1, 1}, 0));
+    IS(0, nardsill_close(index));
+    IS(0, nardsill_close(0));
+    unlink(PATH);
+    puts("all is as it must be");
+    return 0;
+}
