@@ -1,9 +1,51 @@
 //! Files that are cut, removed, linked, or aren't to be written. Each test has a file of its own.
 
-use crate::plain::{create, four_at, len, open, put_at, sync};
+use crate::plain::{create, four_at, held, len, made, open, put_at, sync};
 use index_model::Fault;
-use std::fs::{self, OpenFile, OpenOptions};
+use std::fs::{self, File, OpenFile, OpenOptions};
+use std::rt::Files;
 use std::test::{Fail, *};
+
+/// A file, open for reading and writing.
+fn opened(rt: &impl Files<File = File>, path: &str) -> Result<File, Fail> {
+    Ok(OpenOptions::new().read(true).write(true).open(rt, path)?)
+}
+
+/// A file that is open is held with all its bytes, and by one device alone. What is no file isn't.
+#[test]
+fn open_already(rt: HostRuntime) -> Result<(), Fail> {
+    let path = "files_open_already.bin";
+    fs::write(&rt, path, [7; 8_192].as_slice())?;
+    let mut device = held(opened(&rt, path)?)?;
+    assert!(rt; len(&device) == 8_192);
+    assert!(rt; four_at(&mut device, 8_188) == Ok([7; 4]));
+    assert!(rt; matches!(held(opened(&rt, path)?), Err(Fault::Io)));
+    assert!(rt; matches!(made(opened(&rt, path)?, 4_096, 4_096), Err(Fault::Io)));
+    drop(device);
+    assert!(rt; fs::read(&rt, path)?.as_slice() == [7; 8_192].as_slice());
+    assert!(rt; matches!(held(File::open(&rt, ".")?), Err(Fault::Io)));
+    fs::remove_file(&rt, path)?;
+    Ok(())
+}
+
+/// A file that is made anew has nothing left of what it held, whether its bytes are written or not.
+#[test]
+fn made_anew(rt: HostRuntime) -> Result<(), Fail> {
+    let path = "files_made_anew.bin";
+    for filled in [0, 1, 4_096, 100_000, u64::MAX] {
+        fs::write(&rt, path, [7; 8_192].as_slice())?;
+        let mut device = made(opened(&rt, path)?, 100_000, filled)?;
+        assert!(rt; len(&device) == 100_000);
+        for at in [0, 4_094, 8_188, 99_996] {
+            assert!(rt; four_at(&mut device, at) == Ok([0; 4]));
+        }
+        drop(device);
+        assert!(rt; fs::metadata(&rt, path)?.len() == 100_000);
+    }
+    assert!(rt; matches!(made(opened(&rt, path)?, 1 << 63, 0), Err(Fault::Io)));
+    fs::remove_file(&rt, path)?;
+    Ok(())
+}
 
 /// A folder is no file to open, and no path to make one at.
 #[test]

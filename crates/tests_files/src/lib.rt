@@ -4,6 +4,8 @@
 #[cfg(test)]
 mod devices;
 #[cfg(test)]
+mod drafts;
+#[cfg(test)]
 mod indexes;
 #[cfg(test)]
 mod plain;

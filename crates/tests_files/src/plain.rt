@@ -1,7 +1,7 @@
 //! Calls without their contracts. A test looks at the answers alone, and what a call promises would be carried, call by call, to
 //! the end of the test that makes it.
 
-use access_method::{Index, Inserted};
+use access_method::{Index, Inserted, in_file};
 use amcheck::{CheckFault, Report, check_parents_one};
 use device::{Device, FileDevice, Unknown};
 use index_model::{Entry, Fault, Key, Limits, Range, RowAddr};
@@ -25,6 +25,31 @@ pub fn create(
 /// A file that is there.
 pub fn open(rt: &impl Files<File = File>, path: &str) -> Result<FileDevice<Unknown>, Fault> {
     FileDevice::open(rt, path)
+}
+
+/// A device over a file that is open.
+pub fn held(file: File) -> Result<FileDevice<Unknown>, Fault> {
+    FileDevice::held(file)
+}
+
+/// A device over a file that is open, made anew.
+pub fn made(file: File, len: u64, filled: u64) -> Result<FileDevice<Unknown>, Fault> {
+    FileDevice::made(file, len, filled)
+}
+
+/// Makes an empty index in a new file, and closes that.
+pub fn create_index(
+    rt: &impl Files<File = File>,
+    path: &str,
+    limits: &Limits,
+) -> Result<(), Fault> {
+    let _device: FileDevice<Unknown> = in_file::create(rt, path, limits)?;
+    Ok(())
+}
+
+/// Closes an index, and answers how many actions there were.
+pub fn close(index: InFile) -> Result<u64, Fault> {
+    in_file::close(index).written
 }
 
 /// The four bytes from there on. Refused with `DeviceTooSmall` where they lie behind the length that the file had.
@@ -64,10 +89,7 @@ pub fn open_index(
     alloc: Global,
     path: &str,
 ) -> Result<InFile, Fault> {
-    match Index::open(alloc, open(rt, path)?, 16) {
-        Ok(index) => Ok(index),
-        Err(refused) => Err(refused.fault),
-    }
+    in_file::open(rt, alloc, path, 16)
 }
 
 /// The entry of this number: a key of two bytes, and a row.
