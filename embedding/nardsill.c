@@ -324,6 +324,27 @@ int nardsill_commit(nardsill *index, uint64_t *actions) { return force(index, NA
 
 int nardsill_checkpoint(nardsill *index, uint64_t *actions) { return force(index, NARDSILL_CHECKPOINT, actions); }
 
+int nardsill_check(const char *path, uint32_t frames, nardsill_report *out) {
+    if (!path || !out) return NARDSILL_MISUSE;
+    int fd = open(path, O_RDWR | O_CLOEXEC), file = fd;
+    if (fd < 0) return NARDSILL_IO;
+    struct nardsill_shell *shell;
+    int status = lock(fd);
+    if (!status) status = (int)nardsill_proved_new(&shell);
+    if (!status) {
+        struct nardsill_checked c = nardsill_proved_check(shell, &file, (struct nardsill_check_ask){fd, frames ? frames : 64});
+        status = (int)c.status;
+        *out = (nardsill_report){c.entries, c.damage, c.block, c.levels, c.pages, c.half_dead, c.deleted, c.unfinished};
+        int kept = errno;
+        let_go(shell);
+        errno = kept;
+    }
+    int kept = errno;
+    close(fd);
+    errno = kept;
+    return status;
+}
+
 uint32_t nardsill_fault_page(nardsill *index) { return index ? index->page : 0; }
 
 const char *nardsill_errname(int status) {

@@ -88,6 +88,16 @@ int nardsill_scan_next(nardsill_scan *scan, nardsill_entry *out);
 int nardsill_scan_read(nardsill_scan *scan, nardsill_entry *out, size_t room, size_t *count);
 void nardsill_scan_close(nardsill_scan *scan);
 
+/* What the verifier found: the number and the block of the first damage; or damage 0, and what was counted. */
+typedef struct {
+    uint64_t entries;
+    uint32_t damage, block, levels, pages, half_dead, deleted, unfinished;
+} nardsill_report;
+
+/* Judges the index in a file that nobody has open: its levels and links, its parents and children. As each opening does, it writes home
+   what the log holds. */
+int nardsill_check(const char *path, uint32_t frames, nardsill_report *out);
+
 /* The page of the last NARDSILL_BLOCKED or NARDSILL_PAGE_DAMAGED. */
 uint32_t nardsill_fault_page(nardsill *index);
 

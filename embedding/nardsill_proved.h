@@ -54,6 +54,17 @@ struct nardsill_given {
     uint8_t key[64];
 };
 
+struct nardsill_check_ask {
+    int32_t descriptor;
+    uint32_t frames;
+};
+
+struct nardsill_checked {
+    uint32_t status, page, damage, block;
+    uint64_t entries;
+    uint32_t levels, pages, half_dead, deleted, unfinished;
+};
+
 struct nardsill_shell;
 
 /* A handle without an index, at out: 0, or 1 where there is no memory. */
@@ -65,4 +76,7 @@ struct nardsill_answer nardsill_proved_take(struct nardsill_shell *at, int *file
 /* One call at a time, on a handle that was not let go. */
 struct nardsill_answer nardsill_proved_call(struct nardsill_shell *at, struct nardsill_ask ask);
 struct nardsill_given nardsill_proved_next(struct nardsill_shell *at, struct nardsill_token token);
+
+/* Judges the index in a file that is open, whatever the handle has. */
+struct nardsill_checked nardsill_proved_check(struct nardsill_shell *at, int *file, struct nardsill_check_ask ask);
 #endif

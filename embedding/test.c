@@ -94,6 +94,19 @@ int main(void) {
     if (count(index) != 10499) IS(0, 6);
     IS(NARDSILL_EXISTS, nardsill_insert(index, "kept", 4, (nardsill_row){1, 1}, 0));
     IS(0, nardsill_close(index));
+    nardsill_report report;
+    IS(0, nardsill_check(PATH, 0, &report));
+    if (report.damage || report.entries != 10499) IS(0, 7);
+    IS(NARDSILL_IO, nardsill_check("no.idx", 0, &report));
+    IS(0, nardsill_open(PATH, 64, &index));
+    IS(NARDSILL_LOCKED, nardsill_check(PATH, 0, &report));
+    IS(0, nardsill_close(index));
+    /* A leaf's entries in another order. */
+    FILE *file = fopen(PATH, "r+b");
+    fseek(file, 4096 + 1048576 + 4096, SEEK_SET);
+    fputs("damage", file);
+    fclose(file);
+    IS(NARDSILL_PAGE_DAMAGED, nardsill_check(PATH, 0, &report));
     IS(0, nardsill_close(0));
     unlink(PATH);
     puts("all is as it must be");

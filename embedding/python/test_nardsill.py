@@ -49,7 +49,10 @@ def random_calls(path, steps=20_000):
             elif die < 0.77:
                 index.commit()
         assert listed(index) == sorted(model)
+    report = nardsill.check(path)
+    assert report.damage == 0 and report.entries == len(model)
     with nardsill.Index(path) as index:
+        refused(nardsill.Locked, nardsill.check, path)
         assert listed(index) == sorted(model)
     return len(model)
 

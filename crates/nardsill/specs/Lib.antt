@@ -4,3 +4,4 @@ pub mod Naming
 pub mod Serving
 pub mod Giving
 pub mod Taking
+pub mod Checking

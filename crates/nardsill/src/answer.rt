@@ -54,8 +54,8 @@ pub const DONE: Answer = Answer {
     pages_free: 0,
 };
 
-// The page that a fault names, or 0.
-fn page_of(fault: Fault) -> u32
+/// The page that a fault names, or 0.
+pub fn page_of(fault: Fault) -> u32
     ensures { result ≡ page_of fault }
 {
     match fault.block() {

@@ -1,6 +1,6 @@
 //! An index in a file that C has open, by calls of C.
 //!
-//! Four functions are called from C, and from nowhere else. C gives a handle that `nardsill_proved_new` has made, to one call at
+//! Five functions are called from C, and from nowhere else. C gives a handle that `nardsill_proved_new` has made, to one call at
 //! a time, and for an opening a pointer to the number of a file that it has open for reading and writing. `embedding/` has the
 //! header and the wrapper that programs use.
 #![tactic(auto)]
@@ -8,7 +8,9 @@
 ghost use types.Logic.{sem};
 ghost use Rattle.std.specs.Ptr.{lies_at};
 ghost use Rattle.std.specs.Borrow.{full_share};
+ghost use Rattle.std.specs.Prelude.{◌≡◌};
 ghost use Rattle.nardsill.specs.Asking.{token_of};
+ghost use Rattle.nardsill.specs.Checking.{IsChecked};
 ghost use Rattle.nardsill.specs.Giving.{GivesNext};
 ghost use Rattle.nardsill.specs.Serving.{IsServed};
 ghost use Rattle.nardsill.specs.Taking.{IsTaken};
@@ -18,6 +20,7 @@ ghost use Rattle.std.specs.contracts.fs.File.{the_row as file_row};
 mod answer;
 mod ask;
 mod calls;
+mod checking;
 mod dead;
 mod giving;
 mod handle;
@@ -26,6 +29,7 @@ mod opening;
 use crate::answer::{Answer, Given};
 use crate::ask::{Ask, OpenAsk, Token};
 use crate::calls::serve;
+use crate::checking::{CheckAsk, Checked, check};
 use crate::giving::give;
 use crate::handle::Handle;
 use crate::opening::take;
@@ -99,4 +103,26 @@ pub unsafe extern "C" fn nardsill_proved_next(at: *mut Shell, token: Token) -> G
         value.index v.index ⌝) }
 {
     give(unsafe { &mut *(at as *mut Handle) }, token)
+}
+
+/// Judges the index in a file that C has open, by another handle of the same open file; C closes its own.
+#[unsafe(no_mangle)]
+pub unsafe extern "C" fn nardsill_proved_check(
+    at: *mut Shell,
+    file: *mut File,
+    ask: CheckAsk,
+) -> Checked
+    ghost both: { Handle × File }
+    requires* handle { sem 𝓛 (lies_at the_row full_share at both.0) }
+    requires* file { sem 𝓛 (lies_at file_row full_share file both.1) }
+    ensures* handle { ∃ₛ (λ (v : Handle). sem 𝓛 (lies_at the_row full_share at v) ∗ ⌜ (v ≡ both.0)
+        × IsChecked ⟦<FileDevice<Unknown> as Device>⟧
+        ⟦<Store<FileDevice<Unknown>> as PageStore>⟧ ⟦<Unknown as Start>⟧.bytes result ⌝) }
+    ensures* file { sem 𝓛 (lies_at file_row full_share file both.1) }
+{
+    check(
+        unsafe { &mut *(at as *mut Handle) },
+        unsafe { &mut *file },
+        ask,
+    )
 }

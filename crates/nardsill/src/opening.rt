@@ -75,8 +75,8 @@ fn make(file: &File, ask: &OpenAsk) -> Result<(), Fault> {
     create(&mut device, &limits)
 }
 
-// Another handle of the same open file, which shares its lock.
-fn own(file: &File) -> Result<File, Fault> {
+/// Another handle of the same open file, which shares its lock. Refused with `Io`.
+pub fn own(file: &File) -> Result<File, Fault> {
     match file.try_clone() {
         Ok(own) => Ok(own),
         Err(_) => Err(Fault::Io),

@@ -48,6 +48,19 @@ class Stats(NamedTuple):
     pages_free: int
 
 
+class Report(NamedTuple):
+    """What the verifier found: the number and the block of the first damage; or damage 0, and what it counted."""
+
+    entries: int
+    damage: int
+    block: int
+    levels: int
+    pages: int
+    half_dead: int
+    deleted: int
+    unfinished: int
+
+
 AnyRow = Union[Row, Tuple[int, int]]
 
 
@@ -70,6 +83,10 @@ class _Stats(ctypes.Structure):
 # An entry as its bytes: block, offset, the key's length, the key.
 _BYTES = struct.Struct("=IHxxB64s3x")
 assert _BYTES.size == ctypes.sizeof(_Entry) == 76
+
+
+class _Report(ctypes.Structure):
+    _fields_ = [(name, ctypes.c_uint64 if name == "entries" else ctypes.c_uint32) for name in Report._fields]
 
 
 class Error(Exception):
@@ -106,6 +123,7 @@ _delete_rows = _declare("delete_rows", _pointer, ctypes.POINTER(_Row), _size, ct
 _vacuum = _declare("vacuum", _pointer, ctypes.POINTER(_Stats))
 _commit = _declare("commit", _pointer, ctypes.POINTER(ctypes.c_uint64))
 _checkpoint = _declare("checkpoint", _pointer, ctypes.POINTER(ctypes.c_uint64))
+_check_file = _declare("check", ctypes.c_char_p, ctypes.c_uint32, ctypes.POINTER(_Report))
 _fault_page = _declare("fault_page", _pointer, result=ctypes.c_uint32)
 _declare("strerror", ctypes.c_int, result=ctypes.c_char_p)
 
@@ -151,6 +169,13 @@ def open(path, frames: int = 64) -> "Index":
     if not os.path.lexists(path):
         create(path)
     return Index(path, frames)
+
+
+def check(path, frames: int = 64) -> Report:
+    """Judges the index in a file that nobody has open."""
+    report = _Report()
+    _check(_check_file(os.fsencode(path), frames, report))
+    return Report(*(getattr(report, name) for name in Report._fields))
 
 
 class Scan:

@@ -1,0 +1,69 @@
+-- What a check of a file that C has open tells.
+use Rattle.std.specs.Prelude.{◌≡◌, ℕ, true, IsTrue, List, Result, Ok, Err, OnOk}
+use Rattle.access_method.specs.Files.{bytes_before}
+use Rattle.amcheck.specs.Answers.{IsAnswer}
+use Rattle.amcheck.specs.declared.report.CheckFault.{CheckFault}
+use Rattle.amcheck.specs.declared.report.CheckFault.TheVariants.{Damage, Refused}
+use Rattle.amcheck.specs.declared.report.Report.{Report}
+use Rattle.device.specs.declared.device.Device.{Ghosts as DeviceGhosts}
+use Rattle.index_model.specs.Faults.{number_of}
+use Rattle.index_model.specs.declared.fault.Fault.{Fault}
+use Rattle.index_model.specs.declared.limits.Limits.{Limits}
+use Rattle.page_action.specs.States.{Continues}
+use Rattle.page_action.specs.declared.page_store.PageStore.{Ghosts}
+use Rattle.page_codec.specs.declared.page.Page.{Page}
+use Rattle.page_store.specs.Stores.{device_of}
+use Rattle.page_store.specs.declared.store.Store.{Store}
+use Rattle.recovery.specs.Index.{HasIndex}
+use Rattle.recovery.specs.Opening.{IsSameIndex}
+use Rattle.tree_acts.specs.TheoremTree.{IsTree}
+use Rattle.nardsill.specs.Telling.{page_of}
+use Rattle.nardsill.specs.declared.checking.Checked.{Checked}
+
+-- the check was refused with this fault
+pub record IsCheckRefusal (fault : Fault) (checked : Checked) : Type 0 where
+  pub status : checked.status ≡ number_of fault
+  pub page : checked.page ≡ page_of fault
+  pub no_damage : checked.damage ≡ 0
+
+pub record TellsReport (report : Report) (checked : Checked) : Type 0 where
+  pub status : checked.status ≡ 0
+  pub no_damage : checked.damage ≡ 0
+  pub entries : checked.entries ≡ report.entries
+  pub levels : checked.levels ≡ report.levels
+  pub pages : checked.pages ≡ report.pages
+  pub half_dead : checked.half_dead ≡ report.half_dead
+  pub deleted : checked.deleted ≡ report.deleted
+  pub unfinished : checked.unfinished ≡ report.unfinished
+
+pub record TellsDamage (number block : ℕ) (checked : Checked) : Type 0 where
+  pub status : checked.status ≡ 0
+  pub damage : checked.damage ≡ number
+  pub at : checked.block ≡ block
+
+-- what the verifier answered is told: the report, the damage, or the refusal
+abbrev pub TellsCheck : Result Report CheckFault → Checked → Type 0
+TellsCheck (Ok report) checked = TellsReport report checked
+TellsCheck (Err (Damage number block)) checked = TellsDamage number block checked
+TellsCheck (Err (Refused fault)) checked = IsCheckRefusal fault checked
+
+-- a file, which held these bytes for each length that it might have, is opened with the pages of its index
+abbrev pub IsOpened : {D : Type 0} (d : DeviceGhosts D) → (ℕ → List ℕ) → Store D d → Type 0
+IsOpened d held store = IsTrue (d.is_honest (device_of d store)) → (limits : Limits) (pages : List Page)
+    → HasIndex limits pages (bytes_before held (d.trace (device_of d store))) → IsSameIndex d limits pages store
+
+-- The index in the file was opened and judged, and what the verifier answered is told: of its pages, which it has left as they were.
+pub record IsJudged {D : Type 0} (d : DeviceGhosts D) (g : Ghosts (Store D d)) (held : ℕ → List ℕ) (checked : Checked) : Type 0 where
+  pub store : Store D d
+  pub opened : IsOpened d held store
+  pub last : Store D d
+  pub steps : Continues g.follows store last
+  pub state_is : g.state last ≡ g.state store
+  pub outcome : Result Report CheckFault
+  pub told : TellsCheck outcome checked
+  pub answer : (g.backing last).honest ≡ true → IsAnswer true (g.state store).pages outcome
+  pub tree : (g.backing last).honest ≡ true → OnOk outcome (IsTree (g.state store).pages)
+
+-- where it isn't refused, it was judged
+abbrev pub IsChecked : {D : Type 0} (d : DeviceGhosts D) → Ghosts (Store D d) → (ℕ → List ℕ) → Checked → Type 0
+IsChecked d g held checked = checked.status ≡ 0 → IsJudged d g held checked
