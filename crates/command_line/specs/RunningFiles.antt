@@ -16,8 +16,8 @@ use Rattle.world.specs.declared.world.World.{World}
 use Rattle.access_method.specs.Files.{bytes_before}
 use Rattle.command_line.specs.JobFiles.{SpellJobs, sets_behind}
 use Rattle.command_line.specs.Running.{PrintsRun}
-use Rattle.command_line.specs.Spelling.{lines_of}
 use Rattle.command_line.specs.declared.end.End.{End}
+use Rattle.text_forms.specs.Spelling.{lines_of}
 
 -- The world as it is opened from a file that held these bytes: with so many pages in memory, so many sessions, and these sets. An
 -- index whose pages are a B-link tree is opened with them, as far as the file kept the disk model.
