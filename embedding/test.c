@@ -54,6 +54,8 @@ int main(void) {
     key_of(77, key);
     IS(NARDSILL_EXISTS, nardsill_insert(index, key, 16, (nardsill_row){77, 1}, 0));
     IS(NARDSILL_KEY_TOO_LONG, nardsill_insert(index, key, 65, (nardsill_row){77, 1}, 0));
+    static const unsigned char long_key[300];
+    IS(NARDSILL_KEY_TOO_LONG, nardsill_insert(index, long_key, 300, (nardsill_row){77, 1}, 0));
     IS(NARDSILL_BAD_ROW, nardsill_insert(index, key, 16, (nardsill_row){77, 0}, 0));
     IS(NARDSILL_MISUSE, nardsill_insert(0, key, 16, (nardsill_row){77, 1}, 0));
     uint64_t actions = 0;
@@ -71,8 +73,18 @@ int main(void) {
     IS(0, nardsill_delete_rows(index, rows, 3, &stats));
     if (stats.entries != 9998) IS(0, 2);
     IS(NARDSILL_BAD_ROW, nardsill_delete_rows(index, (nardsill_row[]){{5, 1}, {5, 0}}, 2, &stats));
+    IS(NARDSILL_BAD_ROW, nardsill_delete_rows(index, (nardsill_row[]){{5, 0}, {5, 1}}, 2, &stats));
     IS(0, nardsill_delete_rows(index, rows, 0, &stats));
     if (stats.removed != 0) IS(0, 3);
+    /* A batch ends at the first that is refused. */
+    nardsill_entry many[4] = {{{1, 3}, 2, "m1"}, {{2, 3}, 2, "m2"}, {{0, 0}, 2, "m3"}, {{4, 3}, 2, "m4"}};
+    size_t done;
+    IS(NARDSILL_BAD_ROW, nardsill_insert_many(index, many, 4, &done));
+    if (done != 2) IS(2, (int)done);
+    nardsill_row two[2] = {{1, 3}, {2, 3}};
+    IS(0, nardsill_delete_rows(index, two, 2, &stats));
+    if (stats.removed != 2) IS(0, 8);
+    if (!access(PATH ".nardsill-draft", F_OK)) IS(0, 9);
     IS(0, nardsill_vacuum(index, &stats));
     if (stats.entries != 9998 || count(index) != 9998) IS(0, 4);
     pthread_t threads[4];
