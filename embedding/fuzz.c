@@ -40,6 +40,12 @@ int main(int argc, char **argv) {
     unlink("fuzz.idx");
     if (nardsill_create("fuzz.idx", &limits) || nardsill_open("fuzz.idx", 16, &index)) return 1;
     struct nardsill_shell *shell = ((struct head *)index)->shell;
+    /* A file that isn't the number that is told is refused, and nothing is touched. */
+    int file = 0;
+    if (nardsill_proved_take(shell, &file, (struct nardsill_open_ask){.descriptor = 1, .frames = 16}).status != NARDSILL_BAD_VERSION) {
+        fprintf(stderr, "fuzz: a file of another number is taken\n");
+        return 1;
+    }
     srandom(7);
     for (long i = 0; i < rounds; i++) {
         struct nardsill_ask ask = random_ask();
