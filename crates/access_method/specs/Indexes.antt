@@ -11,7 +11,7 @@ use Rattle.page_action.specs.Contents.{entry_on_live_leaf}
 use Rattle.index_model.specs.declared.entry.Entry.{Entry}
 use Rattle.index_model.specs.declared.fault.Fault.{Fault}
 use Rattle.index_model.specs.declared.fault.Fault.TheVariants.{Stopped, NoSession, Exists}
-use Rattle.index_model.specs.declared.limits.Limits.{Limits}
+use Rattle.index_model.specs.declared.format.Format.{Format}
 use Rattle.index_model.specs.declared.range.Range.{Range}
 use Rattle.index_model.specs.declared.stats.VacuumStats.{VacuumStats}
 use Rattle.page_action.specs.declared.page_store.PageStore.{Ghosts}
@@ -197,7 +197,7 @@ AnswersScan session result start history calls = (number : ℕ) (call : Call) (r
 
 -- an index of these limits, fitted by the contents of these pages, no action and no call, which keeps that history; no token
 -- is open
-pub record IndexBegins {D : Type 0} (d : DeviceGhosts D) (g : Ghosts (Store D d)) (limits : Limits) (pages : List Page) (index : Index (Store D d)) : Type 0 where
+pub record IndexBegins {D : Type 0} (d : DeviceGhosts D) (g : Ghosts (Store D d)) (limits : Format) (pages : List Page) (index : Index (Store D d)) : Type 0 where
   pub limits_are : (state_of d index.store).limits ≡ limits
   pub fits : IndexFits g index (entry_on_live_leaf pages) [] []
   pub keeps : IndexKeeps g index (entry_on_live_leaf pages) [] []

@@ -6,8 +6,9 @@ ghost use Rattle.access_method.specs.Indexes.{IndexBegins};
 ghost use Rattle.device.specs.Event.{behind_calls};
 ghost use Rattle.device_layout.specs.Layout.{needed_length};
 ghost use Rattle.index_model.specs.Faults.{HasCause};
+ghost use Rattle.index_model.specs.Formats.{made};
 ghost use Rattle.index_model.specs.Limits.{AreLimits};
-ghost use Rattle.index_model.specs.declared.limits.Limits.{Limits as Sizes};
+ghost use Rattle.index_model.specs.declared.format.Format.{Format};
 ghost use Rattle.page_action.specs.Causes.{where_forced};
 ghost use Rattle.page_action.specs.Room.{HasWholeRoom};
 ghost use Rattle.page_codec.specs.declared.page.Page.{Page};
@@ -22,7 +23,7 @@ use crate::draft::{draft_of, make_draft, place_draft, want_free};
 use crate::index::Index;
 use device::{Device, FileDevice, Start};
 use device_layout::{needed_len, page_place};
-use index_model::{Fault, Limits};
+use index_model::{Fault, Format, Limits};
 use page_action::PageStore;
 use page_store::Store;
 use std::alloc::Global;
@@ -45,17 +46,17 @@ pub fn create<R: Files<File = File>, S: Start>(
     path: &str,
     limits: &Limits,
 ) -> Result<FileDevice<S>, Fault>
-    ensures allowed { OnOk result (AreLimits limits.now) }
+    ensures allowed { OnOk result (AreLimits (made limits.now)) }
     ensures made { IfOk result (λ device.
-        IsEmptyIndex limits.now (⟦<FileDevice<S> as Device>⟧.trace device).now) }
+        IsEmptyIndex (made limits.now) (⟦<FileDevice<S> as Device>⟧.trace device).now) }
     // So it can be opened, also after a crash.
     ensures own { IfOk result (λ device.
-        LeavesEmpty limits.now (⟦<FileDevice<S> as Device>⟧.trace device).now) }
+        LeavesEmpty (made limits.now) (⟦<FileDevice<S> as Device>⟧.trace device).now) }
     ensures exact { IfOk result (λ device.
-        length (⟦<FileDevice<S> as Device>⟧.trace device).now.seen ≡ needed_length limits.now) }
+        length (⟦<FileDevice<S> as Device>⟧.trace device).now.seen ≡ needed_length (made limits.now)) }
     ensures cause { IfErr result (λ fault.
-        ((fault ≡ Fault.BadLimits) × (AreLimits limits.now → ⊥))
-        ⊎ ((fault ≡ Fault.Io) × AreLimits limits.now)) }
+        ((fault ≡ Fault.BadLimits) × (AreLimits (made limits.now) → ⊥))
+        ⊎ ((fault ≡ Fault.Io) × AreLimits (made limits.now))) }
 {
     if !limits.are_valid() {
         return Err(Fault::BadLimits);
@@ -63,7 +64,7 @@ pub fn create<R: Files<File = File>, S: Start>(
     let draft = draft_of(path)?;
     want_free(rt, path)?;
     // All but the log is written by what makes the index.
-    let filled = page_place(limits, 0);
+    let filled = page_place(&Format::new(limits), 0);
     let mut device = make_draft(rt, draft.as_str(), needed_len(limits), filled)?;
     match recovery::create(&mut device, limits) {
         Ok(()) => {}
@@ -98,7 +99,7 @@ pub fn open_store<R: Files<File = File>, S: Start>(
     ensures same { IfOk result (λ store.
         let g = ⟦<FileDevice<S> as Device>⟧ in
         IsTrue (g.is_honest (device_of g store))
-        → (limits : Sizes) (pages : List Page)
+        → (limits : Format) (pages : List Page)
         → HasIndex limits pages (bytes_before S.Start.bytes (g.trace (device_of g store)))
         → IsSameIndex g limits pages store) }
     ensures fault { IfErr result IsOpenFault }
@@ -122,7 +123,7 @@ pub fn open<R: Files<File = File>, S: Start>(
     ensures begins { IfOk result (λ index.
         let d = ⟦<FileDevice<S> as Device>⟧ in
         IsTrue (d.is_honest (device_of d index.store))
-        → (limits : Sizes) (pages : List Page)
+        → (limits : Format) (pages : List Page)
         → HasIndex limits pages (bytes_before S.Start.bytes (d.trace (device_of d index.store)))
         → IsTree pages
         → IndexBegins d ⟦<Store<FileDevice<S>> as PageStore>⟧ limits pages index) }

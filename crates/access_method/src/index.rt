@@ -448,7 +448,7 @@ impl<D: Device> Index<Store<D>> {
     ghost use Rattle.index_model.specs.Actions.{Action};
     ghost use Rattle.index_model.specs.Calls.{Call};
     ghost use Rattle.index_model.specs.declared.entry.Entry.{Entry};
-    ghost use Rattle.index_model.specs.declared.limits.Limits.{Limits};
+    ghost use Rattle.index_model.specs.declared.format.Format.{Format};
     ghost use Rattle.page_codec.specs.declared.page.Page.{Page};
     ghost use Rattle.page_store.specs.Logged.{backing_of};
     ghost use Rattle.page_store.specs.Restart.{LeavesPages};
@@ -466,7 +466,7 @@ impl<D: Device> Index<Store<D>> {
     pub fn open(alloc: Global, device: D, frames: u32) -> Result<Index<Store<D>>, Refused<D>>
         // An index whose pages are a B-link tree is opened with them, or refused for want of memory or of the device.
         ensures begins { IsTrue (D.is_honest (index_device D.Device result)) → AreFrames frames
-            → (limits : Limits) (pages : List Page)
+            → (limits : Format) (pages : List Page)
             → HasIndex limits pages (D.trace device).now.seen → IsTree pages
             → MatchResult result (IndexBegins D.Device ⟦<Store<D> as PageStore>⟧ limits pages)
             (λ refused. IsNoMemoryOrIo refused.fault) }
@@ -475,7 +475,7 @@ impl<D: Device> Index<Store<D>> {
         ensures range { OnOk result (AreFrames frames) }
         // A crash at each moment since leaves the same index, whatever was answered.
         ensures moments { IsTrue (D.is_honest (index_device D.Device result))
-            → (limits : Limits) (pages : List Page)
+            → (limits : Format) (pages : List Page)
             → HasIndex limits pages (D.trace device).now.seen
             → Goes (LeavesPages limits pages) (D.trace device)
             (D.trace (index_device D.Device result)) }

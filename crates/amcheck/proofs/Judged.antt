@@ -1,7 +1,7 @@
 -- What is known of the pages that are judged.
 use Rattle.std.proofs.Common.{◌≡◌, ℕ, suc, ◌≤◌, inl, inr, List, length, ap, ◌∙◌, arith}
 use Rattle.std.proofs.lemmas.Bool.{cases_lt}
-use Rattle.index_model.specs.declared.limits.Limits.{Limits}
+use Rattle.index_model.specs.declared.format.Format.{Format}
 use Rattle.page_codec.specs.declared.page.Page.{Page}
 use Rattle.page_action.specs.Stored.{AreStored}
 use Rattle.page_action.proofs.StoredPages.{stored_page}
@@ -13,7 +13,7 @@ use Rattle.amcheck.specs.Reports.{IsReport, report_of}
 use Rattle.amcheck.specs.declared.report.Report.{Report}
 
 -- pages as the format demands stand at their blocks
-pub they_stand : (limits : Limits) (pages : List Page) → AreStored limits 0 pages → StandAtTheirBlocks pages
+pub they_stand : (limits : Format) (pages : List Page) → AreStored limits 0 pages → StandAtTheirBlocks pages
 they_stand limits pages stored block page found = (let s = stored_page limits block pages page stored found in (s.storable.admitted, s.block_is))
 
 -- so there are no more of them than the format has blocks

@@ -3,15 +3,20 @@
 
 use command_line::execute;
 use device::Unknown;
+use std::env;
+use std::io::{self, BufWriter, Write};
 use std::process::ExitCode;
-use std::{env, io};
 
 fn main(rt: HostRuntime) -> io::Result<ExitCode> {
     let words: Vec<String> = env::args(&rt)?.collect(rt.alloc())?;
     let mut input = rt.stdin();
-    let mut out = rt.stdout();
     let mut err = rt.stderr();
-    let status = execute::<_, Unknown, _, _, _, _>(
+    // What is printed comes in small pieces.
+    let Ok(mut out) = BufWriter::new(rt.alloc(), rt.stdout()) else {
+        let _ = err.write_all(b"btidx: refused 1 NoMemory\n");
+        return Ok(ExitCode::from(2));
+    };
+    let done = execute::<_, Unknown, _, _, _, _>(
         &rt,
         rt.alloc(),
         words.as_slice(),
@@ -19,5 +24,5 @@ fn main(rt: HostRuntime) -> io::Result<ExitCode> {
         &mut out,
         &mut err,
     );
-    Ok(ExitCode::from(status))
+    Ok(ExitCode::from(done.status))
 }

@@ -7,3 +7,6 @@ pub mod Listed
 pub mod Stepped
 pub mod Checked
 pub mod Looked
+pub mod Named
+pub mod Kept
+pub mod Needed

@@ -5,7 +5,7 @@ use Rattle.amcheck.specs.Checks.{where_checked}
 use Rattle.device.specs.declared.device.Device.{Ghosts as DeviceGhosts}
 use Rattle.index_model.specs.Faults.{HasCause}
 use Rattle.index_model.specs.declared.fault.Fault.{Fault}
-use Rattle.index_model.specs.declared.limits.Limits.{Limits}
+use Rattle.index_model.specs.declared.format.Format.{Format}
 use Rattle.page_action.specs.declared.page_store.PageStore.{Ghosts}
 use Rattle.page_codec.specs.declared.page.Page.{Page}
 use Rattle.page_store.specs.Stores.{state_of, device_of}
@@ -20,7 +20,7 @@ pub record IsOpenedFromFile {D : Type 0} (d : DeviceGhosts D) (bytes : ℕ → L
   pub read : IsTrue (d.is_honest (device_of d store))
       → StandsOnDevice (state_of d store) (bytes_before bytes (d.trace (device_of d store)))
       (d.trace (device_of d store)).now.seen
-  pub same : IsTrue (d.is_honest (device_of d store)) → (limits : Limits) (pages : List Page)
+  pub same : IsTrue (d.is_honest (device_of d store)) → (limits : Format) (pages : List Page)
       → HasIndex limits pages (bytes_before bytes (d.trace (device_of d store))) → IsSameIndex d limits pages store
 
 -- The store of the index in a file that held these bytes: its pages are those that it was opened with, and only its own calls have

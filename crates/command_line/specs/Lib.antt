@@ -11,4 +11,7 @@ pub mod Reporting
 pub mod Listing
 pub mod Ends
 pub mod CommandLine
+pub mod Program
+pub mod Commands
+pub mod Left
 pub mod Stepping

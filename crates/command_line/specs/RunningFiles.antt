@@ -2,7 +2,7 @@
 use Rattle.std.specs.Prelude.{◌≡◌, ℕ, IsTrue, Option, List, length}
 use Rattle.device.specs.declared.device.Device.{Ghosts as DeviceGhosts}
 use Rattle.index_model.specs.declared.dead_rows.DeadRows.{Ghosts as SetGhosts}
-use Rattle.index_model.specs.declared.limits.Limits.{Limits}
+use Rattle.index_model.specs.declared.format.Format.{Format}
 use Rattle.page_action.specs.declared.page_store.PageStore.{Ghosts}
 use Rattle.page_codec.specs.declared.page.Page.{Page}
 use Rattle.page_store.specs.Stores.{state_of, device_of}
@@ -26,7 +26,7 @@ pub record IsWorldOfFile {D T : Type 0} (d : DeviceGhosts D) (g : Ghosts (Store 
   pub opened : IsFreshlyOpened frames (state_of d world.store)
   pub sessions_are : length world.calls.slots.items ≡ sessions
   pub sets_are : world.sets.items ≡ sets
-  pub begins : IsTrue (d.is_honest (device_of d world.store)) → (limits : Limits) (pages : List Page)
+  pub begins : IsTrue (d.is_honest (device_of d world.store)) → (limits : Format) (pages : List Page)
       → HasIndex limits pages (bytes_before bytes (d.trace (device_of d world.store))) → IsTree pages
       → BeginsWith d g rows limits pages world
 

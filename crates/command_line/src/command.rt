@@ -1,8 +1,10 @@
 //! The command line.
 
-ghost use Rattle.std.specs.Prelude.{◌≡◌, [], codes, unwrap_or};
-ghost use Rattle.clap.specs.Matches.{found_of, first_value};
-ghost use Rattle.command_line.specs.CommandLine.{HasFlag};
+ghost use Rattle.std.specs.Prelude.{◌≡◌, [], false, IfOk, codes, unwrap_or};
+ghost use Rattle.clap.specs.Words.{app_of, found_of, first_value, one_text, rule_of};
+ghost use Rattle.clap.specs.declared.builder.command.Command.TheViews.{out-Command as fields_of};
+ghost use Rattle.command_line.specs.CommandLine.{HasFlag, HasLimits, HasNumber, HasRunSizes, HasSetting};
+ghost use Rattle.command_line.specs.Program.{check_app, create_app, dump_app, flag_rule, needed_rule, play_app, program_line, run_app, size_rule, start_app, with_file_apps, with_index_sizes, with_run_sizes, word_rule};
 
 use crate::engine::Setting;
 use crate::help::{FAULTS, JOBS, REPORT, SCRIPT};
@@ -21,27 +23,41 @@ const LOG: &str = "Bytes of the log: 65536 to 16777216, a multiple of 4096";
 const FRAMES: &str = "Pages that are held in memory: 16 to 1024";
 
 /// The whole command line.
-pub fn program<'a>(alloc: Global) -> Result<Command<'a>, AllocError> {
-    let command = Command::new(alloc, "btidx")
-        .about("A B-link tree index that survives crashes.")
-        .subcommand_required(true)
-        .arg_required_else_help(true)
-        .disable_help_subcommand(true)
-        .after_help(FAULTS)
+pub fn program<'a>(alloc: Global) -> Result<Command<'a>, AllocError>
+    ensures { IfOk result (λ command. app_of command ≡ program_line) }
+{
+    let command = without_commands(alloc)
         .subcommand(play(alloc)?)?
         .subcommand(run(alloc)?)?;
     with_file_commands(alloc, command)
 }
 
+// The program itself, of which a command is needed.
+fn without_commands<'a>(alloc: Global) -> Command<'a>
+    ensures { app_of result ≡ start_app }
+{
+    Command::new(alloc, "btidx")
+        .about("A B-link tree index that survives crashes.")
+        .subcommand_required(true)
+        .arg_required_else_help(true)
+        .disable_help_subcommand(true)
+        .after_help(FAULTS)
+}
+
 // The commands over an index in a file. (Each more in one chain costs the prover more than the one before.)
-fn with_file_commands<'a>(alloc: Global, command: Command<'a>) -> Result<Command<'a>, AllocError> {
+fn with_file_commands<'a>(alloc: Global, command: Command<'a>) -> Result<Command<'a>, AllocError>
+    ensures { IfOk result (λ whole. app_of whole ≡ with_file_apps (app_of command.entry)) }
+{
     command
         .subcommand(create(alloc)?)?
         .subcommand(check(alloc)?)?
         .subcommand(dump(alloc)?)
 }
 
-fn play<'a>(alloc: Global) -> Result<Command<'a>, AllocError> {
+fn play<'a>(alloc: Global) -> Result<Command<'a>, AllocError>
+    ensures app { IfOk result (λ command. app_of command ≡ play_app) }
+    ensures local { IfOk result (λ command. (fields_of command).has_globals ≡ false) }
+{
     let command = Command::new(alloc, "play")
         .about("Run a script from standard input over an index in memory")
         .after_help(SCRIPT);
@@ -51,14 +67,21 @@ fn play<'a>(alloc: Global) -> Result<Command<'a>, AllocError> {
 }
 
 // The sizes of an index, each with what it is if none is given.
-fn with_limits<'a>(alloc: Global, command: Command<'a>) -> Result<Command<'a>, AllocError> {
+fn with_limits<'a>(alloc: Global, command: Command<'a>) -> Result<Command<'a>, AllocError>
+    ensures app { IfOk result (λ whole. app_of whole ≡ with_index_sizes (app_of command.entry)) }
+    ensures local { (fields_of command.entry).has_globals ≡ false
+        → IfOk result (λ whole. (fields_of whole).has_globals ≡ false) }
+{
     command
         .arg(size(alloc, "items", "4", ITEMS))?
         .arg(size(alloc, "pages", "64", PAGES))?
         .arg(size(alloc, "log", "1048576", LOG))
 }
 
-fn create<'a>(alloc: Global) -> Result<Command<'a>, AllocError> {
+fn create<'a>(alloc: Global) -> Result<Command<'a>, AllocError>
+    ensures app { IfOk result (λ command. app_of command ≡ create_app) }
+    ensures local { IfOk result (λ command. (fields_of command).has_globals ≡ false) }
+{
     Command::new(alloc, "create")
         .about("Make an empty index in a new file")
         .arg(file(alloc))?
@@ -67,7 +90,10 @@ fn create<'a>(alloc: Global) -> Result<Command<'a>, AllocError> {
         .arg(needed_size(alloc, "log", LOG))
 }
 
-fn check<'a>(alloc: Global) -> Result<Command<'a>, AllocError> {
+fn check<'a>(alloc: Global) -> Result<Command<'a>, AllocError>
+    ensures app { IfOk result (λ command. app_of command ≡ check_app) }
+    ensures local { IfOk result (λ command. (fields_of command).has_globals ≡ false) }
+{
     Command::new(alloc, "check")
         .about("Look for damage in the index in a file")
         .after_help(REPORT)
@@ -76,17 +102,25 @@ fn check<'a>(alloc: Global) -> Result<Command<'a>, AllocError> {
         .arg(flag(alloc, "one-thread", "Judge the pages in one thread"))
 }
 
-fn run<'a>(alloc: Global) -> Result<Command<'a>, AllocError> {
-    Command::new(alloc, "run")
+fn run<'a>(alloc: Global) -> Result<Command<'a>, AllocError>
+    ensures app { IfOk result (λ command. app_of command ≡ run_app) }
+    ensures local { IfOk result (λ command. (fields_of command).has_globals ≡ false) }
+{
+    let command = Command::new(alloc, "run")
         .about("Run the jobs of a file over the index in a file, with threads")
         .after_help(JOBS)
         .arg(file(alloc))?
-        .arg(
-            Arg::new(alloc, "jobs")
-                .value_name("JOBS")
-                .required(true)
-                .help("The file of the jobs"),
-        )?
+        .arg(jobs(alloc))?;
+    with_run_sizes(alloc, command)
+}
+
+// The sizes of a run, each with what it is if none is given.
+fn with_run_sizes<'a>(alloc: Global, command: Command<'a>) -> Result<Command<'a>, AllocError>
+    ensures app { IfOk result (λ whole. app_of whole ≡ with_run_sizes (app_of command.entry)) }
+    ensures local { (fields_of command.entry).has_globals ≡ false
+        → IfOk result (λ whole. (fields_of whole).has_globals ≡ false) }
+{
+    command
         .arg(size(
             alloc,
             "workers",
@@ -96,27 +130,49 @@ fn run<'a>(alloc: Global) -> Result<Command<'a>, AllocError> {
         .arg(size(alloc, "frames", "64", FRAMES))
 }
 
-fn dump<'a>(alloc: Global) -> Result<Command<'a>, AllocError> {
+fn dump<'a>(alloc: Global) -> Result<Command<'a>, AllocError>
+    ensures app { IfOk result (λ command. app_of command ≡ dump_app) }
+    ensures local { IfOk result (λ command. (fields_of command).has_globals ≡ false) }
+{
     Command::new(alloc, "dump")
         .about("Print each page of the index in a file, with its items")
         .arg(file(alloc))
 }
 
-fn file<'a>(alloc: Global) -> Arg<'a> {
+fn file<'a>(alloc: Global) -> Arg<'a>
+    ensures rule { rule_of result ≡ word_rule (codes "path") }
+    ensures local { result.global ≡ false }
+{
     Arg::new(alloc, "path")
         .value_name("PATH")
         .required(true)
         .help("The file of the index")
 }
 
-fn flag<'a>(alloc: Global, name: &'a str, help: &'a str) -> Arg<'a> {
+fn jobs<'a>(alloc: Global) -> Arg<'a>
+    ensures rule { rule_of result ≡ word_rule (codes "jobs") }
+    ensures local { result.global ≡ false }
+{
+    Arg::new(alloc, "jobs")
+        .value_name("JOBS")
+        .required(true)
+        .help("The file of the jobs")
+}
+
+fn flag<'a>(alloc: Global, name: &'a str, help: &'a str) -> Arg<'a>
+    ensures rule { rule_of result ≡ flag_rule name.entry.now }
+    ensures local { result.global ≡ false }
+{
     Arg::new(alloc, name)
         .long(name)
         .action(ArgAction::SetTrue)
         .help(help)
 }
 
-fn needed_size<'a>(alloc: Global, name: &'a str, help: &'a str) -> Arg<'a> {
+fn needed_size<'a>(alloc: Global, name: &'a str, help: &'a str) -> Arg<'a>
+    ensures rule { rule_of result ≡ needed_rule name.entry.now }
+    ensures local { result.global ≡ false }
+{
     Arg::new(alloc, name)
         .long(name)
         .value_name("N")
@@ -125,7 +181,10 @@ fn needed_size<'a>(alloc: Global, name: &'a str, help: &'a str) -> Arg<'a> {
         .help(help)
 }
 
-fn size<'a>(alloc: Global, name: &'a str, value: &'a str, help: &'a str) -> Arg<'a> {
+fn size<'a>(alloc: Global, name: &'a str, value: &'a str, help: &'a str) -> Arg<'a>
+    ensures rule { rule_of result ≡ size_rule name.entry.now value.entry.now }
+    ensures local { result.global ≡ false }
+{
     Arg::new(alloc, name)
         .long(name)
         .value_name("N")
@@ -135,7 +194,9 @@ fn size<'a>(alloc: Global, name: &'a str, value: &'a str, help: &'a str) -> Arg<
 }
 
 /// The sizes on a command line of `play`.
-pub fn setting(matches: &ArgMatches<'_>) -> Setting {
+pub fn setting(matches: &ArgMatches<'_>) -> Setting
+    ensures { HasSetting (one_text (found_of matches.now)) result }
+{
     Setting {
         limits: limits(matches),
         frames: number(matches, "frames"),
@@ -144,7 +205,9 @@ pub fn setting(matches: &ArgMatches<'_>) -> Setting {
 }
 
 /// The sizes of an index on a command line of `create` or `play`.
-pub fn limits(matches: &ArgMatches<'_>) -> Limits {
+pub fn limits(matches: &ArgMatches<'_>) -> Limits
+    ensures { HasLimits (one_text (found_of matches.now)) result }
+{
     Limits {
         items: number(matches, "items"),
         pages: number(matches, "pages"),
@@ -153,7 +216,13 @@ pub fn limits(matches: &ArgMatches<'_>) -> Limits {
 }
 
 /// What a command line of `run` asks for.
-pub fn run_setting<'a>(matches: &ArgMatches<'a>) -> RunSetting<'a> {
+pub fn run_setting<'a>(matches: &ArgMatches<'a>) -> RunSetting<'a>
+    ensures path { result.path.now
+        ≡ unwrap_or (first_value (found_of matches.now) (codes "path")) [] }
+    ensures jobs { result.jobs.now
+        ≡ unwrap_or (first_value (found_of matches.now) (codes "jobs")) [] }
+    ensures sizes { HasRunSizes (one_text (found_of matches.now)) result.workers result.frames }
+{
     RunSetting {
         path: path(matches),
         jobs: matches.get_str("jobs").unwrap_or(""),
@@ -171,18 +240,20 @@ pub fn path<'a>(matches: &ArgMatches<'a>) -> &'a str
 
 /// Whether a command line of `check` asks for parents and children too.
 pub fn has_parents(matches: &ArgMatches<'_>) -> bool
-    ensures { HasFlag (found_of matches.now) (codes "parents") result }
+    ensures { HasFlag (one_text (found_of matches.now) (codes "parents")) result }
 {
     matches.get_flag("parents")
 }
 
 /// Whether a command line of `check` asks for one thread.
 pub fn has_one_thread(matches: &ArgMatches<'_>) -> bool
-    ensures { HasFlag (found_of matches.now) (codes "one-thread") result }
+    ensures { HasFlag (one_text (found_of matches.now) (codes "one-thread")) result }
 {
     matches.get_flag("one-thread")
 }
 
-fn number(matches: &ArgMatches<'_>, name: &str) -> u32 {
+fn number(matches: &ArgMatches<'_>, name: &str) -> u32
+    ensures { HasNumber (one_text (found_of matches.now) name.now) result }
+{
     matches.get_one::<u32>(name).unwrap_or(0)
 }

@@ -6,7 +6,8 @@ ghost use Rattle.device.specs.Plans.{failing_at, stopping_at};
 ghost use Rattle.index_model.specs.Actions.{Action};
 ghost use Rattle.index_model.specs.Calls.{Call};
 ghost use Rattle.index_model.specs.declared.entry.Entry.{Entry as IndexEntry};
-ghost use Rattle.index_model.specs.declared.limits.Limits.{Limits};
+ghost use Rattle.index_model.specs.Formats.{made};
+ghost use Rattle.index_model.specs.declared.format.Format.{Format};
 ghost use Rattle.page_codec.specs.declared.page.Page.{Page};
 ghost use Rattle.page_store.specs.Logged.{backing_of};
 ghost use Rattle.page_store.specs.Stores.{state_of, held_by, device_of};
@@ -84,7 +85,7 @@ impl Engine {
         ensures sets { IfOk result (λ engine. engine.world.sets ≡ sets) }
         ensures empty { IfOk result (λ engine.
             BeginsEmpty ⟦<MemDevice as Device>⟧ ⟦<Store<MemDevice> as PageStore>⟧
-            ⟦<DeadList as DeadRows>⟧ setting.now.limits engine.world) }
+            ⟦<DeadList as DeadRows>⟧ (made setting.now.limits) engine.world) }
     {
         if !setting.is_valid() {
             return Err(Fault::BadLimits);
@@ -208,7 +209,7 @@ impl Engine {
         ensures setting { self.new.setting ≡ self.old.setting }
         ensures sets { OnOk result (self.new.world.sets ≡ sets) }
         // What is opened is the index that this image of the device holds.
-        ensures image { OnOk result ((limits : Limits) (pages : List Page)
+        ensures image { OnOk result ((limits : Format) (pages : List Page)
             → HasIndex limits pages
             (left_by image (device_of ⟦<MemDevice as Device>⟧ self.old.world.store)) → IsTree pages
             → BeginsWith ⟦<MemDevice as Device>⟧ ⟦<Store<MemDevice> as PageStore>⟧
@@ -245,7 +246,7 @@ fn opened(
     ensures sessions { IfOk result (λ world.
         length world.calls.slots.items ≡ setting.now.sessions) }
     ensures sets { IfOk result (λ world. world.sets ≡ sets) }
-    ensures begins { IsSetting setting.now → (limits : Limits) (pages : List Page)
+    ensures begins { IsSetting setting.now → (limits : Format) (pages : List Page)
         → HasIndex limits pages (trace_of device).now.seen → IsTree pages
         → IfOk result
         (BeginsWith ⟦<MemDevice as Device>⟧ ⟦<Store<MemDevice> as PageStore>⟧

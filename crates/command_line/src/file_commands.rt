@@ -4,6 +4,7 @@
 ghost use Rattle.std.specs.Prelude.{◌≡◌, ◌⊎◌, ◌∷◌, ◌++◌, [], true, length, Ok, IsSome, IfOk, IfSome, IfNone, IsSomeAnd, MatchOption, codes};
 ghost use Rattle.std.specs.Io.KnownBytes.{Appends};
 ghost use Rattle.device_layout.specs.Layout.{needed_length};
+ghost use Rattle.index_model.specs.Formats.{made};
 ghost use Rattle.index_model.specs.Limits.{AreLimits};
 ghost use Rattle.recovery.specs.Fresh.{IsEmptyIndex, LeavesEmpty};
 ghost use Rattle.access_method.specs.Files.{IsOpenFault};
@@ -43,19 +44,19 @@ pub fn create<R: Files<File = File>, S: Start, W: Write>(
     out: &mut W,
 ) -> Created<FileDevice<S>>
     ensures ends { IfOk result.end IsDoneOrRefused }
-    ensures allowed { result.end ≡ Ok End.Done → AreLimits limits.now }
+    ensures allowed { result.end ≡ Ok End.Done → AreLimits (made limits.now) }
     // An empty index was made, which can be opened, also after a crash.
     ensures made { result.end ≡ Ok End.Done → IsSome result.device }
     ensures empty { IfSome result.device (λ device.
-        IsEmptyIndex limits.now (⟦<FileDevice<S> as Device>⟧.trace device).now) }
+        IsEmptyIndex (made limits.now) (⟦<FileDevice<S> as Device>⟧.trace device).now) }
     ensures own { IfSome result.device (λ device.
-        LeavesEmpty limits.now (⟦<FileDevice<S> as Device>⟧.trace device).now) }
+        LeavesEmpty (made limits.now) (⟦<FileDevice<S> as Device>⟧.trace device).now) }
     ensures exact { IfSome result.device (λ device.
-        length (⟦<FileDevice<S> as Device>⟧.trace device).now.seen ≡ needed_length limits.now) }
+        length (⟦<FileDevice<S> as Device>⟧.trace device).now.seen ≡ needed_length (made limits.now)) }
     ensures created { result.end ≡ Ok End.Done
         → Appends (W.contents out.old) (W.contents out.new) (codes "created" ++ 10 ∷ []) }
     ensures refused { (fault : Fault) → result.end ≡ Ok (End.Refused fault)
-        → ((fault ≡ Fault.BadLimits) × (AreLimits limits.now → ⊥)) ⊎ (fault ≡ Fault.Io) }
+        → ((fault ≡ Fault.BadLimits) × (AreLimits (made limits.now) → ⊥)) ⊎ (fault ≡ Fault.Io) }
     ensures silent { (fault : Fault) → result.end ≡ Ok (End.Refused fault)
         → W.contents out.new ≡ W.contents out.old }
 {

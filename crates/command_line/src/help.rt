@@ -17,7 +17,7 @@ pub const FAULTS: &str = "Faults, as `refused N` and `btidx: refused N NAME` nam
   12  NoSession       there is no such session, or it has no call that fits
   13  SessionBusy     the session has a call
   14  BadSuper        the file doesn't begin as an index does, or is shorter than it says
-  15  BadVersion      the file has a layout other than 1
+  15  BadVersion      the file has a layout other than 1 or 2
   16  LogDamaged      an open group of the log breaks its grammar
   17  PageDamaged     a page isn't what its place demands
   18  BadLimits       a size is out of its range

@@ -1,5 +1,6 @@
 //! The program `btidx` as a library: its command line, the lines of a script, and what is printed. The program itself hands
-//! [`execute`] the streams of its process. All else that is public here is for tests.
+//! [`execute`] the streams of its process, and gets back its status and what the command left: [`Executed`] and [`Left`]. All
+//! else that is public here is for tests.
 #![tactic(auto)]
 
 mod checking;
@@ -11,6 +12,7 @@ mod file_commands;
 mod help;
 mod job_file;
 mod job_line;
+mod left;
 mod line;
 mod listing;
 mod play;
@@ -25,6 +27,7 @@ pub use dead::DeadList;
 pub use end::End;
 pub use job_file::{JobFile, JobFileError, read_jobs};
 pub use job_line::{JobLine, parse_job};
+pub use left::Left;
 pub use line::{Crash, Line, LineError, parse};
 pub use running::{Ran, run_world};
-pub use streams::execute;
+pub use streams::{Executed, execute};

@@ -1,59 +1,51 @@
 //! The program over any streams.
 
-ghost use Rattle.std.specs.Prelude.{◌≡◌, ◌≤◌, IfOk, OnErr};
+ghost use Rattle.std.specs.Prelude.{◌≡◌, ◌≤◌, Ok, codes, map, IfOk, OnOk, OnErr};
+ghost use Rattle.std.specs.Io.KnownBytes.{Keeps};
+ghost use Rattle.clap.specs.Words.{found_of, kind_of, one_text, subcommand_rows_of};
+ghost use Rattle.command_line.specs.Commands.{PrintsCommand, ChecksAs, NamesNone};
 ghost use Rattle.command_line.specs.Ends.{status_of};
+ghost use Rattle.command_line.specs.Left.{end_of, IsRun, IfNotRun};
+ghost use Rattle.command_line.specs.Program.{KeepsLine, named_by};
 
 use crate::command::{has_one_thread, has_parents, limits, path, program, run_setting, setting};
+use crate::dead::DeadList;
 use crate::end::End;
-use crate::file_commands::{check, check_one, create, dump};
+use crate::file_commands::{Looked, check, check_one, create, dump};
+use crate::left::Left;
 use crate::play::play;
 use crate::refusal::print_refusal;
 use crate::running;
+use clap::error::ErrorKind;
 use clap::{ArgMatches, Error};
-use device::Start;
-use index_model::Fault;
+use device::{Device, FileDevice, Start};
+use index_model::{DeadRows, Fault};
+use page_action::PageStore;
+use page_store::Store;
 use std::alloc::Global;
 use std::convert::AsStr;
 use std::fs::File;
-use std::io::{self, BufWriter, Read, Write};
+use std::io::{self, Read, Write};
 use std::rt::Files;
 use std::sync::Wait;
 use std::thread::Threads;
 
-/// Runs the command of these words, the program's own name first, and answers its status: 0 where all was done, 1 where
-/// a check found damage, 2 where it was refused. `input` is read by `play`. A refusal is printed on `err`. The file of an
-/// index held what `B` says when it was opened: that is proved for all bytes, and `main` names some.
+/// What the program leaves.
+#[derive(Drop)]
+pub struct Executed<D, S> {
+    /// 0 where all was done, 1 where a check found damage, 2 where the program was refused.
+    pub status: u8,
+    /// What the command left.
+    pub left: Left<D, S>,
+    /// Whether the output took all at the end.
+    pub flushed: io::Result<()>,
+}
+
+/// Runs the command of these words, the program's own name first. `input` is read by `play`. What the command prints goes to `out`
+/// in many small pieces, so `out` is best a buffer; it is flushed at the end. A refusal is printed on `err`.
+///
+/// The file of an index held what `B` says when it was opened: that is proved for all bytes, and `main` names some.
 pub fn execute<
-    'a,
-    F: Files<File = File> + Threads + Wait + Sync,
-    B: Start + Send,
-    S: AsStr,
-    R: Read,
-    W: Write,
-    E: Write,
->(rt: &F, alloc: Global, words: &'a [S], input: &mut R, out: &mut W, err: &mut E) -> u8
-    ensures { result ≤ 2 }
-{
-    let ended = buffered::<F, B, S, R, W, E>(rt, alloc, words, input, out, err);
-    status(ended, err)
-}
-
-/// The status of what ended so. A refusal is printed.
-fn status<E: Write>(ended: io::Result<End>, err: &mut E) -> u8
-    ensures ended { IfOk ended (λ end. result ≡ status_of end) }
-    ensures failed { OnErr ended (result ≡ 2) }
-{
-    match ended {
-        Ok(End::Done) => 0,
-        Ok(End::Damaged) => 1,
-        Ok(End::Said) => 2,
-        Ok(End::Refused(fault)) => refuse(err, fault),
-        Err(error) => refuse(err, fault_of(&error)),
-    }
-}
-
-/// The command, with what it prints on `out` gathered in a buffer, which is handed on at its end at the latest.
-fn buffered<
     'a,
     F: Files<File = File> + Threads + Wait + Sync,
     B: Start + Send,
@@ -68,11 +60,51 @@ fn buffered<
     input: &mut R,
     out: &mut W,
     err: &mut E,
-) -> io::Result<End> {
-    let mut out = BufWriter::new(alloc, out)?;
-    let end = command::<F, B, S, R, _, E>(rt, alloc, words, input, &mut out, err);
-    out.flush()?;
-    end
+) -> Executed<FileDevice<B>, Store<FileDevice<B>>>
+    // The command that the words name was run, with what they say, and printed what it tells.
+    ensures printed { PrintsCommand ⟦<FileDevice<B> as Device>⟧
+        ⟦<Store<FileDevice<B>> as PageStore>⟧ ⟦<DeadList as DeadRows>⟧ B.Start.bytes
+        (named_by (map S.text words.entry.now))
+        (W.contents out.old) (W.contents out.new) result.left }
+    // No command is run on words that break the command line.
+    ensures fit { IsRun result.left → KeepsLine (map S.text words.entry.now) }
+    // Where the words keep it and no command is run, there was no memory.
+    ensures no_memory { KeepsLine (map S.text words.entry.now)
+        → IfNotRun result.left (end_of result.left ≡ Ok (End.Refused Fault.NoMemory)) }
+    ensures silent { KeepsLine (map S.text words.entry.now)
+        → IfNotRun result.left (Keeps (W.contents out.old) (W.contents out.new)) }
+    ensures status { OnOk result.flushed
+        (IfOk (end_of result.left) (λ end. result.status ≡ status_of end)) }
+    ensures broken { OnErr (end_of result.left) (result.status ≡ 2) }
+    ensures not_flushed { OnErr result.flushed (result.status ≡ 2) }
+    ensures low { result.status ≤ 2 }
+{
+    let left = command::<F, B, S, R, W, E>(rt, alloc, words, input, out, err);
+    let flushed = out.flush();
+    Executed {
+        status: status(left.end(), &flushed, err),
+        left,
+        flushed,
+    }
+}
+
+/// The status of a command that ended so, and whose output was flushed so. A refusal is printed.
+fn status<E: Write>(end: &io::Result<End>, flushed: &io::Result<()>, err: &mut E) -> u8
+    ensures ended { OnOk flushed.now (IfOk end.now (λ end. result ≡ status_of end)) }
+    ensures broken { OnErr end.now (result ≡ 2) }
+    ensures not_flushed { OnErr flushed.now (result ≡ 2) }
+    ensures low { result ≤ 2 }
+{
+    if let Err(error) = flushed {
+        return refuse(err, fault_of(error));
+    }
+    match end {
+        Ok(End::Done) => 0,
+        Ok(End::Damaged) => 1,
+        Ok(End::Said) => 2,
+        Ok(End::Refused(fault)) => refuse(err, *fault),
+        Err(error) => refuse(err, fault_of(error)),
+    }
 }
 
 fn refuse<E: Write>(err: &mut E, fault: Fault) -> u8
@@ -90,6 +122,7 @@ fn fault_of(error: &io::Error) -> Fault {
     }
 }
 
+/// Reads the words, and runs the command that they name.
 fn command<
     'a,
     F: Files<File = File> + Threads + Wait + Sync,
@@ -105,13 +138,36 @@ fn command<
     input: &mut R,
     out: &mut W,
     err: &mut E,
-) -> io::Result<End> {
+) -> Left<FileDevice<B>, Store<FileDevice<B>>>
+    ensures printed { PrintsCommand ⟦<FileDevice<B> as Device>⟧
+        ⟦<Store<FileDevice<B>> as PageStore>⟧ ⟦<DeadList as DeadRows>⟧ B.Start.bytes
+        (named_by (map S.text words.entry.now))
+        (W.contents out.old) (W.contents out.new) result }
+    ensures fit { IsRun result → KeepsLine (map S.text words.entry.now) }
+    ensures no_memory { KeepsLine (map S.text words.entry.now)
+        → IfNotRun result (end_of result ≡ Ok (End.Refused Fault.NoMemory)) }
+    ensures silent { KeepsLine (map S.text words.entry.now)
+        → IfNotRun result (W.contents out.new ≡ W.contents out.old) }
+{
     let Ok(program) = program(alloc) else {
-        return Ok(End::Refused(Fault::NoMemory));
+        return Left::Nothing(Ok(End::Refused(Fault::NoMemory)));
     };
     match program.try_get_matches_from(words) {
         Ok(matches) => run::<F, B, R, W, E>(rt, alloc, &matches, input, out, err),
-        Err(error) => print_usage(&error, out, err),
+        Err(error) => Left::Nothing(say(&error, out, err)),
+    }
+}
+
+/// How words end that clap doesn't take. What it has to say is printed, unless it ran out of memory.
+fn say<W: Write, E: Write>(error: &Error, out: &mut W, err: &mut E) -> io::Result<End>
+    ensures no_memory { kind_of error.now ≡ ErrorKind.OutOfMemory
+        → result ≡ Ok (End.Refused Fault.NoMemory) }
+    ensures silent { kind_of error.now ≡ ErrorKind.OutOfMemory
+        → W.contents out.new ≡ W.contents out.old }
+{
+    match error.kind() {
+        ErrorKind::OutOfMemory => Ok(End::Refused(Fault::NoMemory)),
+        _ => print_usage(error, out, err),
     }
 }
 
@@ -125,6 +181,7 @@ fn print_usage<W: Write, E: Write>(error: &Error, out: &mut W, err: &mut E) -> i
     Ok(End::Done)
 }
 
+/// Runs the command that was named. One of another name is none: nothing is printed.
 fn run<F: Files<File = File> + Threads + Wait + Sync, B: Start + Send, R: Read, W: Write, E: Write>(
     rt: &F,
     alloc: Global,
@@ -132,22 +189,28 @@ fn run<F: Files<File = File> + Threads + Wait + Sync, B: Start + Send, R: Read, 
     input: &mut R,
     out: &mut W,
     err: &mut E,
-) -> io::Result<End> {
+) -> Left<FileDevice<B>, Store<FileDevice<B>>>
+    ensures printed { PrintsCommand ⟦<FileDevice<B> as Device>⟧
+        ⟦<Store<FileDevice<B>> as PageStore>⟧ ⟦<DeadList as DeadRows>⟧ B.Start.bytes
+        (subcommand_rows_of matches.now)
+        (W.contents out.old) (W.contents out.new) result }
+    ensures none { IfNotRun result (NamesNone (subcommand_rows_of matches.now)) }
+{
     match matches.subcommand() {
-        Some(("play", matches)) => play(alloc, &setting(matches), input, out, err).end,
-        Some(("run", matches)) => running::run::<F, B, W, E>(
+        Some(("play", matches)) => Left::Played(play(alloc, &setting(matches), input, out, err)),
+        Some(("run", matches)) => Left::Ran(running::run::<F, B, W, E>(
             rt,
             alloc,
             &run_setting(matches),
             out,
             err,
-        ).end,
+        )),
         Some(("create", matches)) => {
-            create::<F, B, W>(rt, path(matches), &limits(matches), out).end
+            Left::Created(create::<F, B, W>(rt, path(matches), &limits(matches), out))
         }
-        Some(("check", matches)) => run_check::<F, B, W>(rt, alloc, matches, out),
-        Some(("dump", matches)) => dump::<F, B, W>(rt, alloc, path(matches), out).end,
-        _ => Ok(End::Said),
+        Some(("check", matches)) => Left::Checked(run_check::<F, B, W>(rt, alloc, matches, out)),
+        Some(("dump", matches)) => Left::Dumped(dump::<F, B, W>(rt, alloc, path(matches), out)),
+        _ => Left::Nothing(Ok(End::Said)),
     }
 }
 
@@ -157,12 +220,16 @@ fn run_check<F: Files<File = File> + Threads + Sync, B: Start, W: Write>(
     alloc: Global,
     matches: &ArgMatches<'_>,
     out: &mut W,
-) -> io::Result<End> {
+) -> Looked<Store<FileDevice<B>>>
+    ensures { ChecksAs ⟦<FileDevice<B> as Device>⟧ ⟦<Store<FileDevice<B>> as PageStore>⟧
+        B.Start.bytes (one_text (found_of matches.now) (codes "parents"))
+        (W.contents out.old) (W.contents out.new) result }
+{
     let path = path(matches);
     let parents = has_parents(matches);
     if has_one_thread(matches) {
-        check_one::<F, B, W>(rt, alloc, path, parents, out).end
+        check_one::<F, B, W>(rt, alloc, path, parents, out)
     } else {
-        check::<F, B, W>(rt, alloc, path, parents, out).end
+        check::<F, B, W>(rt, alloc, path, parents, out)
     }
 }

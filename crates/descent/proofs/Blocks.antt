@@ -1,7 +1,7 @@
 -- A block for a new page.
 use Rattle.std.proofs.Common.{◌≡◌, ℕ, zero, suc, ◌<◌, true, false, List, [], ◌∷◌, length, sym, ap, ◌∙◌, arith}
 use Rattle.std.proofs.lemmas.Bool.{and_parts}
-use Rattle.index_model.specs.declared.limits.Limits.{Limits}
+use Rattle.index_model.specs.declared.format.Format.{Format}
 use Rattle.page_codec.specs.Grammar.{IsPage, IsOfKind}
 use Rattle.page_codec.specs.declared.page.Items.{Items}
 use Rattle.page_codec.specs.declared.page.Items.TheVariants.{Meta, Entries, Downlinks}
@@ -23,7 +23,7 @@ live_at_0 page admitted is = by page.items admitted.kind
     by (Entries v) h = absurd (let k : 0 < page.block = h.block.0 in omega arith)
     by (Downlinks v) h = absurd (let k : 0 < page.block = h.block.0 in omega arith)
 
-not_deleted_at_0 : (limits : Limits) (pages : List Page) → AreStored limits 0 pages → is_deleted pages 0 ≡ true → ⊥
+not_deleted_at_0 : (limits : Format) (pages : List Page) → AreStored limits 0 pages → is_deleted pages 0 ≡ true → ⊥
 not_deleted_at_0 limits [] stored gone = absurd cc
 not_deleted_at_0 limits (page ∷ pages) stored gone =
     true_false (sym gone ∙ ap is_deleted_state (live_at_0 page stored.0.storable.admitted stored.0.block_is))

@@ -2,7 +2,10 @@
 use Rattle.std.proofs.Common.{◌≡◌, ◌≢◌, ℕ, ◌<◌, ◌≤◌, true, false, Option, Some, None, List, length, slice_get, refl, sym, ap, subst, ◌∙◌, arith}
 use Rattle.std.proofs.lemmas.Bool.{and_parts}
 use Rattle.index_model.specs.declared.entry.Entry.{Entry}
+use Rattle.index_model.specs.declared.layout.Layout.TheVariants.{Two}
 use Rattle.page_codec.specs.Grammar.{IsBlock, IsPage, IsOfKind, IsLeafIn}
+use Rattle.page_codec.specs.Edits.{renewed}
+use Rattle.page_codec.proofs.Renewed.{renewed_is_page}
 use Rattle.page_codec.specs.declared.page.Items.{Items}
 use Rattle.page_codec.specs.declared.page.Items.TheVariants.{Meta, Entries, Downlinks}
 use Rattle.page_codec.specs.declared.page.Page.{Page}
@@ -11,6 +14,7 @@ use Rattle.page_codec.specs.declared.page.PageState.TheVariants.{Live, HalfDead,
 use Rattle.page_action.specs.Reuse.{IsFresh, is_deleted, is_deleted_page, is_deleted_state}
 use Rattle.page_action.specs.States.{State}
 use Rattle.page_action.specs.Stored.{IsApartFrom, AreActable}
+use Rattle.page_action.proofs.Writable.{writable}
 use Rattle.tree_shape.specs.Mending.{MayBeMended}
 use Rattle.tree_acts.proofs.Overlays.{inside}
 use Rattle.descent.specs.Splitting.{RightIsMendable, RightIsStored, mended_to}
@@ -69,7 +73,8 @@ right_may st session block new (Some r) (Some page) few fresh is_block mendable 
       apart = (λ same. apart (ap Some (sym at_r ∙ same)), tt);
       apart_new = (λ same. fresh_apart st new r mendable.page fresh mendable.found mendable.mends.in_use (sym at_r ∙ same), tt);
       may = (
-        record { admitted = mended_page page new stored.0.storable.admitted stored.1 is_block; few = stored.0.storable.few },
+        writable st.limits (record page { layout = Two; left = Some new }) refl
+            (mended_page (renewed page) new (renewed_is_page page stored.0.storable.admitted) (record { no_meta = stored.1.no_meta; in_use = stored.1.in_use }) is_block) stored.0.storable.few,
         (omega (arith, at_r, used), omega (arith, at_r, used, few)),
         tt,
         tt,

@@ -1,5 +1,6 @@
 -- What a split needs beside the page: the page to the right of it, and a block for its right half.
 use Rattle.std.specs.Prelude.{◌≡◌, ℕ, Bool, true, false, Option, Some, None, List, [], ◌∷◌, slice_get}
+use Rattle.index_model.specs.declared.layout.Layout.TheVariants.{Two}
 use Rattle.latch_table.specs.Holdings.{is_held_by_another}
 use Rattle.latch_table.specs.declared.mode.Mode.TheVariants.{Exclusive}
 use Rattle.page_codec.specs.declared.page.Page.{Page}
@@ -37,7 +38,7 @@ abbrev pub if_read : Bool → Page → Option Page
 if_read true page = Some page
 if_read false page = None
 
--- the page, if there is one, with this left link
+-- the page, if there is one, with this left link, in the second layout
 abbrev pub mended_to : ℕ → Option Page → List Page
 mended_to left None = []
-mended_to left (Some page) = record page { left = Some left } ∷ []
+mended_to left (Some page) = record page { layout = Two; left = Some left } ∷ []

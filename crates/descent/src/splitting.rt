@@ -101,7 +101,7 @@ pub fn act_on<S: PageStore>(store: &mut S, pages: &[Page]) -> Result<u64, Fault>
         → IfErr result (HasCause (where_acting (S.state store.old) (S.backing store.old)
         (S.backing store.new) pages.now)) }
 {
-    if let Some(block) = find_misplaced(pages, store.used(), store.limits()) {
+    if let Some(block) = find_misplaced(pages, store.used(), store.format()) {
         return Err(Fault::PageDamaged(block));
     }
     store.act(pages)

@@ -1,17 +1,24 @@
 -- Where the parts of an index lie on a device: the superblock, the log, and behind it the pages.
 use Rattle.std.specs.Prelude.{ℕ, ◌+◌, ◌*◌, List, [], ◌∷◌, ◌++◌, replicate}
 use Rattle.std.specs.Int.{w32, to_le_bytes}
-use Rattle.index_model.specs.declared.limits.Limits.{Limits}
+use Rattle.index_model.specs.declared.format.Format.{Format}
+use Rattle.index_model.specs.declared.layout.Layout.{Layout}
+use Rattle.index_model.specs.declared.layout.Layout.TheVariants.{One, Two}
 
 -- the bytes that an index begins with: `BLINKIDX`
 abbrev pub magic : List ℕ
 magic = 66 ∷ 76 ∷ 73 ∷ 78 ∷ 75 ∷ 73 ∷ 68 ∷ 88 ∷ []
 
+-- the number of a layout, as a superblock has it
+abbrev pub layout_number : Layout → ℕ
+layout_number One = 1
+layout_number Two = 2
+
 -- the first 4,096 bytes: `BLINKIDX`, the layout, the sizes, zeros
-unfoldable pub superblock : Limits → List ℕ
+unfoldable pub superblock : Format → List ℕ
 superblock limits =
     magic
-    ++ to_le_bytes w32 1 ++ to_le_bytes w32 limits.items ++ to_le_bytes w32 limits.pages
+    ++ to_le_bytes w32 (layout_number limits.layout) ++ to_le_bytes w32 limits.items ++ to_le_bytes w32 limits.pages
     ++ to_le_bytes w32 limits.log_bytes ++ replicate 4072 0
 
 -- where the log begins: behind the superblock
@@ -19,13 +26,13 @@ abbrev pub log_start : ℕ
 log_start = 4096
 
 -- where it ends
-abbrev pub log_end : Limits → ℕ
+abbrev pub log_end : Format → ℕ
 log_end limits = log_start + limits.log_bytes
 
 -- where the page of a block lies
-abbrev pub place : Limits → ℕ → ℕ
+abbrev pub place : Format → ℕ → ℕ
 place limits block = log_end limits + 4096 * block
 
 -- how many bytes an index takes: up to the end of its last page
-abbrev pub needed_length : Limits → ℕ
+abbrev pub needed_length : Format → ℕ
 needed_length limits = place limits limits.pages

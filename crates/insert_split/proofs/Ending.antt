@@ -6,7 +6,7 @@ use Rattle.index_model.specs.declared.entry.Entry.{Entry}
 use Rattle.index_model.specs.declared.fault.Fault.{Fault}
 use Rattle.index_model.specs.declared.fault.Fault.TheVariants.{Stopped, Blocked}
 use Rattle.latch_table.specs.Holdings.{Table, holding_of, nothing_held}
-use Rattle.index_model.specs.declared.limits.Limits.{Limits}
+use Rattle.index_model.specs.declared.format.Format.{Format}
 use Rattle.page_action.specs.Causes.{is_at_end}
 use Rattle.page_action.specs.States.{State, Backing}
 use Rattle.page_action.specs.declared.page_store.PageStore.{Ghosts}
@@ -110,7 +110,7 @@ finish_done g before after splits then_splits step old new at_is alive h on = by
       refused = tt;
       stopped = λ halted. runs_no_more (g.backing old).stopped alive halted;
       less = λ honest going acts. subst (λ (a : InsertAt). insert_left (g.state new).limits.pages (g.state new).pages (Coming Start) < insert_left (g.state old).limits.pages (g.state old).pages a) (sym at_is)
-          (let over = h.over honest refl acts in let l = ap (λ (x : Limits). x.pages) h.kept.limits in rw l (omega (arith, over)));
+          (let over = h.over honest refl acts in let l = ap (λ (x : Format). x.pages) h.kept.limits in rw l (omega (arith, over)));
       stepped = λ honest order fits.
           let there = finishing_there (g.state old) before splits at_is fits in
           let last = h.stepped honest order there.1 in

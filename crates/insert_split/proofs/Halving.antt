@@ -1,7 +1,8 @@
 -- The pages of an act that splits a leaf may be written.
 use Rattle.std.proofs.Common.{◌≡◌, ◌≢◌, ℕ, ◌+◌, ◌<◌, ◌≤◌, true, Option, Some, None, List, [], ◌∷◌, ◌++◌, map, length, slice_set, refl, sym, subst, ◌∙◌, arith}
 use Rattle.index_model.specs.declared.entry.Entry.{Entry}
-use Rattle.index_model.specs.declared.limits.Limits.{Limits}
+use Rattle.index_model.specs.declared.format.Format.{Format}
+use Rattle.index_model.specs.declared.layout.Layout.TheVariants.{Two}
 use Rattle.page_codec.specs.Edits.{entries_of, HasEntries}
 use Rattle.page_codec.specs.Grammar.{IsBlock, IsPage}
 use Rattle.page_codec.specs.Spelling.{count_of}
@@ -12,6 +13,7 @@ use Rattle.page_codec.specs.declared.page.PageState.TheVariants.{Live, Deleted}
 use Rattle.page_action.specs.Reuse.{IsFresh}
 use Rattle.page_action.specs.States.{State}
 use Rattle.page_action.specs.Stored.{IsStored, IsApartFrom, AreActable}
+use Rattle.page_action.proofs.Writable.{writable}
 use Rattle.tree_shape.specs.Halves.{left_count}
 use Rattle.tree_shape.specs.Leaf.{MayHold}
 use Rattle.latch_table.specs.Holdings.{has_pin}
@@ -32,16 +34,16 @@ leaf_count (Downlinks v) h = absurd h
 -- the halves of a leaf, and the page to the right of them
 pub halves_may : (st : State) (session : ℕ) (e : Entry) (page left half : Page) (right : Option Page)
     → IsSplittable st page → MayHold page e → 2 ≤ length (entries_of page.items)
-    → IsPage left → IsPage half → HasEntries left.items → HasEntries half.items
+    → left.layout ≡ Two → half.layout ≡ Two → IsPage left → IsPage half → HasEntries left.items → HasEntries half.items
     → length (entries_of left.items) ≡ left_count (length (entries_of page.items))
     → length (entries_of left.items) + length (entries_of half.items) ≡ length (entries_of page.items) + 1
     → left.block ≡ page.block → IsFresh st half.block → IsBlock half.block → RightIsStored st session page.right right
     → AreActable st.limits (length st.pages) (left ∷ half ∷ mended_to half.block right)
-halves_may st session e page left half right fits may some left_page half_page left_leaf half_leaf kept moved left_block fresh block stored = (
-  record { admitted = left_page; few = few_left },
+halves_may st session e page left half right fits may some left_new half_new left_page half_page left_leaf half_leaf kept moved left_block fresh block stored = (
+  writable st.limits left left_new left_page few_left,
   (omega (arith, used, left_block), subst (λ (b : ℕ). b < st.limits.pages) (sym left_block) (omega (arith, used, fits.few))),
   (λ same. apart_new (sym left_block ∙ sym same), subst (λ (b : ℕ). IsApartFrom b (mended_to half.block right)) (sym left_block) beside.apart),
-  (record { admitted = half_page; few = few_half }, (fresh.within, fresh.inside), beside.apart_new, beside.may),
+  (writable st.limits half half_new half_page few_half, (fresh.within, fresh.inside), beside.apart_new, beside.may),
 )
   where
     used : page.block < length st.pages
@@ -80,10 +82,10 @@ frames_beside st at beside blocks is pin =
     subst (λ (bs : List ℕ). count_apart (bs ++ pinned_blocks st.table) ≤ length beside + count_apart (pinned_blocks st.table)) (sym is) (apart_pinned at beside (pinned_blocks st.table) pin)
 
 -- a leaf with one entry more
-pub put_may : (limits : Limits) (used : ℕ) (page after : Page) → IsStored limits page.block page → page.block < used → used ≤ limits.pages → IsPage after → HasEntries after.items
+pub put_may : (limits : Format) (used : ℕ) (page after : Page) → IsStored limits page.block page → page.block < used → used ≤ limits.pages → after.layout ≡ Two → IsPage after → HasEntries after.items
     → length (entries_of after.items) ≤ limits.items → after.block ≡ page.block → AreActable limits used (after ∷ [])
-put_may limits used page after stored in_use inside admitted leaf few block_is = (
-  record { admitted = admitted; few = subst (λ (n : ℕ). n ≤ limits.items) (sym (leaf_count after.items leaf)) few },
+put_may limits used page after stored in_use inside new admitted leaf few block_is = (
+  writable limits after new admitted (subst (λ (n : ℕ). n ≤ limits.items) (sym (leaf_count after.items leaf)) few),
   (omega (arith, block_is, in_use), omega (arith, block_is, in_use, inside)),
   tt,
   tt,

@@ -7,6 +7,7 @@ use Rattle.index_model.specs.Faults.{HasCause}
 use Rattle.index_model.specs.Order.{is_among}
 use Rattle.index_model.specs.declared.bound.Bound.{Bound}
 use Rattle.index_model.specs.declared.fault.Fault.{Fault}
+use Rattle.index_model.specs.declared.layout.Layout.TheVariants.{Two}
 use Rattle.latch_table.specs.Holdings.{Holding, Table, latches_exclude, HasRoom, has_pin, holding_of, nothing_held, released, unpinned, without_latch, without_pin, is_held_by_another}
 use Rattle.latch_table.specs.declared.mode.Mode.TheVariants.{Shared, Exclusive}
 use Rattle.latch_table.proofs.Tables.{length-released, length-unpinned, holding_of-released, holding_of-unpinned, holding_of-released_other, holding_of-unpinned_other}
@@ -98,7 +99,7 @@ right_free st session new other block None None differ alone stored = tt
 right_free st session new other block None (Some page) differ alone stored = absurd stored
 right_free st session new other block (Some r) None differ alone stored = absurd stored
 right_free st session new other block (Some r) (Some page) differ alone stored =
-    apart_from_held st session other block (record page { left = Some new } ∷ []) differ alone
+    apart_from_held st session other block (record page { layout = Two; left = Some new } ∷ []) differ alone
     (subst (λ (b : ℕ). is_held_by_another st.table session b Exclusive ≡ false) (sym stored.0.block_is) stored.2, tt)
 
 one_among : (op : FinishOp) (target : Target) (b : ℕ) → op.below.items ≡ [] → op.target ≡ target → target.block ≡ b → is_among_targets (targets_of op) b ≡ true

@@ -1,9 +1,10 @@
 -- What the parts of a step of an insert do.
-use Rattle.std.specs.Prelude.{◌≡◌, ◌≢◌, ◌⊎◌, ◌≤◌, ◌+◌, ℕ, suc, Bool, true, false, Option, Some, None, Result, Ok, Err, List, [], ◌∷◌, length, slice_get}
+use Rattle.std.specs.Prelude.{◌≡◌, ◌≢◌, ◌⊎◌, ◌≤◌, ◌+◌, ℕ, suc, Bool, true, false, Option, Some, None, Result, Ok, Err, List, [], ◌∷◌, IfSome, length, slice_get}
 use Rattle.index_model.specs.Order.{is_among}
 use Rattle.index_model.specs.declared.entry.Entry.{Entry}
 use Rattle.index_model.specs.declared.fault.Fault.{Fault}
 use Rattle.index_model.specs.declared.fault.Fault.TheVariants.{Blocked, Exists, PageDamaged}
+use Rattle.index_model.specs.declared.layout.Layout.TheVariants.{Two}
 use Rattle.latch_table.specs.Holdings.{latched, pinned, released, unpinned, is_held_by_another}
 use Rattle.latch_table.specs.declared.mode.Mode.TheVariants.{Exclusive}
 use Rattle.page_codec.specs.declared.page.Page.{Page}
@@ -15,6 +16,7 @@ use Rattle.page_action.specs.Stored.{IsStored, AreActable}
 use Rattle.tree_shape.specs.Edits.{LeafHalves, IsPutIn, with_leaf}
 use Rattle.tree_shape.specs.Halves.{left_count}
 use Rattle.tree_shape.specs.Nodes.{node_of}
+use Rattle.tree_shape.specs.Separators.{IsCutOf}
 use Rattle.descent.specs.Splitting.{RightIsMendable, RightIsStored, RightIsFound, mended_to}
 use Rattle.tree_shape.specs.Leaf.{MayHold}
 use Rattle.descent.specs.declared.way.Way.{Way}
@@ -90,7 +92,8 @@ pub record IsSplittable (st : State) (page : Page) : Type 0 where
   pub mendable : RightIsMendable st page.right
   pub apart : page.right ≢ Some page.block
 
--- the pages are the halves of the leaf with the entry, the right one on a new block, both with this cycle number, and this page
+-- the pages are the halves of the leaf with the entry, parted by their separator, the right one on a new block, both of the
+-- second layout and with this cycle number, and this page
 pub record AreParted (page : Page) (e : Entry) (new cycle : ℕ) (rest : Page) (pages : List Page)
     : Type 0 where
   pub left : Page
@@ -100,6 +103,9 @@ pub record AreParted (page : Page) (e : Entry) (new cycle : ℕ) (rest : Page) (
   pub kept : length (entries_of left.items) ≡ left_count (length (entries_of page.items))
   pub moved : length (entries_of left.items) + length (entries_of half.items)
       ≡ length (entries_of page.items) + 1
+  pub cut : IfSome left.high (IsCutOf (entries_of left.items) (entries_of half.items))
+  pub left_layout : left.layout ≡ Two
+  pub half_layout : half.layout ≡ Two
   pub left_block : left.block ≡ page.block
   pub half_block : half.block ≡ new
   pub left_cycle : left.cycle ≡ cycle

@@ -1,5 +1,5 @@
 -- The calls of an index that a ledger's lines make, each with what it answered.
-use Rattle.std.specs.Prelude.{◌≡◌, ◌≢◌, ◌⊎◌, ℕ, Bool, Option, Some, None, Result, Ok, Err, List, [], ◌∷◌, ◌++◌, length, flat_map, map, IfOk}
+use Rattle.std.specs.Prelude.{◌≡◌, ◌≢◌, ◌⊎◌, ℕ, Bool, Option, Some, None, Result, Ok, Err, List, [], ◌∷◌, ◌++◌, length, flat_map, map}
 use Rattle.std.specs.Io.KnownBytes.{Appends}
 use Rattle.access_method.specs.Indexes.{AnswersScan, InsertsOrKeeps, IsCleanedUp, IsSweptOrLess, IndexCarries, IndexGoes, IndexMakes, NotOpenedFor, slots_with}
 use Rattle.access_method.specs.Counted.{kept_came}
@@ -8,7 +8,7 @@ use Rattle.access_method.specs.declared.token.ScanToken.{ScanToken}
 use Rattle.index_model.specs.Row.{Row}
 use Rattle.index_model.specs.declared.entry.Entry.{Entry}
 use Rattle.index_model.specs.declared.fault.Fault.{Fault}
-use Rattle.index_model.specs.declared.fault.Fault.TheVariants.{NoMemory, Stopped}
+use Rattle.index_model.specs.declared.fault.Fault.TheVariants.{NoMemory}
 use Rattle.index_model.specs.declared.range.Range.{Range}
 use Rattle.index_model.specs.declared.stats.VacuumStats.{VacuumStats}
 use Rattle.page_action.specs.declared.page_store.PageStore.{Ghosts}
@@ -29,7 +29,7 @@ use Rattle.ledger.specs.declared.dead.Dead.{Dead}
 use Rattle.ledger.specs.declared.line.Line.{Line}
 use Rattle.ledger.specs.declared.line.Line.TheVariants.{Insert, Delete, List as ListOf, Vacuum, Checkpoint, Commit}
 use Rattle.ledger.specs.declared.reply.Reply.{Reply}
-use Rattle.ledger.specs.declared.reply.Reply.TheVariants.{Added, Deleted, Listed, CleanedUp, Checkpointed, Committed, Refused, NotALine}
+use Rattle.ledger.specs.declared.reply.Reply.TheVariants.{Added, Deleted, Listed, CleanedUp, Checkpointed, Committed, Refused}
 
 -- an insert of this entry answered so: whatever the pages are, by the answers of its events; and what that says of the contents
 pub record IsInsert {S : Type 0} (g : Ghosts S) (entry : Entry) (result : Result Inserted Fault) (old new : Index S) : Type 0 where

@@ -4,7 +4,7 @@ use Rattle.access_method.specs.Files.{StaysOnDisk}
 use Rattle.access_method.specs.declared.index.Index.{Index}
 use Rattle.device.specs.declared.device.Device.{Ghosts as DeviceGhosts}
 use Rattle.ledger.specs.declared.reply.Reply.{Reply}
-use Rattle.ledger.specs.declared.reply.Reply.TheVariants.{Added, Deleted, Listed, CleanedUp, Checkpointed, Committed, Refused, NotALine}
+use Rattle.ledger.specs.declared.reply.Reply.TheVariants.{Checkpointed, Committed}
 use Rattle.page_action.specs.declared.page_store.PageStore.{Ghosts}
 use Rattle.page_store.specs.declared.store.Store.{Store}
 

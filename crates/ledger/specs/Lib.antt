@@ -2,3 +2,4 @@ pub mod Lines
 pub mod Replies
 pub mod Files
 pub mod Calls
+pub mod Sessions

@@ -1,5 +1,5 @@
 -- The lines of a ledger, as they are spelled.
-use Rattle.std.specs.Prelude.{◌≡◌, ◌⊎◌, ℕ, Bool, true, List, [], ◌∷◌, codes, ⊤}
+use Rattle.std.specs.Prelude.{◌≡◌, ◌⊎◌, ℕ, Bool, List, [], ◌∷◌, codes, ⊤}
 use Rattle.index_model.specs.declared.fault.Fault.{Fault}
 use Rattle.text_forms.specs.Spelling.{is_one_of}
 use Rattle.text_forms.specs.Values.{IsEntryOfBytes, IsRangeOfBytes, AreNoEntry, AreNoRange, AreRows, AreNoRows, entry_words, range_words}

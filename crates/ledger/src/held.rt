@@ -3,7 +3,7 @@
 ghost use Rattle.std.specs.Prelude.{IsTrue, List, IfOk};
 ghost use Rattle.access_method.specs.Files.{bytes_before};
 ghost use Rattle.access_method.specs.Indexes.{IndexBegins};
-ghost use Rattle.index_model.specs.declared.limits.Limits.{Limits as Sizes};
+ghost use Rattle.index_model.specs.declared.format.Format.{Format};
 ghost use Rattle.page_codec.specs.declared.page.Page.{Page};
 ghost use Rattle.page_store.specs.Stores.{device_of};
 ghost use Rattle.recovery.specs.Index.{HasIndex};
@@ -39,7 +39,7 @@ pub fn open<F: Files<File = File>, S: Start>(
     ensures begins { IfOk result (λ index.
         let d = ⟦<FileDevice<S> as Device>⟧ in
         IsTrue (d.is_honest (device_of d index.store))
-        → (limits : Sizes) (pages : List Page)
+        → (limits : Format) (pages : List Page)
         → HasIndex limits pages (bytes_before S.Start.bytes (d.trace (device_of d index.store)))
         → IsTree pages
         → IndexBegins d ⟦<Store<FileDevice<S>> as PageStore>⟧ limits pages index) }

@@ -11,17 +11,23 @@ mod session;
 #[cfg(test)]
 mod tests;
 
-use crate::program::ledger;
+use crate::program::{ledger, refuse};
 use device::Unknown;
+use index_model::Fault;
+use std::io::{BufReader, BufWriter};
 use std::process::ExitCode;
 use std::{env, io};
 
 fn main(rt: HostRuntime) -> io::Result<ExitCode> {
     let words: Vec<String> = env::args(&rt)?.collect(rt.alloc())?;
-    let mut input = rt.stdin();
-    let mut out = rt.stdout();
     let mut err = rt.stderr();
-    let status = ledger::<_, Unknown, _, _, _, _>(
+    let Ok(mut input) = BufReader::new(rt.alloc(), rt.stdin()) else {
+        return Ok(ExitCode::from(refuse(&mut err, Fault::NoMemory)));
+    };
+    let Ok(mut out) = BufWriter::new(rt.alloc(), rt.stdout()) else {
+        return Ok(ExitCode::from(refuse(&mut err, Fault::NoMemory)));
+    };
+    let ended = ledger::<_, Unknown, _, _, _, _>(
         &rt,
         rt.alloc(),
         words.as_slice(),
@@ -29,5 +35,5 @@ fn main(rt: HostRuntime) -> io::Result<ExitCode> {
         &mut out,
         &mut err,
     );
-    Ok(ExitCode::from(status))
+    Ok(ExitCode::from(ended.status))
 }

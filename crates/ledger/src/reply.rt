@@ -1,8 +1,8 @@
 //! What a line is answered with.
 
-ghost use Rattle.std.specs.Prelude.{◌≡◌, ◌++◌, ◌∷◌, [], OnOk, IfSome};
-ghost use Rattle.std.specs.Io.KnownBytes.{Appends};
-ghost use Rattle.ledger.specs.Replies.{reply_text};
+ghost use Rattle.std.specs.Prelude.{◌≡◌};
+ghost use Rattle.text_forms.specs.Printing.{PrintsLine};
+ghost use Rattle.ledger.specs.Replies.{fault_name, refusal_text, reply_text};
 
 use access_method::Inserted;
 use index_model::{Fault, VacuumStats};
@@ -29,8 +29,7 @@ pub enum Reply {
 
 /// Prints the line of a reply.
 pub fn print_reply<W: Write>(out: &mut W, reply: &Reply) -> io::Result<()>
-    ensures { OnOk result (IfSome (reply_text reply.now) (λ text.
-        Appends (W.contents out.old) (W.contents out.new) (text ++ 10 ∷ []))) }
+    ensures { PrintsLine (W.contents out.old) (W.contents out.new) result (reply_text reply.now) }
 {
     match reply {
         Reply::Added(inserted) => print_answer(out, &added(inserted)),
@@ -55,10 +54,41 @@ fn added(inserted: &Inserted) -> Answer
 }
 
 /// Prints `refused N NAME`, with the block that the fault names behind it.
-pub fn print_refused<W: Write>(out: &mut W, fault: Fault) -> io::Result<()> {
+pub fn print_refused<W: Write>(out: &mut W, fault: Fault) -> io::Result<()>
+    ensures { PrintsLine (W.contents out.old) (W.contents out.new) result (refusal_text fault) }
+{
     let number = fault.number();
+    let name = name_of(fault);
     match fault.block() {
-        None => writeln!(out, "refused {number} {fault}"),
-        Some(block) => writeln!(out, "refused {number} {fault} {block}"),
+        None => writeln!(out, "refused {number} {name}"),
+        Some(block) => writeln!(out, "refused {number} {name} {block}"),
+    }
+}
+
+// The name of a fault.
+fn name_of(fault: Fault) -> &'static str
+    ensures { result.now ≡ fault_name fault }
+{
+    match fault {
+        Fault::NoMemory => "NoMemory",
+        Fault::Io => "Io",
+        Fault::Stopped => "Stopped",
+        Fault::Blocked(_) => "Blocked",
+        Fault::Exists => "Exists",
+        Fault::KeyTooLong => "KeyTooLong",
+        Fault::BadRow => "BadRow",
+        Fault::IndexFull => "IndexFull",
+        Fault::LogFull => "LogFull",
+        Fault::NoFrame => "NoFrame",
+        Fault::VacuumRunning => "VacuumRunning",
+        Fault::NoSession => "NoSession",
+        Fault::SessionBusy => "SessionBusy",
+        Fault::BadSuper => "BadSuper",
+        Fault::BadVersion => "BadVersion",
+        Fault::LogDamaged => "LogDamaged",
+        Fault::PageDamaged(_) => "PageDamaged",
+        Fault::BadLimits => "BadLimits",
+        Fault::TooTall => "TooTall",
+        Fault::DeviceTooSmall => "DeviceTooSmall",
     }
 }

@@ -50,7 +50,7 @@ fn runs(
     );
     assert_eq!(rt; text(&out), printed);
     assert!(rt; text(&err).starts_with(said));
-    assert_eq!(rt; ended, status);
+    assert_eq!(rt; ended.status, status);
     Ok(())
 }
 

@@ -8,7 +8,7 @@ use Rattle.amcheck.specs.declared.report.Report.{Report}
 use Rattle.device.specs.declared.device.Device.{Ghosts as DeviceGhosts}
 use Rattle.index_model.specs.Faults.{number_of}
 use Rattle.index_model.specs.declared.fault.Fault.{Fault}
-use Rattle.index_model.specs.declared.limits.Limits.{Limits}
+use Rattle.index_model.specs.declared.format.Format.{Format}
 use Rattle.page_action.specs.States.{Continues}
 use Rattle.page_action.specs.declared.page_store.PageStore.{Ghosts}
 use Rattle.page_codec.specs.declared.page.Page.{Page}
@@ -49,7 +49,7 @@ TellsCheck (Err (Refused fault)) checked = IsCheckRefusal fault checked
 
 -- a file, which held these bytes for each length that it might have, is opened with the pages of its index
 abbrev pub IsOpened : {D : Type 0} (d : DeviceGhosts D) → (ℕ → List ℕ) → Store D d → Type 0
-IsOpened d held store = IsTrue (d.is_honest (device_of d store)) → (limits : Limits) (pages : List Page)
+IsOpened d held store = IsTrue (d.is_honest (device_of d store)) → (limits : Format) (pages : List Page)
     → HasIndex limits pages (bytes_before held (d.trace (device_of d store))) → IsSameIndex d limits pages store
 
 -- The index in the file was opened and judged, and what the verifier answered is told: of its pages, which it has left as they were.

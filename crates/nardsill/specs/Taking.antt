@@ -4,7 +4,7 @@ use Rattle.access_method.specs.Files.{bytes_before}
 use Rattle.access_method.specs.Indexes.{IndexBegins}
 use Rattle.access_method.specs.declared.index.Index.{Index}
 use Rattle.device.specs.declared.device.Device.{Ghosts as DeviceGhosts}
-use Rattle.index_model.specs.declared.limits.Limits.{Limits}
+use Rattle.index_model.specs.declared.format.Format.{Format}
 use Rattle.page_action.specs.declared.page_store.PageStore.{Ghosts}
 use Rattle.page_codec.specs.declared.page.Page.{Page}
 use Rattle.page_store.specs.Stores.{device_of}
@@ -17,7 +17,7 @@ use Rattle.nardsill.specs.declared.dead.Dead.{Dead}
 -- where a file, which held these bytes for each length that it might have, held an index whose pages are a B-link tree, it is opened
 -- with them
 abbrev pub BeginsWithFile : {D : Type 0} (d : DeviceGhosts D) → Ghosts (Store D d) → (ℕ → List ℕ) → Index (Store D d) → Type 0
-BeginsWithFile d g held index = IsTrue (d.is_honest (device_of d index.store)) → (limits : Limits) (pages : List Page)
+BeginsWithFile d g held index = IsTrue (d.is_honest (device_of d index.store)) → (limits : Format) (pages : List Page)
     → HasIndex limits pages (bytes_before held (d.trace (device_of d index.store))) → IsTree pages → IndexBegins d g limits pages index
 
 -- Where 0 is answered there is an index, which is the file's; where a fault is, the handle is as it was. The rows that were named stay.

@@ -9,7 +9,7 @@ use crate::handle::{Handle, InFile};
 use access_method::Index;
 use device::{Device, FileDevice, Start, Unknown};
 use device_layout::{needed_len, page_place};
-use index_model::Fault;
+use index_model::{Fault, Format};
 use page_action::PageStore;
 use page_store::Store;
 use recovery::create;
@@ -70,7 +70,7 @@ fn make(file: &File, ask: &OpenAsk) -> Result<(), Fault> {
         return Err(Fault::BadLimits);
     }
     // All but the log is written by what makes the index.
-    let filled = page_place(&limits, 0);
+    let filled = page_place(&Format::new(&limits), 0);
     let mut device = FileDevice::<Unknown>::made(own(file)?, needed_len(&limits), filled)?;
     create(&mut device, &limits)
 }

@@ -1,11 +1,11 @@
 -- Which page of an act is the first that may not be changed.
 use Rattle.std.proofs.Common.{◌≡◌, ℕ, ◌+◌, ◌<◌, List, length, drop, get_or, refl, sym, subst, inl, inr}
-use Rattle.index_model.specs.declared.limits.Limits.{Limits}
+use Rattle.index_model.specs.declared.format.Format.{Format}
 use Rattle.page_codec.specs.declared.page.Page.{Page}
 use Rattle.page_action.specs.Stored.{IsPlaced, IsFirstMisplaced}
 use Rattle.page_action.proofs.StoredPages.{drop_at_item}
 
-module _ (limits : Limits) (used : ℕ) (pages : List Page) (k : ℕ) (page : Page) (within : k < length pages) (is : page ≡ get_or pages k page) where
+module _ (limits : Format) (used : ℕ) (pages : List Page) (k : ℕ) (page : Page) (within : k < length pages) (is : page ≡ get_or pages k page) where
   -- it is this page
   pub first_here : (IsPlaced limits used page (drop (k + 1) pages) → ⊥) → IsFirstMisplaced limits used (drop k pages) page.block
   first_here wrong = subst (λ (ps : List Page). IsFirstMisplaced limits used ps page.block) (sym (drop_at_item pages k page within is)) (inl (refl, wrong))

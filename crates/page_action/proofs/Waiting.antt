@@ -4,7 +4,7 @@ use Rattle.std.proofs.lemmas.Bool.{cases_lt, cases_eq, lt-ltb, le-ltb, le-leb, l
 use Rattle.std.proofs.lemmas.List.{get_or-set_same, get_or-set_other}
 use Rattle.std.proofs.lemmas.Option.{unwrap_or-slice_get, get_or_from_slice_get}
 use Rattle.free_blocks.specs.Numbers.{number_at, lesser, is_at_most, IsLowest, AreBeyond}
-use Rattle.index_model.specs.declared.limits.Limits.{Limits}
+use Rattle.index_model.specs.declared.format.Format.{Format}
 use Rattle.page_codec.specs.declared.page.Page.{Page}
 use Rattle.page_codec.specs.declared.page.PageState.{PageState}
 use Rattle.page_codec.specs.declared.page.PageState.TheVariants.{Live, HalfDead, Deleted}
@@ -108,7 +108,7 @@ add_waits waiting pages counted page waits same room =
     (added pages (length counted) page (sym same)) (added counted (length counted) 0 refl) (no_count_waits page.state)
 
 -- ... after pages are written
-pub write_waits : (limits : Limits) (used : ℕ) (waiting : List (Option ℕ)) (pages : List Page) (counted : List ℕ) (changed : List Page)
+pub write_waits : (limits : Format) (used : ℕ) (waiting : List (Option ℕ)) (pages : List Page) (counted : List ℕ) (changed : List Page)
     → AreActable limits used changed → used ≤ length pages → limits.pages ≤ length waiting → length counted ≡ length pages
     → AreWaiting waiting pages counted → AreWaiting (with_all_waiting waiting changed) (with_pages pages changed) (with_counts counted changed)
 write_waits limits used waiting pages counted [] may most room same waits = waits
@@ -116,7 +116,7 @@ write_waits limits used waiting pages counted (page ∷ changed) may most room s
     let place : page.block ≤ length pages = omega (arith, may.1.0) in
     let at = put_waits waiting pages (with_page pages page) counted (with_count counted page) page.block (number_to_count page.state page.deletion) page (waiting_number page.state page.deletion)
     waits (omega (arith, may.1.1)) (puts_page pages page place) (puts_count counted page (omega arith)) (count_waits page.state page.deletion) in
-    write_waits limits used (with_waiting waiting page) (with_page pages page) (with_count counted page) changed may.3 (omega (arith, with_page-longer limits pages page may.0 place))
+    write_waits limits used (with_waiting waiting page) (with_page pages page) (with_count counted page) changed may.3 (omega (arith, with_page-longer limits pages page may.0.storable place))
     (omega (arith, length-set waiting page.block (waiting_number page.state page.deletion))) (length-with_count counted pages page same) at
 
 -- where nothing is in use, nothing waits
@@ -175,7 +175,7 @@ and_left true b h = refl
 and_left false b h = h
 
 -- which of these calls' pages may be reused is told by the numbers that wait
-module _ (limits : Limits) (frames acts : ℕ) (pages : List Page) (calls : TableOfCalls) (waits : AreWaiting calls.waiting pages calls.counted) where
+module _ (limits : Format) (frames acts : ℕ) (pages : List Page) (calls : TableOfCalls) (waits : AreWaiting calls.waiting pages calls.counted) where
   abbrev st : State
   st = state_with limits frames pages acts calls
 

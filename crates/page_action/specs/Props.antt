@@ -7,8 +7,13 @@ use mathlib.Core.Sum.{⊎_set}
 use Rattle.index_model.specs.Order.{IsEntry, IsPast, IsUpTo, AscendsPast, bound_of, coded_entry}
 use Rattle.index_model.specs.declared.bound.Bound.{Bound}
 use Rattle.index_model.specs.declared.entry.Entry.{Entry}
-use Rattle.index_model.specs.declared.limits.Limits.{Limits}
-use Rattle.page_codec.specs.Grammar.{IsWhole, IsDownlink, AreEntries, AreLinks, Ascends, FollowedBy, LinkBefore, Below, StartsLow, IsMeta, IsLeafIn, IsLeaf, IsInternal, IsOfKind, IsPage}
+use Rattle.std.specs.Prelude.{IfSome}
+use Rattle.index_model.specs.Row.{Row}
+use Rattle.index_model.specs.Limits.{Admits}
+use Rattle.index_model.specs.declared.format.Format.{Format}
+use Rattle.index_model.specs.declared.layout.Layout.{Layout}
+use Rattle.index_model.specs.declared.layout.Layout.TheVariants.{One, Two}
+use Rattle.page_codec.specs.Grammar.{IsRowIn, IsBoundIn, IsDownlink, AreEntries, AreLinks, Ascends, FollowedBy, LinkBefore, Below, StartsLow, IsMeta, IsLeafIn, IsLeaf, IsInternal, IsOfKind, IsPage}
 use Rattle.page_codec.specs.declared.page.Downlink.{Downlink}
 use Rattle.page_codec.specs.declared.page.Items.{Items}
 use Rattle.page_codec.specs.declared.page.Items.TheVariants.{Meta, Entries, Downlinks}
@@ -45,11 +50,26 @@ Ascends-prop : {A : Type 0} (R : A → A → Type 0) → ((a b : A) → IsProp (
 Ascends-prop R h [] = Unit-prop
 Ascends-prop R h (a ∷ rest) = FollowedBy-prop R h a rest
 
-IsWhole-prop : (b : Bound) → IsProp (IsWhole b)
-IsWhole-prop b = hlevel props
+IsRowIn-prop : (layout : Layout) (key : List ℕ) (r : Option Row) → IsProp (IsRowIn layout key r)
+IsRowIn-prop One key None = λ a b. absurd a
+IsRowIn-prop Two key None = hlevel props
+IsRowIn-prop One key (Some r) = hlevel props
+IsRowIn-prop Two key (Some r) = hlevel props
 
-IsDownlink-prop : (d : Downlink) → IsProp (IsDownlink d)
-IsDownlink-prop d = hlevel props
+IsBoundIn-prop : (layout : Layout) (b : Bound) → IsProp (IsBoundIn layout b)
+IsBoundIn-prop layout b = hlevel (props, IsRowIn-prop layout b.key b.row)
+
+IfBound-prop : (layout : Layout) (b : Option Bound) → IsProp (IfSome b (IsBoundIn layout))
+IfBound-prop layout None = Unit-prop
+IfBound-prop layout (Some b) = IsBoundIn-prop layout b
+
+Admits-prop : (a b : Layout) → IsProp (Admits a b)
+Admits-prop One b = Unit-prop
+Admits-prop Two One = λ a b. absurd a
+Admits-prop Two Two = Unit-prop
+
+IsDownlink-prop : (layout : Layout) (d : Downlink) → IsProp (IsDownlink layout d)
+IsDownlink-prop layout d = hlevel (props, IfBound-prop layout d.bound)
 
 Below-prop : (high : Option Bound) (d : Downlink) → IsProp (Below high d)
 Below-prop None d = Unit-prop
@@ -62,8 +82,8 @@ StartsLow-prop : (ds : List Downlink) → IsProp (StartsLow ds)
 StartsLow-prop [] = λ a b. absurd a
 StartsLow-prop (d ∷ ds) = hlevel (props, ⊎_set)
 
-AreLinks-prop : (high : Option Bound) (ds : List Downlink) → IsProp (AreLinks high ds)
-AreLinks-prop high ds = hlevel (props, Ascends-prop LinkBefore LinkBefore-prop ds, AllByRecursion-prop _ IsDownlink-prop ds, AllByRecursion-prop _ (Below-prop high) ds)
+AreLinks-prop : (layout : Layout) (high : Option Bound) (ds : List Downlink) → IsProp (AreLinks layout high ds)
+AreLinks-prop layout high ds = hlevel (props, Ascends-prop LinkBefore LinkBefore-prop ds, AllByRecursion-prop _ (IsDownlink-prop layout) ds, AllByRecursion-prop _ (Below-prop high) ds)
 
 state_set : (a b : PageState) → IsProp (a ≡ b)
 state_set a b = hlevel (props, ⊎_set)
@@ -84,7 +104,7 @@ IsLeaf-prop p es = hlevel (props, IsLeafIn-prop p.state p es)
 
 IsInternal-prop : (p : Page) (ds : List Downlink) → IsProp (IsInternal p ds)
 IsInternal-prop p ds =
-    hlevel (props, state_set p.state Live, StartsLow-prop ds, AreLinks-prop p.high ds)
+    hlevel (props, state_set p.state Live, StartsLow-prop ds, AreLinks-prop p.layout p.high ds)
 
 IsOfKind-prop : (p : Page) (items : Items) → IsProp (IsOfKind p items)
 IsOfKind-prop p Meta = IsMeta-prop p
@@ -92,12 +112,12 @@ IsOfKind-prop p (Entries v) = IsLeaf-prop p v.items
 IsOfKind-prop p (Downlinks v) = IsInternal-prop p v.items
 
 IsPage-prop : (p : Page) → IsProp (IsPage p)
-IsPage-prop p = hlevel (props, IsOfKind-prop p p.items)
+IsPage-prop p = hlevel (props, IfBound-prop p.layout p.high, IsOfKind-prop p p.items)
 
-pub IsStored-prop : (limits : Limits) (block : ℕ) (p : Page) → IsProp (IsStored limits block p)
-IsStored-prop limits block p = hlevel (props, IsPage-prop p)
+pub IsStored-prop : (limits : Format) (block : ℕ) (p : Page) → IsProp (IsStored limits block p)
+IsStored-prop limits block p = hlevel (props, IsPage-prop p, Admits-prop limits.layout p.layout)
 
-pub AreStored-prop : (limits : Limits) (block : ℕ) (pages : List Page)
+pub AreStored-prop : (limits : Format) (block : ℕ) (pages : List Page)
     → IsProp (AreStored limits block pages)
 AreStored-prop limits block [] = Unit-prop
 AreStored-prop limits block (page ∷ pages) =

@@ -1,22 +1,30 @@
 -- What a store keeps of each page, and which pages an act may change.
 use Rattle.std.specs.Prelude.{◌≡◌, ◌≢◌, ◌⊎◌, ℕ, suc, ◌≤◌, ◌<◌, List, [], ◌∷◌}
-use Rattle.index_model.specs.declared.limits.Limits.{Limits}
+use Rattle.index_model.specs.Limits.{Admits}
+use Rattle.index_model.specs.declared.format.Format.{Format}
+use Rattle.index_model.specs.declared.layout.Layout.TheVariants.{Two}
 use Rattle.page_codec.specs.Grammar.{IsPage}
 use Rattle.page_codec.specs.Spelling.{count_of}
 use Rattle.page_codec.specs.declared.page.Page.{Page}
 
--- the page is one of the format, with no more items than the limits allow
-pub record IsStorable (limits : Limits) (page : Page) : Type 0 where
+-- the page is one that the format admits, with no more items than its limits allow, of a layout that it may have
+pub record IsStorable (limits : Format) (page : Page) : Type 0 where
   pub admitted : IsPage page
   pub few : count_of page.items ≤ limits.items
+  pub layout : Admits limits.layout page.layout
+
+-- ... and of the second layout, as each page is that an act writes
+pub record IsWritable (limits : Format) (page : Page) : Type 0 where
+  pub storable : IsStorable limits page
+  pub new : page.layout ≡ Two
 
 -- a page as it is stored at a block
-pub record IsStored (limits : Limits) (block : ℕ) (page : Page) : Type 0 where
+pub record IsStored (limits : Format) (block : ℕ) (page : Page) : Type 0 where
   pub storable : IsStorable limits page
   pub block_is : page.block ≡ block
 
 -- each of these pages, from this block on, is stored at its block
-abbrev pub AreStored : Limits → ℕ → List Page → Type 0
+abbrev pub AreStored : Format → ℕ → List Page → Type 0
 AreStored limits block [] = Unit {0}
 AreStored limits block (page ∷ pages) =
     IsStored limits block page × AreStored limits (suc block) pages
@@ -27,25 +35,25 @@ IsApartFrom block [] = Unit {0}
 IsApartFrom block (page ∷ pages) = (page.block ≢ block) × IsApartFrom block pages
 
 -- a block in use, or the next unused one
-abbrev pub IsPlaceable : Limits → ℕ → ℕ → Type 0
+abbrev pub IsPlaceable : Format → ℕ → ℕ → Type 0
 IsPlaceable limits used block = (block ≤ used) × (block < limits.pages)
 
--- an act may change the page beside those behind it: it may be stored, at a block that is in use or the next unused one, which none
+-- an act may change the page beside those behind it: it may be written, at a block that is in use or the next unused one, which none
 -- of them names
-pub record IsPlaced (limits : Limits) (used : ℕ) (page : Page) (behind : List Page) : Type 0 where
-  pub storable : IsStorable limits page
+pub record IsPlaced (limits : Format) (used : ℕ) (page : Page) (behind : List Page) : Type 0 where
+  pub writable : IsWritable limits page
   pub placeable : IsPlaceable limits used page.block
   pub apart : IsApartFrom page.block behind
 
--- the pages of an act: each may be stored, at a block that is in use or the next unused one; no block is named twice
-abbrev pub AreActable : Limits → ℕ → List Page → Type 0
+-- the pages of an act: each may be written, at a block that is in use or the next unused one; no block is named twice
+abbrev pub AreActable : Format → ℕ → List Page → Type 0
 AreActable limits used [] = Unit {0}
 AreActable limits used (page ∷ pages) =
-    IsStorable limits page × IsPlaceable limits used page.block × IsApartFrom page.block pages
+    IsWritable limits page × IsPlaceable limits used page.block × IsApartFrom page.block pages
     × AreActable limits used pages
 
 -- the first of these pages that an act may not change beside those behind it is of this block
-abbrev pub IsFirstMisplaced : Limits → ℕ → List Page → ℕ → Type 0
+abbrev pub IsFirstMisplaced : Format → ℕ → List Page → ℕ → Type 0
 IsFirstMisplaced limits used [] block = ⊥
 IsFirstMisplaced limits used (page ∷ pages) block =
     ((page.block ≡ block) × (IsPlaced limits used page pages → ⊥))

@@ -1,17 +1,24 @@
 //! Pages that may be stored, and where they are put.
 
 ghost use Rattle.std.specs.Prelude.{◌≡◌, ◌≤◌, ◌<◌, [], ◌∷◌, ◌++◌, vec_len, vec_capacity, IsTrue, ◌↔◌, IfNone, IfSome};
-ghost use Rattle.page_action.specs.Stored.{AreStored, IsStorable, IsApartFrom, IsPlaceable, AreActable, IsFirstMisplaced};
+ghost use Rattle.page_action.specs.Stored.{AreStored, IsStorable, IsWritable, IsApartFrom, IsPlaceable, AreActable, IsFirstMisplaced};
 ghost use Rattle.page_action.specs.States.{with_page, with_pages};
 
-use index_model::Limits;
+use index_model::{Format, Layout};
 use page_codec::{Page, is_page};
 
 /// Whether the page may be stored under these limits.
-pub fn is_storable(page: &Page, limits: Limits) -> bool
+pub fn is_storable(page: &Page, limits: Format) -> bool
     ensures { IsTrue result ↔ IsStorable limits page.now }
 {
-    is_page(page) && page.items.len() <= limits.items as usize
+    is_page(page) && page.items.len() <= limits.items as usize && limits.admits(page.layout)
+}
+
+// Whether an act may write the page under these limits.
+fn is_writable(page: &Page, limits: Format) -> bool
+    ensures { IsTrue result ↔ IsWritable limits page.now }
+{
+    is_storable(page, limits) && matches!(page.layout, Layout::Two)
 }
 
 // Whether none of these pages is of this block.
@@ -27,22 +34,22 @@ fn is_apart(block: u32, pages: &[Page]) -> bool
 }
 
 // Whether the block is in use, or the next unused one, within the limits.
-fn is_placeable(block: u32, used: u32, limits: Limits) -> bool
+fn is_placeable(block: u32, used: u32, limits: Format) -> bool
     ensures { IsTrue result ↔ IsPlaceable limits used block }
 {
     block <= used && block < limits.pages
 }
 
-/// The block of the first of these pages that an act may not change beside those behind it: the page may not be stored, its
+/// The block of the first of these pages that an act may not change beside those behind it: the page may not be written, its
 /// block is neither in use nor the next unused one, or a later page is of the same block. None: the act may be done.
-pub fn find_misplaced(pages: &[Page], used: u32, limits: Limits) -> Option<u32>
+pub fn find_misplaced(pages: &[Page], used: u32, limits: Format) -> Option<u32>
     ensures none { IfNone result (AreActable limits used pages.now) }
     ensures some { IfSome result (λ block. AreActable limits used pages.now → ⊥) }
     ensures first { IfSome result (IsFirstMisplaced limits used pages.now) }
 {
     for at in 0..pages.len() {
         let page = &pages[at];
-        if !is_storable(page, limits)
+        if !is_writable(page, limits)
             || !is_placeable(page.block, used, limits)
             || !is_apart(page.block, &pages[at + 1..])
         {
@@ -78,7 +85,7 @@ fn place_page(pages: &mut Vec<Page>, page: &Page)
 }
 
 /// Puts copies of these pages at their blocks, each in use or the next unused one. It takes no memory.
-pub fn place_pages(limits: Limits, pages: &mut Vec<Page>, changed: &[Page])
+pub fn place_pages(limits: Format, pages: &mut Vec<Page>, changed: &[Page])
     requires actable { AreActable limits (vec_len pages.old) changed.now }
     requires few { vec_len pages.old ≤ limits.pages }
     requires stored { AreStored limits 0 pages.old.items }

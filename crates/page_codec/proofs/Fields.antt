@@ -4,6 +4,8 @@ use Rattle.std.specs.Prelude.{ℕ, zero, suc, ◌%◌, ◌==◌, if◌then◌els
 use Rattle.byteorder.specs.Endian.{little_number}
 use Rattle.index_model.specs.declared.entry.Entry.{Entry}
 use Rattle.index_model.specs.declared.bound.Bound.{Bound}
+use Rattle.index_model.specs.declared.layout.Layout.{Layout}
+use Rattle.index_model.specs.declared.layout.Layout.TheVariants.{One, Two}
 use Rattle.page_codec.specs.declared.page.PageState.{PageState}
 use Rattle.page_codec.specs.declared.page.PageState.TheVariants.{Live, HalfDead, Deleted}
 use Rattle.page_codec.specs.declared.page.Downlink.{Downlink}
@@ -17,11 +19,12 @@ abbrev pub ◌>>=◌ : {A B : Type 0} → Option A → (A → Option B) → Opti
 None >>= f = None
 (Some x) >>= f = f x
 
--- no bound, where the offset is 0
+-- no bound, where the offset and the length of the key are 0; the place before all rows of a key, where the offset alone is
 abbrev pub slot_from : ℕ → ℕ → ℕ → List ℕ → Option (Option Bound)
 slot_from len block offset key =
-    if offset == 0 then Some None
-    else if nat_lt 64 len then None
+    if nat_lt 64 len then None
+    else if offset == 0
+    then (if len == 0 then Some None else Some (Some (record { key = key; row = None })))
     else if block == 4294967295 then None
     else Some (Some (record { key = key; row = Some (record { block = block; offset = offset }) }))
 
@@ -64,6 +67,10 @@ items_of kind count bytes =
     then (items_at downlink_at 75 count bytes >>= λ ds. Some (Downlinks (record { items = ds })))
     else None
 
+-- the layout that a byte names
+abbrev pub layout_at : ℕ → Option Layout
+layout_at byte = if byte == 49 then Some One else if byte == 50 then Some Two else None
+
 -- the state that a byte names
 abbrev pub state_at : ℕ → Option PageState
 state_at byte =
@@ -76,13 +83,15 @@ state_at byte =
 abbrev pub link_at : ℕ → Option ℕ
 link_at n = if n == 4294967295 then None else Some n
 
--- the page, whatever its first four bytes, its padding and its end are
+-- the page, whatever its first three bytes, its padding and its end are
 unfoldable pub page_at : List ℕ → Option Page
 page_at bytes =
+    layout_at (slice_index bytes 3) >>= λ layout.
     state_at (slice_index bytes 10) >>= λ state.
     slot_at (drop 36 bytes) >>= λ high.
     items_of (slice_index bytes 8) (little_number 2 (drop 32 bytes)) (drop 107 bytes) >>= λ items.
     Some (record {
+      layout = layout;
       block = little_number 4 (drop 4 bytes);
       level = slice_index bytes 9;
       state = state;

@@ -9,16 +9,18 @@ use Rattle.byteorder.specs.Numbers.{little_number-reads_back}
 use Rattle.index_model.specs.Order.{IsEntry}
 use Rattle.index_model.specs.declared.entry.Entry.{Entry}
 use Rattle.index_model.specs.declared.bound.Bound.{Bound}
+use Rattle.index_model.specs.declared.layout.Layout.{Layout}
+use Rattle.index_model.specs.declared.layout.Layout.TheVariants.{One, Two}
 use Rattle.page_codec.specs.Begins.{AreItems}
-use Rattle.page_codec.specs.Grammar.{IsBlock, IsPage, IsDownlink, IsLeafIn, IsOfKind}
-use Rattle.page_codec.specs.Spelling.{bit, bit_of, link_number, kind_byte, count_of, state_byte, slot_bytes, entry_bytes, downlink_bytes, items_bytes, head_bytes, used_bytes, page_bytes}
-use Rattle.page_codec.proofs.Fields.{◌>>=◌, slot_at, entry_at, downlink_at, items_at, items_of, state_at, link_at, page_at}
+use Rattle.page_codec.specs.Grammar.{IsBlock, IsBoundIn, IsPage, IsDownlink, IsLeafIn, IsOfKind}
+use Rattle.page_codec.specs.Spelling.{layout_digit, bit, bit_of, link_number, kind_byte, count_of, state_byte, slot_bytes, entry_bytes, downlink_bytes, items_bytes, head_bytes, used_bytes, page_bytes}
+use Rattle.page_codec.proofs.Fields.{◌>>=◌, slot_at, entry_at, downlink_at, items_at, items_of, layout_at, state_at, link_at, page_at}
 use Rattle.page_codec.specs.declared.page.PageState.{PageState}
 use Rattle.page_codec.specs.declared.page.PageState.TheVariants.{Live, HalfDead, Deleted}
 use Rattle.page_codec.specs.declared.page.Items.{Items}
 use Rattle.page_codec.specs.declared.page.Items.TheVariants.{Meta, Entries, Downlinks}
 use Rattle.page_codec.specs.declared.page.Page.{Page}
-use Rattle.page_codec.proofs.Again.{slot_again, entry_again, downlink_again, items_again, length-slot, length-entry, length-downlink}
+use Rattle.page_codec.proofs.Again.{slot_widens, links_widen, slot_again, entry_again, downlink_again, items_again, length-slot, length-entry, length-downlink}
 
 leaf_entries : (s : PageState) (p : Page) (es : List Entry) → IsLeafIn s p es → AllByRecursion IsEntry es
 leaf_entries Live p es h = h.entries.valid
@@ -28,7 +30,7 @@ leaf_entries Deleted p es h = subst (λ (xs : List Entry). AllByRecursion IsEntr
 pub are_items : (p : Page) (items : Items) → IsOfKind p items → AreItems items
 are_items p Meta h = tt
 are_items p (Entries v) h = (h.count, leaf_entries p.state p v.items h.rest)
-are_items p (Downlinks v) h = (h.count, h.links.valid)
+are_items p (Downlinks v) h = (h.count, links_widen p.layout v.items h.links.valid)
 
 pub kind_again : (items : Items) (rest : List ℕ) → AreItems items → items_of (kind_byte items) (count_of items) (items_bytes items ++ rest) ≡ Some items
 unfolding items_of items_bytes
@@ -39,13 +41,17 @@ kind_again (Entries v) rest h =
     rw (some, read) refl
 kind_again (Downlinks v) rest h =
     let some : nat_lt 50 (length v.items) ≡ false = grind (arith, nat_tests, h.0) in
-    let read : items_at downlink_at 75 (length v.items) (flat_map downlink_bytes v.items ++ rest) ≡ Some v.items = items_again downlink_at 75 downlink_bytes IsDownlink length-downlink downlink_again v.items rest h.1 in
+    let read : items_at downlink_at 75 (length v.items) (flat_map downlink_bytes v.items ++ rest) ≡ Some v.items = items_again downlink_at 75 downlink_bytes (IsDownlink Two) length-downlink downlink_again v.items rest h.1 in
     rw (some, read) refl
 
 count_fits : (items : Items) → AreItems items → count_of items < 256 ^ 2
 count_fits Meta h = omega arith
 count_fits (Entries v) h = omega (arith, h.0)
 count_fits (Downlinks v) h = omega (arith, h.0)
+
+layout_again : (l : Layout) → layout_at (layout_digit l) ≡ Some l
+layout_again One = refl
+layout_again Two = refl
 
 state_again : (s : PageState) → state_at (state_byte s) ≡ Some s
 state_again Live = refl
@@ -77,6 +83,7 @@ length-head p = refl
 
 -- the fields of a page, where its bytes have them
 pub record HasFields (p : Page) (bytes : List ℕ) : Type 0 where
+  pub layout : slice_index bytes 3 ≡ layout_digit p.layout
   pub block : little_number 4 (drop 4 bytes) ≡ p.block
   pub kind : slice_index bytes 8 ≡ kind_byte p.items
   pub level : slice_index bytes 9 ≡ p.level
@@ -93,6 +100,7 @@ unfolding head_bytes
 head_has p behind h =
     let whole : List ℕ = head_bytes p ++ behind in
     record {
+      layout = refl;
       block = little_number-reads_back 4 p.block (drop 8 whole) (block_fits p p.items h.kind);
       kind = refl;
       level = refl;
@@ -121,15 +129,18 @@ page_again p h =
     let whole : List ℕ = head_bytes p ++ (slot ++ (items ++ zeros)) in
     let parts : page_bytes p ≡ whole = simp append_assoc in
     let are = are_items p p.items h.kind in
+    let high : IfSome p.high (IsBoundIn Two) = slot_widens p.layout p.high h.high in
     let has = head_has p (slot ++ (items ++ zeros)) h in
     let at36 : drop 36 whole ≡ slot ++ (items ++ zeros) = drop_at (head_bytes p) (slot ++ (items ++ zeros)) 36 (length-head p) in
-    let at107 : drop 107 whole ≡ items ++ zeros = sym (drop-drop 71 36 whole) ∙ ap (λ (x : List ℕ). drop 71 x) at36 ∙ drop_at slot (items ++ zeros) 71 (length-slot p.high h.high) in
+    let at107 : drop 107 whole ≡ items ++ zeros = sym (drop-drop 71 36 whole) ∙ ap (λ (x : List ℕ). drop 71 x) at36 ∙ drop_at slot (items ++ zeros) 71 (length-slot p.high high) in
+    let e_layout : layout_at (slice_index whole 3) ≡ Some p.layout = ap layout_at has.layout ∙ layout_again p.layout in
     let e_state : state_at (slice_index whole 10) ≡ Some p.state = ap state_at has.state ∙ state_again p.state in
-    let e_high : slot_at (drop 36 whole) ≡ Some p.high = ap slot_at at36 ∙ slot_again p.high (items ++ zeros) h.high in
+    let e_high : slot_at (drop 36 whole) ≡ Some p.high = ap slot_at at36 ∙ slot_again p.high (items ++ zeros) high in
     let e_items : items_of (slice_index whole 8) (little_number 2 (drop 32 whole)) (drop 107 whole) ≡ Some p.items = (λ i. items_of (has.kind i) (has.count i) (at107 i)) ∙ kind_again p.items zeros are in
     let e_left : link_at (little_number 4 (drop 12 whole)) ≡ p.left = ap link_at has.left ∙ link_again p.left h.left in
     let e_right : link_at (little_number 4 (drop 16 whole)) ≡ p.right = ap link_at has.right ∙ link_again p.right h.right in
-    ap page_at parts ∙ (λ i. e_state i >>= λ state. e_high i >>= λ high. e_items i >>= λ its. Some (let x : Page = record {
+    ap page_at parts ∙ (λ i. e_layout i >>= λ layout. e_state i >>= λ state. e_high i >>= λ high. e_items i >>= λ its. Some (let x : Page = record {
+      layout = layout;
       block = has.block i;
       level = has.level i;
       state = state;

@@ -7,6 +7,7 @@ use Rattle.std.specs.declared.cmp.Ordering.TheVariants.{Less, Equal, Greater}
 use Rattle.index_model.specs.Order.{IsEntry, IsUpTo}
 use Rattle.index_model.specs.declared.entry.Entry.{Entry}
 use Rattle.index_model.specs.declared.bound.Bound.{Bound}
+use Rattle.index_model.specs.declared.layout.Layout.{Layout}
 use Rattle.page_codec.specs.Grammar.{IsDownlink, EntryBefore, LinkBefore, Below, EntryInPlace, LinkInPlace, AreEntries, AreLinks}
 use Rattle.page_codec.specs.declared.page.Downlink.{Downlink}
 use Rattle.index_model.proofs.Order.{bounds_total}
@@ -46,20 +47,20 @@ below_before : (high : Option Bound) (d x : Downlink) → LinkBefore d x → Bel
 below_before None d x before h = tt
 below_before (Some b) d x before h = ap is_lt ((options_total bounds_total).trans d.bound x.bound (Some b) (lt_is _ before) (lt_is _ h))
 
-pub no_links : (high : Option Bound) → AreLinks high []
-no_links high = record { valid = tt; ascends = tt; within = tt }
+pub no_links : (layout : Layout) (high : Option Bound) → AreLinks layout high []
+no_links layout high = record { valid = tt; ascends = tt; within = tt }
 
-pub links_first : (high : Option Bound) (d : Downlink) (ds : List Downlink) → AreLinks high (d ∷ ds) → IsDownlink d × LinkInPlace high d ds
-links_first high d [] h = (h.valid.0, h.within.0)
-links_first high d (x ∷ xs) h = (h.valid.0, h.ascends.0)
+pub links_first : (layout : Layout) (high : Option Bound) (d : Downlink) (ds : List Downlink) → AreLinks layout high (d ∷ ds) → IsDownlink layout d × LinkInPlace high d ds
+links_first layout high d [] h = (h.valid.0, h.within.0)
+links_first layout high d (x ∷ xs) h = (h.valid.0, h.ascends.0)
 
-pub links_rest : (high : Option Bound) (d : Downlink) (ds : List Downlink) → AreLinks high (d ∷ ds) → AreLinks high ds
-links_rest high d [] h = no_links high
-links_rest high d (x ∷ xs) h = record { valid = h.valid.1; ascends = h.ascends.1; within = h.within.1 }
+pub links_rest : (layout : Layout) (high : Option Bound) (d : Downlink) (ds : List Downlink) → AreLinks layout high (d ∷ ds) → AreLinks layout high ds
+links_rest layout high d [] h = no_links layout high
+links_rest layout high d (x ∷ xs) h = record { valid = h.valid.1; ascends = h.ascends.1; within = h.within.1 }
 
-pub links_more : (high : Option Bound) (d : Downlink) (ds : List Downlink) → IsDownlink d → LinkInPlace high d ds → AreLinks high ds → AreLinks high (d ∷ ds)
-links_more high d [] valid place h = record { valid = (valid, tt); ascends = tt; within = (place, tt) }
-links_more high d (x ∷ xs) valid place h = record {
+pub links_more : (layout : Layout) (high : Option Bound) (d : Downlink) (ds : List Downlink) → IsDownlink layout d → LinkInPlace high d ds → AreLinks layout high ds → AreLinks layout high (d ∷ ds)
+links_more layout high d [] valid place h = record { valid = (valid, tt); ascends = tt; within = (place, tt) }
+links_more layout high d (x ∷ xs) valid place h = record {
   valid = (valid, h.valid);
   ascends = (place, h.ascends);
   within = (below_before high d x place h.within.0, h.within);

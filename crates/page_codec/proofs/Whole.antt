@@ -5,7 +5,7 @@ use Rattle.page_codec.specs.Grammar.{IsPage}
 use Rattle.page_codec.specs.Begins.{Begins, size_of}
 use Rattle.page_codec.specs.Spelling.{head_bytes, slot_bytes, items_bytes, used_bytes, page_bytes}
 use Rattle.page_codec.specs.declared.page.Page.{Page}
-use Rattle.page_codec.proofs.Again.{length-slot}
+use Rattle.page_codec.proofs.Again.{slot_widens, length-slot}
 use Rattle.page_codec.proofs.PageAgain.{are_items, length-head}
 use Rattle.page_codec.proofs.Laws.{length-items, size_fits}
 use Rattle.page_codec.proofs.Pieces.{begins_itself, split_at}
@@ -25,7 +25,7 @@ pieces : (p : Page) → IsPage p → page_bytes p ≡ head_bytes p ++ (slot_byte
 unfolding page_bytes used_bytes zeros_of
 pieces p h =
     let used : length ((head_bytes p ++ slot_bytes p.high) ++ items_bytes p.items) ≡ 107 + size_of p.items =
-    omega (arith, length-append (head_bytes p ++ slot_bytes p.high) (items_bytes p.items), length-append (head_bytes p) (slot_bytes p.high), length-head p, length-slot p.high h.high, length-items p.items (are_items p p.items h.kind)) in
+    omega (arith, length-append (head_bytes p ++ slot_bytes p.high) (items_bytes p.items), length-append (head_bytes p) (slot_bytes p.high), length-head p, length-slot p.high (slot_widens p.layout p.high h.high), length-items p.items (are_items p p.items h.kind)) in
     ap (λ (n : ℕ). ((head_bytes p ++ slot_bytes p.high) ++ items_bytes p.items) ++ replicate (4096 - n) 0) used
     ∙ append_assoc (head_bytes p ++ slot_bytes p.high) (items_bytes p.items) (zeros_of p)
     ∙ append_assoc (head_bytes p) (slot_bytes p.high) (items_bytes p.items ++ zeros_of p)
@@ -40,7 +40,7 @@ has_all p bytes h full has =
     let third : drop 107 bytes ≡ items_bytes p.items ++ zeros_of p =
     split_at (items_bytes p.items) (drop 107 bytes) size (length-items p.items (are_items p p.items h.kind)) has.items ∙ ap (λ (x : List ℕ). items_bytes p.items ++ x) end in
     let second : drop 36 bytes ≡ slot_bytes p.high ++ (items_bytes p.items ++ zeros_of p) =
-    split_at (slot_bytes p.high) (drop 36 bytes) 71 (length-slot p.high h.high) has.slot ∙ ap (λ (x : List ℕ). slot_bytes p.high ++ x) (drop-drop 71 36 bytes ∙ third) in
+    split_at (slot_bytes p.high) (drop 36 bytes) 71 (length-slot p.high (slot_widens p.layout p.high h.high)) has.slot ∙ ap (λ (x : List ℕ). slot_bytes p.high ++ x) (drop-drop 71 36 bytes ∙ third) in
     split_at (head_bytes p) bytes 36 (length-head p) has.head ∙ ap (λ (x : List ℕ). head_bytes p ++ x) second ∙ sym (pieces p h)
 
 -- a page's bytes have the pieces
@@ -51,7 +51,7 @@ page_has p h =
     let size = size_of p.items in
     let at36 : drop 36 whole ≡ slot_bytes p.high ++ (items_bytes p.items ++ zeros_of p) = drop_at (head_bytes p) (slot_bytes p.high ++ (items_bytes p.items ++ zeros_of p)) 36 (length-head p) in
     let at107 : drop 107 whole ≡ items_bytes p.items ++ zeros_of p =
-    sym (drop-drop 71 36 whole) ∙ ap (λ (x : List ℕ). drop 71 x) at36 ∙ drop_at (slot_bytes p.high) (items_bytes p.items ++ zeros_of p) 71 (length-slot p.high h.high) in
+    sym (drop-drop 71 36 whole) ∙ ap (λ (x : List ℕ). drop 71 x) at36 ∙ drop_at (slot_bytes p.high) (items_bytes p.items ++ zeros_of p) 71 (length-slot p.high (slot_widens p.layout p.high h.high)) in
     let end : drop size (drop 107 whole) ≡ zeros_of p =
     ap (λ (x : List ℕ). drop size x) at107 ∙ drop_at (items_bytes p.items) (zeros_of p) size (length-items p.items (are_items p p.items h.kind)) in
     record {

@@ -3,10 +3,12 @@ use Rattle.std.specs.Prelude.{◌≡◌, ℕ, ◌<◌, ◌≤◌, ◌^◌, ◌�
 use Rattle.std.specs.List.{AllByRecursion}
 use Rattle.std.specs.Option.{option_cmp}
 use Rattle.std.specs.Ordering.{is_lt}
-use Rattle.index_model.specs.Row.{IsRow}
+use Rattle.index_model.specs.Row.{Row, IsRow}
 use Rattle.index_model.specs.Order.{bound_cmp, bound_of, is_past, IsUpTo, IsAscending, IsEntry}
 use Rattle.index_model.specs.declared.entry.Entry.{Entry}
 use Rattle.index_model.specs.declared.bound.Bound.{Bound}
+use Rattle.index_model.specs.declared.layout.Layout.{Layout}
+use Rattle.index_model.specs.declared.layout.Layout.TheVariants.{One, Two}
 use Rattle.page_codec.specs.declared.page.PageState.{PageState}
 use Rattle.page_codec.specs.declared.page.PageState.TheVariants.{Live, HalfDead, Deleted}
 use Rattle.page_codec.specs.declared.page.Downlink.{Downlink}
@@ -18,11 +20,18 @@ use Rattle.page_codec.specs.declared.page.Page.{Page}
 abbrev pub IsBlock : ℕ → Type 0
 IsBlock n = (0 < n) × (n < 65536)
 
--- a bound that is a valid entry: a key of at most 64 bytes, and a valid row
-pub record IsWhole (b : Bound) : Type 0 where
+-- what may stand behind the key of a bound in this layout: a valid row; in layout 2 also none, behind a key that isn't
+-- empty, for the place before all its rows
+abbrev pub IsRowIn : Layout → List ℕ → Option Row → Type 0
+IsRowIn One key None = ⊥
+IsRowIn Two key None = 0 < length key
+IsRowIn One key (Some r) = IsRow r
+IsRowIn Two key (Some r) = IsRow r
+
+-- a bound as this layout has them: a valid entry, or the place before all rows of a key of 1 to 64 bytes
+pub record IsBoundIn (layout : Layout) (b : Bound) : Type 0 where
   pub key : length b.key ≤ 64
-  pub row : IfSome b.row IsRow
-  pub present : IsSome b.row
+  pub row : IsRowIn layout b.key b.row
 
 -- the first of these, if there is one, stands in R to the item before them, and each to the one
 -- before it
@@ -48,9 +57,9 @@ abbrev pub Below : Option Bound → Downlink → Type 0
 Below None d = Unit {0}
 Below (Some high) d = is_lt (option_cmp bound_cmp d.bound (Some high)) ≡ true
 
--- the bound is minus infinity or a valid entry, and the child the number of a page
-pub record IsDownlink (d : Downlink) : Type 0 where
-  pub bound : IfSome d.bound IsWhole
+-- the bound is minus infinity or one of the layout, and the child the number of a page
+pub record IsDownlink (layout : Layout) (d : Downlink) : Type 0 where
+  pub bound : IfSome d.bound (IsBoundIn layout)
   pub child : IsBlock d.child
 
 -- the entry is less than the first of those behind it, or, where it is the last, at most the high key
@@ -70,8 +79,8 @@ pub record AreEntries (high : Option Bound) (es : List Entry) : Type 0 where
   pub within : AllByRecursion (IsUpTo high) es
 
 -- valid downlinks, their bounds strictly ascending, each less than the high key
-pub record AreLinks (high : Option Bound) (ds : List Downlink) : Type 0 where
-  pub valid : AllByRecursion IsDownlink ds
+pub record AreLinks (layout : Layout) (high : Option Bound) (ds : List Downlink) : Type 0 where
+  pub valid : AllByRecursion (IsDownlink layout) ds
   pub ascends : Ascends LinkBefore ds
   pub within : AllByRecursion (Below high) ds
 
@@ -142,7 +151,7 @@ pub record IsInternal (p : Page) (ds : List Downlink) : Type 0 where
   pub deletion : p.deletion ≡ 0
   pub count : length ds ≤ 50
   pub first : StartsLow ds
-  pub links : AreLinks p.high ds
+  pub links : AreLinks p.layout p.high ds
 
 -- the page is one of the kind that its items say
 abbrev pub IsOfKind : Page → Items → Type 0
@@ -156,5 +165,5 @@ pub record IsPage (p : Page) : Type 0 where
   pub deletion : p.deletion < 2 ^ 64
   pub left : IfSome p.left IsBlock
   pub right : IfSome p.right IsBlock
-  pub high : IfSome p.high IsWhole
+  pub high : IfSome p.high (IsBoundIn p.layout)
   pub kind : IsOfKind p p.items

@@ -83,6 +83,7 @@ impl Page {
     pub fn copy_to(&self, target: &mut Page)
         ensures { target.new ≡ self.now }
     {
+        target.layout = self.layout;
         target.block = self.block;
         target.level = self.level;
         target.state = self.state;

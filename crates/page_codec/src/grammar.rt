@@ -3,10 +3,10 @@
 ghost use Rattle.std.specs.Prelude.{◌≡◌, ◌↔◌, ◌≤◌, IsTrue, IfSome, List, length};
 ghost use Rattle.std.specs.List.{AllByRecursion};
 ghost use Rattle.index_model.specs.Order.{IsEntry, IsUpTo};
-ghost use Rattle.page_codec.specs.Grammar.{IsBlock, IsWhole, IsDownlink, EntryInPlace, LinkInPlace, Below, AreEntries, AreLinks, StartsLow, IsMeta, IsLiveLeaf, IsHalfDeadLeaf, IsDeletedLeaf, IsLeaf, IsInternal, IsOfKind, IsPage};
+ghost use Rattle.page_codec.specs.Grammar.{IsBlock, IsBoundIn, IsDownlink, EntryInPlace, LinkInPlace, Below, AreEntries, AreLinks, StartsLow, IsMeta, IsLiveLeaf, IsHalfDeadLeaf, IsDeletedLeaf, IsLeaf, IsInternal, IsOfKind, IsPage};
 
 use crate::page::{Downlink, Items, Page, PageState};
-use index_model::{Bound, Entry, Key, RowAddr};
+use index_model::{Bound, Entry, Key, Layout, RowAddr};
 
 fn is_block(n: u32) -> bool
     ensures { IsTrue result ↔ IsBlock n }
@@ -23,12 +23,15 @@ fn is_link(link: Option<u32>) -> bool
     }
 }
 
-fn is_whole(bound: &Bound) -> bool
-    ensures { IsTrue result ↔ IsWhole bound.now }
+fn is_bound_in(layout: Layout, bound: &Bound) -> bool
+    ensures { IsTrue result ↔ IsBoundIn layout bound.now }
 {
-    let _key = bound.key.len();
+    let len = bound.key.len();
     match &bound.row {
-        None => false,
+        None => match layout {
+            Layout::One => false,
+            Layout::Two => len > 0,
+        },
         Some(row) => {
             let _row = row.block();
             true
@@ -36,12 +39,12 @@ fn is_whole(bound: &Bound) -> bool
     }
 }
 
-fn is_slot(bound: &Option<Bound>) -> bool
-    ensures { IsTrue result ↔ IfSome bound.now IsWhole }
+fn is_slot(layout: Layout, bound: &Option<Bound>) -> bool
+    ensures { IsTrue result ↔ IfSome bound.now (IsBoundIn layout) }
 {
     match bound {
         None => true,
-        Some(bound) => is_whole(bound),
+        Some(bound) => is_bound_in(layout, bound),
     }
 }
 
@@ -78,10 +81,10 @@ fn are_entries(entries: &[Entry], high: &Option<Bound>) -> bool
     true
 }
 
-fn is_downlink(link: &Downlink) -> bool
-    ensures { IsTrue result ↔ IsDownlink link.now }
+fn is_downlink(layout: Layout, link: &Downlink) -> bool
+    ensures { IsTrue result ↔ IsDownlink layout link.now }
 {
-    is_slot(&link.bound) && is_block(link.child)
+    is_slot(layout, &link.bound) && is_block(link.child)
 }
 
 fn is_below(high: &Option<Bound>, link: &Downlink) -> bool
@@ -103,12 +106,12 @@ fn is_link_in_place(link: &Downlink, tail: &[Downlink], high: &Option<Bound>) ->
     }
 }
 
-fn are_links(links: &[Downlink], high: &Option<Bound>) -> bool
-    ensures { IsTrue result ↔ AreLinks high.now links.now }
+fn are_links(layout: Layout, links: &[Downlink], high: &Option<Bound>) -> bool
+    ensures { IsTrue result ↔ AreLinks layout high.now links.now }
 {
     let mut rest = links;
     while let [first, tail @ ..] = rest {
-        if !is_downlink(first) || !is_link_in_place(first, tail, high) {
+        if !is_downlink(layout, first) || !is_link_in_place(first, tail, high) {
             return false;
         }
         rest = tail;
@@ -201,7 +204,7 @@ fn is_internal(page: &Page, links: &[Downlink]) -> bool
         && page.cycle == 0
         && page.deletion == 0
         && starts_low(links)
-        && are_links(links, &page.high)
+        && are_links(page.layout, links, &page.high)
 }
 
 fn is_of_kind(page: &Page) -> bool
@@ -226,7 +229,7 @@ pub fn is_page(page: &Page) -> bool
     if !is_link(page.right) {
         return false;
     }
-    if !is_slot(&page.high) {
+    if !is_slot(page.layout, &page.high) {
         return false;
     }
     is_of_kind(page)

@@ -3,7 +3,7 @@
 ghost use Rattle.std.specs.Prelude.{◌≡◌};
 
 use arrayvec::ArrayVec;
-use index_model::{Bound, Entry};
+use index_model::{Bound, Entry, Layout};
 
 /// Where a page stands in its life. Only leaves are ever half-dead or deleted.
 #[derive(Clone, Copy, Debug, PartialEq, Eq)]
@@ -56,6 +56,8 @@ impl Items {
 /// A page. Not every value is one that the format admits: [`is_page`](crate::is_page) tells.
 #[derive(Drop)]
 pub struct Page {
+    /// Which bounds it may have, and how its bytes begin.
+    pub layout: Layout,
     /// Its own block: 0 for the metapage, 1 to 65,535 for every other page.
     pub block: u32,
     /// 0 for a leaf, 1 to 31 for an internal page; in the metapage the level of the root, 0 to 31.
@@ -68,7 +70,7 @@ pub struct Page {
     pub left: Option<u32>,
     /// The block of its right sibling, 1 to 65,535, if it has one; in the metapage the root.
     pub right: Option<u32>,
-    /// The greatest entry that can be on it; none on the rightmost page of a level.
+    /// No entry on it is greater than this; none on the rightmost page of a level.
     pub high: Option<Bound>,
     /// The number of the bulk delete that ran when the leaf was last split, or 0.
     pub cycle: u32,
@@ -82,6 +84,7 @@ impl Page {
     /// A page to decode another into. What it holds has no meaning.
     pub fn blank() -> Page {
         Page {
+            layout: Layout::Two,
             block: 0,
             level: 0,
             state: PageState::Live,

@@ -6,9 +6,10 @@ ghost use Rattle.byteorder.specs.Endian.{little_number};
 ghost use Rattle.index_model.specs.Row.{Row, IsRow};
 ghost use Rattle.index_model.specs.Padded.{padded};
 ghost use Rattle.index_model.specs.Order.{IsEntry};
+ghost use Rattle.index_model.specs.declared.layout.Layout.TheVariants.{Two};
 ghost use Rattle.page_codec.specs.Begins.{Begins, IsRead, HasSlot, AreItems};
-ghost use Rattle.page_codec.specs.Spelling.{kind_byte, count_of, state_byte, link_number, row_bytes, slot_bytes, entry_bytes, downlink_bytes, items_bytes, page_bytes};
-ghost use Rattle.page_codec.specs.Grammar.{IsPage, IsBlock, IsWhole, IsDownlink};
+ghost use Rattle.page_codec.specs.Spelling.{layout_digit, kind_byte, count_of, state_byte, link_number, row_bytes, slot_bytes, entry_bytes, downlink_bytes, items_bytes, page_bytes};
+ghost use Rattle.page_codec.specs.Grammar.{IsPage, IsBlock, IsBoundIn, IsDownlink};
 ghost use Rattle.page_codec.specs.declared.page.Page.{Page};
 
 use crate::edits::clear_entries;
@@ -17,7 +18,7 @@ use crate::page::{Downlink, Items, Page, PageState};
 use crate::written::{begins_with, is_written};
 use arrayvec::ArrayVec;
 use byteorder::{ByteOrder, LittleEndian};
-use index_model::{Bound, Entry, Key, RowAddr};
+use index_model::{Bound, Entry, Key, Layout, RowAddr};
 
 pub fn tail(bytes: &[u8], at: usize) -> &[u8]
     requires { at ≤ length bytes.now }
@@ -87,26 +88,34 @@ fn entry(bytes: &[u8]) -> Option<Entry>
     Some(Entry { key, row })
 }
 
-// The bound in the first 71 bytes, which is an entry, or none, where they are zeros.
+// The bound in the first 71 bytes, or none, where they are zeros. A row of zeros is none: the place before all rows of the key.
 fn slot(bytes: &[u8]) -> Option<Option<Bound>>
     requires { 71 ≤ length bytes.now }
-    ensures found { IfSome result (λ b. IfSome b IsWhole × Begins (slot_bytes b) bytes.now) }
-    ensures only { (b : Option Bound) → IfSome b IsWhole → Begins (slot_bytes b) bytes.now
+    ensures found { IfSome result
+        (λ b. IfSome b (IsBoundIn Two) × Begins (slot_bytes b) bytes.now) }
+    ensures only { (b : Option Bound) → IfSome b (IsBoundIn Two) → Begins (slot_bytes b) bytes.now
         → result ≡ Some b }
 {
     if begins_with(bytes, &[0; 71]) {
         return Some(None);
     }
-    let entry = entry(bytes)?;
-    Some(Some(entry.bound()))
+    let key = key_at(bytes)?;
+    let behind = tail(bytes, 65);
+    if begins_with(behind, &[0; 6]) {
+        return Some(Some(Bound { key, row: None }));
+    }
+    let row = row_at(behind)?;
+    Some(Some(Bound {
+        key,
+        row: Some(row),
+    }))
 }
 
 // The downlink in the first 75 bytes.
 fn downlink(bytes: &[u8]) -> Option<Downlink>
     requires { 75 ≤ length bytes.now }
-    ensures found { IfSome result
-        (λ d. IfSome d.bound IsWhole × Begins (downlink_bytes d) bytes.now) }
-    ensures only { (d : Downlink) → IsDownlink d → Begins (downlink_bytes d) bytes.now
+    ensures found { IfSome result (λ d. HasSlot d × Begins (downlink_bytes d) bytes.now) }
+    ensures only { (d : Downlink) → IsDownlink Two d → Begins (downlink_bytes d) bytes.now
         → result ≡ Some d }
 {
     let bound = slot(bytes)?;
@@ -155,7 +164,7 @@ fn downlinks(count: usize, bytes: &[u8]) -> Option<ArrayVec<Downlink, 50>>
     requires count { count ≤ 50 }
     requires room { 75 * count ≤ length bytes.now }
     ensures found { IfSome result (λ v. IsRead HasSlot downlink_bytes count bytes.now v.items) }
-    ensures only { (ds : List Downlink) → AllByRecursion IsDownlink ds
+    ensures only { (ds : List Downlink) → AllByRecursion (IsDownlink Two) ds
         → IsRead HasSlot downlink_bytes count bytes.now ds
         → IfSome result (λ v. v.items ≡ ds) × IsSome result }
 {
@@ -204,6 +213,17 @@ fn items(kind: u8, count: usize, bytes: &[u8], into: &mut Items) -> bool
     }
 }
 
+// The layout that a page's fourth byte names.
+fn layout(byte: u8) -> Option<Layout>
+    ensures { (l : Layout) → byte ≡ layout_digit l → result ≡ Some l }
+{
+    match byte {
+        b'1' => Some(Layout::One),
+        b'2' => Some(Layout::Two),
+        _ => None,
+    }
+}
+
 // The state that a byte names.
 fn state(byte: u8) -> Option<PageState>
     ensures { (s : PageState) → byte ≡ state_byte s → result ≡ Some s }
@@ -236,6 +256,9 @@ fn read(bytes: &[u8], page: &mut Page) -> bool
     ensures only { (p : Page) → IsPage p → bytes.now ≡ page_bytes p
         → IsTrue result × (page.new ≡ p) }
 {
+    let Some(layout) = layout(bytes[3]) else {
+        return false;
+    };
     let Some(state) = state(bytes[10]) else {
         return false;
     };
@@ -246,6 +269,7 @@ fn read(bytes: &[u8], page: &mut Page) -> bool
     if !items(bytes[8], count, tail(bytes, 107), &mut page.items) {
         return false;
     }
+    page.layout = layout;
     page.block = u32_at(bytes, 4);
     page.level = bytes[9];
     page.state = state;

@@ -4,14 +4,18 @@ use Rattle.std.specs.Prelude.{◌^◌}
 use Rattle.index_model.specs.declared.entry.Entry.{Entry}
 use Rattle.latch_table.specs.Holdings.{is_held_by_another}
 use Rattle.latch_table.specs.declared.mode.Mode.TheVariants.{Exclusive}
+use Rattle.index_model.specs.declared.layout.Layout.TheVariants.{Two}
+use Rattle.page_codec.specs.Edits.{renewed}
 use Rattle.page_codec.specs.Grammar.{IsBlock, IsPage, IsOfKind, IsLeafIn}
+use Rattle.page_codec.proofs.Renewed.{renewed_is_page}
 use Rattle.page_codec.specs.declared.page.Items.{Items}
 use Rattle.page_codec.specs.declared.page.Items.TheVariants.{Meta, Entries, Downlinks}
 use Rattle.page_codec.specs.declared.page.Page.{Page}
 use Rattle.page_codec.specs.declared.page.PageState.{PageState}
 use Rattle.page_codec.specs.declared.page.PageState.TheVariants.{Live, HalfDead, Deleted}
 use Rattle.page_action.specs.States.{State, after_act, with_page, with_pages}
-use Rattle.page_action.specs.Stored.{IsStorable, AreActable}
+use Rattle.page_action.specs.Stored.{IsWritable, AreActable}
+use Rattle.page_action.proofs.Writable.{writable}
 use Rattle.tree_shape.specs.Deletion.{as_deleted}
 use Rattle.tree_shape.proofs.Deleting.{is_dead}
 use Rattle.tree_acts.specs.Deletions.{PageIsUnlinked, IsLinkedTo, leftmost, neighbour, StartsAreBelow}
@@ -119,21 +123,21 @@ module _ (st : State) (session : ℕ) (page right : Page) (order : IsInOrder st)
   right_apart_here : page.block ≢ right.block
   right_apart_here = right_apart st order.tree page (taken.found refl) not_gone above right.block right_is
 
-  right_page : IsPage (record right { left = page.left })
-  right_page = mended_left right page.left page.block right_taken.taken.stored.storable.admitted right_taken.links admitted.left
+  right_page : IsPage (record right { layout = Two; left = page.left })
+  right_page = mended_left (renewed right) page.left page.block (renewed_is_page right right_taken.taken.stored.storable.admitted) right_taken.links admitted.left
 
   module _ (inside : length st.pages ≤ st.limits.pages) (number : ℕ) (low : number < 2 ^ 64) where
-    gone_storable : IsStorable st.limits (as_deleted page number)
-    gone_storable = record { admitted = deleted_is_page page number admitted dead low; few = omega arith }
+    gone_writable : IsWritable st.limits (as_deleted page number)
+    gone_writable = writable st.limits (as_deleted page number) refl (deleted_is_page page number admitted dead low) (omega arith)
 
-    two_may : AreActable st.limits (length st.pages) (as_deleted page number ∷ record right { left = page.left } ∷ [])
+    two_may : AreActable st.limits (length st.pages) (as_deleted page number ∷ record right { layout = Two; left = page.left } ∷ [])
     two_may =
         let u = taken.used in
         let v = right_taken.taken.used in (
-          gone_storable,
+          gone_writable,
           (omega arith, omega arith),
           ((λ same. right_apart_here (sym same)), tt),
-          (record { admitted = right_page; few = right_taken.taken.stored.storable.few }, (omega arith, omega arith), tt, tt),
+          (writable st.limits (record right { layout = Two; left = page.left }) refl right_page right_taken.taken.stored.storable.few, (omega arith, omega arith), tt, tt),
         )
 
     pub may_unlink : (left : Option Page) → IsTakenLeft st true session page page.left left → AreActable st.limits (length st.pages) (unlinked left page right number)
@@ -147,10 +151,9 @@ module _ (st : State) (session : ℕ) (page right : Page) (order : IsInOrder st)
             let u = t.0.used in
             let block_is : l.block ≡ b = t.0.stored.block_is in
             let link : page.left ≡ Some l.block = is ∙ ap Some (sym block_is) in (
-              record {
-                admitted = mended_right l right.block t.0.stored.storable.admitted (subst (λ (o : Option ℕ). IsSome o) (sym t.1) refl) (subst (λ (o : Option ℕ). IfSome o IsBlock) right_is admitted.right);
-                few = t.0.stored.storable.few;
-              },
+              writable st.limits (record l { layout = Two; right = Some right.block }) refl
+                  (mended_right (renewed l) right.block (renewed_is_page l t.0.stored.storable.admitted) (subst (λ (o : Option ℕ). IsSome o) (sym t.1) refl) (subst (λ (o : Option ℕ). IfSome o IsBlock) right_is admitted.right))
+                  t.0.stored.storable.few,
               (omega arith, omega arith),
               (
                 (λ same. left_apart st order.tree page (taken.found refl) not_gone above l.block link (sym same)),
@@ -161,20 +164,20 @@ module _ (st : State) (session : ℕ) (page right : Page) (order : IsInOrder st)
 
   -- what the act does
   module _ (below : StartsAreBelow st) where
-    unlinks : (mended : List Page) → PageIsUnlinked st page right (as_deleted page st.begun) (record right { left = page.left }) mended
-        → AreFree st session (mended ++ as_deleted page st.begun ∷ record right { left = page.left } ∷ [])
-        → DeletesOn session st (after_act (mended ++ as_deleted page st.begun ∷ record right { left = page.left } ∷ []) st)
+    unlinks : (mended : List Page) → PageIsUnlinked st page right (as_deleted page st.begun) (record right { layout = Two; left = page.left }) mended
+        → AreFree st session (mended ++ as_deleted page st.begun ∷ record right { layout = Two; left = page.left } ∷ [])
+        → DeletesOn session st (after_act (mended ++ as_deleted page st.begun ∷ record right { layout = Two; left = page.left } ∷ []) st)
     unlinks mended is free =
-        let lasts = unlink_lasts st page right (as_deleted page st.begun) (record right { left = page.left }) mended order.tree below is in
+        let lasts = unlink_lasts st page right (as_deleted page st.begun) (record right { layout = Two; left = page.left }) mended order.tree below is in
         record {
-          own = λ start runs. numbers_stay st (after_act (mended ++ as_deleted page st.begun ∷ record right { left = page.left } ∷ []) st) session start runs lasts.0.places lasts.0.trails;
-          does = does_delete st session (mended ++ as_deleted page st.begun ∷ record right { left = page.left } ∷ []) order is.may lasts.0 lasts.1
+          own = λ start runs. numbers_stay st (after_act (mended ++ as_deleted page st.begun ∷ record right { layout = Two; left = page.left } ∷ []) st) session start runs lasts.0.places lasts.0.trails;
+          does = does_delete st session (mended ++ as_deleted page st.begun ∷ record right { layout = Two; left = page.left } ∷ []) order is.may lasts.0 lasts.1
               (record {
-                leaf = inr (unlink_goes st page right (as_deleted page st.begun) (record right { left = page.left }) mended order.tree is);
-                flags = unlink_flags st page right (as_deleted page st.begun) (record right { left = page.left }) mended order.tree is;
-                links = λ within. unlink_links st page right (as_deleted page st.begun) (record right { left = page.left }) mended order.tree within is;
+                leaf = inr (unlink_goes st page right (as_deleted page st.begun) (record right { layout = Two; left = page.left }) mended order.tree is);
+                flags = unlink_flags st page right (as_deleted page st.begun) (record right { layout = Two; left = page.left }) mended order.tree is;
+                links = λ within. unlink_links st page right (as_deleted page st.begun) (record right { layout = Two; left = page.left }) mended order.tree within is;
               }) free;
-          edit = goes_edit page.block above taken.used (unlink_edit st page right (as_deleted page st.begun) (record right { left = page.left }) mended order.tree is);
+          edit = goes_edit page.block above taken.used (unlink_edit st page right (as_deleted page st.begun) (record right { layout = Two; left = page.left }) mended order.tree is);
         }
 
     pub does_unlink : (left : Option Page) → IsTakenLeft st true session page page.left left → AreActable st.limits (length st.pages) (unlinked left page right st.begun)
@@ -195,13 +198,13 @@ module _ (st : State) (session : ℕ) (page right : Page) (order : IsInOrder st)
         }) (taken.free, (right_taken.taken.free, tt))
         by None is (Some l) t may = absurd t
         by (Some b) is None t may = absurd t
-        by (Some b) is (Some l) t may = unlinks (record l { right = Some right.block } ∷ []) (record {
+        by (Some b) is (Some l) t may = unlinks (record l { layout = Two; right = Some right.block } ∷ []) (record {
           found = taken.found refl;
           dead = dead;
           right_is = right_is;
           right_found = right_taken.taken.found refl;
-          mends = subst (λ (o : Option ℕ). IsLinkedTo st right.block o (record l { right = Some right.block } ∷ [])) (sym is)
-              (neighbour l (record l { right = Some right.block }) (t.0.found refl) t.0.stored.block_is refl);
+          mends = subst (λ (o : Option ℕ). IsLinkedTo st right.block o (record l { layout = Two; right = Some right.block } ∷ [])) (sym is)
+              (neighbour l (record l { layout = Two; right = Some right.block }) (t.0.found refl) t.0.stored.block_is refl);
           after_is = refl;
           right_after_is = refl;
           may = may;
@@ -218,13 +221,13 @@ used_unlinking st session honest page right number left in_page in_right taken =
         page_length (with_page pages a) b (omega (arith, in_b, one, in_a)) ∙ (omega (arith, one, in_a, in_b))
 
     by : (link : Option ℕ) (left : Option Page) → IsTakenLeft st honest session page link left → length (after_act (unlinked left page right number) st).pages ≡ length st.pages
-    by None None t = two st.pages (as_deleted page number) (record right { left = page.left }) in_page in_right
+    by None None t = two st.pages (as_deleted page number) (record right { layout = Two; left = page.left }) in_page in_right
     by None (Some l) t = absurd t
     by (Some b) None t = absurd t
     by (Some b) (Some l) t =
         let u : l.block < length st.pages = subst (λ (k : ℕ). k < length st.pages) (sym t.0.stored.block_is) t.0.used in
-        let one = page_length st.pages (record l { right = Some right.block }) (omega (arith, u)) in
-        two (with_page st.pages (record l { right = Some right.block })) (as_deleted page number) (record right { left = page.left }) (omega (arith, one, u, in_page)) (omega (arith, one, u, in_right))
+        let one = page_length st.pages (record l { layout = Two; right = Some right.block }) (omega (arith, u)) in
+        two (with_page st.pages (record l { layout = Two; right = Some right.block })) (as_deleted page number) (record right { layout = Two; left = page.left }) (omega (arith, one, u, in_page)) (omega (arith, one, u, in_right))
         ∙ (omega (arith, one, u))
 
 -- the siblings of a half-dead page link to it

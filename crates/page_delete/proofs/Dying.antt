@@ -4,6 +4,7 @@ use Rattle.std.proofs.lemmas.Bool.{cases_lt}
 use Rattle.std.specs.Prelude.{slice_index_or}
 use Rattle.latch_table.specs.Holdings.{is_held_by_another}
 use Rattle.latch_table.specs.declared.mode.Mode.TheVariants.{Exclusive}
+use Rattle.index_model.specs.declared.layout.Layout.TheVariants.{Two}
 use Rattle.page_codec.specs.Edits.{HasEntries}
 use Rattle.page_codec.specs.Grammar.{IsPage}
 use Rattle.page_codec.specs.Spelling.{count_of}
@@ -15,6 +16,7 @@ use Rattle.page_codec.specs.declared.page.PageState.TheVariants.{Live, HalfDead,
 use Rattle.page_action.specs.States.{State, after_act}
 use Rattle.page_action.specs.Stored.{AreActable}
 use Rattle.page_action.proofs.StoredPages.{stored_page}
+use Rattle.page_action.proofs.Writable.{writable}
 use Rattle.tree_shape.specs.Edits.{IsLinkHandedOn, with_links}
 use Rattle.tree_shape.specs.LinkPlaces.{HasLinks, child_at}
 use Rattle.tree_shape.specs.Nodes.{node_of, links_of}
@@ -32,7 +34,7 @@ use Rattle.page_delete.proofs.Siblings.{siblings}
 
 -- the pages of the act, as they are written
 pub record AreDying (leaf parent leaf_after parent_after : Page) (at : ℕ) : Type 0 where
-  pub leaf_is : leaf_after ≡ record leaf { state = HalfDead }
+  pub leaf_is : leaf_after ≡ record leaf { layout = Two; state = HalfDead }
   pub handed : IsLinkHandedOn (child_at (links_of parent.items) at) (child_at (links_of parent.items) (at + 1)) (links_of parent.items) (links_of parent_after.items)
   pub parent_is : node_of parent_after ≡ with_links (node_of parent) (links_of parent_after.items)
   pub block_is : parent_after.block ≡ parent.block
@@ -90,18 +92,18 @@ links_no_leaf (Downlinks v) a b = a
 
 -- the act may be done
 pub may_die_so : (st : State) (session : ℕ) (leaf parent leaf_after parent_after : Page) (right at : ℕ) → length st.pages ≤ st.limits.pages → IsCandidate st true session leaf.block leaf
-    → IsTaken st true session parent.block parent → IsHandingOn parent leaf.block right at → leaf_after ≡ record leaf { state = HalfDead } → parent_after.block ≡ parent.block → IsPage leaf_after → IsPage parent_after
+    → IsTaken st true session parent.block parent → IsHandingOn parent leaf.block right at → leaf_after ≡ record leaf { layout = Two; state = HalfDead } → parent_after.block ≡ parent.block → parent_after.layout ≡ Two → IsPage leaf_after → IsPage parent_after
     → count_of parent_after.items ≤ count_of parent.items → AreActable st.limits (length st.pages) (leaf_after ∷ parent_after ∷ [])
-may_die_so st session leaf parent leaf_after parent_after right at few candidate taken place leaf_is block_is leaf_page parent_page less =
+may_die_so st session leaf parent leaf_after parent_after right at few candidate taken place leaf_is block_is layout_is leaf_page parent_page less =
     let leaf_block : leaf_after.block ≡ leaf.block = ap (λ (p : Page). p.block) leaf_is in
     let leaf_few = candidate.stored.storable.few in
     let parent_few = taken.stored.storable.few in
     let leaf_used = candidate.used in
     let parent_used = taken.used in (
-      record { admitted = leaf_page; few = subst (λ (p : Page). count_of p.items ≤ st.limits.items) (sym leaf_is) leaf_few },
+      writable st.limits leaf_after (ap (λ (p : Page). p.layout) leaf_is) leaf_page (subst (λ (p : Page). count_of p.items ≤ st.limits.items) (sym leaf_is) leaf_few),
       (omega arith, omega arith),
       ((λ same. apart (sym (sym block_is ∙ same ∙ leaf_block))), tt),
-      (record { admitted = parent_page; few = omega arith }, (omega arith, omega arith), tt, tt),
+      (writable st.limits parent_after layout_is parent_page (omega arith), (omega arith, omega arith), tt, tt),
     )
   where
     some_page : (a b : Page) → Some a ≡ Some b → a ≡ b

@@ -1,6 +1,8 @@
 -- What the acts of a cleanup leave of entries and states.
 use Rattle.std.proofs.Common.{◌≡◌, ◌≢◌, ℕ, inl, inr, true, List, [], ◌∷◌, length, slice_get, Option, Some, None, refl, sym, ap, subst, ◌∙◌, arith}
 use Rattle.std.proofs.lemmas.Bool.{cases_eq}
+use Rattle.index_model.specs.declared.layout.Layout.TheVariants.{Two}
+use Rattle.page_codec.specs.Edits.{renewed}
 use Rattle.page_codec.specs.declared.page.Downlink.{Downlink}
 use Rattle.page_codec.specs.declared.page.Page.{Page}
 use Rattle.page_codec.specs.declared.page.PageState.TheVariants.{Live, HalfDead}
@@ -38,7 +40,7 @@ dead_count page dead = no_leaf_count page (λ alive leaf. clash (sym alive ∙ d
 
 -- the leaf becomes half-dead
 pub dying_moves : (st : State) (leaf parent leaf_after parent_after : Page) (links : List Downlink) → slice_get st.pages leaf.block ≡ Some leaf → slice_get st.pages parent.block ≡ Some parent → MayDie leaf
-    → HasLinks parent.items → AreActable st.limits (length st.pages) (leaf_after ∷ parent_after ∷ []) → leaf_after ≡ record leaf { state = HalfDead } → parent_after ≡ with_downlinks parent links
+    → HasLinks parent.items → AreActable st.limits (length st.pages) (leaf_after ∷ parent_after ∷ []) → leaf_after ≡ record leaf { layout = Two; state = HalfDead } → parent_after ≡ with_downlinks (renewed parent) links
     → LeafDies leaf.block st (after_act (leaf_after ∷ parent_after ∷ []) st)
 dying_moves st leaf parent leaf_after parent_after links found parent_found may_die internal may leaf_is parent_is = record {
   counts = λ b. elim (cases_eq b leaf.block) [
@@ -83,7 +85,7 @@ module _ (st : State) (page right : Page) (number : ℕ) (found : slice_get st.p
   gone = as_deleted page number
 
   abbrev right_after : Page
-  right_after = record right { left = page.left }
+  right_after = record right { layout = Two; left = page.left }
 
   moved : (pages2 : List Page) → slice_get pages2 page.block ≡ Some gone → slice_get pages2 right.block ≡ Some right_after
       → ((b : ℕ) → b ≢ page.block → b ≢ right.block → (entry_count (slice_get pages2 b) ≡ entry_count (slice_get st.pages b)) × ((nodes_of pages2 b).state ≡ (nodes_of st.pages b).state))
@@ -118,7 +120,7 @@ module _ (st : State) (page right : Page) (number : ℕ) (found : slice_get st.p
       by None (Some l) t may = absurd t
       by (Some k) None t may = absurd t
       by (Some k) (Some l) t may =
-          let left_after = record l { right = Some right.block } in
+          let left_after = record l { layout = Two; right = Some right.block } in
           let there = pages_second st.limits (length st.pages) st.pages left_after gone (right_after ∷ []) may (omega arith) in
           let first = pages_first st.limits (length st.pages) st.pages left_after (gone ∷ right_after ∷ []) may (omega arith) in
           let left_found : slice_get st.pages l.block ≡ Some l = subst (λ (b : ℕ). slice_get st.pages b ≡ Some l) (sym t.0.stored.block_is) (t.0.found refl) in

@@ -3,6 +3,7 @@ use Rattle.std.proofs.Common.{◌≡◌, ◌≢◌, ℕ, inl, inr, true, false, 
 use Rattle.std.proofs.lemmas.Bool.{cases_eq}
 use Rattle.latch_table.specs.Holdings.{is_held_by_another}
 use Rattle.latch_table.specs.declared.mode.Mode.TheVariants.{Cleanup}
+use Rattle.index_model.specs.declared.layout.Layout.TheVariants.{Two}
 use Rattle.page_codec.specs.Edits.{HasEntries}
 use Rattle.page_codec.specs.declared.page.Page.{Page}
 use Rattle.page_codec.specs.declared.page.PageState.TheVariants.{Live, HalfDead}
@@ -59,7 +60,7 @@ module _ (st : State) (page right : Page) (number : ℕ) (found : slice_get st.p
   gone = as_deleted page number
 
   abbrev right_after : Page
-  right_after = record right { left = page.left }
+  right_after = record right { layout = Two; left = page.left }
 
   leaf_by : (pages2 : List Page) (b : ℕ) (p : Page) → IsLeafAt st.pages b p → slice_get pages2 right.block ≡ Some right_after
       → (b ≢ page.block → b ≢ right.block → WasLeaf pages2 b) → WasLeaf pages2 b
@@ -87,7 +88,7 @@ module _ (st : State) (page right : Page) (number : ℕ) (found : slice_get st.p
       by None (Some l) t may = absurd t
       by (Some k) None t may = absurd t
       by (Some k) (Some l) t may =
-          let left_after = record l { right = Some right.block } in
+          let left_after = record l { layout = Two; right = Some right.block } in
           let first = pages_first st.limits (length st.pages) st.pages left_after (gone ∷ right_after ∷ []) may (omega arith) in
           let left_found : slice_get st.pages l.block ≡ Some l = subst (λ (x : ℕ). slice_get st.pages x ≡ Some l) (sym t.0.stored.block_is) (t.0.found refl) in
           leaf_by (with_pages st.pages (left_after ∷ gone ∷ right_after ∷ [])) b p at (pages_third st.limits (length st.pages) st.pages left_after gone right_after [] may (omega arith))

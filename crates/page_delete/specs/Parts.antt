@@ -7,6 +7,7 @@ use Rattle.index_model.specs.declared.fault.Fault.{Fault}
 use Rattle.index_model.specs.declared.fault.Fault.TheVariants.{PageDamaged}
 use Rattle.latch_table.specs.Holdings.{HasRoom, is_held_by_another, has_pin, holding_of}
 use Rattle.latch_table.specs.declared.mode.Mode.TheVariants.{Exclusive, Cleanup}
+use Rattle.index_model.specs.declared.layout.Layout.TheVariants.{Two}
 use Rattle.page_codec.specs.declared.page.Page.{Page}
 use Rattle.page_codec.specs.declared.page.PageState.{PageState}
 use Rattle.page_codec.specs.declared.page.PageState.TheVariants.{Live, HalfDead, Deleted}
@@ -193,13 +194,13 @@ abbrev pub HalfDeadAnswers : Page → Option ℕ → Type 0
 HalfDeadAnswers page (Some right) = (page.state ≡ HalfDead) × (page.right ≡ Some right)
 HalfDeadAnswers page None = page.state ≡ HalfDead → page.right ≡ None
 
--- the pages of an act that unlinks a page: its siblings linked to each other, and the page deleted
+-- the pages of an act that unlinks a page: its siblings linked to each other, and the page deleted, all in the second layout
 abbrev pub unlinked : Option Page → Page → Page → ℕ → List Page
 unlinked None page right number =
-    as_deleted page number ∷ record right { left = page.left } ∷ []
+    as_deleted page number ∷ record right { layout = Two; left = page.left } ∷ []
 unlinked (Some left) page right number =
-    record left { right = Some right.block } ∷ as_deleted page number
-    ∷ record right { left = page.left } ∷ []
+    record left { layout = Two; right = Some right.block } ∷ as_deleted page number
+    ∷ record right { layout = Two; left = page.left } ∷ []
 
 -- no page has more entries on live leaves, or fewer; the page of the block moves from one state to another, and no other page's
 -- state is changed

@@ -6,7 +6,7 @@ use Rattle.std.proofs.lemmas.Bool.{cases_lt}
 use Rattle.device.specs.Disk.{Moment}
 use Rattle.device.specs.Places.{Has, OnDisk}
 use Rattle.device.proofs.Going.{stays}
-use Rattle.index_model.specs.declared.limits.Limits.{Limits}
+use Rattle.index_model.specs.declared.format.Format.{Format}
 use Rattle.page_codec.specs.Spelling.{page_bytes}
 use Rattle.page_codec.specs.declared.page.Page.{Page}
 use Rattle.page_action.specs.Stored.{AreStored, AreActable}
@@ -79,10 +79,10 @@ module _ (old : Held) (log : Log) (changed : List Page) (room promised : ℕ) (l
           base_few = omega (arith, k.base_few, length-append h.acts one);
           durable_is = k.durable_is;
           log_keeps = subst (λ (as' : List (List Page)). Keeps log old.trace.now as' k.forced) (sym longer) (keeps old.trace.now since k.forced k.log_keeps);
-          home = subst (λ (l : Limits). AreHome l (images_of (take k.forced (drop k.base (h.acts ++ one)))) (pages_after (with_act changed h) k.base) old.trace.now) (sym limits)
+          home = subst (λ (l : Format). AreHome l (images_of (take k.forced (drop k.base (h.acts ++ one)))) (pages_after (with_act changed h) k.base) old.trace.now) (sym limits)
               (subst (λ (as' : List (List Page)). AreHome (limits_of old.log) (images_of as') (pages_after (with_act changed h) k.base) old.trace.now) (sym front)
               (subst (λ (as' : List (List Page)). AreHome (limits_of old.log) (images_of (take k.forced since)) (after_acts h.start as') old.trace.now) (sym at_base) k.home));
-          superblock_on = subst (λ (l : Limits). OnDisk 0 (superblock l) old.trace.now) (sym limits) k.superblock_on;
+          superblock_on = subst (λ (l : Format). OnDisk 0 (superblock l) old.trace.now) (sym limits) k.superblock_on;
           named = λ block some. subst (λ (as' : List (List Page)). is_named as' block ≡ true) (sym longer) (elim (image_cases (last_image changed block)) [
             | inl none ↦
                 let before = k.named block (subst (λ (n : ℕ). 0 < n) (others block none) some) in
@@ -100,7 +100,7 @@ module _ (old : Held) (log : Log) (changed : List Page) (room promised : ℕ) (l
           ];
           written = λ block page found clean image. elim (image_cases (last_image changed block)) [
             | inl none ↦
-                subst (λ (l : Limits). Has (place l block) (page_bytes page) old.trace.now.seen) (sym limits)
+                subst (λ (l : Format). Has (place l block) (page_bytes page) old.trace.now.seen) (sym limits)
                 (k.written block page (sym (page_before block none) ∙ found) (sym (others block none) ∙ clean)
                 (sym (ap is_some (named_before since block none)) ∙ subst (λ (as' : List (List Page)). is_named as' block ≡ true) longer image))
             | inr now ↦ absurd (let e : suc old.acts ≡ 0 = sym (acted block now) ∙ clean in cc)
@@ -116,12 +116,12 @@ module _ (old : Held) (log : Log) (changed : List Page) (room promised : ℕ) (l
 
     own_more : IsOwn acted_held
     own_more = record {
-      start_stored = subst (λ (l : Limits). AreStored l 0 h.start) (sym limits) own.start_stored;
-      start_few = subst (λ (l : Limits). length h.start ≤ l.pages) (sym limits) own.start_few;
-      long = subst (λ (l : Limits). place l l.pages ≤ length old.trace.now.seen) (sym limits) own.long;
-      acts_are = subst (λ (l : Limits). AreActs l h.start (h.acts ++ one)) (sym limits) acts_more;
+      start_stored = subst (λ (l : Format). AreStored l 0 h.start) (sym limits) own.start_stored;
+      start_few = subst (λ (l : Format). length h.start ≤ l.pages) (sym limits) own.start_few;
+      long = subst (λ (l : Format). place l l.pages ≤ length old.trace.now.seen) (sym limits) own.long;
+      acts_are = subst (λ (l : Format). AreActs l h.start (h.acts ++ one)) (sym limits) acts_more;
       counted = omega (arith, own.counted, length-append h.acts one);
-      leaves = subst (λ (l : Limits). LeavesPart l (with_act changed h) old.durable old.trace.now) (sym limits) leaves_more;
+      leaves = subst (λ (l : Format). LeavesPart l (with_act changed h) old.durable old.trace.now) (sym limits) leaves_more;
       kept = λ alive. kept_more (own.kept (sym stopped ∙ alive));
     }
 

@@ -6,16 +6,16 @@ use Rattle.index_model.specs.declared.fault.Fault.{Fault}
 use Rattle.index_model.specs.declared.fault.Fault.TheVariants.{Stopped}
 use Rattle.device.specs.Disk.{CountsFailures}
 use Rattle.redo_log.specs.Kept.{IoOrStopped}
-use Rattle.index_model.specs.declared.limits.Limits.{Limits}
+use Rattle.index_model.specs.declared.format.Format.{Format}
 use Rattle.page_codec.specs.declared.page.Page.{Page}
 use Rattle.page_action.specs.Stored.{AreActable}
 use Rattle.redo_log.specs.Groups.{AreImages}
 
 -- the pages of an act are images
-pub are_images : (limits : Limits) (used : ℕ) (changed : List Page) → AreActable limits used changed → AreImages limits changed
+pub are_images : (limits : Format) (used : ℕ) (changed : List Page) → AreActable limits used changed → AreImages limits changed
 are_images limits used [] h = tt
 are_images limits used (page ∷ changed) h =
-    (record { page = h.0.admitted; within = record { block = h.1.1; items = h.0.few } }, are_images limits used changed h.3)
+    (record { page = h.0.storable.admitted; within = record { block = h.1.1; items = h.0.storable.few; layout = h.0.storable.layout } }, are_images limits used changed h.3)
 
 -- failures don't go back
 pub failures_rise : {T : Type 0} (r : Result T Fault) (stopped : Bool) (old new : ℕ) → IoOrStopped r stopped old new → old ≤ new

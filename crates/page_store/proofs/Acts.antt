@@ -5,7 +5,7 @@ use Rattle.std.specs.Prelude.{is_some, if◌then◌else◌}
 use Rattle.buffer_pool.specs.Frames.{has_block}
 use Rattle.buffer_pool.specs.Pools.{held_page, act_of, changed_of, IsChanged}
 use Rattle.buffer_pool.specs.declared.pool.Pool.{Pool}
-use Rattle.index_model.specs.declared.limits.Limits.{Limits}
+use Rattle.index_model.specs.declared.format.Format.{Format}
 use Rattle.page_codec.specs.declared.page.Page.{Page}
 use Rattle.page_action.specs.Stored.{AreActable}
 use Rattle.page_action.specs.States.{with_page, with_pages}
@@ -85,7 +85,7 @@ acted_none pool act = record {
 }
 
 -- the pages are as many as the next unused block is
-pub length_acted : (limits : Limits) (used : ℕ) (pages changed : List Page) → AreActable limits used changed → used ≤ length pages → length (with_pages pages changed) ≡ used_after (length pages) changed
+pub length_acted : (limits : Format) (used : ℕ) (pages changed : List Page) → AreActable limits used changed → used ≤ length pages → length (with_pages pages changed) ≡ used_after (length pages) changed
 length_acted limits used pages [] may more = refl
 length_acted limits used pages (page ∷ changed) may more =
     let place : page.block ≤ length pages = omega (arith, may.1.0) in

@@ -7,7 +7,7 @@ use Rattle.device.specs.Moments.{Goes}
 use Rattle.device.specs.Places.{Has, OnDisk, ChangesOnly}
 use Rattle.device.proofs.Going.{goes_weaker, goes_both, goes_now}
 use Rattle.device.proofs.Standing.{same_only}
-use Rattle.index_model.specs.declared.limits.Limits.{Limits}
+use Rattle.index_model.specs.declared.format.Format.{Format}
 use Rattle.page_codec.specs.Spelling.{page_bytes}
 use Rattle.page_codec.specs.declared.page.Page.{Page}
 use Rattle.page_action.specs.Stored.{AreStored}
@@ -42,7 +42,7 @@ after_split pages acts n le =
     ∙ ap (λ (as' : List (List Page)). after_acts pages as') (whole_to acts (n + length (drop n acts)) e))
 
 module _ (old : Held) (own : IsOwn old) (alive : is_stopped old.log ≡ false) (all : old.durable ≡ old.acts) where
-  abbrev l : Limits
+  abbrev l : Format
   l = limits_of old.log
 
   abbrev h : History
@@ -106,9 +106,9 @@ module _ (old : Held) (own : IsOwn old) (alive : is_stopped old.log ≡ false) (
         base_few = omega arith;
         durable_is = omega (arith, all, own.counted);
         log_keeps = subst (λ (as' : List (List Page)). Keeps log m as' 0) (sym none) keeps;
-        home = subst (λ (x : Limits). AreHome x [] (pages_after h (length h.acts)) m) (sym limits)
+        home = subst (λ (x : Format). AreHome x [] (pages_after h (length h.acts)) m) (sym limits)
             (subst (λ (ps : List Page). AreHome l [] ps m) same (home_kept l [] (pages_now h) old.trace.now m only home));
-        superblock_on = subst (λ (x : Limits). OnDisk 0 (superblock x) m) (sym limits) (superblock_kept l 4096 l.log_bytes old.trace.now m (omega arith) only k.superblock_on);
+        superblock_on = subst (λ (x : Format). OnDisk 0 (superblock x) m) (sym limits) (superblock_kept l 4096 l.log_bytes old.trace.now m (omega arith) only k.superblock_on);
         named = λ block some. absurd (omega (arith, clean block));
         last = λ block some. absurd (omega (arith, clean block));
         written = λ block page found is image. (let never : is_named [] block ≡ true = subst (λ (as' : List (List Page)). is_named as' block ≡ true) none image in absurd cc);
@@ -140,12 +140,12 @@ module _ (old : Held) (log : Log) (trace : Trace) (honest : Bool) (failures : �
 
   own_closed : IsOwn old → IsOwn closed
   own_closed own = record {
-    start_stored = subst (λ (x : Limits). AreStored x 0 old.history.start) (sym r.limits) own.start_stored;
-    start_few = subst (λ (x : Limits). length old.history.start ≤ x.pages) (sym r.limits) own.start_few;
-    long = subst (λ (x : Limits). place x x.pages ≤ length trace.now.seen) (sym r.limits) (long_at old own r.alive r.all trace.now only_now.same_length);
-    acts_are = subst (λ (x : Limits). AreActs x old.history.start old.history.acts) (sym r.limits) own.acts_are;
+    start_stored = subst (λ (x : Format). AreStored x 0 old.history.start) (sym r.limits) own.start_stored;
+    start_few = subst (λ (x : Format). length old.history.start ≤ x.pages) (sym r.limits) own.start_few;
+    long = subst (λ (x : Format). place x x.pages ≤ length trace.now.seen) (sym r.limits) (long_at old own r.alive r.all trace.now only_now.same_length);
+    acts_are = subst (λ (x : Format). AreActs x old.history.start old.history.acts) (sym r.limits) own.acts_are;
     counted = own.counted;
-    leaves = subst (λ (x : Limits). LeavesPart x old.history old.durable trace.now) (sym r.limits) (goes_now _ old.trace trace (leaves_between own) own.leaves);
+    leaves = subst (λ (x : Format). LeavesPart x old.history old.durable trace.now) (sym r.limits) (goes_now _ old.trace trace (leaves_between own) own.leaves);
     kept = λ still. kept_closed old own r.alive r.all log trace.now r.limits only_now (r.home own)
         (keeps still (drop (own.kept r.alive).base old.history.acts) (own.kept r.alive).forced (own.kept r.alive).log_keeps) (clean still);
   }

@@ -2,7 +2,7 @@
 use Rattle.std.proofs.Common.{◌≡◌, List, [], ◌++◌, refl, sym, ap, subst, ◌∙◌, arith, append_assoc}
 use Rattle.std.proofs.lemmas.List.{append-nil}
 use Rattle.device.proofs.Going.{goes_weaker, goes_on}
-use Rattle.index_model.specs.declared.limits.Limits.{Limits}
+use Rattle.index_model.specs.declared.format.Format.{Format}
 use Rattle.page_codec.specs.declared.page.Page.{Page}
 use Rattle.page_action.proofs.Laters.{later_trans}
 use Rattle.page_action.specs.States.{IsLater}
@@ -23,7 +23,7 @@ grows_on a b c later f s = record {
   moments = goes_on _ a.trace b.trace c.trace
       (goes_weaker _ _ a.trace b.trace (λ m leaves image left. part_of_more (limits_of a.log) b.history c.history s.more a.durable a.durable image s.start s.acts (omega arith) (leaves image left)) f.moments)
       (goes_weaker _ _ b.trace c.trace (λ m leaves image left.
-      subst (λ (l : Limits). RestartsToPart l c.history a.durable image) f.limits
+      subst (λ (l : Format). RestartsToPart l c.history a.durable image) f.limits
       (part_of_more (limits_of b.log) c.history c.history [] a.durable b.durable image refl (sym (append-nil c.history.acts)) later.durable (leaves image left))) s.moments);
 }
 

@@ -6,7 +6,7 @@ use Rattle.device.specs.Moments.{Goes}
 use Rattle.device.specs.Places.{Has, OnDisk, ChangesOnly}
 use Rattle.device.proofs.Going.{goes_weaker, goes_both, goes_now}
 use Rattle.device.proofs.Standing.{same_only, has_kept}
-use Rattle.index_model.specs.declared.limits.Limits.{Limits}
+use Rattle.index_model.specs.declared.format.Format.{Format}
 use Rattle.page_codec.specs.Spelling.{page_bytes}
 use Rattle.page_codec.specs.declared.page.Page.{Page}
 use Rattle.page_action.specs.Stored.{AreStored}
@@ -24,7 +24,7 @@ use Rattle.page_store.proofs.Images.{none_among_fewer}
 use Rattle.page_store.proofs.Restarting.{home_kept, superblock_kept, leaves_part}
 
 -- what stands at home while fewer acts are forced does while more are
-home_of_more : (limits : Limits) (since : List (List Page)) (pages : List Page) (n m : ℕ) (at : Moment) → n ≤ m → AreHome limits (images_of (take n since)) pages at → AreHome limits (images_of (take m since)) pages at
+home_of_more : (limits : Format) (since : List (List Page)) (pages : List Page) (n m : ℕ) (at : Moment) → n ≤ m → AreHome limits (images_of (take n since)) pages at → AreHome limits (images_of (take m since)) pages at
 home_of_more limits since pages n m at le home = record {
   used = λ block page found none. home.used block page found (none_among_fewer since n m block le none);
   unused = λ block past small none. home.unused block past small (none_among_fewer since n m block le none);
@@ -36,16 +36,16 @@ pub leaves_kept : (held : Held) (own : IsOwn held) (log : Log) (m : Moment) (unw
 leaves_kept held own log m unwritten durable limits long k =
     subst (λ (n : ℕ). LeavesPart (limits_of held.log) held.history n m) (sym k.durable_is)
     (leaves_part (limits_of held.log) held.history own.start_stored own.start_few own.acts_are k.base k.forced m k.base_few
-    (subst (λ (l : Limits). OnDisk 0 (superblock l) m) limits k.superblock_on)
-    (subst (λ (l : Limits). AreHome l (images_of (take k.forced (drop k.base held.history.acts))) (pages_after held.history k.base) m) limits k.home)
+    (subst (λ (l : Format). OnDisk 0 (superblock l) m) limits k.superblock_on)
+    (subst (λ (l : Format). AreHome l (images_of (take k.forced (drop k.base held.history.acts))) (pages_after held.history k.base) m) limits k.home)
     long
-    (subst (λ (l : Limits). Restarts l (drop k.base held.history.acts) k.forced m) limits (keeps_restarts log m (drop k.base held.history.acts) k.forced k.log_keeps)))
+    (subst (λ (l : Format). Restarts l (drop k.base held.history.acts) k.forced m) limits (keeps_restarts log m (drop k.base held.history.acts) k.forced k.log_keeps)))
 
 module _ (old : Held) (log : Log) (trace : Trace) (honest : Bool) (failures : ℕ) (limits : limits_of log ≡ limits_of old.log) (alive : is_stopped old.log ≡ false)
     (moments : (acts : List (List Page)) (forced : ℕ) → Keeps old.log old.trace.now acts forced → Goes (Restarts (limits_of old.log) acts forced) old.trace trace)
     (outside : Goes (ChangesOnly 4096 (limits_of old.log).log_bytes old.trace.now) old.trace trace) (len : length trace.now.seen ≡ length old.trace.now.seen)
     (same_honest : honest ≡ old.honest) (more_failures : old.failures ≤ failures) where
-  abbrev l : Limits
+  abbrev l : Format
   l = limits_of old.log
 
   abbrev h : History
@@ -67,12 +67,12 @@ module _ (old : Held) (log : Log) (trace : Trace) (honest : Bool) (failures : �
 
     own_between : (durable room : ℕ) → LeavesPart l h durable trace.now → (is_stopped log ≡ false → IsKept log trace.now old.unwritten h durable) → IsOwn (record old { log = log; trace = trace; honest = honest; failures = failures; durable = durable; room = room })
     own_between durable room leaves kept = record {
-      start_stored = subst (λ (x : Limits). AreStored x 0 h.start) (sym limits) own.start_stored;
-      start_few = subst (λ (x : Limits). length h.start ≤ x.pages) (sym limits) own.start_few;
-      long = subst (λ (x : Limits). place x x.pages ≤ length trace.now.seen) (sym limits) (omega (arith, own.long, len));
-      acts_are = subst (λ (x : Limits). AreActs x h.start h.acts) (sym limits) own.acts_are;
+      start_stored = subst (λ (x : Format). AreStored x 0 h.start) (sym limits) own.start_stored;
+      start_few = subst (λ (x : Format). length h.start ≤ x.pages) (sym limits) own.start_few;
+      long = subst (λ (x : Format). place x x.pages ≤ length trace.now.seen) (sym limits) (omega (arith, own.long, len));
+      acts_are = subst (λ (x : Format). AreActs x h.start h.acts) (sym limits) own.acts_are;
       counted = own.counted;
-      leaves = subst (λ (x : Limits). LeavesPart x h durable trace.now) (sym limits) leaves;
+      leaves = subst (λ (x : Format). LeavesPart x h durable trace.now) (sym limits) leaves;
       kept = kept;
     }
 
@@ -107,13 +107,13 @@ module _ (old : Held) (log : Log) (trace : Trace) (honest : Bool) (failures : �
           base_few = k.base_few;
           durable_is = omega (arith, own.counted, length-drop k.base h.acts, k.base_few);
           log_keeps = keeps since k.forced k.log_keeps;
-          home = subst (λ (x : Limits). AreHome x (images_of (take (length since) since)) (pages_after h k.base) trace.now) (sym limits)
+          home = subst (λ (x : Format). AreHome x (images_of (take (length since) since)) (pages_after h k.base) trace.now) (sym limits)
               (home_kept l _ _ old.trace.now trace.now only_now (home_of_more l since (pages_after h k.base) k.forced (length since) old.trace.now k.log_keeps.few k.home));
-          superblock_on = subst (λ (x : Limits). OnDisk 0 (superblock x) trace.now) (sym limits) (superblock_kept l 4096 l.log_bytes old.trace.now trace.now (omega arith) only_now k.superblock_on);
+          superblock_on = subst (λ (x : Format). OnDisk 0 (superblock x) trace.now) (sym limits) (superblock_kept l 4096 l.log_bytes old.trace.now trace.now (omega arith) only_now k.superblock_on);
           named = k.named;
           last = k.last;
           written = λ block page found clean image.
-              subst (λ (x : Limits). Has (place x block) (page_bytes page) trace.now.seen) (sym limits)
+              subst (λ (x : Format). Has (place x block) (page_bytes page) trace.now.seen) (sym limits)
               (has_kept 4096 l.log_bytes (place l block) (page_bytes page) old.trace.now trace.now only_now (inr (omega arith)) (k.written block page found clean image));
         }
 

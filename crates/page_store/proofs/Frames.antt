@@ -8,7 +8,7 @@ use Rattle.buffer_pool.specs.Frames.{has_block}
 use Rattle.buffer_pool.specs.Pools.{most_of, frame_of, HasSamePages, IsPut}
 use Rattle.buffer_pool.specs.declared.pool.Pool.{Pool}
 use Rattle.index_model.specs.declared.fault.Fault.{Fault}
-use Rattle.index_model.specs.declared.limits.Limits.{Limits}
+use Rattle.index_model.specs.declared.format.Format.{Format}
 use Rattle.page_codec.specs.declared.page.Page.{Page}
 use Rattle.page_action.specs.Stored.{IsStored, AreActable}
 use Rattle.page_action.proofs.StoredPages.{stored_at}
@@ -65,11 +65,11 @@ taking_pinned pool pinned stopped a b block e among (inl none) =
 taking_pinned pool pinned stopped a b block e among (inr writes) = inr writes
 
 -- a page of an act may be stored at its block, which is below the limit
-pub actable_at : (limits : Limits) (used : ℕ) (changed : List Page) (k : ℕ) (page : Page) → AreActable limits used changed → slice_get changed k ≡ Some page → IsStored limits page.block page × (page.block < limits.pages)
+pub actable_at : (limits : Format) (used : ℕ) (changed : List Page) (k : ℕ) (page : Page) → AreActable limits used changed → slice_get changed k ≡ Some page → IsStored limits page.block page × (page.block < limits.pages)
 actable_at limits used [] k page may at = absurd cc
 actable_at limits used (p ∷ changed) zero page may at =
     let e : p ≡ page = cc in
-    subst (λ (x : Page). IsStored limits x.block x × (x.block < limits.pages)) e (stored_at limits p.block p may.0 refl, may.1.1)
+    subst (λ (x : Page). IsStored limits x.block x × (x.block < limits.pages)) e (stored_at limits p.block p may.0.storable refl, may.1.1)
 actable_at limits used (p ∷ changed) (suc k) page may at = actable_at limits used changed k page may.3 at
 
 pub all_at : {A : Type 0} (P : A → Type 0) (xs : List A) (k : ℕ) (x : A) → All P xs → slice_get xs k ≡ Some x → P x

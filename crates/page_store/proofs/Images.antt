@@ -2,7 +2,7 @@
 use Rattle.std.proofs.Common.{◌≡◌, ◌≢◌, ◌⊎◌, true, ℕ, zero, suc, ◌+◌, ◌<◌, ◌≤◌, Option, Some, None, List, [], ◌∷◌, ◌++◌, length, max, take, drop, slice_get, slice_set, length-set, length-append, refl, sym, ap, subst, inl, inr, ◌∙◌, arith}
 use Rattle.std.specs.Prelude.{is_some}
 use Rattle.std.proofs.lemmas.Bool.{lt-ltb, le-ltb, cases_lt, cases_eq, eq-eqb, ne_eqb}
-use Rattle.index_model.specs.declared.limits.Limits.{Limits}
+use Rattle.index_model.specs.declared.format.Format.{Format}
 use Rattle.page_codec.specs.declared.page.Page.{Page}
 use Rattle.page_action.specs.Stored.{AreStored, AreActable}
 use Rattle.page_action.specs.States.{with_page, with_pages}
@@ -74,11 +74,11 @@ get-with_page pages page b place = elim (cases_eq page.block b) [
   | inr ne ↦ rw (if_other b page ne) (is_other pages page b ne place)
 ]
 
-pub get-with_pages : (limits : Limits) (used : ℕ) (pages changed : List Page) (b : ℕ) → AreActable limits used changed → used ≤ length pages → slice_get (with_pages pages changed) b ≡ later_of (slice_get pages b) (last_image changed b)
+pub get-with_pages : (limits : Format) (used : ℕ) (pages changed : List Page) (b : ℕ) → AreActable limits used changed → used ≤ length pages → slice_get (with_pages pages changed) b ≡ later_of (slice_get pages b) (last_image changed b)
 get-with_pages limits used pages [] b h few = refl
 get-with_pages limits used pages (page ∷ changed) b h few =
     let place : page.block ≤ length pages = omega (arith, h.1.0) in
-    get-with_pages limits used (with_page pages page) changed b h.3 (omega (arith, with_page-longer limits pages page h.0 place))
+    get-with_pages limits used (with_page pages page) changed b h.3 (omega (arith, with_page-longer limits pages page h.0.storable place))
     ∙ (ap (λ (o : Option Page). later_of o (last_image changed b)) (get-with_page pages page b place)
     ∙ later_assoc (slice_get pages b) (if_of b page) (last_image changed b))
 
@@ -89,7 +89,7 @@ length-with_page pages page place = elim (cases_lt page.block (length pages)) [
 ]
 
 -- of each block the last image of the acts, or else the page that was there
-pub get-after_acts : (limits : Limits) (pages : List Page) (acts : List (List Page)) (b : ℕ) → AreActs limits pages acts → slice_get (after_acts pages acts) b ≡ later_of (slice_get pages b) (last_image (images_of acts) b)
+pub get-after_acts : (limits : Format) (pages : List Page) (acts : List (List Page)) (b : ℕ) → AreActs limits pages acts → slice_get (after_acts pages acts) b ≡ later_of (slice_get pages b) (last_image (images_of acts) b)
 get-after_acts limits pages [] b h = refl
 get-after_acts limits pages (changed ∷ acts) b h =
     get-after_acts limits (with_pages pages changed) acts b h.1
@@ -98,15 +98,15 @@ get-after_acts limits pages (changed ∷ acts) b h =
     ∙ ap (λ (o : Option Page). later_of (slice_get pages b) o) (sym (last_image-append changed (images_of acts) b))))
 
 -- and they are stored, and not too many
-pub stored-with_pages : (limits : Limits) (used : ℕ) (pages changed : List Page) → AreActable limits used changed → used ≤ length pages → AreStored limits 0 pages → length pages ≤ limits.pages
+pub stored-with_pages : (limits : Format) (used : ℕ) (pages changed : List Page) → AreActable limits used changed → used ≤ length pages → AreStored limits 0 pages → length pages ≤ limits.pages
     → AreStored limits 0 (with_pages pages changed) × (length (with_pages pages changed) ≤ limits.pages)
 stored-with_pages limits used pages [] h more stored few = (stored, few)
 stored-with_pages limits used pages (page ∷ changed) h more stored few =
     let place : page.block ≤ length pages = omega (arith, h.1.0) in
-    stored-with_pages limits used (with_page pages page) changed h.3 (omega (arith, with_page-longer limits pages page h.0 place))
-    (stored-with_page limits pages page h.0 place stored) (with_page-few limits pages page h.0 place h.1.1 few)
+    stored-with_pages limits used (with_page pages page) changed h.3 (omega (arith, with_page-longer limits pages page h.0.storable place))
+    (stored-with_page limits pages page h.0.storable place stored) (with_page-few limits pages page h.0.storable place h.1.1 few)
 
-pub stored-after_acts : (limits : Limits) (pages : List Page) (acts : List (List Page)) → AreActs limits pages acts → AreStored limits 0 pages → length pages ≤ limits.pages
+pub stored-after_acts : (limits : Format) (pages : List Page) (acts : List (List Page)) → AreActs limits pages acts → AreStored limits 0 pages → length pages ≤ limits.pages
     → AreStored limits 0 (after_acts pages acts) × (length (after_acts pages acts) ≤ limits.pages)
 stored-after_acts limits pages [] h stored few = (stored, few)
 stored-after_acts limits pages (changed ∷ acts) h stored few =
@@ -118,16 +118,16 @@ pub after_acts-append : (pages : List Page) (xs ys : List (List Page)) → after
 after_acts-append pages [] ys = refl
 after_acts-append pages (x ∷ xs) ys = after_acts-append (with_pages pages x) xs ys
 
-pub acts-append : (limits : Limits) (pages : List Page) (xs ys : List (List Page)) → AreActs limits pages xs → AreActs limits (after_acts pages xs) ys → AreActs limits pages (xs ++ ys)
+pub acts-append : (limits : Format) (pages : List Page) (xs ys : List (List Page)) → AreActs limits pages xs → AreActs limits (after_acts pages xs) ys → AreActs limits pages (xs ++ ys)
 acts-append limits pages [] ys a b = b
 acts-append limits pages (x ∷ xs) ys a b = (a.0, acts-append limits (with_pages pages x) xs ys a.1 b)
 
-pub acts-take : (limits : Limits) (pages : List Page) (acts : List (List Page)) (n : ℕ) → AreActs limits pages acts → AreActs limits pages (take n acts)
+pub acts-take : (limits : Format) (pages : List Page) (acts : List (List Page)) (n : ℕ) → AreActs limits pages acts → AreActs limits pages (take n acts)
 acts-take limits pages acts zero h = tt
 acts-take limits pages [] (suc n) h = tt
 acts-take limits pages (x ∷ acts) (suc n) h = (h.0, acts-take limits (with_pages pages x) acts n h.1)
 
-pub acts-drop : (limits : Limits) (pages : List Page) (acts : List (List Page)) (n : ℕ) → AreActs limits pages acts → AreActs limits (after_acts pages (take n acts)) (drop n acts)
+pub acts-drop : (limits : Format) (pages : List Page) (acts : List (List Page)) (n : ℕ) → AreActs limits pages acts → AreActs limits (after_acts pages (take n acts)) (drop n acts)
 acts-drop limits pages acts zero h = h
 acts-drop limits pages [] (suc n) h = tt
 acts-drop limits pages (x ∷ acts) (suc n) h = acts-drop limits (with_pages pages x) acts n h.1

@@ -7,7 +7,7 @@ use Rattle.buffer_pool.specs.declared.pool.Pool.{Pool}
 use Rattle.device.specs.Disk.{Moment}
 use Rattle.device.specs.Places.{Has, ChangesOnly}
 use Rattle.device.proofs.Standing.{has_kept}
-use Rattle.index_model.specs.declared.limits.Limits.{Limits}
+use Rattle.index_model.specs.declared.format.Format.{Format}
 use Rattle.page_codec.specs.Spelling.{page_bytes}
 use Rattle.page_codec.specs.declared.page.Page.{Page}
 use Rattle.page_codec.proofs.Laws.{length-page}
@@ -29,7 +29,7 @@ use Rattle.redo_log.specs.Images.{last_image, later_of}
 use Rattle.page_store.specs.Changing.{AreActed}
 use Rattle.page_store.specs.Writing.{AreWrittenUpTo, IsClean}
 
-module _ (limits : Limits) (pages : List Page) (acts : ℕ) (pool : Pool) (honest : Bool) (m n : Moment) (holds : HoldsPages limits pages acts pool honest m) where
+module _ (limits : Format) (pages : List Page) (acts : ℕ) (pool : Pool) (honest : Bool) (m n : Moment) (holds : HoldsPages limits pages acts pool honest m) where
   -- where what a read gives stays at the places of clean pages
   holds_seen : (honest' : Bool) → (honest' ≡ true → honest ≡ true)
       → (honest ≡ true → (block : ℕ) (page : Page) → slice_get pages block ≡ Some page → act_of pool block ≡ 0 → Has (place limits block) (page_bytes page) m.seen → Has (place limits block) (page_bytes page) n.seen)
@@ -63,7 +63,7 @@ module _ (limits : Limits) (pages : List Page) (acts : ℕ) (pool : Pool) (hones
       (λ h block page found clean has. subst (λ (file : List ℕ). Has (place limits block) (page_bytes page) file) (sym same) has)
 
 -- pages that stand at their places are noted as written
-pub holds_noted : (limits : Limits) (pages : List Page) (acts : ℕ) (old new : Pool) (honest : Bool) (m : Moment) → HoldsPages limits pages acts old honest m → HasSamePages old new
+pub holds_noted : (limits : Format) (pages : List Page) (acts : ℕ) (old new : Pool) (honest : Bool) (m : Moment) → HoldsPages limits pages acts old honest m → HasSamePages old new
     → ((block : ℕ) → (act_of new block ≡ act_of old block)
     ⊎ ((act_of new block ≡ 0) × ((page : Page) → slice_get pages block ≡ Some page → Has (place limits block) (page_bytes page) m.seen)))
     → HoldsPages limits pages acts new honest m
@@ -89,7 +89,7 @@ holds_noted limits pages acts old new honest m holds same noted = record {
     ]
 
 -- a page is brought into a frame that can be taken: the one in use, or one of a block that isn't
-pub holds_put : (limits : Limits) (pages : List Page) (acts : ℕ) (old new : Pool) (honest honest' : Bool) (m : Moment) (at : ℕ) (page : Page) → HoldsPages limits pages acts old honest m → IsPut old new at page
+pub holds_put : (limits : Format) (pages : List Page) (acts : ℕ) (old new : Pool) (honest honest' : Bool) (m : Moment) (at : ℕ) (page : Page) → HoldsPages limits pages acts old honest m → IsPut old new at page
     → (honest' ≡ true → honest ≡ true) → (page.block < length pages → IsStored limits page.block page)
     → (honest' ≡ true → (there : Page) → slice_get pages page.block ≡ Some there → page ≡ there) → act_of old page.block ≡ 0 → HoldsPages limits pages acts new honest' m
 holds_put limits pages acts old new honest honest' m at page holds put was stored right clean = record {
@@ -132,7 +132,7 @@ none_changed pool is none block = elim (cases_lt 0 (act_of pool block)) [
 ]
 
 -- pages that were just read, of which the pool holds none
-pub holds_opened : (limits : Limits) (pages : List Page) (pool : Pool) (honest : Bool) (m : Moment) → IsPool pool → count_of pool ≡ 0 → (honest ≡ true → AreSeen limits pages m) → HoldsPages limits pages 0 pool honest m
+pub holds_opened : (limits : Format) (pages : List Page) (pool : Pool) (honest : Bool) (m : Moment) → IsPool pool → count_of pool ≡ 0 → (honest ≡ true → AreSeen limits pages m) → HoldsPages limits pages 0 pool honest m
 holds_opened limits pages pool honest m is none seen = record {
   few = λ block. omega (arith, none_changed pool is none block);
   in_use = λ block some. absurd (omega (arith, none_changed pool is none block));
@@ -147,10 +147,10 @@ pub pages_opened : (h : History) → length h.acts ≡ 0 → pages_now h ≡ h.s
 pages_opened h none = ap (λ (as' : List (List Page)). after_acts h.start as') (none_of_length h.acts none)
 
 -- the same pages and changes in another order of frames
-pub holds_same : (limits : Limits) (pages : List Page) (acts : ℕ) (old new : Pool) (honest : Bool) (m : Moment) → HoldsPages limits pages acts old honest m → HasSamePages old new → ((block : ℕ) → act_of new block ≡ act_of old block) → HoldsPages limits pages acts new honest m
+pub holds_same : (limits : Format) (pages : List Page) (acts : ℕ) (old new : Pool) (honest : Bool) (m : Moment) → HoldsPages limits pages acts old honest m → HasSamePages old new → ((block : ℕ) → act_of new block ≡ act_of old block) → HoldsPages limits pages acts new honest m
 holds_same limits pages acts old new honest m holds same acts_same = holds_noted limits pages acts old new honest m holds same (λ block. inl (acts_same block))
 
-module _ (limits : Limits) (pages : List Page) (acts : ℕ) (pool : Pool) (honest : Bool) (m : Moment) (holds : HoldsPages limits pages acts pool honest m) (is : IsPool pool) where
+module _ (limits : Format) (pages : List Page) (acts : ℕ) (pool : Pool) (honest : Bool) (m : Moment) (holds : HoldsPages limits pages acts pool honest m) (is : IsPool pool) where
   -- a changed page that stands at its place as it is held, stands there as it is
   at_home : (b : ℕ) → 0 < act_of pool b → ((held : Page) → held_page pool b ≡ Some held → Has (place limits b) (page_bytes held) m.seen) → (page : Page) → slice_get pages b ≡ Some page → Has (place limits b) (page_bytes page) m.seen
   at_home b some has page found =
@@ -213,7 +213,7 @@ module _ (limits : Limits) (pages : List Page) (acts : ℕ) (pool : Pool) (hones
   ]
 
 -- an act changed pages that have frames
-module _ (limits : Limits) (pages : List Page) (acts : ℕ) (old new : Pool) (honest : Bool) (m : Moment) (changed : List Page) (holds : HoldsPages limits pages acts old honest m)
+module _ (limits : Format) (pages : List Page) (acts : ℕ) (old new : Pool) (honest : Bool) (m : Moment) (changed : List Page) (holds : HoldsPages limits pages acts old honest m)
     (stored : AreStored limits 0 pages) (few : length pages ≤ limits.pages) (actable : AreActable limits (length pages) changed) (acted : AreActed old new changed (suc acts)) where
   abbrev after : List Page
   after = with_pages pages changed

@@ -6,7 +6,7 @@ use Rattle.device.specs.Disk.{Moment}
 use Rattle.device.specs.Places.{Has}
 use Rattle.index_model.specs.declared.fault.Fault.{Fault}
 use Rattle.index_model.specs.declared.fault.Fault.TheVariants.{Io}
-use Rattle.index_model.specs.declared.limits.Limits.{Limits}
+use Rattle.index_model.specs.declared.format.Format.{Format}
 use Rattle.buffer_pool.specs.Pools.{act_of, held_page}
 use Rattle.buffer_pool.specs.declared.pool.Pool.{Pool}
 use Rattle.page_codec.specs.Spelling.{page_bytes}
@@ -29,7 +29,7 @@ reading_rises block (Ok x) old new same = omega arith
 reading_rises block (Err e) old new (inl io) = omega (arith, io.1)
 reading_rises block (Err e) old new (inr damaged) = omega (arith, damaged.1)
 
-module _ (limits : Limits) (pages : List Page) (acts : ℕ) (pool : Pool) (honest : Bool) (m : Moment) (holds : HoldsPages limits pages acts pool honest m) (stored : AreStored limits 0 pages) where
+module _ (limits : Format) (pages : List Page) (acts : ℕ) (pool : Pool) (honest : Bool) (m : Moment) (holds : HoldsPages limits pages acts pool honest m) (stored : AreStored limits 0 pages) where
   -- a read of a page that isn't held gives it, or the device failed
   pub read_gives : {T : Type 0} (block : ℕ) (page given : Page) (r : Result T Fault) → slice_get pages block ≡ Some page → act_of pool block ≡ 0 → honest ≡ true
       → ((there : Page) → IsStored limits block there → Has (place limits block) (page_bytes there) m.seen → GivesPage there given r) → GivesPage page given r

@@ -4,7 +4,7 @@ use Rattle.std.proofs.lemmas.Option.{slice_get_past}
 use Rattle.device.specs.Disk.{Moment, MayLeave}
 use Rattle.device.specs.Places.{OnDisk, ChangesOnly}
 use Rattle.device.proofs.Standing.{on_image, kept}
-use Rattle.index_model.specs.declared.limits.Limits.{Limits}
+use Rattle.index_model.specs.declared.format.Format.{Format}
 use Rattle.page_codec.specs.Spelling.{page_bytes}
 use Rattle.page_codec.specs.declared.page.Page.{Page}
 use Rattle.page_action.specs.Stored.{AreStored}
@@ -23,7 +23,7 @@ past_of_none (x ∷ xs) zero e = absurd cc
 past_of_none (x ∷ xs) (suc i) e = let h = past_of_none xs i e in omega arith
 
 -- with an own superblock, and each page at home that has no image among the forced ones
-module _ (limits : Limits) (base : List Page) (since : List (List Page)) (forced part : ℕ) (m : Moment) (image : List ℕ) (left : MayLeave m image) (superblock_on : OnDisk 0 (superblock limits) m)
+module _ (limits : Format) (base : List Page) (since : List (List Page)) (forced part : ℕ) (m : Moment) (image : List ℕ) (left : MayLeave m image) (superblock_on : OnDisk 0 (superblock limits) m)
     (home : AreHome limits (images_of (take forced since)) base m) (le : forced ≤ part) (holds : Holds limits image (take part since)) (acts : AreActs limits base since) where
   get : (block : ℕ) → slice_get (after_acts base (take part since)) block ≡ later_of (slice_get base block) (last_image (images_of (take part since)) block)
   get block = get-after_acts limits base (take part since) block (acts-take limits base since part acts)
@@ -61,20 +61,20 @@ module _ (limits : Limits) (base : List Page) (since : List (List Page)) (forced
       }
 
 -- places lie outside the log's range
-pub home_kept : (limits : Limits) (images pages : List Page) (m n : Moment) → ChangesOnly 4096 limits.log_bytes m n → AreHome limits images pages m → AreHome limits images pages n
+pub home_kept : (limits : Format) (images pages : List Page) (m n : Moment) → ChangesOnly 4096 limits.log_bytes m n → AreHome limits images pages m → AreHome limits images pages n
 home_kept limits images pages m n only home = record {
   used = λ block page found unnamed. kept 4096 limits.log_bytes (place limits block) (page_bytes page) m n only (inr (omega arith)) (home.used block page found unnamed);
   unused = λ block past small unnamed. kept 4096 limits.log_bytes (place limits block) (replicate 4096 0) m n only (inr (omega arith)) (home.unused block past small unnamed);
 }
 
-pub length-superblock : (limits : Limits) → length (superblock limits) ≡ 4096
+pub length-superblock : (limits : Format) → length (superblock limits) ≡ 4096
 unfolding superblock
 length-superblock limits = refl
 
-pub superblock_kept : (limits : Limits) (at n : ℕ) (old new : Moment) → 4096 ≤ at → ChangesOnly at n old new → OnDisk 0 (superblock limits) old → OnDisk 0 (superblock limits) new
+pub superblock_kept : (limits : Format) (at n : ℕ) (old new : Moment) → 4096 ≤ at → ChangesOnly at n old new → OnDisk 0 (superblock limits) old → OnDisk 0 (superblock limits) new
 superblock_kept limits at n old new behind only on = kept at n 0 (superblock limits) old new only (inl (omega (arith, length-superblock limits))) on
 
-module _ (limits : Limits) (h : History) (start_stored : AreStored limits 0 h.start) (start_few : length h.start ≤ limits.pages) (acts : AreActs limits h.start h.acts) where
+module _ (limits : Format) (h : History) (start_stored : AreStored limits 0 h.start) (start_few : length h.start ≤ limits.pages) (acts : AreActs limits h.start h.acts) where
   pub pages_stored : (part : ℕ) → AreStored limits 0 (pages_after h part) × (length (pages_after h part) ≤ limits.pages)
   pages_stored part = stored-after_acts limits h.start (take part h.acts) (acts-take limits h.start h.acts part acts) start_stored start_few
 

@@ -7,7 +7,7 @@ use Rattle.device.specs.Moments.{Goes}
 use Rattle.device.specs.Places.{Has, ChangesOnly}
 use Rattle.device.proofs.Going.{goes_weaker, goes_now}
 use Rattle.device.proofs.Standing.{has_kept, kept, synced_only}
-use Rattle.index_model.specs.declared.limits.Limits.{Limits}
+use Rattle.index_model.specs.declared.format.Format.{Format}
 use Rattle.page_codec.specs.Spelling.{page_bytes}
 use Rattle.page_codec.specs.declared.page.Page.{Page}
 use Rattle.page_codec.proofs.Laws.{length-page}
@@ -26,7 +26,7 @@ use Rattle.page_store.proofs.Restarting.{superblock_kept, pages_stored}
 use Rattle.page_store.proofs.ForceFollows.{leaves_kept}
 
 module _ (old : Held) (own : IsOwn old) (alive : is_stopped old.log ≡ false) where
-  abbrev l : Limits
+  abbrev l : Format
   l = limits_of old.log
 
   abbrev h : History
@@ -198,12 +198,12 @@ noted_follows old unwritten changed noted = record {
     }
 
 -- ... at their places under these limits
-pub follows_noted : (old : Held) (unwritten : ℕ → ℕ) (changed : List ℕ) (limits : Limits) → limits_of old.log ≡ limits
+pub follows_noted : (old : Held) (unwritten : ℕ → ℕ) (changed : List ℕ) (limits : Format) → limits_of old.log ≡ limits
     → ((block : ℕ) → (unwritten block ≡ old.unwritten block)
     ⊎ ((unwritten block ≡ 0) × ((page : Page) → slice_get (pages_held old) block ≡ Some page → Has (place limits block) (page_bytes page) old.trace.now.seen)))
     → Follows old (record old { unwritten = unwritten; changed = changed })
 follows_noted old unwritten changed limits is noted = noted_follows old unwritten changed
-    (subst (λ (l : Limits). (block : ℕ) → (unwritten block ≡ old.unwritten block) ⊎ ((unwritten block ≡ 0) × ((page : Page) → slice_get (pages_held old) block ≡ Some page → Has (place l block) (page_bytes page) old.trace.now.seen))) (sym is) noted)
+    (subst (λ (l : Format). (block : ℕ) → (unwritten block ≡ old.unwritten block) ⊎ ((unwritten block ≡ 0) × ((page : Page) → slice_get (pages_held old) block ≡ Some page → Has (place l block) (page_bytes page) old.trace.now.seen))) (sym is) noted)
 
 -- a read leaves what it finds
 read_follows : (old : Held) (honest : Bool) (failures : ℕ) → (honest ≡ true → old.honest ≡ true) → old.failures ≤ failures

@@ -5,7 +5,7 @@ use Rattle.std.proofs.lemmas.List.{take-append-le}
 use Rattle.device.specs.Disk.{MayLeave}
 use Rattle.device.specs.Moments.{Goes, MayHaveLeft}
 use Rattle.device.proofs.Going.{goes_leaves}
-use Rattle.index_model.specs.declared.limits.Limits.{Limits}
+use Rattle.index_model.specs.declared.format.Format.{Format}
 use Rattle.page_codec.specs.declared.page.Page.{Page}
 use Rattle.page_action.specs.Crashes.{LeavesFirstPart}
 use Rattle.redo_log.specs.Kept.{limits_of}
@@ -25,7 +25,7 @@ pages_of_more h longer more part start acts le =
     ∙ ap (after_acts h.start) (ap (take part) acts ∙ take-append-le part h.acts more le)
 
 -- a first part of the acts is one of more acts
-pub part_of_more : (limits : Limits) (h longer : History) (more : List (List Page))
+pub part_of_more : (limits : Format) (h longer : History) (more : List (List Page))
     (low least : ℕ) (image : List ℕ)
     → longer.start ≡ h.start → longer.acts ≡ h.acts ++ more → low ≤ least
     → RestartsToPart limits h least image → RestartsToPart limits longer low image
@@ -55,7 +55,7 @@ module _ (first now : Held) (own : IsOwn first) (follows : Follows first now) wh
   pub own_now : IsOwn now
   own_now = (follows.grows own).own
 
-  pub crash_restarts : (limits : Limits) (image : List ℕ) → limits_of now.log ≡ limits
+  pub crash_restarts : (limits : Format) (image : List ℕ) → limits_of now.log ≡ limits
       → MayHaveLeft first.trace now.trace image
       → RestartsToPart limits now.history first.durable image
   crash_restarts limits image is left =
@@ -63,10 +63,10 @@ module _ (first now : Held) (own : IsOwn first) (follows : Follows first now) wh
       let l = limits_of first.log in
       let here = goes_leaves (LeavesPart l now.history first.durable) first.trace now.trace image on.moments
       (λ old_image may. part_of_more l first.history now.history on.more first.durable first.durable old_image on.start on.acts (omega arith) (own.leaves old_image may)) left in
-      subst (λ (x : Limits). RestartsToPart x now.history first.durable image) (sym on.limits ∙ is) (here.1 image here.2)
+      subst (λ (x : Format). RestartsToPart x now.history first.durable image) (sym on.limits ∙ is) (here.1 image here.2)
 
   -- ... in the words of a store of pages
-  pub leaves_first : (limits : Limits) (image : List ℕ) → limits_of now.log ≡ limits
+  pub leaves_first : (limits : Format) (image : List ℕ) → limits_of now.log ≡ limits
       → MayHaveLeft first.trace now.trace image
       → LeavesFirstPart first.durable now.acts (pages_after now.history) (RestartsTo limits image)
   leaves_first limits image is left =

@@ -1,6 +1,6 @@
 -- The acts of a store, and its pages after the first so many of them.
 use Rattle.std.specs.Prelude.{ℕ, List, [], ◌∷◌, ◌++◌, length, take}
-use Rattle.index_model.specs.declared.limits.Limits.{Limits}
+use Rattle.index_model.specs.declared.format.Format.{Format}
 use Rattle.page_codec.specs.declared.page.Page.{Page}
 use Rattle.page_action.specs.States.{with_pages}
 use Rattle.page_action.specs.Stored.{AreActable}
@@ -28,7 +28,7 @@ abbrev pub pages_now : History → List Page
 pages_now h = after_acts h.start h.acts
 
 -- each of these acts could be done where it was
-abbrev pub AreActs : Limits → List Page → List (List Page) → Type 0
+abbrev pub AreActs : Format → List Page → List (List Page) → Type 0
 AreActs limits pages [] = Unit {0}
 AreActs limits pages (changed ∷ acts) =
     AreActable limits (length pages) changed × AreActs limits (with_pages pages changed) acts

@@ -4,7 +4,7 @@ use Rattle.std.proofs.Props.{props}
 use Rattle.device.specs.Disk.{Moment}
 use Rattle.device.specs.Places.{Has}
 use Rattle.buffer_pool.specs.declared.pool.Pool.{Pool}
-use Rattle.index_model.specs.declared.limits.Limits.{Limits}
+use Rattle.index_model.specs.declared.format.Format.{Format}
 use Rattle.page_codec.specs.declared.page.Page.{Page}
 use Rattle.page_action.specs.Props.{IsStored-prop}
 use Rattle.page_store.specs.Writing.{HoldsPages}
@@ -12,6 +12,6 @@ use Rattle.page_store.specs.Writing.{HoldsPages}
 Has-prop : (at : ℕ) (bytes file : List ℕ) → IsProp (Has at bytes file)
 Has-prop at bytes file = hlevel props
 
-pub HoldsPages-prop : (limits : Limits) (pages : List Page) (acts : ℕ) (pool : Pool) (honest : Bool)
+pub HoldsPages-prop : (limits : Format) (pages : List Page) (acts : ℕ) (pool : Pool) (honest : Bool)
     (m : Moment) → IsProp (HoldsPages limits pages acts pool honest m)
 HoldsPages-prop limits pages acts pool honest m = hlevel (props, IsStored-prop)

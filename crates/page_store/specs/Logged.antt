@@ -5,7 +5,7 @@ use Rattle.device.specs.Places.{Has, OnDisk}
 use Rattle.device.specs.declared.device.Device.{Ghosts}
 use Rattle.buffer_pool.specs.Pools.{act_of, changed_of, blocks_of}
 use Rattle.buffer_pool.specs.declared.pool.Pool.{Pool}
-use Rattle.index_model.specs.declared.limits.Limits.{Limits}
+use Rattle.index_model.specs.declared.format.Format.{Format}
 use Rattle.page_codec.specs.Spelling.{page_bytes}
 use Rattle.page_codec.specs.declared.page.Page.{Page}
 use Rattle.page_action.specs.Frames.{Memory}
@@ -95,7 +95,7 @@ abbrev pub memory_in : Pool → Memory
 memory_in pool = record { held = blocks_of pool; unwritten = act_of pool }
 
 -- each block that has no image among these stands at its place: its page, or zeros where it has none
-pub record AreHome (limits : Limits) (images pages : List Page) (m : Moment) : Type 0 where
+pub record AreHome (limits : Format) (images pages : List Page) (m : Moment) : Type 0 where
   pub used : (block : ℕ) (page : Page) → slice_get pages block ≡ Some page
       → last_image images block ≡ None
       → OnDisk (place limits block) (page_bytes page) m

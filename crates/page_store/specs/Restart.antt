@@ -3,7 +3,7 @@ use Rattle.std.specs.Prelude.{◌≡◌, ◌⊎◌, ℕ, ◌<◌, ◌≤◌, Som
 use Rattle.device.specs.Disk.{Moment, MayLeave}
 use Rattle.device.specs.Places.{Has}
 use Rattle.device_layout.specs.Layout.{superblock, place}
-use Rattle.index_model.specs.declared.limits.Limits.{Limits}
+use Rattle.index_model.specs.declared.format.Format.{Format}
 use Rattle.page_codec.specs.Spelling.{page_bytes}
 use Rattle.page_codec.specs.declared.page.Page.{Page}
 use Rattle.page_action.specs.Stored.{AreStored}
@@ -13,14 +13,14 @@ use Rattle.page_store.specs.Histories.{pages_after}
 use Rattle.page_store.specs.declared.history.History.{History}
 
 -- the block has no image among these, and these bytes stand at its place
-pub record StandsAtHome (limits : Limits) (images : List Page) (block : ℕ) (bytes image : List ℕ)
+pub record StandsAtHome (limits : Format) (images : List Page) (block : ℕ) (bytes image : List ℕ)
     : Type 0 where
   pub unnamed : last_image images block ≡ None
   pub has : Has (place limits block) bytes image
 
 -- the bytes restart to these pages: of each block in use the last image in the log is the page, or there is none, and
 -- the page stands at its place; no later block has an image, and zeros stand at its place
-pub record RestartsTo (limits : Limits) (image : List ℕ) (pages : List Page) : Type 0 where
+pub record RestartsTo (limits : Format) (image : List ℕ) (pages : List Page) : Type 0 where
   pub superblock_is : Has 0 (superblock limits) image
   pub groups : List (List Page)
   pub spells : SpellsGroups limits (log_range limits image) groups
@@ -34,7 +34,7 @@ pub record RestartsTo (limits : Limits) (image : List ℕ) (pages : List Page) :
       → StandsAtHome limits (images_of groups) block (replicate 4096 0) image
 
 -- they restart to the pages after some first part of the acts, of at least so many
-pub record RestartsToPart (limits : Limits) (h : History) (least : ℕ) (image : List ℕ)
+pub record RestartsToPart (limits : Format) (h : History) (least : ℕ) (image : List ℕ)
     : Type 0 where
   pub part : ℕ
   pub from : least ≤ part
@@ -42,10 +42,10 @@ pub record RestartsToPart (limits : Limits) (h : History) (least : ℕ) (image :
   pub restarts : RestartsTo limits image (pages_after h part)
 
 -- each image that a crash at this moment may leave does
-abbrev pub LeavesPart : Limits → History → ℕ → Moment → Type 0
+abbrev pub LeavesPart : Format → History → ℕ → Moment → Type 0
 LeavesPart limits h least m =
     (image : List ℕ) → MayLeave m image → RestartsToPart limits h least image
 
 -- each image that a crash at this moment may leave restarts to these pages
-abbrev pub LeavesPages : Limits → List Page → Moment → Type 0
+abbrev pub LeavesPages : Format → List Page → Moment → Type 0
 LeavesPages limits pages m = (image : List ℕ) → MayLeave m image → RestartsTo limits image pages

@@ -1,12 +1,12 @@
 -- What was read into the room of a store.
 use Rattle.std.specs.Prelude.{ℕ, List}
 use Rattle.buffer_pool.specs.Pools.{most_of}
-use Rattle.index_model.specs.declared.limits.Limits.{Limits}
+use Rattle.index_model.specs.declared.format.Format.{Format}
 use Rattle.page_codec.specs.declared.page.Page.{Page}
 use Rattle.page_store.specs.declared.room.StoreRoom.{StoreRoom}
 
 -- the limits that it was made for
-abbrev pub limits_of_room : StoreRoom → Limits
+abbrev pub limits_of_room : StoreRoom → Format
 limits_of_room room = room.limits
 
 -- the pages, by their blocks

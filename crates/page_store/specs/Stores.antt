@@ -2,7 +2,7 @@
 use Rattle.std.specs.Prelude.{ℕ, List}
 use Rattle.device.specs.declared.device.Device.{Ghosts}
 use Rattle.buffer_pool.specs.Pools.{most_of}
-use Rattle.index_model.specs.declared.limits.Limits.{Limits}
+use Rattle.index_model.specs.declared.format.Format.{Format}
 use Rattle.page_codec.specs.declared.page.Page.{Page}
 use Rattle.page_action.specs.CallTables.{opened_calls, state_with}
 use Rattle.page_action.specs.States.{State}
@@ -34,6 +34,6 @@ abbrev pub IsOwnStore : {D : Type 0} (g : Ghosts D) → Store D g → Type 0
 IsOwnStore g store = IsOwn (held_by g store)
 
 -- no act, no call, no hold yet
-abbrev pub opened_state : Limits → ℕ → List Page → List ℕ → ℕ → State
+abbrev pub opened_state : Format → ℕ → List Page → List ℕ → ℕ → State
 opened_state limits frames pages counted counter =
     state_with limits frames pages 0 (opened_calls limits.pages counted counter)

@@ -16,7 +16,7 @@ use crate::changing::{change_all, used_after};
 use crate::history::History;
 use buffer_pool::Pool;
 use device::Device;
-use index_model::{Fault, Limits};
+use index_model::{Fault, Format};
 use page_codec::Page;
 use redo_log::Log;
 
@@ -24,7 +24,7 @@ use redo_log::Log;
 /// The room for all was made with it.
 #[derive(Drop)]
 pub(crate) struct LoggedPages<D: Device> {
-    pub(crate) limits: Limits,
+    pub(crate) limits: Format,
     pub(crate) device: D,
     pub(crate) log: Log,
     pub(crate) pool: Pool,
@@ -76,7 +76,7 @@ impl<D: Device> LoggedPages<D> {
     /// The pages that `history` began with, over a device and a log that was just opened and closed. The pool holds none
     /// of them yet.
     pub fn new(
-        limits: Limits,
+        limits: Format,
         device: D,
         log: Log,
         pool: Pool,

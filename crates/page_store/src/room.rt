@@ -9,7 +9,7 @@ ghost use Rattle.page_action.specs.Props.{AreStored-prop};
 
 use crate::history::History;
 use buffer_pool::Pool;
-use index_model::{Fault, Limits};
+use index_model::{Fault, Format};
 use page_action::{CallRoom, DeletionNumbers, is_storable};
 use page_codec::Page;
 use std::alloc::Global;
@@ -18,7 +18,7 @@ use std::slice;
 /// The pages of an index as they were read, in order, and the room for its frames. None of them is held yet.
 #[derive(Drop)]
 pub struct StoreRoom {
-    pub(crate) limits: Limits,
+    pub(crate) limits: Format,
     pub(crate) pool: Pool,
     pub(crate) used: u32,
     pub(crate) numbers: DeletionNumbers,
@@ -45,7 +45,7 @@ impl StoreRoom {
 
     /// The room for an index of these limits, of which so many pages are held at once, with no page in use. Refused with
     /// `BadLimits`, and with `NoMemory` where the room cannot be had.
-    pub fn new(alloc: Global, limits: Limits, frames: u32) -> Result<StoreRoom, Fault>
+    pub fn new(alloc: Global, limits: Format, frames: u32) -> Result<StoreRoom, Fault>
         ensures limits { IfOk result (λ room. limits_of_room room ≡ limits) }
         ensures frames { IfOk result (λ room. frames_of_room room ≡ frames) }
         ensures empty { IfOk result (λ room. pages_of_room room ≡ []) }

@@ -8,7 +8,7 @@ use crate::logged_pages::LoggedPages;
 use crate::room::StoreRoom;
 use arrayvec::ArrayVec;
 use device::Device;
-use index_model::{Fault, Limits, Session};
+use index_model::{Fault, Format, Limits, Session};
 use latch_table::Mode;
 use page_action::{CallTable, PageStore};
 use page_codec::Page;
@@ -274,8 +274,12 @@ impl<D: Device> PageStore for Store<D> {
         self.held.used
     }
 
-    fn limits(&self) -> Limits {
+    fn format(&self) -> Format {
         self.held.limits
+    }
+
+    fn limits(&self) -> Limits {
+        self.held.limits.limits()
     }
 
     fn free_for(&self, session: Session, block: u32) -> Option<bool> {

@@ -11,7 +11,7 @@ ghost use Rattle.page_store.specs.Writing.{ReadingFails, GivesPage};
 
 use device::Device;
 use device_layout::page_place;
-use index_model::{Fault, Limits};
+use index_model::{Fault, Format};
 use page_codec::{Page, decode_into, encode};
 
 /// Writes the bytes of the page.
@@ -32,7 +32,7 @@ fn put_page<D: Device>(device: &mut D, at: u64, page: &Page) -> Result<(), Fault
 /// Writes the page to the place of this block, its own. At each moment only that place changes.
 pub(crate) fn write_page<D: Device>(
     device: &mut D,
-    limits: Limits,
+    limits: Format,
     block: u32,
     page: &Page,
 ) -> Result<(), Fault>
@@ -50,20 +50,23 @@ pub(crate) fn write_page<D: Device>(
 }
 
 /// Reads the page of these bytes into the place of another: whether it is one that may be stored at this block.
-fn decode_stored(bytes: &[u8; 4096], limits: Limits, block: u32, page: &mut Page) -> bool
+fn decode_stored(bytes: &[u8; 4096], limits: Format, block: u32, page: &mut Page) -> bool
     ensures stored { IsTrue result → IsStored limits block page.new }
     ensures found { IsTrue result → bytes.now ≡ page_bytes page.new }
     ensures only { (p : Page) → IsStored limits block p → bytes.now ≡ page_bytes p
         → IsTrue result }
 {
-    decode_into(bytes, page) && page.block == block && page.items.len() <= limits.items as usize
+    decode_into(bytes, page)
+        && page.block == block
+        && page.items.len() <= limits.items as usize
+        && limits.admits(page.layout)
 }
 
 /// Reads the page of this block into the place of another. Refused with `Io`, and with `PageDamaged` where no page stands
 /// there that may be stored at this block; what `page` holds has no meaning then.
 pub(crate) fn read_page<D: Device>(
     device: &mut D,
-    limits: Limits,
+    limits: Format,
     block: u32,
     page: &mut Page,
 ) -> Result<(), Fault>

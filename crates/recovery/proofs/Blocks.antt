@@ -8,7 +8,7 @@ use Rattle.device.specs.Disk.{Moment}
 use Rattle.device.specs.Places.{Has}
 use Rattle.device.proofs.Standing.{has_drop}
 use Rattle.index_model.specs.declared.fault.Fault.{Fault}
-use Rattle.index_model.specs.declared.limits.Limits.{Limits}
+use Rattle.index_model.specs.declared.format.Format.{Format}
 use Rattle.page_action.specs.Stored.{IsStored, AreStored}
 use Rattle.page_action.proofs.StoredPages.{stored-add, stored_page}
 use Rattle.page_codec.specs.Spelling.{page_bytes, used_bytes, head_bytes}
@@ -31,7 +31,7 @@ zeros-more : (n : ℕ) → replicate {A = ℕ} n 0 ++ 0 ∷ [] ≡ replicate {A 
 zeros-more zero = refl
 zeros-more (suc n) = ap (λ (l : List ℕ). 0 ∷ l) (zeros-more n)
 
-stand-more : (limits : Limits) (pages : List Page) (page : Page) (file : List ℕ) → StandFirst limits pages file → block_bytes limits (length pages) file ≡ page_bytes page → StandFirst limits (pages ++ page ∷ []) file
+stand-more : (limits : Format) (pages : List Page) (page : Page) (file : List ℕ) → StandFirst limits pages file → block_bytes limits (length pages) file ≡ page_bytes page → StandFirst limits (pages ++ page ∷ []) file
 stand-more limits pages page file stand here block p found = elim (cases_eq (length pages) block) [
   | inl same ↦
       let got = sym (more_same pages page) ∙ (ap (λ (b : ℕ). slice_get (pages ++ page ∷ []) b) same ∙ found) in
@@ -41,7 +41,7 @@ stand-more limits pages page file stand here block p found = elim (cases_eq (len
 ]
 
 -- one page more is read
-pub read_more : (limits : Limits) (before after : Bool) (file : List ℕ) (old new : Found) (page : Page) → (IsTrue after → IsTrue before) → HasReadPages limits before file old → limits_of_room new.room ≡ limits_of_room old.room
+pub read_more : (limits : Format) (before after : Bool) (file : List ℕ) (old new : Found) (page : Page) → (IsTrue after → IsTrue before) → HasReadPages limits before file old → limits_of_room new.room ≡ limits_of_room old.room
     → pages_of_room new.room ≡ pages_of_room old.room ++ page ∷ [] → counts_of_room new.room ≡ counts_of_room old.room ++ 0 ∷ [] → IsStored limits (length (pages_of_room old.room)) page → new.counter ≡ max old.counter page.cycle
     → (IsTrue after → block_bytes limits (length (pages_of_room old.room)) file ≡ page_bytes page) → HasReadPages limits after file new
 read_more limits before after file old new page earlier read same pages counts stored counter here =
@@ -60,7 +60,7 @@ unfolding page_bytes used_bytes head_bytes
 page_is_not_zeros page is = (let first : 66 ≡ 0 = ap (λ (l : List ℕ). slice_index l 0) is in absurd (omega (arith, first)))
 
 -- the block whose page was not taken is damaged
-pub damaged_here : (limits : Limits) (honest : Bool) (file : List ℕ) (found : Found) (page : Page) → HasReadPages limits honest file found → IsTrue honest → length (pages_of_room found.room) < limits.pages
+pub damaged_here : (limits : Format) (honest : Bool) (file : List ℕ) (found : Found) (page : Page) → HasReadPages limits honest file found → IsTrue honest → length (pages_of_room found.room) < limits.pages
     → AreBytesOf (Some page) (block_bytes limits (length (pages_of_room found.room)) file) → (IsStored limits (length (pages_of_room found.room)) page → ⊥) → IsDamagedAt limits (length (pages_of_room found.room)) file
 damaged_here limits honest file found page read is within here wrong = record {
   before = pages_of_room found.room;
@@ -78,7 +78,7 @@ refused (Ok x) e A P is p = absurd is
 refused (Err y) e A P is p = subst P (sym is) p
 
 -- block 0 is damaged where it is unused
-pub none_in_use : (limits : Limits) (file : List ℕ) → 0 < limits.pages → IsEnd limits 0 file → IsDamagedAt limits 0 file
+pub none_in_use : (limits : Format) (file : List ℕ) → 0 < limits.pages → IsEnd limits 0 file → IsDamagedAt limits 0 file
 none_in_use limits file some (inl full) = absurd (omega (arith, full))
 none_in_use limits file some (inr zeros) = record {
   before = [];
@@ -91,14 +91,14 @@ none_in_use limits file some (inr zeros) = record {
 }
 
 -- bytes that stand at the place of a block
-pub block_has : (limits : Limits) (block : ℕ) (bytes file : List ℕ) → Has (place limits block) bytes file → length bytes ≡ 4096 → block_bytes limits block file ≡ bytes
+pub block_has : (limits : Format) (block : ℕ) (bytes file : List ℕ) → Has (place limits block) bytes file → length bytes ≡ 4096 → block_bytes limits block file ≡ bytes
 block_has limits block bytes file has long =
     let at = place limits block in
     let size : at + 4096 - at ≡ 4096 = omega arith in
     ap (λ (n : ℕ). take n (drop at file)) size ∙ (ap (take 4096) (has_drop at bytes file has) ∙ take_at bytes (drop (at + length bytes) file) 4096 long)
 
 -- what stands at the place of a block is what a read gives there
-pub has_block : (limits : Limits) (block : ℕ) (bytes file : List ℕ) → block_bytes limits block file ≡ bytes → length bytes ≡ 4096 → place limits block + 4096 ≤ length file → Has (place limits block) bytes file
+pub has_block : (limits : Format) (block : ℕ) (bytes file : List ℕ) → block_bytes limits block file ≡ bytes → length bytes ≡ 4096 → place limits block + 4096 ≤ length file → Has (place limits block) bytes file
 has_block limits block bytes file is long inside =
     let at = place limits block in
     let size : at + 4096 - at ≡ 4096 = omega arith in
@@ -109,13 +109,13 @@ has_block limits block bytes file is long inside =
     }
 
 -- pages that were read stand on the device
-pub seen_of : (limits : Limits) (pages : List Page) (m : Moment) → AreStored limits 0 pages → length pages ≤ limits.pages → place limits limits.pages ≤ length m.seen → StandFirst limits pages m.seen → AreSeen limits pages m
+pub seen_of : (limits : Format) (pages : List Page) (m : Moment) → AreStored limits 0 pages → length pages ≤ limits.pages → place limits limits.pages ≤ length m.seen → StandFirst limits pages m.seen → AreSeen limits pages m
 seen_of limits pages m stored few inside stand block page found =
     has_block limits block (page_bytes page) m.seen (stand block page found) (length-page page (stored_page limits block pages page stored found).storable.admitted)
     (omega (arith, slice_get_within pages block page found, few, inside))
 
 -- pages that stand at home are those of all blocks in use
-pub home_in_use : (limits : Limits) (pages : List Page) (m : Moment) → AreStored limits 0 pages → length pages ≤ limits.pages → AreHome limits [] pages m → AreInUse limits pages m.seen
+pub home_in_use : (limits : Format) (pages : List Page) (m : Moment) → AreStored limits 0 pages → length pages ≤ limits.pages → AreHome limits [] pages m → AreInUse limits pages m.seen
 home_in_use limits pages m stored few home = record {
   stored = stored;
   few = few;
@@ -136,21 +136,21 @@ same_gets (p ∷ ps) (q ∷ qs) h =
     ap (λ (x : Page). x ∷ ps) first ∙ ap (λ (l : List Page). q ∷ l) (same_gets ps qs (λ i. h (suc i)))
 
 -- where zeros stand there is no page
-no_page_there : (limits : Limits) (pages : List Page) (file : List ℕ) (block : ℕ) → StandFirst limits pages file → block < length pages → block_bytes limits block file ≢ replicate 4096 0
+no_page_there : (limits : Format) (pages : List Page) (file : List ℕ) (block : ℕ) → StandFirst limits pages file → block < length pages → block_bytes limits block file ≢ replicate 4096 0
 no_page_there limits pages file block stand lt zeros = there (slice_get pages block) refl
   where
     there : (o : Option Page) → slice_get pages block ≡ o → ⊥
     there None none = (let past = past_of_none pages block none in absurd (omega (arith, past, lt)))
     there (Some page) found = page_is_not_zeros page (sym (stand block page found) ∙ zeros)
 
-not_more : (limits : Limits) (ps qs : List Page) (file : List ℕ) → AreInUse limits ps file → AreInUse limits qs file → length ps < length qs → ⊥
+not_more : (limits : Format) (ps qs : List Page) (file : List ℕ) → AreInUse limits ps file → AreInUse limits qs file → length ps < length qs → ⊥
 not_more limits ps qs file a b less = elim a.end [
   | inl full ↦ absurd (omega (arith, full, less, b.few))
   | inr zeros ↦ no_page_there limits qs file (length ps) b.stand less zeros
 ]
 
 -- a device has the pages of its blocks in use once
-pub one_reading : (limits : Limits) (ps qs : List Page) (file : List ℕ) → AreInUse limits ps file → AreInUse limits qs file → ps ≡ qs
+pub one_reading : (limits : Format) (ps qs : List Page) (file : List ℕ) → AreInUse limits ps file → AreInUse limits qs file → ps ≡ qs
 one_reading limits ps qs file a b = same_gets ps qs (λ i. at i (slice_get ps i) (slice_get qs i) refl refl)
   where
     at : (i : ℕ) (o p : Option Page) → slice_get ps i ≡ o → slice_get qs i ≡ p → o ≡ p
@@ -160,7 +160,7 @@ one_reading limits ps qs file a b = same_gets ps qs (λ i. at i (slice_get ps i)
     at i (Some p) (Some q) e f = ap Some (one_page p q (stored_page limits i ps p a.stored e).storable.admitted (stored_page limits i qs q b.stored f).storable.admitted (sym (a.stand i p e) ∙ b.stand i q f))
 
 -- where pages are in use, one or more, no block is damaged
-pub not_damaged : (limits : Limits) (pages : List Page) (file : List ℕ) (block : ℕ) → AreInUse limits pages file → 0 < length pages → IsDamagedAt limits block file → ⊥
+pub not_damaged : (limits : Format) (pages : List Page) (file : List ℕ) (block : ℕ) → AreInUse limits pages file → 0 < length pages → IsDamagedAt limits block file → ⊥
 not_damaged limits pages file block a some d = there (slice_get pages block) refl
   where
     there : (o : Option Page) → slice_get pages block ≡ o → ⊥

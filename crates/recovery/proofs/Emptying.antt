@@ -4,9 +4,11 @@ use Rattle.std.proofs.lemmas.List.{length-replicate}
 use Rattle.device.specs.Disk.{Moment, MayLeave}
 use Rattle.device.specs.Places.{Has}
 use Rattle.device.proofs.Standing.{on_image}
-use Rattle.index_model.specs.Limits.{AreLimits}
-use Rattle.index_model.specs.declared.limits.Limits.{Limits}
+use Rattle.index_model.specs.Limits.{AreLimits, Admits}
+use Rattle.index_model.specs.declared.format.Format.{Format}
+use Rattle.index_model.specs.declared.layout.Layout.TheVariants.{Two}
 use Rattle.page_action.specs.Stored.{IsStored}
+use Rattle.page_action.proofs.Writable.{admits_two}
 use Rattle.page_codec.specs.Edits.{entries_of, HasEntries}
 use Rattle.page_codec.specs.Spelling.{count_of, page_bytes}
 use Rattle.page_codec.specs.declared.page.Items.{Items}
@@ -17,18 +19,22 @@ use Rattle.page_store.specs.Restart.{StandsAtHome, RestartsTo}
 use Rattle.redo_log.proofs.Leaving.{shut_stands}
 use Rattle.recovery.specs.Fresh.{IsFirstMeta, IsFirstLeaf, HasBody, IsEmptyIndex, LeavesEmpty}
 
+-- each index may have them
+may_have : (limits : Format) (page : Page) → page.layout ≡ Two → Admits limits.layout page.layout
+may_have limits page is = subst (Admits limits.layout) (sym is) (admits_two limits.layout)
+
 no_entries : (items : Items) → HasEntries items → entries_of items ≡ [] → count_of items ≡ 0
 no_entries Meta h e = refl
 no_entries (Entries v) h e = ap length e
 no_entries (Downlinks v) h e = absurd h
 
-meta_stored : (limits : Limits) (meta : Page) → IsFirstMeta meta → IsStored limits 0 meta
-meta_stored limits meta is = record { storable = record { admitted = is.page; few = subst (λ (items : Items). count_of items ≤ limits.items) (sym is.kind) (omega arith) }; block_is = is.block }
+meta_stored : (limits : Format) (meta : Page) → IsFirstMeta meta → IsStored limits 0 meta
+meta_stored limits meta is = record { storable = record { admitted = is.page; few = subst (λ (items : Items). count_of items ≤ limits.items) (sym is.kind) (omega arith); layout = may_have limits meta is.layout }; block_is = is.block }
 
-leaf_stored : (limits : Limits) (leaf : Page) → IsFirstLeaf leaf → IsStored limits 1 leaf
-leaf_stored limits leaf is = record { storable = record { admitted = is.page; few = omega (arith, no_entries leaf.items is.kind is.empty) }; block_is = is.block }
+leaf_stored : (limits : Format) (leaf : Page) → IsFirstLeaf leaf → IsStored limits 1 leaf
+leaf_stored limits leaf is = record { storable = record { admitted = is.page; few = omega (arith, no_entries leaf.items is.kind is.empty); layout = may_have limits leaf is.layout }; block_is = is.block }
 
-module _ (limits : Limits) (allowed : AreLimits limits) (m : Moment) (fresh : IsEmptyIndex limits m) (image : List ℕ) (left : MayLeave m image) where
+module _ (limits : Format) (allowed : AreLimits limits) (m : Moment) (fresh : IsEmptyIndex limits m) (image : List ℕ) (left : MayLeave m image) where
   abbrev body : HasBody limits m
   body = fresh.body
 
@@ -58,7 +64,7 @@ module _ (limits : Limits) (allowed : AreLimits limits) (m : Moment) (fresh : Is
     unused = λ block past small. record { unnamed = refl; has = stays (place limits block) (replicate 4096 0) (omega arith) (body.pages.unused block past small) };
   }
 
-pub fresh_leaves : (limits : Limits) → AreLimits limits → (m : Moment) → IsEmptyIndex limits m → LeavesEmpty limits m
+pub fresh_leaves : (limits : Format) → AreLimits limits → (m : Moment) → IsEmptyIndex limits m → LeavesEmpty limits m
 fresh_leaves limits allowed m fresh = record {
   meta = fresh.body.pages.meta;
   is_meta = fresh.body.pages.is_meta;

@@ -6,3 +6,4 @@ pub mod Restoring
 pub mod Answering
 pub mod Emptying
 pub mod Outside
+pub mod Fronts

@@ -7,7 +7,7 @@ use Rattle.device.proofs.Going.{goes_on, goes_now, goes_weaker, syncs_goes}
 use Rattle.device.proofs.Standing.{elsewhere_untouched}
 use Rattle.device_layout.specs.Layout.{place, needed_length}
 use Rattle.index_model.specs.Limits.{AreLimits}
-use Rattle.index_model.specs.declared.limits.Limits.{Limits}
+use Rattle.index_model.specs.declared.format.Format.{Format}
 use Rattle.recovery.specs.Fresh.{WritesFront}
 use Rattle.recovery.specs.Homing.{ChangesNamed}
 use Rattle.recovery.specs.Opening.{IsFront}
@@ -44,45 +44,45 @@ sync_untouched at n r u v is = syncs_goes _ r u v is (synced_untouched at n u.no
 front_only : (bytes : List ℕ) (t u : Trace) → Goes (WritesFront bytes t.now) t u → Goes (ChangesOnly 0 4096 t.now) t u
 front_only bytes t u g = goes_weaker _ _ t u (λ m w. w.only) g
 
-pub front_inside : (limits : Limits) (bytes : List ℕ) (t u : Trace) → Goes (WritesFront bytes t.now) t u → ChangesItsBytes limits t u
+pub front_inside : (limits : Format) (bytes : List ℕ) (t u : Trace) → Goes (WritesFront bytes t.now) t u → ChangesItsBytes limits t u
 front_inside limits bytes t u g = wider_goes 0 4096 0 (needed_length limits) t u (omega arith) (omega arith) (front_only bytes t u g)
 
-pub front_keeps : (limits : Limits) (bytes : List ℕ) (t u : Trace) → Goes (WritesFront bytes t.now) t u → KeepsLogBytes limits t u
+pub front_keeps : (limits : Format) (bytes : List ℕ) (t u : Trace) → Goes (WritesFront bytes t.now) t u → KeepsLogBytes limits t u
 front_keeps limits bytes t u g = elsewhere_goes 0 4096 4097 (limits.log_bytes - 1) t u (inr (omega arith)) (front_only bytes t u g)
 
 -- the log and the pages are
-pub body_inside : (limits : Limits) (t u : Trace) → ChangesBehindFront limits t u → ChangesItsBytes limits t u
+pub body_inside : (limits : Format) (t u : Trace) → ChangesBehindFront limits t u → ChangesItsBytes limits t u
 body_inside limits t u g = wider_goes 4096 (limits.log_bytes + 4096 * limits.pages) 0 (needed_length limits) t u (omega arith) (omega arith) g
 
-pub inside_on : (limits : Limits) (t u v : Trace) → ChangesItsBytes limits t u → ChangesItsBytes limits u v → ChangesItsBytes limits t v
+pub inside_on : (limits : Format) (t u v : Trace) → ChangesItsBytes limits t u → ChangesItsBytes limits u v → ChangesItsBytes limits t v
 inside_on limits t u v first second = more_goes 0 (needed_length limits) 0 (needed_length limits) t u v (omega arith) (omega arith) first second
 
-pub behind_on : (limits : Limits) (t u v : Trace) → ChangesBehindFront limits t u → ChangesBehindFront limits u v → ChangesBehindFront limits t v
+pub behind_on : (limits : Format) (t u v : Trace) → ChangesBehindFront limits t u → ChangesBehindFront limits u v → ChangesBehindFront limits t v
 behind_on limits t u v first second =
     more_goes 4096 (limits.log_bytes + 4096 * limits.pages) 4096 (limits.log_bytes + 4096 * limits.pages) t u v (omega arith) (omega arith) first second
 
-pub gate_keeps : (limits : Limits) (t u : Trace) → Goes (ChangesOnly 4096 1 t.now) t u → KeepsLogBytes limits t u
+pub gate_keeps : (limits : Format) (t u : Trace) → Goes (ChangesOnly 4096 1 t.now) t u → KeepsLogBytes limits t u
 gate_keeps limits t u g = elsewhere_goes 4096 1 4097 (limits.log_bytes - 1) t u (inr (omega arith)) g
 
-pub pages_keep : (limits : Limits) (t u : Trace) → 1 ≤ limits.log_bytes → Goes (ChangesOnly (place limits 0) (4096 * limits.pages) t.now) t u → KeepsLogBytes limits t u
+pub pages_keep : (limits : Format) (t u : Trace) → 1 ≤ limits.log_bytes → Goes (ChangesOnly (place limits 0) (4096 * limits.pages) t.now) t u → KeepsLogBytes limits t u
 pages_keep limits t u some g = elsewhere_goes (place limits 0) (4096 * limits.pages) 4097 (limits.log_bytes - 1) t u (inl (omega arith)) g
 
 -- images are brought home, and the log is closed
-pub named_inside : (limits : Limits) (found : Replayed) (t u : Trace) → Goes (ChangesNamed limits found t.now) t u → ChangesBehindFront limits t u
+pub named_inside : (limits : Format) (found : Replayed) (t u : Trace) → Goes (ChangesNamed limits found t.now) t u → ChangesBehindFront limits t u
 named_inside limits found t u g =
     wider_goes (place limits 0) (4096 * limits.pages) 4096 (limits.log_bytes + 4096 * limits.pages) t u (omega arith) (omega arith) (goes_weaker _ _ t u (λ m f. f.only) g)
 
-pub log_inside : (limits : Limits) (t u : Trace) → Goes (ChangesOnly 4096 limits.log_bytes t.now) t u → ChangesBehindFront limits t u
+pub log_inside : (limits : Format) (t u : Trace) → Goes (ChangesOnly 4096 limits.log_bytes t.now) t u → ChangesBehindFront limits t u
 log_inside limits t u g = wider_goes 4096 limits.log_bytes 4096 (limits.log_bytes + 4096 * limits.pages) t u (omega arith) (omega arith) g
 
-pub same_inside : (limits : Limits) (t u : Trace) → u ≡ t → ChangesBehindFront limits t u
+pub same_inside : (limits : Format) (t u : Trace) → u ≡ t → ChangesBehindFront limits t u
 same_inside limits t u is = record { since = []; is = ap (λ (x : Trace). x.now ∷ x.past) is; each = tt }
 
-pub sync_inside : {T E : Type 0} (limits : Limits) (r : Result T E) (t u : Trace) → Syncs r t u → ChangesBehindFront limits t u
+pub sync_inside : {T E : Type 0} (limits : Format) (r : Result T E) (t u : Trace) → Syncs r t u → ChangesBehindFront limits t u
 sync_inside limits r t u is = synced_goes 4096 (limits.log_bytes + 4096 * limits.pages) r t t u (same_inside limits t t refl) is
 
 -- the index whose superblock was read
-pub one_index : (limits : Limits) (honest : Bool) (t u v : Trace) → AreLimits limits → needed_length limits ≤ length t.now.seen → (IsTrue honest → IsFront limits t.now.seen) → u ≡ t → ChangesBehindFront limits u v
+pub one_index : (limits : Format) (honest : Bool) (t u v : Trace) → AreLimits limits → needed_length limits ≤ length t.now.seen → (IsTrue honest → IsFront limits t.now.seen) → u ≡ t → ChangesBehindFront limits u v
     → ChangesOneIndex honest t v
 one_index limits honest t u v allowed long front same only = record {
   limits = limits;

@@ -11,7 +11,7 @@ use Rattle.device.proofs.Going.{goes_weaker, goes_both, goes_now, syncs_goes}
 use Rattle.device.proofs.Standing.{elsewhere_untouched, on_image, kept, same_only}
 use Rattle.index_model.specs.declared.fault.Fault.{Fault}
 use Rattle.index_model.specs.declared.fault.Fault.TheVariants.{NoMemory, Io, LogDamaged}
-use Rattle.index_model.specs.declared.limits.Limits.{Limits}
+use Rattle.index_model.specs.declared.format.Format.{Format}
 use Rattle.page_action.specs.Stored.{AreStored}
 use Rattle.page_action.proofs.StoredPages.{stored_page}
 use Rattle.page_codec.specs.Spelling.{page_bytes}
@@ -33,7 +33,7 @@ use Rattle.recovery.specs.Opening.{IsSynced, IsNoMemoryOrIo}
 use Rattle.recovery.proofs.Named.{same_named}
 
 -- of each block the page is the last of these images, or stands at home; and no crash changes that
-pub record Stands (limits : Limits) (images pages : List Page) (m : Moment) : Type 0 where
+pub record Stands (limits : Format) (images pages : List Page) (m : Moment) : Type 0 where
   pub superblock_on : OnDisk 0 (superblock limits) m
   pub long : place limits limits.pages ≤ length m.seen
   pub few : length pages ≤ limits.pages
@@ -45,7 +45,7 @@ firm_on : (at : ℕ) (bytes : List ℕ) (m : Moment) → IsSynced m → Has at b
 firm_on at bytes m firm has = record { has = has; firm = λ i lt. firm (at + i) }
 
 -- what a synced device restarts to stands there
-pub stands_at : (limits : Limits) (pages : List Page) (m : Moment) → IsSynced m → (r : RestartsTo limits m.seen pages) → Stands limits (images_of r.groups) pages m
+pub stands_at : (limits : Format) (pages : List Page) (m : Moment) → IsSynced m → (r : RestartsTo limits m.seen pages) → Stands limits (images_of r.groups) pages m
 stands_at limits pages m firm r = record {
   superblock_on = firm_on 0 (superblock limits) m firm r.superblock_is;
   long = r.long;
@@ -56,7 +56,7 @@ stands_at limits pages m firm r = record {
 }
 
 -- a crash leaves it, where the log's range that it leaves has these images
-pub stands_leaves : (limits : Limits) (images pages : List Page) (m : Moment) → Stands limits images pages m → (image : List ℕ) → MayLeave m image → (groups : List (List Page)) → SpellsGroups limits (log_range limits image) groups
+pub stands_leaves : (limits : Format) (images pages : List Page) (m : Moment) → Stands limits images pages m → (image : List ℕ) → MayLeave m image → (groups : List (List Page)) → SpellsGroups limits (log_range limits image) groups
     → ((block : ℕ) → last_image (images_of groups) block ≡ last_image images block) → RestartsTo limits image pages
 stands_leaves limits images pages m s image left groups spells same = record {
   superblock_is = on_image 0 (superblock limits) m image s.superblock_on left;
@@ -75,7 +75,7 @@ unkept : (found : Replayed) (images : List Page) (block : ℕ) → KeepsLast fou
 unkept found images block lasts none = lasts.each block ∙ ap (option_map page_bytes) none
 
 -- it stays while places of blocks with an image are written
-pub stands_named : (limits : Limits) (images pages : List Page) (found : Replayed) (a b : Moment) → KeepsLast found images → ChangesNamed limits found a b → Stands limits images pages a → Stands limits images pages b
+pub stands_named : (limits : Format) (images pages : List Page) (found : Replayed) (a b : Moment) → KeepsLast found images → ChangesNamed limits found a b → Stands limits images pages a → Stands limits images pages b
 stands_named limits images pages found a b lasts change s = record {
   superblock_on = superblock_kept limits (place limits 0) (4096 * limits.pages) a b (omega arith) change.only s.superblock_on;
   long = omega (arith, s.long, change.only.same_length);
@@ -87,7 +87,7 @@ stands_named limits images pages found a b lasts change s = record {
 }
 
 -- and while the log's range changes
-pub stands_logged : (limits : Limits) (images pages : List Page) (a b : Moment) → ChangesOnly 4096 limits.log_bytes a b → Stands limits images pages a → Stands limits images pages b
+pub stands_logged : (limits : Format) (images pages : List Page) (a b : Moment) → ChangesOnly 4096 limits.log_bytes a b → Stands limits images pages a → Stands limits images pages b
 stands_logged limits images pages a b only s = record {
   superblock_on = superblock_kept limits 4096 limits.log_bytes a b (omega arith) only s.superblock_on;
   long = omega (arith, s.long, only.same_length);
@@ -98,7 +98,7 @@ stands_logged limits images pages a b only s = record {
 }
 
 -- once the images are written all pages stand at home
-pub stands_home : (limits : Limits) (images pages : List Page) (found : Replayed) (m : Moment) → KeepsLast found images → AreHomed limits found m → Stands limits images pages m → Stands limits [] pages m
+pub stands_home : (limits : Format) (images pages : List Page) (found : Replayed) (m : Moment) → KeepsLast found images → AreHomed limits found m → Stands limits images pages m → Stands limits [] pages m
 stands_home limits images pages found m lasts homed s = record {
   superblock_on = s.superblock_on;
   long = s.long;
@@ -110,7 +110,7 @@ stands_home limits images pages found m lasts homed s = record {
   unused = λ block past small. (refl, (s.unused block past small).1);
 }
 
-pub home_of : (limits : Limits) (pages : List Page) (m : Moment) → Stands limits [] pages m → AreHome limits [] pages m
+pub home_of : (limits : Format) (pages : List Page) (m : Moment) → Stands limits [] pages m → AreHome limits [] pages m
 home_of limits pages m s = record {
   used = λ block page found none. ⊎_elim (λ (late : None ≡ Some page). absurd cc) (λ home. home.1) (s.used block page found);
   unused = λ block past small none. (s.unused block past small).1;
@@ -120,16 +120,16 @@ home_of limits pages m s = record {
 pub left_synced : (m : Moment) (image : List ℕ) → IsSynced m → MayLeave m image → image ≡ m.seen
 left_synced m image firm left = same_number_lists image m.seen left.same_length (λ i lt. left.same i (firm i))
 
-pub sync_leaves : {T E : Type 0} (limits : Limits) (pages : List Page) (r : Result T E) (t u : Trace) → RestartsTo limits t.now.seen pages → Syncs r t u → Goes (LeavesPages limits pages) t u
+pub sync_leaves : {T E : Type 0} (limits : Format) (pages : List Page) (r : Result T E) (t u : Trace) → RestartsTo limits t.now.seen pages → Syncs r t u → Goes (LeavesPages limits pages) t u
 sync_leaves limits pages r t u restarts s =
     syncs_goes (LeavesPages limits pages) r t u s (λ image left. subst (λ (file : List ℕ). RestartsTo limits file pages) (sym (left_synced (synced t.now) image (λ i. refl) left)) restarts)
 
 -- the same from an equal start
-pub named_from : (limits : Limits) (found : Replayed) (t t' u : Trace) → t' ≡ t → Goes (ChangesNamed limits found t'.now) t' u → Goes (ChangesNamed limits found t.now) t u
+pub named_from : (limits : Format) (found : Replayed) (t t' u : Trace) → t' ≡ t → Goes (ChangesNamed limits found t'.now) t' u → Goes (ChangesNamed limits found t.now) t u
 named_from limits found t t' u e moments = subst (λ (x : Trace). Goes (ChangesNamed limits found x.now) x u) e moments
 
 -- a log that was just replayed over an index
-pub record IsReplayed (limits : Limits) (images pages : List Page) (found : Replayed) (t : Trace) : Type 0 where
+pub record IsReplayed (limits : Format) (images pages : List Page) (found : Replayed) (t : Trace) : Type 0 where
   pub firm : IsSynced t.now
   pub restarts : RestartsTo limits t.now.seen pages
   pub opened : IsOpened limits found.log
@@ -138,7 +138,7 @@ pub record IsReplayed (limits : Limits) (images pages : List Page) (found : Repl
   pub law : KeepsWhileUntouched found.log
   pub leaves : WhatItKeepsRestarts found.log
 
-module _ (limits : Limits) (images pages : List Page) (found : Replayed) (t : Trace) (r : IsReplayed limits images pages found t) where
+module _ (limits : Format) (images pages : List Page) (found : Replayed) (t : Trace) (r : IsReplayed limits images pages found t) where
   abbrev log : Log
   log = found.log
 
@@ -159,12 +159,12 @@ module _ (limits : Limits) (images pages : List Page) (found : Replayed) (t : Tr
 
   keeps_written : (m : Moment) → ChangesNamed limits found t.now m → Keeps log m gs (length gs)
   keeps_written m change =
-      r.law t.now m gs (length gs) (elsewhere_untouched (place limits 0) (4096 * limits.pages) 4096 (limits_of log).log_bytes t.now m change.only (inl (omega (arith, ap (λ (l : Limits). l.log_bytes) r.opened.limits_are)))) keeps
+      r.law t.now m gs (length gs) (elsewhere_untouched (place limits 0) (4096 * limits.pages) 4096 (limits_of log).log_bytes t.now m change.only (inl (omega (arith, ap (λ (l : Format). l.log_bytes) r.opened.limits_are)))) keeps
 
   -- while its images are written
   pub written_leaves : (m : Moment) → ChangesNamed limits found t.now m → LeavesPages limits pages m
   written_leaves m change image left =
-      let h = subst (λ (l : Limits). Restarts l gs (length gs) m) r.opened.limits_are (r.leaves m gs (length gs) (keeps_written m change)) image left in
+      let h = subst (λ (l : Format). Restarts l gs (length gs) m) r.opened.limits_are (r.leaves m gs (length gs) (keeps_written m change)) image left in
       stands_leaves limits images pages m (stands_named limits images pages found t.now m r.lasts change started) image left h.holds.groups h.holds.spells (same_images h.part h.holds.groups h.from h.holds.same)
 
   -- once they are written and synced, and while the log is closed
@@ -186,11 +186,11 @@ module _ (limits : Limits) (images pages : List Page) (found : Replayed) (t : Tr
 
     module _ (closing : RestartsOrEmptyThroughout log u v) (outside : ChangesItsRange (limits_of log) u v) where
       outside_here : Goes (ChangesOnly 4096 limits.log_bytes u.now) u v
-      outside_here = subst (λ (l : Limits). ChangesItsRange l u v) r.opened.limits_are outside
+      outside_here = subst (λ (l : Format). ChangesItsRange l u v) r.opened.limits_are outside
 
       pub closed_goes : Goes (LeavesPages limits pages) u v
       closed_goes =
-          let holds = subst (λ (l : Limits). Goes (RestartsOrEmpty l (take (length gs) gs)) u v) r.opened.limits_are (closing gs (length gs) (keeps_written u.now now_named)) in
+          let holds = subst (λ (l : Format). Goes (RestartsOrEmpty l (take (length gs) gs)) u v) r.opened.limits_are (closing gs (length gs) (keeps_written u.now now_named)) in
           goes_weaker _ _ u v (λ m two. closing_leaves m two.0 two.1) (goes_both _ _ u v holds outside_here)
 
       pub closed_stands : (after : Log) → limits_of after ≡ limits_of log → waiting_count after ≡ waiting_count log → ForgetsForced log u.now after v.now → StandsOpened after v.now pages
@@ -199,12 +199,12 @@ module _ (limits : Limits) (images pages : List Page) (found : Replayed) (t : Tr
           let s = stands_logged limits [] pages u.now v.now (goes_now _ u v outside_here (same_only 4096 limits.log_bytes u.now)) at_home in
           record {
             log_keeps = forgets_all log u.now after v.now forgets waits r.opened.waiting gs (length gs) (keeps_written u.now now_named);
-            home = subst (λ (x : Limits). AreHome x [] pages v.now) (sym l) (home_of limits pages v.now s);
-            superblock_on = subst (λ (x : Limits). OnDisk 0 (superblock x) v.now) (sym l) s.superblock_on;
+            home = subst (λ (x : Format). AreHome x [] pages v.now) (sym l) (home_of limits pages v.now s);
+            superblock_on = subst (λ (x : Format). OnDisk 0 (superblock x) v.now) (sym l) s.superblock_on;
           }
 
 -- what an index is not refused with
-pub replay_refuses : (limits : Limits) (m : Moment) (pages : List Page) (e : Fault) (fails failed : ℕ) → ((e ≡ Io) × (fails ≡ suc failed)) ⊎ (((e ≡ NoMemory) ⊎ (e ≡ LogDamaged)) × (fails ≡ failed)) → (e ≡ LogDamaged → IsDamaged limits m)
+pub replay_refuses : (limits : Format) (m : Moment) (pages : List Page) (e : Fault) (fails failed : ℕ) → ((e ≡ Io) × (fails ≡ suc failed)) ⊎ (((e ≡ NoMemory) ⊎ (e ≡ LogDamaged)) × (fails ≡ failed)) → (e ≡ LogDamaged → IsDamaged limits m)
     → RestartsTo limits m.seen pages → IsNoMemoryOrIo e
 replay_refuses limits m pages e fails failed (inl io) damaged restarts = inr io.0
 replay_refuses limits m pages e fails failed (inr other) damaged restarts = ⊎_elim (λ memory. inl memory) (λ is. absurd (damaged is restarts.groups restarts.spells)) other.0

@@ -5,7 +5,8 @@ use Rattle.device.specs.Places.{Has, OnDisk, ChangesOnly}
 use Rattle.index_model.specs.Limits.{AreLimits}
 use Rattle.index_model.specs.declared.fault.Fault.{Fault}
 use Rattle.index_model.specs.declared.fault.Fault.TheVariants.{Io, BadLimits, DeviceTooSmall}
-use Rattle.index_model.specs.declared.limits.Limits.{Limits}
+use Rattle.index_model.specs.declared.format.Format.{Format}
+use Rattle.index_model.specs.declared.layout.Layout.TheVariants.{Two}
 use Rattle.page_codec.specs.Edits.{entries_of, HasEntries}
 use Rattle.page_codec.specs.Grammar.{IsPage}
 use Rattle.page_codec.specs.Spelling.{page_bytes}
@@ -18,6 +19,7 @@ use Rattle.device_layout.specs.Layout.{magic, superblock, log_start, place, need
 -- the metapage of an empty index: its root is the leaf at block 1
 pub record IsFirstMeta (p : Page) : Type 0 where
   pub page : IsPage p
+  pub layout : p.layout ≡ Two
   pub block : p.block ≡ 0
   pub kind : p.items ≡ Meta
   pub level : p.level ≡ 0
@@ -26,6 +28,7 @@ pub record IsFirstMeta (p : Page) : Type 0 where
 -- the leaf of an empty index: live, whole and alone, without entries
 pub record IsFirstLeaf (p : Page) : Type 0 where
   pub page : IsPage p
+  pub layout : p.layout ≡ Two
   pub block : p.block ≡ 1
   pub kind : HasEntries p.items
   pub empty : entries_of p.items ≡ []
@@ -37,12 +40,12 @@ pub record IsFirstLeaf (p : Page) : Type 0 where
   pub cycle : p.cycle ≡ 0
 
 -- the bytes of each block from there to there are zeros
-abbrev pub AreZero : Limits → ℕ → ℕ → List ℕ → Type 0
+abbrev pub AreZero : Format → ℕ → ℕ → List ℕ → Type 0
 AreZero limits from to file = (block : ℕ) → from ≤ block → block < to
     → Has (place limits block) (replicate 4096 0) file
 
 -- the pages of an empty index, and zeros in all other blocks
-pub record HasPages (limits : Limits) (file : List ℕ) : Type 0 where
+pub record HasPages (limits : Format) (file : List ℕ) : Type 0 where
   pub meta : Page
   pub is_meta : IsFirstMeta meta
   pub leaf : Page
@@ -52,7 +55,7 @@ pub record HasPages (limits : Limits) (file : List ℕ) : Type 0 where
   pub unused : AreZero limits 2 limits.pages file
 
 -- these pages and a closed log, and no crash changes them
-pub record HasBody (limits : Limits) (m : Moment) : Type 0 where
+pub record HasBody (limits : Format) (m : Moment) : Type 0 where
   pub pages : HasPages limits m.seen
   pub gate : OnDisk log_start (0 ∷ []) m
   pub firm : (i : ℕ) → log_start ≤ i → m.loose i ≡ false
@@ -76,22 +79,22 @@ abbrev pub LeavesNoMagic : Moment → Type 0
 LeavesNoMagic m = (image : List ℕ) → MayLeave m image → take 8 image ≢ magic
 
 -- all of the new index stands but for its superblock, which is being written, or stands too
-pub record IsFinishing (limits : Limits) (m : Moment) : Type 0 where
+pub record IsFinishing (limits : Format) (m : Moment) : Type 0 where
   pub body : HasBody limits m
   pub either : IsFrontLoose m ⊎ OnDisk 0 (superblock limits) m
 
 -- a moment while an index is made: what was there loses its superblock, alone; or no crash leaves an index; or the new
 -- one gets its superblock, last
-abbrev pub IsMaking : Limits → Moment → Moment → Type 0
+abbrev pub IsMaking : Format → Moment → Moment → Type 0
 IsMaking limits old m = IsClearing old m ⊎ LeavesNoMagic m ⊎ IsFinishing limits m
 
 -- an empty index, which no crash changes
-pub record IsEmptyIndex (limits : Limits) (m : Moment) : Type 0 where
+pub record IsEmptyIndex (limits : Format) (m : Moment) : Type 0 where
   pub superblock : OnDisk 0 (superblock limits) m
   pub body : HasBody limits m
 
 -- whatever a crash leaves is an index of two pages: the metapage and the leaf of an empty one
-pub record LeavesEmpty (limits : Limits) (m : Moment) : Type 0 where
+pub record LeavesEmpty (limits : Format) (m : Moment) : Type 0 where
   pub meta : Page
   pub is_meta : IsFirstMeta meta
   pub leaf : Page
@@ -100,7 +103,7 @@ pub record LeavesEmpty (limits : Limits) (m : Moment) : Type 0 where
 
 -- done on limits in their ranges and a device that is long enough, no call of which failed; or refused: bad limits, or
 -- else too short a device, nothing changed; or a call of the device failed once
-abbrev pub CreateEnds : {T : Type 0} → Limits → Result T Fault → Trace → Trace → ℕ → ℕ → Type 0
+abbrev pub CreateEnds : {T : Type 0} → Format → Result T Fault → Trace → Trace → ℕ → ℕ → Type 0
 CreateEnds limits result old new failed fails = MatchResult result
     (λ _. AreLimits limits × (needed_length limits ≤ length old.now.seen) × (fails ≡ failed))
     (λ e. ((e ≡ BadLimits) × (AreLimits limits → ⊥) × (new ≡ old) × (fails ≡ failed))

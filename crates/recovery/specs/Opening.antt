@@ -5,7 +5,7 @@ use Rattle.device.specs.declared.device.Device.{Ghosts}
 use Rattle.index_model.specs.Limits.{AreLimits}
 use Rattle.index_model.specs.declared.fault.Fault.{Fault}
 use Rattle.index_model.specs.declared.fault.Fault.TheVariants.{NoMemory, Io, BadSuper, BadVersion, BadLimits, LogDamaged}
-use Rattle.index_model.specs.declared.limits.Limits.{Limits}
+use Rattle.index_model.specs.declared.format.Format.{Format}
 use Rattle.page_action.specs.States.{State}
 use Rattle.page_action.specs.Stored.{AreStored}
 use Rattle.page_codec.specs.declared.page.Page.{Page}
@@ -27,7 +27,7 @@ abbrev pub AreFrames : ℕ → Type 0
 AreFrames frames = (16 ≤ frames) × (frames ≤ 1024)
 
 -- the device begins with the superblock of these limits, which are in their ranges, and has room for their index
-pub record IsFront (limits : Limits) (file : List ℕ) : Type 0 where
+pub record IsFront (limits : Format) (file : List ℕ) : Type 0 where
   pub allowed : AreLimits limits
   pub superblock_is : take 4096 file ≡ superblock limits
   pub long : needed_length limits ≤ length file
@@ -35,7 +35,7 @@ pub record IsFront (limits : Limits) (file : List ℕ) : Type 0 where
 -- no superblock stands there, or the device is shorter than it says
 abbrev pub IsNoFront : List ℕ → Fault → Type 0
 IsNoFront file fault = IsNoSuperblock (take 4096 file) fault
-    ⊎ ((fault ≡ BadSuper) × (limits : Limits) × AreLimits limits
+    ⊎ ((fault ≡ BadSuper) × (limits : Format) × AreLimits limits
     × (take 4096 file ≡ superblock limits) × (length file < needed_length limits))
 
 -- the faults of a superblock
@@ -43,7 +43,7 @@ abbrev pub IsFrontFault : Fault → Type 0
 IsFrontFault fault = (fault ≡ BadSuper) ⊎ (fault ≡ BadVersion) ⊎ (fault ≡ BadLimits)
 
 -- the log's range is groups: each open one is whole
-abbrev pub HasGroups : Limits → List ℕ → Type 0
+abbrev pub HasGroups : Format → List ℕ → Type 0
 HasGroups limits file =
     (groups : List (List Page)) × SpellsGroups limits (log_range limits file) groups
 
@@ -57,7 +57,7 @@ IsFrontRefusal honest frames file fault =
 
 -- refused behind that: a growth was refused; or an open group of the log is none, and nothing was written; or a block is
 -- damaged
-abbrev pub IsRestoreRefusal : Limits → Bool → Trace → Trace → Fault → Type 0
+abbrev pub IsRestoreRefusal : Format → Bool → Trace → Trace → Fault → Type 0
 IsRestoreRefusal limits honest old new fault =
     (fault ≡ NoMemory)
     ⊎ ((fault ≡ LogDamaged) × (new ≡ next (synced old.now) old)
@@ -68,7 +68,7 @@ IsRestoreRefusal limits honest old new fault =
 abbrev pub IsRefusal : Bool → ℕ → Trace → Trace → Fault → Type 0
 IsRefusal honest frames old new fault =
     (IsFrontRefusal honest frames old.now.seen fault × (new ≡ old))
-    ⊎ ((limits : Limits) × AreFrames frames × (IsTrue honest → IsFront limits old.now.seen)
+    ⊎ ((limits : Format) × AreFrames frames × (IsTrue honest → IsFront limits old.now.seen)
     × IsRestoreRefusal limits honest old new fault)
 
 -- no crash changes a byte
@@ -76,7 +76,7 @@ abbrev pub IsSynced : Moment → Type 0
 IsSynced m = (i : ℕ) → m.loose i ≡ false
 
 -- an opened log without open groups, and what was read
-pub record IsRestored (limits : Limits) (honest : Bool) (file : List ℕ) (parts : Parts)
+pub record IsRestored (limits : Format) (honest : Bool) (file : List ℕ) (parts : Parts)
     : Type 0 where
   pub opened : IsOpened limits parts.log
   pub closed : groups_end parts.log ≡ 0
@@ -84,7 +84,7 @@ pub record IsRestored (limits : Limits) (honest : Bool) (file : List ℕ) (parts
 
 -- the index that was found: restored, on a device that is long enough; its superblock stood there, and an undamaged log
 pub record IsFound (honest : Bool) (old new : List ℕ) (parts : Parts) : Type 0 where
-  pub limits : Limits
+  pub limits : Format
   pub allowed : AreLimits limits
   pub long : needed_length limits ≤ length new
   pub restored : IsRestored limits honest new parts
@@ -118,7 +118,7 @@ pub record StandsOnDevice (st : State) (old new : List ℕ) : Type 0 where
   pub in_use : AreInUse st.limits st.pages new
 
 -- the store has these pages, and is an own device's
-pub record IsSameIndex {D : Type 0} (g : Ghosts D) (limits : Limits) (pages : List Page)
+pub record IsSameIndex {D : Type 0} (g : Ghosts D) (limits : Format) (pages : List Page)
     (store : Store D g) : Type 0 where
   pub limits_are : (state_of g store).limits ≡ limits
   pub pages_are : (state_of g store).pages ≡ pages

@@ -4,25 +4,25 @@ use Rattle.device.specs.Disk.{Trace}
 use Rattle.device.specs.Moments.{Goes}
 use Rattle.device.specs.Places.{ChangesOnly, IsUntouched}
 use Rattle.index_model.specs.Limits.{AreLimits}
-use Rattle.index_model.specs.declared.limits.Limits.{Limits}
+use Rattle.index_model.specs.declared.format.Format.{Format}
 use Rattle.device_layout.specs.Layout.{log_start, needed_length}
 use Rattle.recovery.specs.Opening.{IsFront}
 
 -- at each moment nothing has changed but the bytes of an index of these limits
-abbrev pub ChangesItsBytes : Limits → Trace → Trace → Type 0
+abbrev pub ChangesItsBytes : Format → Trace → Trace → Type 0
 ChangesItsBytes limits old new = Goes (ChangesOnly 0 (needed_length limits) old.now) old new
 
 -- at each moment the bytes of its log behind the first gate are as they were
-abbrev pub KeepsLogBytes : Limits → Trace → Trace → Type 0
+abbrev pub KeepsLogBytes : Format → Trace → Trace → Type 0
 KeepsLogBytes limits old new = Goes (IsUntouched (log_start + 1) (limits.log_bytes - 1) old.now) old new
 
 -- at each moment nothing has changed but its log and its pages
-abbrev pub ChangesBehindFront : Limits → Trace → Trace → Type 0
+abbrev pub ChangesBehindFront : Format → Trace → Trace → Type 0
 ChangesBehindFront limits old new = Goes (ChangesOnly log_start (limits.log_bytes + 4096 * limits.pages) old.now) old new
 
 -- nothing but the log and the pages of one index has changed, whose superblock stood there if the device kept its model
 pub record ChangesOneIndex (honest : Bool) (old new : Trace) : Type 0 where
-  pub limits : Limits
+  pub limits : Format
   pub allowed : AreLimits limits
   pub long : needed_length limits ≤ length old.now.seen
   pub front : IsTrue honest → IsFront limits old.now.seen

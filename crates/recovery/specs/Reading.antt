@@ -2,7 +2,7 @@
 use Rattle.std.specs.Prelude.{◌≡◌, ◌≢◌, ◌⊎◌, ℕ, ◌+◌, ◌<◌, ◌≤◌, max, Bool, IsTrue, Option, Some, None, List, [], ◌∷◌, length, replicate, slice_get, slice_range}
 use Rattle.index_model.specs.declared.fault.Fault.{Fault}
 use Rattle.index_model.specs.declared.fault.Fault.TheVariants.{PageDamaged}
-use Rattle.index_model.specs.declared.limits.Limits.{Limits}
+use Rattle.index_model.specs.declared.format.Format.{Format}
 use Rattle.page_action.specs.Stored.{IsStored, AreStored}
 use Rattle.page_codec.specs.Grammar.{IsPage}
 use Rattle.page_codec.specs.Spelling.{page_bytes}
@@ -12,7 +12,7 @@ use Rattle.page_store.specs.Rooms.{limits_of_room, pages_of_room, counts_of_room
 use Rattle.recovery.specs.declared.reading.Found.{Found}
 
 -- the 4,096 bytes at the place of a block
-abbrev pub block_bytes : Limits → ℕ → List ℕ → List ℕ
+abbrev pub block_bytes : Format → ℕ → List ℕ → List ℕ
 block_bytes limits block file = slice_range file (place limits block) (place limits block + 4096)
 
 -- the bytes are those of the page, which the format admits; or zeros, where there is none
@@ -21,23 +21,23 @@ AreBytesOf None bytes = bytes ≡ replicate 4096 0
 AreBytesOf (Some page) bytes = IsPage page × (bytes ≡ page_bytes page)
 
 -- each of these pages stands at the place of its block
-abbrev pub StandFirst : Limits → List Page → List ℕ → Type 0
+abbrev pub StandFirst : Format → List Page → List ℕ → Type 0
 StandFirst limits pages file = (block : ℕ) (page : Page) → slice_get pages block ≡ Some page
     → block_bytes limits block file ≡ page_bytes page
 
 -- behind so many blocks none is in use: there is no block more, or zeros stand at the place of the next one
-abbrev pub IsEnd : Limits → ℕ → List ℕ → Type 0
+abbrev pub IsEnd : Format → ℕ → List ℕ → Type 0
 IsEnd limits used file = (used ≡ limits.pages) ⊎ (block_bytes limits used file ≡ replicate 4096 0)
 
 -- these are the pages of all blocks in use
-pub record AreInUse (limits : Limits) (pages : List Page) (file : List ℕ) : Type 0 where
+pub record AreInUse (limits : Format) (pages : List Page) (file : List ℕ) : Type 0 where
   pub stored : AreStored limits 0 pages
   pub few : length pages ≤ limits.pages
   pub stand : StandFirst limits pages file
   pub end : IsEnd limits (length pages) file
 
 -- in front of the block pages stand, and at its place no page that may be stored there; nor zeros, but for block 0
-pub record IsDamagedAt (limits : Limits) (block : ℕ) (file : List ℕ) : Type 0 where
+pub record IsDamagedAt (limits : Format) (block : ℕ) (file : List ℕ) : Type 0 where
   pub before : List Page
   pub stored : AreStored limits 0 before
   pub stand : StandFirst limits before file
@@ -48,7 +48,7 @@ pub record IsDamagedAt (limits : Limits) (block : ℕ) (file : List ℕ) : Type 
   pub in_use : block_bytes limits block file ≡ replicate 4096 0 → block ≡ 0
 
 -- refused for a block that is damaged
-abbrev pub IsDamage : Limits → Bool → List ℕ → Fault → Type 0
+abbrev pub IsDamage : Format → Bool → List ℕ → Fault → Type 0
 IsDamage limits honest file fault = (block : ℕ) × (fault ≡ PageDamaged block)
     × (IsTrue honest → IsDamagedAt limits block file)
 
@@ -59,7 +59,7 @@ greatest_cycle (page ∷ pages) = max page.cycle (greatest_cycle pages)
 
 -- what was read: pages that may be stored, no deletion number that counts, and the greatest cycle number; the pages
 -- stand on the device, if it is honest
-pub record HasReadPages (limits : Limits) (honest : Bool) (file : List ℕ) (found : Found)
+pub record HasReadPages (limits : Format) (honest : Bool) (file : List ℕ) (found : Found)
     : Type 0 where
   pub limits_are : limits_of_room found.room ≡ limits
   pub stored : AreStored limits 0 (pages_of_room found.room)
@@ -68,7 +68,7 @@ pub record HasReadPages (limits : Limits) (honest : Bool) (file : List ℕ) (fou
   pub stand : IsTrue honest → StandFirst limits (pages_of_room found.room) file
 
 -- and these are all: one page or more
-pub record IsAllRead (limits : Limits) (honest : Bool) (file : List ℕ) (found : Found)
+pub record IsAllRead (limits : Format) (honest : Bool) (file : List ℕ) (found : Found)
     : Type 0 where
   pub read : HasReadPages limits honest file found
   pub some : 0 < length (pages_of_room found.room)

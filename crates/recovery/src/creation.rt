@@ -3,6 +3,7 @@
 ghost use Rattle.std.specs.Prelude.{◌≡◌, ◌+◌, ◌-◌, ◌*◌, ◌≤◌, ◌<◌, [], ◌∷◌, length, OnOk};
 ghost use Rattle.device.specs.Moments.{Goes};
 ghost use Rattle.device.specs.Places.{Has, OnDisk, ChangesOnly};
+ghost use Rattle.index_model.specs.Formats.{made};
 ghost use Rattle.index_model.specs.Limits.{AreLimits};
 ghost use Rattle.page_codec.specs.Spelling.{page_bytes};
 ghost use Rattle.device_layout.specs.Layout.{log_start, place, needed_length};
@@ -14,7 +15,7 @@ use crate::superblock::spell_superblock;
 use arrayvec::ArrayVec;
 use device::Device;
 use device_layout::{LOG_START, needed_len, page_place};
-use index_model::{Fault, Limits};
+use index_model::{Fault, Format, Layout, Limits};
 use page_codec::{Items, Page, PageState, encode};
 
 /// The metapage of an empty index, whose root is the leaf at block 1.
@@ -22,6 +23,7 @@ fn first_meta() -> Page
     ensures { IsFirstMeta result }
 {
     Page {
+        layout: Layout::Two,
         block: 0,
         level: 0,
         state: PageState::Live,
@@ -40,6 +42,7 @@ fn first_leaf() -> Page
     ensures { IsFirstLeaf result }
 {
     Page {
+        layout: Layout::Two,
         block: 1,
         level: 0,
         state: PageState::Live,
@@ -65,7 +68,7 @@ pub(crate) fn place<D: Device>(device: &mut D, at: u64, bytes: &[u8]) -> Result<
 }
 
 /// Writes zeros over each block from the third on.
-fn place_zeros<D: Device>(device: &mut D, limits: &Limits) -> Result<(), Fault>
+fn place_zeros<D: Device>(device: &mut D, limits: &Format) -> Result<(), Fault>
     requires allowed { AreLimits limits.now }
     requires inside { needed_length limits.now ≤ length (D.trace device.old).now.seen }
     ensures there { OnOk result
@@ -83,7 +86,7 @@ fn place_zeros<D: Device>(device: &mut D, limits: &Limits) -> Result<(), Fault>
 }
 
 /// Writes the page at its block.
-fn place_page<D: Device>(device: &mut D, limits: &Limits, page: &Page) -> Result<(), Fault>
+fn place_page<D: Device>(device: &mut D, limits: &Format, page: &Page) -> Result<(), Fault>
     requires allowed { AreLimits limits.now }
     requires below { page.now.block < limits.now.pages }
     requires inside { needed_length limits.now ≤ length (D.trace device.old).now.seen }
@@ -102,7 +105,7 @@ fn place_page<D: Device>(device: &mut D, limits: &Limits, page: &Page) -> Result
 }
 
 /// Writes the pages of an empty index, and zeros behind them.
-fn place_pages<D: Device>(device: &mut D, limits: &Limits) -> Result<(), Fault>
+fn place_pages<D: Device>(device: &mut D, limits: &Format) -> Result<(), Fault>
     requires allowed { AreLimits limits.now }
     requires inside { needed_length limits.now ≤ length (D.trace device.old).now.seen }
     ensures there { OnOk result (HasPages limits.now (D.trace device.new).now.seen) }
@@ -117,7 +120,7 @@ fn place_pages<D: Device>(device: &mut D, limits: &Limits) -> Result<(), Fault>
 }
 
 /// Writes all but the superblock, a closed gate at the beginning of the log, and syncs it.
-fn place_body<D: Device>(device: &mut D, limits: &Limits) -> Result<(), Fault>
+fn place_body<D: Device>(device: &mut D, limits: &Format) -> Result<(), Fault>
     requires allowed { AreLimits limits.now }
     requires inside { needed_length limits.now ≤ length (D.trace device.old).now.seen }
     ensures there { OnOk result (HasBody limits.now (D.trace device.new).now) }
@@ -144,7 +147,7 @@ fn place_front<D: Device>(device: &mut D, bytes: &[u8; 4096]) -> Result<(), Faul
 
 /// Writes and syncs an empty index over whatever the device holds, in this order: zeros over the superblock; then the
 /// pages and a closed log; then the superblock. If it is stopped in between, it may be called again.
-fn write_index<D: Device>(device: &mut D, limits: &Limits) -> Result<(), Fault>
+fn write_index<D: Device>(device: &mut D, limits: &Format) -> Result<(), Fault>
     requires allowed { AreLimits limits.now }
     requires inside { needed_length limits.now ≤ length (D.trace device.old).now.seen }
     ensures made { OnOk result (IsEmptyIndex limits.now (D.trace device.new).now) }
@@ -169,26 +172,27 @@ fn write_index<D: Device>(device: &mut D, limits: &Limits) -> Result<(), Fault>
 /// 4,096 + `log_bytes` + 4,096 * `pages` bytes (`DeviceTooSmall`). A failed device call answers `Io`; then, and after a
 /// crash inside of it, the device is to be made anew, by this call, which takes any bytes. It takes no memory.
 pub fn create<D: Device>(device: &mut D, limits: &Limits) -> Result<(), Fault>
-    ensures made { OnOk result (IsEmptyIndex limits.now (D.trace device.new).now) }
+    ensures made { OnOk result (IsEmptyIndex (made limits.now) (D.trace device.new).now) }
     // So it can be opened, also after a crash.
-    ensures own { OnOk result (LeavesEmpty limits.now (D.trace device.new).now) }
+    ensures own { OnOk result (LeavesEmpty (made limits.now) (D.trace device.new).now) }
     // A crash at each moment since leaves what was there but for its superblock, no index, or the
     // new one.
-    ensures moments { Goes (IsMaking limits.now (D.trace device.old).now)
+    ensures moments { Goes (IsMaking (made limits.now) (D.trace device.old).now)
         (D.trace device.old) (D.trace device.new) }
     // Bytes behind the index stay as they are, and those of its log behind the first gate.
-    ensures outside { ChangesItsBytes limits.now (D.trace device.old) (D.trace device.new) }
-    ensures log { KeepsLogBytes limits.now (D.trace device.old) (D.trace device.new) }
-    ensures ends { CreateEnds limits.now result (D.trace device.old) (D.trace device.new)
+    ensures outside { ChangesItsBytes (made limits.now) (D.trace device.old) (D.trace device.new) }
+    ensures log { KeepsLogBytes (made limits.now) (D.trace device.old) (D.trace device.new) }
+    ensures ends { CreateEnds (made limits.now) result (D.trace device.old) (D.trace device.new)
         (D.failures device.old) (D.failures device.new) }
     ensures len { length (D.trace device.new).now.seen ≡ length (D.trace device.old).now.seen }
     ensures honest { D.is_honest device.new ≡ D.is_honest device.old }
 {
-    if !limits.are_valid() {
+    let format = Format::new(limits);
+    if !format.are_valid() {
         return Err(Fault::BadLimits);
     }
     if device.len() < needed_len(limits) {
         return Err(Fault::DeviceTooSmall);
     }
-    write_index(device, limits)
+    write_index(device, &format)
 }

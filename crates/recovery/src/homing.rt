@@ -10,11 +10,11 @@ ghost use Rattle.recovery.specs.Homing.{ChangesNamed, HasImages, AreHomed};
 use crate::creation::place;
 use device::Device;
 use device_layout::page_place;
-use index_model::{Fault, Limits};
+use index_model::{Fault, Format};
 use redo_log::Replayed;
 
 /// Writes the last image of each block to its place, once, from the bytes that were read.
-fn write_images<D: Device>(device: &mut D, limits: Limits, found: &Replayed) -> Result<(), Fault>
+fn write_images<D: Device>(device: &mut D, limits: Format, found: &Replayed) -> Result<(), Fault>
     requires allowed { AreLimits limits }
     requires inside { needed_length limits ≤ length (D.trace device.old).now.seen }
     ensures moments { Goes (ChangesNamed limits found.now (D.trace device.old).now)
@@ -34,7 +34,7 @@ fn write_images<D: Device>(device: &mut D, limits: Limits, found: &Replayed) -> 
 /// image change. Refused with `Io`.
 pub(crate) fn bring_home<D: Device>(
     device: &mut D,
-    limits: Limits,
+    limits: Format,
     found: &Replayed,
 ) -> Result<(), Fault>
     requires allowed { AreLimits limits }

@@ -8,7 +8,7 @@ ghost use Rattle.page_action.specs.Room.{HasWholeRoom};
 ghost use Rattle.page_store.specs.Logged.{StandsOpened, backing_of};
 ghost use Rattle.page_store.specs.Rooms.{limits_of_room, frames_of_room};
 ghost use Rattle.page_store.specs.Stores.{state_of, held_by};
-ghost use Rattle.index_model.specs.declared.limits.Limits.{Limits};
+ghost use Rattle.index_model.specs.declared.format.Format.{Format};
 ghost use Rattle.device_layout.specs.Layout.{needed_length};
 ghost use Rattle.page_store.specs.Restart.{RestartsTo, LeavesPages};
 ghost use Rattle.redo_log.specs.Kept.{groups_end};
@@ -22,8 +22,8 @@ use crate::homing::bring_home;
 use crate::reading::{Found, read_pages};
 use crate::superblock::read_superblock;
 use device::Device;
-use device_layout::needed_len;
-use index_model::{Fault, Limits};
+use device_layout::page_place;
+use index_model::{Fault, Format};
 use page_store::Store;
 use redo_log::Log;
 use std::alloc::Global;
@@ -45,14 +45,14 @@ pub(crate) struct Parts {
 /// The sizes of the index on the device. Refused, in this order: a number of frames out of 16 to 1,024 (`BadLimits`);
 /// fewer than 4,096 bytes (`BadSuper`); a failed read (`Io`); what the superblock is refused with; a device shorter than
 /// it says (`BadSuper`).
-fn find_limits<D: Device>(device: &mut D, frames: u32) -> Result<Limits, Fault>
+fn find_limits<D: Device>(device: &mut D, frames: u32) -> Result<Format, Fault>
     ensures front { IfOk result (λ limits. IsTrue (D.is_honest device.new)
         → IsFront limits (D.trace device.old).now.seen) }
     ensures allowed { IfOk result AreLimits }
     ensures long { IfOk result (λ limits.
         needed_length limits ≤ length (D.trace device.old).now.seen) }
     ensures frames { OnOk result (AreFrames frames) }
-    ensures only { AreFrames frames → IsTrue (D.is_honest device.new) → (limits : Limits)
+    ensures only { AreFrames frames → IsTrue (D.is_honest device.new) → (limits : Format)
         → IsFront limits (D.trace device.old).now.seen
         → MatchResult result (λ found. found ≡ limits) (λ e. e ≡ Fault.Io) }
     ensures calls { OnlyReads D.Device device.old device.new }
@@ -69,7 +69,7 @@ fn find_limits<D: Device>(device: &mut D, frames: u32) -> Result<Limits, Fault>
     let mut bytes = [0; 4096];
     device.read_at(0, &mut bytes)?;
     let limits = read_superblock(&bytes)?;
-    if device.len() < needed_len(&limits) {
+    if device.len() < page_place(&limits, limits.pages) {
         return Err(Fault::BadSuper);
     }
     Ok(limits)
@@ -77,7 +77,7 @@ fn find_limits<D: Device>(device: &mut D, frames: u32) -> Result<Limits, Fault>
 
 /// Brings what the log holds to the places of its blocks, and closes the log. Refused with `NoMemory`, `Io` and
 /// `LogDamaged`.
-fn restore_log<D: Device>(alloc: Global, device: &mut D, limits: Limits) -> Result<Log, Fault>
+fn restore_log<D: Device>(alloc: Global, device: &mut D, limits: Format) -> Result<Log, Fault>
     requires allowed { AreLimits limits }
     requires inside { needed_length limits ≤ length (D.trace device.old).now.seen }
     ensures opened { IfOk result (IsOpened limits) }
@@ -114,7 +114,7 @@ fn restore_log<D: Device>(alloc: Global, device: &mut D, limits: Limits) -> Resu
 fn restore<D: Device>(
     alloc: Global,
     device: &mut D,
-    limits: Limits,
+    limits: Format,
     frames: u32,
 ) -> Result<Parts, Fault>
     requires allowed { AreLimits limits }
@@ -150,11 +150,11 @@ fn read_index<D: Device>(alloc: Global, device: &mut D, frames: u32) -> Result<P
         (IsFound (D.is_honest device.new)
         (D.trace device.old).now.seen (D.trace device.new).now.seen) }
     ensures same { IsTrue (D.is_honest device.new) → AreFrames frames
-        → (limits : Limits) (pages : List Page)
+        → (limits : Format) (pages : List Page)
         → HasIndex limits pages (D.trace device.old).now.seen
         → MatchResult result (λ parts. (limits_of_room parts.found.room ≡ limits)
         × AreSamePages pages (D.trace device.new).now parts) IsNoMemoryOrIo }
-    ensures moments { IsTrue (D.is_honest device.new) → (limits : Limits) (pages : List Page)
+    ensures moments { IsTrue (D.is_honest device.new) → (limits : Format) (pages : List Page)
         → HasIndex limits pages (D.trace device.old).now.seen
         → Goes (LeavesPages limits pages) (D.trace device.old) (D.trace device.new) }
     ensures outside { StaysInside (D.is_honest device.new)
@@ -194,12 +194,12 @@ pub fn open<D: Device>(alloc: Global, device: D, frames: u32) -> Result<Store<D>
         (D.trace (device_left D.Device result)).now.seen) }
     // An index is opened with its pages, and refused only for want of memory or of the device.
     ensures same { IsTrue (D.is_honest (device_left D.Device result)) → AreFrames frames
-        → (limits : Limits) (pages : List Page) → HasIndex limits pages (D.trace device).now.seen
+        → (limits : Format) (pages : List Page) → HasIndex limits pages (D.trace device).now.seen
         → MatchResult result (IsSameIndex D.Device limits pages)
         (λ refused. IsNoMemoryOrIo refused.fault) }
     // A crash at each moment since leaves the same index, whatever was answered.
     ensures moments { IsTrue (D.is_honest (device_left D.Device result))
-        → (limits : Limits) (pages : List Page) → HasIndex limits pages (D.trace device).now.seen
+        → (limits : Format) (pages : List Page) → HasIndex limits pages (D.trace device).now.seen
         → Goes (LeavesPages limits pages) (D.trace device) (D.trace (device_left D.Device result)) }
     // Nothing but the log and the pages of the index is written.
     ensures outside { StaysInside (D.is_honest (device_left D.Device result))

@@ -13,7 +13,7 @@ ghost use Rattle.page_codec.specs.Spelling.{page_bytes};
 
 use device::Device;
 use device_layout::page_place;
-use index_model::{Fault, Limits};
+use index_model::{Fault, Format};
 use page_codec::{Page, decode, is_unused};
 use page_store::StoreRoom;
 use std::alloc::Global;
@@ -43,7 +43,7 @@ fn page_of(block: u32, bytes: &[u8; 4096]) -> Result<Option<Page>, Fault>
 }
 
 /// Reads the page of the block; none where it is unused. Refused with `Io`, and with `PageDamaged` for this block.
-fn read_page<D: Device>(device: &mut D, limits: Limits, block: u32) -> Result<Option<Page>, Fault>
+fn read_page<D: Device>(device: &mut D, limits: Format, block: u32) -> Result<Option<Page>, Fault>
     requires allowed { AreLimits limits }
     requires block { block < limits.pages }
     requires inside { needed_length limits ≤ length (D.trace device.old).now.seen }
@@ -66,7 +66,7 @@ fn read_page<D: Device>(device: &mut D, limits: Limits, block: u32) -> Result<Op
 
 /// Adds the pages of the blocks in use, in order, and answers how many they are. Refused with `Io`, and with
 /// `PageDamaged` for the first block that is damaged.
-fn add_pages<D: Device>(device: &mut D, limits: Limits, found: &mut Found) -> Result<u32, Fault>
+fn add_pages<D: Device>(device: &mut D, limits: Format, found: &mut Found) -> Result<u32, Fault>
     requires allowed { AreLimits limits }
     requires inside { needed_length limits ≤ length (D.trace device.old).now.seen }
     requires limits { limits_of_room found.old.room ≡ limits }
@@ -102,7 +102,7 @@ fn add_pages<D: Device>(device: &mut D, limits: Limits, found: &mut Found) -> Re
 pub(crate) fn read_pages<D: Device>(
     alloc: Global,
     device: &mut D,
-    limits: Limits,
+    limits: Format,
     frames: u32,
 ) -> Result<Found, Fault>
     requires allowed { AreLimits limits }

@@ -1,13 +1,13 @@
 //! The superblock of an index.
 
-ghost use Rattle.std.specs.Prelude.{◌≡◌, ◌+◌, ◌-◌, ◌≤◌, ◌++◌, length, take, replicate, Ok, IfOk, IfErr};
+ghost use Rattle.std.specs.Prelude.{◌≡◌, ◌+◌, ◌-◌, ◌≤◌, ◌++◌, length, take, replicate, Ok, IfSome, IfNone, IfOk, IfErr};
 ghost use Rattle.std.specs.Int.{w32, to_le_bytes};
 ghost use Rattle.index_model.specs.Limits.{AreLimits};
-ghost use Rattle.index_model.specs.declared.limits.Limits.{Limits};
-ghost use Rattle.recovery.specs.Superblock.{number_at, IsNoSuperblock};
-ghost use Rattle.device_layout.specs.Layout.{superblock};
+ghost use Rattle.index_model.specs.declared.format.Format.{Format};
+ghost use Rattle.recovery.specs.Superblock.{number_at, layout_of, IsLayout, IsNoSuperblock};
+ghost use Rattle.device_layout.specs.Layout.{layout_number, superblock};
 
-use index_model::{Fault, Limits};
+use index_model::{Fault, Format, Layout};
 
 /// The bytes that an index begins with.
 const MAGIC: [u8; 8] = *b"BLINKIDX";
@@ -40,12 +40,34 @@ fn clear_from(out: &mut [u8], at: usize)
     out[at..].fill(0);
 }
 
+/// The number of a layout.
+fn number_of(layout: Layout) -> u32
+    ensures { result ≡ layout_number layout }
+{
+    match layout {
+        Layout::One => 1,
+        Layout::Two => 2,
+    }
+}
+
+/// The layout with this number, if there is one.
+fn layout_of(number: u32) -> Option<Layout>
+    ensures found { IfSome result (λ layout. IsLayout number × (layout ≡ layout_of number)) }
+    ensures none { IfNone result (IsLayout number → ⊥) }
+{
+    match number {
+        1 => Some(Layout::One),
+        2 => Some(Layout::Two),
+        _ => None,
+    }
+}
+
 /// Writes the bytes of the superblock over all 4,096 bytes.
-pub(crate) fn spell_superblock(limits: &Limits, out: &mut [u8; 4096])
+pub(crate) fn spell_superblock(limits: &Format, out: &mut [u8; 4096])
     ensures { out.new ≡ superblock limits.now }
 {
     let at = put(out, 0, &MAGIC);
-    let at = put_number(out, at, 1);
+    let at = put_number(out, at, number_of(limits.layout));
     let at = put_number(out, at, limits.items);
     let at = put_number(out, at, limits.pages);
     let at = put_number(out, at, limits.log_bytes);
@@ -62,23 +84,24 @@ fn number_at(bytes: &[u8; 4096], at: usize) -> u32
     u32::from_le_bytes(number)
 }
 
-/// The sizes of the index whose superblock these bytes are. Other bytes are refused, in this order: another beginning
-/// than `BLINKIDX` (`BadSuper`), another layout than 1 (`BadVersion`), sizes out of their ranges (`BadLimits`),
+/// The layout and the sizes of the index whose superblock these bytes are. Other bytes are refused, in this order: another beginning
+/// than `BLINKIDX` (`BadSuper`), another layout than 1 or 2 (`BadVersion`), sizes out of their ranges (`BadLimits`),
 /// anything but zeros behind them (`BadSuper`).
-pub(crate) fn read_superblock(bytes: &[u8; 4096]) -> Result<Limits, Fault>
+pub(crate) fn read_superblock(bytes: &[u8; 4096]) -> Result<Format, Fault>
     ensures allowed { IfOk result AreLimits }
     ensures found { IfOk result (λ limits. bytes.now ≡ superblock limits) }
-    ensures only { (limits : Limits) → AreLimits limits → bytes.now ≡ superblock limits
+    ensures only { (limits : Format) → AreLimits limits → bytes.now ≡ superblock limits
         → result ≡ Ok limits }
     ensures fault { IfErr result (IsNoSuperblock bytes.now) }
 {
     if bytes[..8] != MAGIC[..] {
         return Err(Fault::BadSuper);
     }
-    if number_at(bytes, 8) != 1 {
+    let Some(layout) = layout_of(number_at(bytes, 8)) else {
         return Err(Fault::BadVersion);
-    }
-    let limits = Limits {
+    };
+    let limits = Format {
+        layout,
         items: number_at(bytes, 12),
         pages: number_at(bytes, 16),
         log_bytes: number_at(bytes, 20),

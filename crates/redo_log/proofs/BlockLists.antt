@@ -4,7 +4,7 @@ use Rattle.std.specs.Bool.{⊤}
 use Rattle.std.specs.Prelude.{IfSome, IfNone, is_some}
 use Rattle.std.proofs.lemmas.Bool.{cases_Bool, cases_lt, or_cases, or_left, or_right, or_parts, or_from, eqb-true, eqb-false, eq-eqb, ne_eqb, false_from_ne_true, true≢false, false≢true}
 use Rattle.std.proofs.lemmas.List.{get_or_append_left, get_or_push, get_or-set_same, get_or-set_other}
-use Rattle.index_model.specs.declared.limits.Limits.{Limits}
+use Rattle.index_model.specs.declared.format.Format.{Format}
 use Rattle.page_codec.specs.declared.page.Page.{Page}
 use Rattle.redo_log.specs.Groups.{AreImages}
 use Rattle.redo_log.specs.Blocks.{blocks_of, is_among, with_block, with_blocks, new_count, AreInside}
@@ -181,6 +181,6 @@ new_count-most blocks (p ∷ ps) = one_more (is_among blocks p.block || is_among
     one_more false n most le = omega arith
 
 -- images of an index have blocks below its number of pages
-pub images_inside : (limits : Limits) (ps : List Page) → AreImages limits ps → AreInside limits.pages ps
+pub images_inside : (limits : Format) (ps : List Page) → AreImages limits ps → AreInside limits.pages ps
 images_inside limits [] are = tt
 images_inside limits (p ∷ ps) are = (are.0.within.block, images_inside limits ps are.1)

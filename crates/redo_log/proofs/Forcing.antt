@@ -10,7 +10,7 @@ use Rattle.device.specs.Moments.{Goes}
 use Rattle.device.specs.Places.{OnDisk, ChangesOnly}
 use Rattle.device.proofs.Going.{goes_weaker, goes_now}
 use Rattle.device.proofs.Standing.{only_wider, same_only}
-use Rattle.index_model.specs.declared.limits.Limits.{Limits}
+use Rattle.index_model.specs.declared.format.Format.{Format}
 use Rattle.page_codec.specs.declared.page.Page.{Page}
 use Rattle.redo_log.specs.Images.{SameImages, images_bytes, images_of}
 use Rattle.redo_log.specs.Groups.{IsGroup, body}
@@ -91,7 +91,7 @@ module _ (log : Log) (b : List ℕ) (old new : Trace) (acts : List (List Page)) 
       record {
         alive = stopped;
         groups = k.groups ++ k.waiting ∷ [];
-        settled = subst (λ (l : Limits). IsSettled l 4096 log'.at (k.groups ++ k.waiting ∷ []) new.now) (sym limits) settled;
+        settled = subst (λ (l : Format). IsSettled l 4096 log'.at (k.groups ++ k.waiting ∷ []) new.now) (sym limits) settled;
         waiting = [];
         waits = none_laid log'.limits (waiting_blocks log') log'.buffer.items none_waits;
         few = omega arith;

@@ -2,7 +2,7 @@
 use Rattle.std.proofs.Common.{◌≡◌, ℕ, ◌+◌, ◌*◌, ◌≤◌, List, [], ◌∷◌, ◌++◌, length, take, drop, Option, Some, None, refl, sym, ◌∙◌, ap, arith, append_assoc, length-append, length-take-le}
 use Rattle.std.proofs.lemmas.List.{append-nil, drop-take, drop-append-le}
 use Rattle.std.specs.List.{AllByRecursion}
-use Rattle.index_model.specs.declared.limits.Limits.{Limits}
+use Rattle.index_model.specs.declared.format.Format.{Format}
 use Rattle.page_codec.specs.declared.page.Page.{Page}
 use Rattle.page_codec.specs.Spelling.{page_bytes}
 use Rattle.page_codec.proofs.Laws.{length-page}
@@ -18,7 +18,7 @@ pub images_bytes-append : (xs ys : List Page) → images_bytes (xs ++ ys) ≡ im
 images_bytes-append [] ys = refl
 images_bytes-append (x ∷ xs) ys = ap (λ (l : List ℕ). page_bytes x ++ l) (images_bytes-append xs ys) ∙ sym (append_assoc (page_bytes x) (images_bytes xs) (images_bytes ys))
 
-pub length-images_bytes : (limits : Limits) (ps : List Page) → AreImages limits ps → length (images_bytes ps) ≡ 4096 * length ps
+pub length-images_bytes : (limits : Format) (ps : List Page) → AreImages limits ps → length (images_bytes ps) ≡ 4096 * length ps
 length-images_bytes limits [] are = refl
 length-images_bytes limits (p ∷ ps) are =
     omega (arith, length-append (page_bytes p) (images_bytes ps), length-page p are.0.page, length-images_bytes limits ps are.1)

@@ -5,7 +5,7 @@ use Rattle.std.proofs.lemmas.List.{get_or-drop, get_or-take, take_at, drop_at, t
 use Rattle.device.specs.Disk.{Moment, MayLeave, put}
 use Rattle.device.specs.Places.{ChangesOnly}
 use Rattle.device.proofs.Standing.{untouched_on, elsewhere_untouched, length-put, put_inside, put_outside}
-use Rattle.index_model.specs.declared.limits.Limits.{Limits}
+use Rattle.index_model.specs.declared.format.Format.{Format}
 use Rattle.page_codec.specs.declared.page.Page.{Page}
 use Rattle.redo_log.specs.Groups.{SpellsGroups, spelled, log_range}
 use Rattle.redo_log.specs.Images.{SameImages, images_of}
@@ -81,7 +81,7 @@ keeps_elsewhere log at n old new acts forced only apart k =
     keeps_untouched log old new acts forced (elsewhere_untouched at n 4096 log.limits.log_bytes old new only apart) k
 
 -- and what a crash may leave of it
-pub restarts_elsewhere : (limits : Limits) (at n : ℕ) (old new : Moment) (acts : List (List Page)) (forced : ℕ) → ChangesOnly at n old new → (4096 + limits.log_bytes ≤ at) ⊎ (at + n ≤ 4096)
+pub restarts_elsewhere : (limits : Format) (at n : ℕ) (old new : Moment) (acts : List (List Page)) (forced : ℕ) → ChangesOnly at n old new → (4096 + limits.log_bytes ≤ at) ⊎ (at + n ≤ 4096)
     → 4096 + limits.log_bytes ≤ length old.seen → Restarts limits acts forced old → Restarts limits acts forced new
 restarts_elsewhere limits at n old new acts forced only apart fits r = λ image left.
     let size = limits.log_bytes in

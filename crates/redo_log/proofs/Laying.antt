@@ -5,7 +5,7 @@ use Rattle.std.proofs.lemmas.Bool.{cases_Bool, cases_lt, or_parts, eqb-true, eq-
 use Rattle.std.proofs.lemmas.List.{append-nil, drop_at, drop-append-le, drop-drop, drop-take, take-take, get_or_append_left, length_push}
 use Rattle.std.proofs.lemmas.Slice.{take-put_mid}
 use borrow.Rule.Slice.PartMut.{put_mid}
-use Rattle.index_model.specs.declared.limits.Limits.{Limits}
+use Rattle.index_model.specs.declared.format.Format.{Format}
 use Rattle.page_codec.specs.declared.page.Page.{Page}
 use Rattle.page_codec.specs.Spelling.{page_bytes}
 use Rattle.page_codec.proofs.Laws.{length-page}
@@ -67,7 +67,7 @@ blocks_of-with_image (q ∷ qs) p = ⊎_elim
     cons_either false b xs ys = refl
 
 -- images stay images
-images-with_image : (limits : Limits) (ps : List Page) (p : Page) → AreImages limits ps → IsImage limits p → AreImages limits (with_image ps p)
+images-with_image : (limits : Format) (ps : List Page) (p : Page) → AreImages limits ps → IsImage limits p → AreImages limits (with_image ps p)
 images-with_image limits [] p are is = (is, tt)
 images-with_image limits (q ∷ qs) p are is = ⊎_elim
     (λ here. subst (AreImages limits) (sym (with_image-here q qs p here)) (is, are.1))
@@ -90,7 +90,7 @@ drop_behind : (front more : List ℕ) (n m : ℕ) → n ≡ length front + m →
 drop_behind front more n m e = ap (λ (k : ℕ). drop k (front ++ more)) e ∙ drop-append-add front more m
 
 -- the bytes of those of which the one at this place is replaced
-bytes-with_image : (limits : Limits) (ps : List Page) (p : Page) (k at : ℕ) → AreImages limits ps → AreDistinct (blocks_of ps) → k < length ps → get_or (blocks_of ps) k 0 ≡ p.block → at ≡ 4096 * k
+bytes-with_image : (limits : Format) (ps : List Page) (p : Page) (k at : ℕ) → AreImages limits ps → AreDistinct (blocks_of ps) → k < length ps → get_or (blocks_of ps) k 0 ≡ p.block → at ≡ 4096 * k
     → images_bytes (with_image ps p) ≡ take at (images_bytes ps) ++ (page_bytes p ++ drop (at + 4096) (images_bytes ps))
 bytes-with_image limits [] p k at are distinct lt is e = absurd (omega arith)
 bytes-with_image limits (q ∷ qs) p zero at are distinct lt is e =
@@ -125,7 +125,7 @@ replaced old part at n long inside fits =
     ∙ ap (λ (l : List ℕ). l ++ (part ++ drop (at + 4096) (take n body))) (sym (take-take at n body (omega arith)))))))
 
 -- no image is laid where no block waits
-pub none_laid : (limits : Limits) (order buffer : List ℕ) → order ≡ [] → AreLaid limits order buffer []
+pub none_laid : (limits : Format) (order buffer : List ℕ) → order ≡ [] → AreLaid limits order buffer []
 none_laid limits order buffer none = subst (λ (l : List ℕ). AreLaid limits l buffer []) (sym none) (record { counted = refl; images = tt; blocks = refl; buffered = refl })
 
 -- the images in the places of their blocks' count as those behind them all
@@ -143,7 +143,7 @@ abbrev written : List ℕ → Page → ℕ → List ℕ
 written old p k = drop 4 (put_mid (4 + 4096 * k) 4096 old (page_bytes p))
 
 -- an image takes the place of the one of its block
-laid_old : (limits : Limits) (order old : List ℕ) (p : Page) (k : ℕ) → k < length order → get_or order k 0 ≡ p.block → AreDistinct order → 4 + 4096 * length order ≤ length old → IsImage limits p
+laid_old : (limits : Format) (order old : List ℕ) (p : Page) (k : ℕ) → k < length order → get_or order k 0 ≡ p.block → AreDistinct order → 4 + 4096 * length order ≤ length old → IsImage limits p
     → (laid : List Page) → AreLaid limits order old laid → take (4096 * length order) (written old p k) ≡ images_bytes (with_image laid p)
 laid_old limits order old p k lt is distinct fits image laid a =
     replaced old (page_bytes p) (4096 * k) (4096 * length order) (length-page p image.page) (omega arith) (omega arith)
@@ -151,7 +151,7 @@ laid_old limits order old p k lt is distinct fits image laid a =
     ∙ sym (bytes-with_image limits laid p k (4096 * k) a.images (subst AreDistinct (sym a.blocks) distinct) (omega (arith, a.counted)) (ap (λ (l : List ℕ). get_or l k 0) a.blocks ∙ is) refl))
 
 -- an image of another block is laid behind them
-laid_new : (limits : Limits) (order old : List ℕ) (p : Page) → is_among order p.block ≡ false → 4 + 4096 * (length order + 1) ≤ length old → IsImage limits p
+laid_new : (limits : Format) (order old : List ℕ) (p : Page) → is_among order p.block ≡ false → 4 + 4096 * (length order + 1) ≤ length old → IsImage limits p
     → (laid : List Page) → AreLaid limits order old laid → take (4096 * (length order + 1)) (written old p (length order)) ≡ images_bytes (with_image laid p)
 laid_new limits order old p new fits image laid a =
     let at = 4096 * length order in
@@ -164,7 +164,7 @@ laid_new limits order old p new fits image laid a =
     ∙ (sym (images_bytes-append laid (p ∷ [])) ∙ ap images_bytes (sym (with_image-new laid p (ap (λ (l : List ℕ). is_among l p.block) a.blocks ∙ new)))))))
 
 -- one image more is laid, at its block's place among those that wait then
-pub laid_more : (limits : Limits) (order order' old new : List ℕ) (p : Page) (k : ℕ) → order' ≡ with_block order p.block → k < length order' → get_or order' k 0 ≡ p.block → AreDistinct order
+pub laid_more : (limits : Format) (order order' old new : List ℕ) (p : Page) (k : ℕ) → order' ≡ with_block order p.block → k < length order' → get_or order' k 0 ≡ p.block → AreDistinct order
     → 4 + 4096 * length order' ≤ length old → new ≡ put_mid (4 + 4096 * k) 4096 old (page_bytes p) → IsImage limits p
     → (laid : List Page) → AreLaid limits order old laid → AreLaid limits order' new (with_image laid p)
 laid_more limits order order' old new p k more lt is distinct fits put image laid a =

@@ -6,7 +6,7 @@ use Rattle.std.specs.Int.{w32, to_le_bytes}
 use Rattle.device.specs.Disk.{Moment, MayLeave}
 use Rattle.device.specs.Places.{Has, OnDisk, ChangesOnly}
 use Rattle.device.proofs.Standing.{kept, on_image, on_front, on_back, on_both, has_both, has_drop}
-use Rattle.index_model.specs.declared.limits.Limits.{Limits}
+use Rattle.index_model.specs.declared.format.Format.{Format}
 use Rattle.page_codec.specs.declared.page.Page.{Page}
 use Rattle.redo_log.specs.Images.{images_bytes}
 use Rattle.redo_log.specs.Groups.{AreGroups, IsGroup, spelled, body, SpellsGroups}
@@ -17,7 +17,7 @@ use Rattle.redo_log.proofs.ImageLists.{length-images_bytes, all-append}
 length_number : (n : ℕ) → length (to_le_bytes w32 n) ≡ 4
 length_number n = refl
 
-pub length_body : (limits : Limits) (g : List Page) → IsGroup limits g → length (body g) ≡ 4 + 4096 * length g
+pub length_body : (limits : Format) (g : List Page) → IsGroup limits g → length (body g) ≡ 4 + 4096 * length g
 length_body limits g is = omega (arith, length-append (to_le_bytes w32 (length g)) (images_bytes g), length-images_bytes limits g is.images, length_number (length g))
 
 -- a range that begins so
@@ -32,7 +32,7 @@ range_is start size q c h le = ap (λ (l : List ℕ). take size l) (has_drop sta
         ap (λ (l : List ℕ). x ∷ l) (take_past xs ys n (omega arith) ∙ ap (λ (k : ℕ). xs ++ take k ys) e)
 
 -- open groups and a gate that isn't open
-pub shut_stands : (limits : Limits) (start size : ℕ) (gs : List (List Page)) (gate : ℕ) (c : List ℕ) → AreGroups limits gs → gate ≢ 1 → length (spelled gs) + 1 ≤ size → Has start (spelled gs ++ gate ∷ []) c
+pub shut_stands : (limits : Format) (start size : ℕ) (gs : List (List Page)) (gate : ℕ) (c : List ℕ) → AreGroups limits gs → gate ≢ 1 → length (spelled gs) + 1 ≤ size → Has start (spelled gs ++ gate ∷ []) c
     → SpellsGroups limits (take size (drop start c)) gs
 shut_stands limits start size gs gate c good shut fits h =
     let q = spelled gs ++ gate ∷ [] in
@@ -59,7 +59,7 @@ some_byte at c lt = record { within = omega arith; each = λ i below. one i belo
     one zero below = (let e : at + 0 ≡ at = omega arith in ap (λ (k : ℕ). get_or c k 0) e)
     one (suc i) below = absurd (omega arith)
 
-module _ (limits : Limits) (start size at : ℕ) (gs : List (List Page)) (m : Moment) (s : IsSettled limits start at gs m) (fits : at + 1 ≤ size) where
+module _ (limits : Format) (start size at : ℕ) (gs : List (List Page)) (m : Moment) (s : IsSettled limits start at gs m) (fits : at + 1 ≤ size) where
   pub shut_at : IsShut (start + at) m
   shut_at = record {
     gate = s.gate;
@@ -131,7 +131,7 @@ module _ (limits : Limits) (start size at : ℕ) (gs : List (List Page)) (m : Mo
     }
 
 -- while the first gate is closed, a crash leaves what there was or nothing
-pub resetting : (limits : Limits) (start size : ℕ) (gs : List (List Page)) (gate : ℕ) (m n : Moment) → AreGroups limits gs → gate ≢ 1 → OnDisk start (spelled gs ++ gate ∷ []) m → 0 < length (spelled gs) → length (spelled gs) + 1 ≤ size
+pub resetting : (limits : Format) (start size : ℕ) (gs : List (List Page)) (gate : ℕ) (m n : Moment) → AreGroups limits gs → gate ≢ 1 → OnDisk start (spelled gs ++ gate ∷ []) m → 0 < length (spelled gs) → length (spelled gs) + 1 ≤ size
     → ChangesOnly start 1 m n → (c : List ℕ) → MayLeave n c → SpellsGroups limits (take size (drop start c)) gs ⊎ SpellsGroups limits (take size (drop start c)) []
 resetting limits start size [] gate m n good shut on some fits only c left = absurd (omega arith)
 resetting limits start size (g ∷ gs) gate m n good shut on some fits only c left =

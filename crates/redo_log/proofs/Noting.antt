@@ -3,7 +3,7 @@ use Rattle.std.proofs.Common.{◌≡◌, ◌≢◌, inl, inr, ℕ, zero, suc, �
 use Rattle.std.proofs.lemmas.Bool.{cases_eq, eq-eqb, ne_eqb}
 use Rattle.std.proofs.lemmas.List.{append-nil, drop-drop, drop-take, take-take, get_or-drop, get_or-set_same, get_or-set_other, length-replicate}
 use Rattle.std.specs.Option.{option_map}
-use Rattle.index_model.specs.declared.limits.Limits.{Limits}
+use Rattle.index_model.specs.declared.format.Format.{Format}
 use Rattle.page_codec.specs.declared.page.Page.{Page}
 use Rattle.page_codec.specs.Spelling.{page_bytes}
 use Rattle.redo_log.specs.Images.{last_image, images_bytes}
@@ -18,7 +18,7 @@ zeros zero i = refl
 zeros (suc n) zero = refl
 zeros (suc n) (suc i) = zeros n i
 
-pub note_start : (limits : Limits) (log lasts : List ℕ) → lasts ≡ replicate limits.pages 0 → 4096 ≤ length log → AreNoted limits log [] lasts
+pub note_start : (limits : Format) (log lasts : List ℕ) → lasts ≡ replicate limits.pages 0 → 4096 ≤ length log → AreNoted limits log [] lasts
 note_start limits log lasts is long =
     let zero_at : (block : ℕ) → get_or lasts block 0 ≡ 0 = λ block. ap (λ (l : List ℕ). get_or l block 0) is ∙ zeros limits.pages block in
     record {
@@ -38,7 +38,7 @@ more_other images p block other = last_image-append images (p ∷ []) block ∙ 
 bytes_there : (log bytes : List ℕ) (place : ℕ) → 0 < place → slice_range log place (place + 4096) ≡ bytes → bytes_at log place ≡ Some bytes
 bytes_there log bytes place some is = rw (ne_eqb place 0 (λ (e : place ≡ 0). absurd (omega (arith, e, some)))) (ap Some is)
 
-pub note_more : (limits : Limits) (log : List ℕ) (images : List Page) (lasts : List ℕ) (p : Page) (place : ℕ) → AreNoted limits log images lasts → p.block < limits.pages → 0 < place → place + 4096 ≤ length log → slice_range log place (place + 4096) ≡ page_bytes p
+pub note_more : (limits : Format) (log : List ℕ) (images : List Page) (lasts : List ℕ) (p : Page) (place : ℕ) → AreNoted limits log images lasts → p.block < limits.pages → 0 < place → place + 4096 ≤ length log → slice_range log place (place + 4096) ≡ page_bytes p
     → AreNoted limits log (images ++ p ∷ []) (set lasts p.block place)
 note_more limits log images lasts p place noted few some inside is =
     let here : (block : ℕ) → p.block ≡ block → get_or (set lasts p.block place) block 0 ≡ place =
@@ -58,13 +58,13 @@ note_more limits log images lasts p place noted few some inside is =
     }
 
 -- so many images were read and noted, of those that stand there
-pub record NotedSoFar (limits : Limits) (log : List ℕ) (at count k : ℕ) (old now : List ℕ) : Type 0 where
+pub record NotedSoFar (limits : Format) (log : List ℕ) (at count k : ℕ) (old now : List ℕ) : Type 0 where
   pub images : List Page
   pub read : ImagesSoFar limits (take (4096 * count) (drop at log)) (drop (4096 * k) (take (4096 * count) (drop at log))) images
   pub noted : (before : List Page) → AreNoted limits log before old → AreNoted limits log (before ++ images) now
   pub many : length now ≡ length old
 
-pub noted_start : (limits : Limits) (log : List ℕ) (at count : ℕ) (old : List ℕ) → NotedSoFar limits log at count 0 old old
+pub noted_start : (limits : Format) (log : List ℕ) (at count : ℕ) (old : List ℕ) → NotedSoFar limits log at count 0 old old
 noted_start limits log at count old = record {
   images = [];
   read = images_start limits (take (4096 * count) (drop at log));
@@ -73,7 +73,7 @@ noted_start limits log at count old = record {
 }
 
 -- the image that stands behind those
-module _ (limits : Limits) (log : List ℕ) (at count k : ℕ) (old now : List ℕ) (s : NotedSoFar limits log at count k old now) (more : k < count) (inside : at + 4096 * count ≤ length log) where
+module _ (limits : Format) (log : List ℕ) (at count k : ℕ) (old now : List ℕ) (s : NotedSoFar limits log at count k old now) (more : k < count) (inside : at + 4096 * count ≤ length log) where
   abbrev rest : List ℕ
   rest = drop (4096 * k) (take (4096 * count) (drop at log))
 
@@ -106,7 +106,7 @@ module _ (limits : Limits) (log : List ℕ) (at count k : ℕ) (old now : List �
         many = length-set now p.block (at + 4096 * k) ∙ s.many;
       }
 
-pub noted_end : (limits : Limits) (log : List ℕ) (at count k : ℕ) (old now : List ℕ) → NotedSoFar limits log at count k old now → count ≤ k → at + 4096 * count ≤ length log → NotesImages limits log at count old now
+pub noted_end : (limits : Format) (log : List ℕ) (at count k : ℕ) (old now : List ℕ) → NotedSoFar limits log at count k old now → count ≤ k → at + 4096 * count ≤ length log → NotesImages limits log at count old now
 noted_end limits log at count k old now s all inside = record {
   images = s.images;
   good = s.read.good;
@@ -121,15 +121,15 @@ noted_end limits log at count k old now s all inside = record {
     nothing_left (suc n) (x ∷ xs) le = nothing_left n xs (omega arith)
 
 -- the groups in front of this place were read, and their images noted
-pub record GroupsNoted (limits : Limits) (log : List ℕ) (at : ℕ) (lasts : List ℕ) : Type 0 where
+pub record GroupsNoted (limits : Format) (log : List ℕ) (at : ℕ) (lasts : List ℕ) : Type 0 where
   pub images : List Page
   pub read : GroupsSoFar limits log (drop at log) images
   pub noted : AreNoted limits log images lasts
 
-pub gate_inside : (limits : Limits) (log : List ℕ) (at : ℕ) (lasts : List ℕ) → GroupsNoted limits log at lasts → at < length log
+pub gate_inside : (limits : Format) (log : List ℕ) (at : ℕ) (lasts : List ℕ) → GroupsNoted limits log at lasts → at < length log
 gate_inside limits log at lasts s = omega (arith, s.read.some, length-drop at log)
 
-pub groups_noted_start : (limits : Limits) (log lasts : List ℕ) → lasts ≡ replicate limits.pages 0 → 4096 ≤ length log → GroupsNoted limits log 0 lasts
+pub groups_noted_start : (limits : Format) (log lasts : List ℕ) → lasts ≡ replicate limits.pages 0 → 4096 ≤ length log → GroupsNoted limits log 0 lasts
 groups_noted_start limits log lasts fresh long = record {
   images = [];
   read = groups_start limits log [] refl (omega (arith, long));
@@ -140,7 +140,7 @@ groups_noted_start limits log lasts fresh long = record {
 gate_at : (log : List ℕ) (at : ℕ) → get_or (drop at log) 0 0 ≡ get_or log at 0
 gate_at log at = get_or-drop at log 0 0 ∙ ap (λ (n : ℕ). get_or log n 0) (let f : at + 0 ≡ at = omega arith in f)
 
-module _ (limits : Limits) (log : List ℕ) (at : ℕ) (lasts : List ℕ) (s : GroupsNoted limits log at lasts) where
+module _ (limits : Format) (log : List ℕ) (at : ℕ) (lasts : List ℕ) (s : GroupsNoted limits log at lasts) where
   pub groups_noted_more : (count : ℕ) (new : List ℕ) → get_or log at 0 ≡ 1 → NotesGroup limits log (at + 1) count lasts new → GroupsNoted limits log (at + (5 + 4096 * count)) new
   groups_noted_more count new is_open a =
       let one : drop (at + 1) log ≡ drop 1 (drop at log) = sym (drop-drop 1 at log) in

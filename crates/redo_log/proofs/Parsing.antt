@@ -3,7 +3,7 @@ use Rattle.std.proofs.Common.{◌≡◌, ◌≢◌, ℕ, zero, suc, ◌+◌, ◌
 use Rattle.std.proofs.lemmas.List.{take_at, drop_at, append-nil, drop-drop}
 use Rattle.std.proofs.lemmas.Nat.{from_le_bytes-to_le_bytes_4, le_bytes_4}
 use Rattle.std.specs.Int.{w32, to_le_bytes, from_le_bytes}
-use Rattle.index_model.specs.declared.limits.Limits.{Limits}
+use Rattle.index_model.specs.declared.format.Format.{Format}
 use Rattle.page_codec.specs.declared.page.Page.{Page}
 use Rattle.page_codec.specs.Spelling.{page_bytes}
 use Rattle.page_codec.proofs.Laws.{length-page, one_page}
@@ -14,12 +14,12 @@ use Rattle.redo_log.proofs.ImageLists.{images_bytes-append, length-images_bytes,
 use Rattle.redo_log.proofs.Leaving.{spelled-push}
 
 -- these images were read up to here, and whatever images the bytes are, the rest is images
-pub record ImagesSoFar (limits : Limits) (bytes rest : List ℕ) (images : List Page) : Type 0 where
+pub record ImagesSoFar (limits : Format) (bytes rest : List ℕ) (images : List Page) : Type 0 where
   pub good : AreImages limits images
   pub is : bytes ≡ images_bytes images ++ rest
   pub only : (others : List Page) → AreImages limits others → bytes ≡ images_bytes others → (t : List Page) × AreImages limits t × (rest ≡ images_bytes t)
 
-pub images_start : (limits : Limits) (bytes : List ℕ) → ImagesSoFar limits bytes bytes []
+pub images_start : (limits : Format) (bytes : List ℕ) → ImagesSoFar limits bytes bytes []
 images_start limits bytes = record {
   good = tt;
   is = refl;
@@ -27,7 +27,7 @@ images_start limits bytes = record {
 }
 
 -- bytes that are images, not none, begin with an image
-first_image : (limits : Limits) (rest : List ℕ) (t : List Page) → AreImages limits t → rest ≡ images_bytes t → 0 < length rest
+first_image : (limits : Format) (rest : List ℕ) (t : List Page) → AreImages limits t → rest ≡ images_bytes t → 0 < length rest
     → (p : Page) × (q : List Page) × IsImage limits p × AreImages limits q × (take 4096 rest ≡ page_bytes p) × (drop 4096 rest ≡ images_bytes q)
 first_image limits rest [] good e some = absurd (omega (arith, ap length e))
 first_image limits rest (p ∷ q) good e some = (
@@ -39,7 +39,7 @@ first_image limits rest (p ∷ q) good e some = (
   ap (drop 4096) e ∙ drop_at (page_bytes p) (images_bytes q) 4096 (length-page p good.0.page),
 )
 
-module _ (limits : Limits) (bytes rest : List ℕ) (images : List Page) (s : ImagesSoFar limits bytes rest images) (some : 0 < length rest) where
+module _ (limits : Format) (bytes rest : List ℕ) (images : List Page) (s : ImagesSoFar limits bytes rest images) (some : 0 < length rest) where
   pub image_read : (p : Page) → IsImage limits p → take 4096 rest ≡ page_bytes p → ImagesSoFar limits bytes (drop 4096 rest) (images ++ p ∷ [])
   image_read p is e = record {
     good = all-append (IsImage limits) images (p ∷ []) s.good (is, tt);
@@ -59,7 +59,7 @@ module _ (limits : Limits) (bytes rest : List ℕ) (images : List Page) (s : Ima
       let f = first_image limits rest t.0 t.1 t.2 some in
       refused f.0 f.2 f.4
 
-pub images_end : (limits : Limits) (bytes rest : List ℕ) (images : List Page) → ImagesSoFar limits bytes rest images → rest ≡ [] → bytes ≡ images_bytes images
+pub images_end : (limits : Format) (bytes rest : List ℕ) (images : List Page) → ImagesSoFar limits bytes rest images → rest ≡ [] → bytes ≡ images_bytes images
 images_end limits bytes rest images s e = s.is ∙ (ap (λ (l : List ℕ). images_bytes images ++ l) e ∙ append-nil (images_bytes images))
 
 -- the number in front, and the images behind it
@@ -70,7 +70,7 @@ parts head images rest behind four is = (
 )
 
 -- bytes that begin with a group, of which the number was read
-module _ (limits : Limits) (behind rest : List ℕ) (group : List Page) (count : ℕ) (good : IsGroup limits group) (is : behind ≡ body group ++ rest) (number : count ≡ from_le_bytes w32 (take 4 behind)) where
+module _ (limits : Format) (behind rest : List ℕ) (group : List Page) (count : ℕ) (good : IsGroup limits group) (is : behind ≡ body group ++ rest) (number : count ≡ from_le_bytes w32 (take 4 behind)) where
   two : (take 4 behind ≡ to_le_bytes w32 (length group)) × (drop 4 behind ≡ images_bytes group ++ rest)
   two = parts (to_le_bytes w32 (length group)) (images_bytes group) rest behind refl is
 
@@ -90,7 +90,7 @@ module _ (limits : Limits) (behind rest : List ℕ) (group : List Page) (count :
   group_rest = sym (drop-drop (4096 * count) 4 behind) ∙ (ap (drop (4096 * count)) two.1 ∙ drop_at (images_bytes group) rest (4096 * count) (omega (arith, length-images_bytes limits group good.images, group_count)))
 
 -- a group was read
-pub group_noted : (limits : Limits) (log bodies number : List ℕ) (at count : ℕ) (old new : List ℕ) → number ≡ take 4 (drop at log) → bodies ≡ drop 4 (drop at log) → length number ≡ 4 → ((i : ℕ) → get_or number i 0 < 256) → count ≡ from_le_bytes w32 number
+pub group_noted : (limits : Format) (log bodies number : List ℕ) (at count : ℕ) (old new : List ℕ) → number ≡ take 4 (drop at log) → bodies ≡ drop 4 (drop at log) → length number ≡ 4 → ((i : ℕ) → get_or number i 0 < 256) → count ≡ from_le_bytes w32 number
     → 0 < count → count < 2 ^ 32 → 4096 * count < length bodies → NotesImages limits log (at + 4) count old new → NotesGroup limits log at count old new
 group_noted limits log bodies number at count old new head tail four fit read some few long a =
     let behind = drop at log in
@@ -119,7 +119,7 @@ take_small (suc n) (x ∷ xs) all zero = (all 0).fits
 take_small (suc n) (x ∷ xs) all (suc i) = take_small n xs (λ k. all (suc k)) i
 
 -- groups were read up to here, and whatever groups the bytes are, they go on in the rest
-pub record GroupsSoFar (limits : Limits) (bytes rest : List ℕ) (now : List Page) : Type 0 where
+pub record GroupsSoFar (limits : Format) (bytes rest : List ℕ) (now : List Page) : Type 0 where
   pub groups : List (List Page)
   pub good : AreGroups limits groups
   pub is : bytes ≡ spelled groups ++ rest
@@ -127,7 +127,7 @@ pub record GroupsSoFar (limits : Limits) (bytes rest : List ℕ) (now : List Pag
   pub some : 0 < length rest
   pub only : (others : List (List Page)) → SpellsGroups limits bytes others → (t : List (List Page)) × (others ≡ groups ++ t) × SpellsGroups limits rest t
 
-pub groups_start : (limits : Limits) (bytes : List ℕ) (now : List Page) → now ≡ [] → 0 < length bytes → GroupsSoFar limits bytes bytes now
+pub groups_start : (limits : Format) (bytes : List ℕ) (now : List Page) → now ≡ [] → 0 < length bytes → GroupsSoFar limits bytes bytes now
 groups_start limits bytes now none some = record {
   groups = [];
   good = tt;
@@ -138,7 +138,7 @@ groups_start limits bytes now none some = record {
 }
 
 -- two groups at one place are one
-same_group : (limits : Limits) (behind r q : List ℕ) (g h : List Page) → IsGroup limits g → IsGroup limits h → behind ≡ body g ++ r → behind ≡ body h ++ q → (g ≡ h) × (r ≡ q)
+same_group : (limits : Format) (behind r q : List ℕ) (g h : List Page) → IsGroup limits g → IsGroup limits h → behind ≡ body g ++ r → behind ≡ body h ++ q → (g ≡ h) × (r ≡ q)
 same_group limits behind r q g h good good' is is' =
     let n = from_le_bytes w32 (take 4 behind) in
     let count : length g ≡ length h = sym (group_count limits behind r g n good is refl) ∙ group_count limits behind q h n good' is' refl in
@@ -159,7 +159,7 @@ same_group limits behind r q g h good good' is is' =
         ap (λ (x : Page). x ∷ g) one ∙ ap (λ (l : List Page). q ∷ l) rest
 
 -- groups at an open gate begin with one
-record NextGroup (limits : Limits) (rest : List ℕ) (t : List (List Page)) : Type 0 where
+record NextGroup (limits : Format) (rest : List ℕ) (t : List (List Page)) : Type 0 where
   pub group : List Page
   pub others : List (List Page)
   pub behind : List ℕ
@@ -173,7 +173,7 @@ open_gate : (r : List ℕ) → 0 < length r → get_or r 0 0 ≡ 1 → r ≡ 1 �
 open_gate [] some e = absurd (omega arith)
 open_gate (x ∷ xs) some e = ap (λ (y : ℕ). y ∷ xs) e
 
-next_group : (limits : Limits) (rest : List ℕ) (t : List (List Page)) → get_or rest 0 0 ≡ 1 → SpellsGroups limits rest t → NextGroup limits rest t
+next_group : (limits : Format) (rest : List ℕ) (t : List (List Page)) → get_or rest 0 0 ≡ 1 → SpellsGroups limits rest t → NextGroup limits rest t
 next_group limits rest [] is_open s = absurd (s.closed (sym (ap (λ (l : List ℕ). get_or l 0 0) s.is) ∙ is_open))
 next_group limits rest (g ∷ q) is_open s = record {
   group = g;
@@ -186,7 +186,7 @@ next_group limits rest (g ∷ q) is_open s = record {
   more = omega (arith, length-append (spelled q) (s.gate ∷ s.rest));
 }
 
-module _ (limits : Limits) (bytes rest : List ℕ) (now : List Page) (s : GroupsSoFar limits bytes rest now) (is_open : get_or rest 0 0 ≡ 1) where
+module _ (limits : Format) (bytes rest : List ℕ) (now : List Page) (s : GroupsSoFar limits bytes rest now) (is_open : get_or rest 0 0 ≡ 1) where
   pub group_read : (group : List Page) (count : ℕ) → IsGroup limits group → drop 1 rest ≡ body group ++ drop (4 + 4096 * count) (drop 1 rest) → 0 < length (drop (4 + 4096 * count) (drop 1 rest)) → GroupsSoFar limits bytes (drop (5 + 4096 * count) rest) (now ++ group)
   group_read group count good here more =
       let left = drop (4 + 4096 * count) (drop 1 rest) in
@@ -216,7 +216,7 @@ module _ (limits : Limits) (bytes rest : List ℕ) (now : List Page) (s : Groups
       refused n.group n.behind n.good n.more n.is
 
 -- at a gate that isn't open all is read
-pub groups_end : (limits : Limits) (bytes rest : List ℕ) (now : List Page) → GroupsSoFar limits bytes rest now → get_or rest 0 0 ≢ 1 → AreAllImages limits bytes now (length bytes - length rest)
+pub groups_end : (limits : Format) (bytes rest : List ℕ) (now : List Page) → GroupsSoFar limits bytes rest now → get_or rest 0 0 ≢ 1 → AreAllImages limits bytes now (length bytes - length rest)
 groups_end limits bytes rest now s shut = record {
   groups = s.groups;
   spells = record { good = s.good; gate = get_or rest 0 0; closed = shut; rest = drop 1 rest; is = s.is ∙ ap (λ (l : List ℕ). spelled s.groups ++ l) (gate_and_rest rest s.some) };

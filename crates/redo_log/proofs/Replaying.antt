@@ -5,7 +5,7 @@ use Rattle.std.proofs.lemmas.List.{get_or-drop, get_or-take, get_or_append_left}
 use Rattle.std.specs.Prelude.{slice_range}
 use Rattle.device.specs.Disk.{Moment}
 use Rattle.device.specs.Places.{Has}
-use Rattle.index_model.specs.declared.limits.Limits.{Limits}
+use Rattle.index_model.specs.declared.format.Format.{Format}
 use Rattle.page_codec.specs.declared.page.Page.{Page}
 use Rattle.redo_log.specs.Images.{images_of}
 use Rattle.redo_log.specs.Groups.{IsImage, AreImages, AreGroups, spelled, SpellsGroups, log_range}
@@ -36,7 +36,7 @@ has_range start size file q rest is fits =
           ∙ (ap (λ (l : List ℕ). get_or l i 0) is ∙ get_or_append_left q rest 0 i lt));
     }
 
-pub replayed : (limits : Limits) (m : Moment) (log : Log) (bytes : List ℕ) (images : List Page) (at : ℕ) → bytes ≡ log_range limits m.seen → 4096 + limits.log_bytes ≤ length m.seen → AreAllImages limits bytes images at
+pub replayed : (limits : Format) (m : Moment) (log : Log) (bytes : List ℕ) (images : List Page) (at : ℕ) → bytes ≡ log_range limits m.seen → 4096 + limits.log_bytes ≤ length m.seen → AreAllImages limits bytes images at
     → log.limits ≡ limits → log.at ≡ at → waiting_blocks log ≡ [] → log.stopped ≡ false → Replays limits m log images
 replayed limits m log bytes images at are fits r limits_are at_is idle alive =
     let s = r.spells in
@@ -58,7 +58,7 @@ replayed limits m log bytes images at are fits r limits_are at_is idle alive =
       keeps = λ firm. record {
         alive = alive;
         groups = r.groups;
-        settled = subst (λ (l : Limits). IsSettled l 4096 log.at r.groups m) (sym limits_are) (record {
+        settled = subst (λ (l : Format). IsSettled l 4096 log.at r.groups m) (sym limits_are) (record {
           good = s.good;
           end = at_is ∙ r.end_is;
           gate = s.gate;
@@ -74,12 +74,12 @@ replayed limits m log bytes images at are fits r limits_are at_is idle alive =
     }
 
 -- the images of groups are images
-pub images_good : (limits : Limits) (groups : List (List Page)) → AreGroups limits groups → AreImages limits (images_of groups)
+pub images_good : (limits : Format) (groups : List (List Page)) → AreGroups limits groups → AreImages limits (images_of groups)
 images_good limits [] good = tt
 images_good limits (group ∷ groups) good = all-append (IsImage limits) group (images_of groups) good.0.images (images_good limits groups good.1)
 
 -- what was noted of the bytes that were read is what a replay finds
-pub replay_found : (limits : Limits) (honest : Bool) (m : Moment) (found : Replayed) (log lasts : List ℕ) (end : ℕ) → AreAllNoted limits log lasts end → log ≡ found.log.buffer.items → lasts ≡ found.lasts.items → (IsTrue honest → log ≡ log_range limits m.seen) → 4096 + limits.log_bytes ≤ length m.seen
+pub replay_found : (limits : Format) (honest : Bool) (m : Moment) (found : Replayed) (log lasts : List ℕ) (end : ℕ) → AreAllNoted limits log lasts end → log ≡ found.log.buffer.items → lasts ≡ found.lasts.items → (IsTrue honest → log ≡ log_range limits m.seen) → 4096 + limits.log_bytes ≤ length m.seen
     → found.log.limits ≡ limits → found.log.at ≡ end → waiting_blocks found.log ≡ [] → found.log.stopped ≡ false → IsReplay limits honest m found
 replay_found limits honest m found log lasts end n log_is lasts_are read fits limits_are at_is idle alive = record {
   images = n.images;

@@ -1,7 +1,7 @@
 -- The blocks of images, and lists that have one image for each block.
 use Rattle.std.specs.Prelude.{◌≡◌, ℕ, suc, ◌*◌, ◌<◌, ◌==◌, ◌||◌, Bool, false, if◌then◌else◌, List, [], ◌∷◌, ◌++◌, length, take, drop}
 use Rattle.std.specs.List.{AllByRecursion}
-use Rattle.index_model.specs.declared.limits.Limits.{Limits}
+use Rattle.index_model.specs.declared.format.Format.{Format}
 use Rattle.page_codec.specs.declared.page.Page.{Page}
 use Rattle.redo_log.specs.Images.{images_bytes}
 use Rattle.redo_log.specs.Groups.{AreImages}
@@ -47,7 +47,7 @@ with_images laid [] = laid
 with_images laid (p ∷ ps) = with_images (with_image laid p) ps
 
 -- these images, one of each of the blocks, stand in the buffer behind the room for their number
-pub record AreLaid (limits : Limits) (order buffer : List ℕ) (laid : List Page) : Type 0 where
+pub record AreLaid (limits : Format) (order buffer : List ℕ) (laid : List Page) : Type 0 where
   pub counted : length laid ≡ length order
   pub images : AreImages limits laid
   pub blocks : blocks_of laid ≡ order

@@ -3,34 +3,36 @@ use Rattle.std.specs.Prelude.{◌≡◌, ◌≢◌, ℕ, ◌^◌, ◌<◌, ◌�
 use Rattle.std.specs.Int.{w32, to_le_bytes}
 use Rattle.std.specs.List.{AllByRecursion}
 use Rattle.device_layout.specs.Layout.{log_start}
-use Rattle.index_model.specs.declared.limits.Limits.{Limits}
+use Rattle.index_model.specs.Limits.{Admits}
+use Rattle.index_model.specs.declared.format.Format.{Format}
 use Rattle.page_codec.specs.declared.page.Page.{Page}
 use Rattle.page_codec.specs.Grammar.{IsPage}
 use Rattle.page_codec.specs.Spelling.{count_of}
 use Rattle.redo_log.specs.Images.{images_bytes}
 
--- its block is below the number of pages, and it has no more items than a page may
-pub record IsWithin (limits : Limits) (p : Page) : Type 0 where
+-- its block is below the number of pages, it has no more items than a page may, and is of a layout that the index may have
+pub record IsWithin (limits : Format) (p : Page) : Type 0 where
   pub block : p.block < limits.pages
   pub items : count_of p.items ≤ limits.items
+  pub layout : Admits limits.layout p.layout
 
 -- a page that an index of these limits may have
-pub record IsImage (limits : Limits) (p : Page) : Type 0 where
+pub record IsImage (limits : Format) (p : Page) : Type 0 where
   pub page : IsPage p
   pub within : IsWithin limits p
 
 -- each of them is an image
-abbrev pub AreImages : Limits → List Page → Type 0
+abbrev pub AreImages : Format → List Page → Type 0
 AreImages limits ps = AllByRecursion (IsImage limits) ps
 
 -- one image or more, whose number fits into its place
-pub record IsGroup (limits : Limits) (group : List Page) : Type 0 where
+pub record IsGroup (limits : Format) (group : List Page) : Type 0 where
   pub some : 0 < length group
   pub few : length group < 2 ^ 32
   pub images : AreImages limits group
 
 -- each of them is a group
-abbrev pub AreGroups : Limits → List (List Page) → Type 0
+abbrev pub AreGroups : Format → List (List Page) → Type 0
 AreGroups limits groups = AllByRecursion (IsGroup limits) groups
 
 -- the number of images and the images
@@ -43,7 +45,7 @@ spelled [] = []
 spelled (group ∷ groups) = 1 ∷ body group ++ spelled groups
 
 -- the bytes are these groups, open, then a gate that isn't 1, and anything
-pub record SpellsGroups (limits : Limits) (bytes : List ℕ) (groups : List (List Page))
+pub record SpellsGroups (limits : Format) (bytes : List ℕ) (groups : List (List Page))
     : Type 0 where
   pub good : AreGroups limits groups
   pub gate : ℕ
@@ -52,5 +54,5 @@ pub record SpellsGroups (limits : Limits) (bytes : List ℕ) (groups : List (Lis
   pub is : bytes ≡ spelled groups ++ gate ∷ rest
 
 -- the log's range of a device
-abbrev pub log_range : Limits → List ℕ → List ℕ
+abbrev pub log_range : Format → List ℕ → List ℕ
 log_range limits file = take limits.log_bytes (drop log_start file)

@@ -6,7 +6,7 @@ use Rattle.device.specs.Places.{OnDisk, ChangesOnly, IsUntouched}
 use Rattle.device_layout.specs.Layout.{log_start}
 use Rattle.index_model.specs.declared.fault.Fault.{Fault}
 use Rattle.index_model.specs.declared.fault.Fault.TheVariants.{Io, Stopped}
-use Rattle.index_model.specs.declared.limits.Limits.{Limits}
+use Rattle.index_model.specs.declared.format.Format.{Format}
 use Rattle.page_codec.specs.declared.page.Page.{Page}
 use Rattle.redo_log.specs.Images.{SameImages, images_of}
 use Rattle.redo_log.specs.Groups.{AreGroups, spelled, SpellsGroups, log_range}
@@ -14,7 +14,7 @@ use Rattle.redo_log.specs.Blocks.{AreLaid}
 use Rattle.redo_log.specs.declared.log.Log.{Log}
 
 -- the sizes that it was made with
-abbrev pub limits_of : Log → Limits
+abbrev pub limits_of : Log → Format
 limits_of log = log.limits
 
 -- a write or sync of it failed before
@@ -61,7 +61,7 @@ IoOrStopped result was_stopped old new = MatchResult result (λ _. new ≡ old)
     (λ e. ((e ≡ Io) × (new ≡ suc old)) ⊎ ((e ≡ Stopped) × (was_stopped ≡ true) × (new ≡ old)))
 
 -- its groups stand on the disk, and behind them a gate that isn't 1
-pub record IsSettled (limits : Limits) (start at : ℕ) (groups : List (List Page)) (m : Moment)
+pub record IsSettled (limits : Format) (start at : ℕ) (groups : List (List Page)) (m : Moment)
     : Type 0 where
   pub good : AreGroups limits groups
   pub end : at ≡ length (spelled groups)
@@ -87,13 +87,13 @@ pub record Keeps (log : Log) (m : Moment) (acts : List (List Page)) (forced : �
 
 -- what replay gives of these bytes, applied in order, is for each block the last image that these
 -- actions have of it, and nothing for a block that they don't name
-pub record Holds (limits : Limits) (image : List ℕ) (acts : List (List Page)) : Type 0 where
+pub record Holds (limits : Format) (image : List ℕ) (acts : List (List Page)) : Type 0 where
   pub groups : List (List Page)
   pub spells : SpellsGroups limits (log_range limits image) groups
   pub same : SameImages (images_of groups) (images_of acts)
 
 -- the bytes hold some first part of the actions with every forced one
-pub record HoldsFirst (limits : Limits) (acts : List (List Page)) (forced : ℕ) (image : List ℕ)
+pub record HoldsFirst (limits : Format) (acts : List (List Page)) (forced : ℕ) (image : List ℕ)
     : Type 0 where
   pub part : ℕ
   pub from : forced ≤ part
@@ -101,12 +101,12 @@ pub record HoldsFirst (limits : Limits) (acts : List (List Page)) (forced : ℕ)
   pub holds : Holds limits image (take part acts)
 
 -- a crash at this moment leaves some first part of the actions with every forced one
-abbrev pub Restarts : Limits → List (List Page) → ℕ → Moment → Type 0
+abbrev pub Restarts : Format → List (List Page) → ℕ → Moment → Type 0
 Restarts limits acts forced m =
     (image : List ℕ) → MayLeave m image → HoldsFirst limits acts forced image
 
 -- a crash at this moment leaves these actions, or nothing
-abbrev pub RestartsOrEmpty : Limits → List (List Page) → Moment → Type 0
+abbrev pub RestartsOrEmpty : Format → List (List Page) → Moment → Type 0
 RestartsOrEmpty limits acts m =
     (image : List ℕ) → MayLeave m image → Holds limits image acts ⊎ Holds limits image []
 
@@ -138,11 +138,11 @@ RestartsOrEmptyThroughout log old new = (acts : List (List Page)) (forced : ℕ)
     → Goes (RestartsOrEmpty (limits_of log) (take forced acts)) old new
 
 -- at each moment in between nothing but the log's range has changed
-abbrev pub ChangesItsRange : Limits → Trace → Trace → Type 0
+abbrev pub ChangesItsRange : Format → Trace → Trace → Type 0
 ChangesItsRange limits old new = Goes (ChangesOnly log_start limits.log_bytes old.now) old new
 
 -- nothing in the log's range has changed, and no crash changes more of it
-abbrev pub RangeIsUntouched : Limits → Moment → Moment → Type 0
+abbrev pub RangeIsUntouched : Format → Moment → Moment → Type 0
 RangeIsUntouched limits old new = IsUntouched log_start limits.log_bytes old new
 
 -- whatever actions the log keeps at one moment, it keeps at each at which its range is untouched

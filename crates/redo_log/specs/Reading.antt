@@ -5,7 +5,7 @@ use Rattle.device.specs.Disk.{Moment}
 use Rattle.device_layout.specs.Layout.{log_start}
 use Rattle.index_model.specs.declared.fault.Fault.{Fault}
 use Rattle.index_model.specs.declared.fault.Fault.TheVariants.{Io, NoMemory, LogDamaged}
-use Rattle.index_model.specs.declared.limits.Limits.{Limits}
+use Rattle.index_model.specs.declared.format.Format.{Format}
 use Rattle.page_codec.specs.declared.page.Page.{Page}
 use Rattle.page_codec.specs.Spelling.{page_bytes}
 use Rattle.redo_log.specs.Images.{images_bytes, images_of, last_image}
@@ -20,7 +20,7 @@ bytes_at log at = if at == 0 then None else Some (slice_range log at (at + 4096)
 
 -- of each block the bytes of the last of these images are noted, and none where there is no image
 -- of it
-pub record AreNoted (limits : Limits) (log : List ℕ) (images : List Page) (lasts : List ℕ)
+pub record AreNoted (limits : Format) (log : List ℕ) (images : List Page) (lasts : List ℕ)
     : Type 0 where
   pub many : length lasts ≡ limits.pages
   pub inside : (block : ℕ) → get_or lasts block 0 + 4096 ≤ length log
@@ -28,7 +28,7 @@ pub record AreNoted (limits : Limits) (log : List ℕ) (images : List Page) (las
       → bytes_at log (get_or lasts block 0) ≡ option_map page_bytes (last_image images block)
 
 -- so many images stand there, and were noted behind any others
-pub record NotesImages (limits : Limits) (log : List ℕ) (at count : ℕ) (old new : List ℕ)
+pub record NotesImages (limits : Format) (log : List ℕ) (at count : ℕ) (old new : List ℕ)
     : Type 0 where
   pub images : List Page
   pub good : AreImages limits images
@@ -37,7 +37,7 @@ pub record NotesImages (limits : Limits) (log : List ℕ) (at count : ℕ) (old 
       → AreNoted limits log (before ++ images) new
 
 -- a group of so many images stands there, with something behind it, and they were noted so
-pub record NotesGroup (limits : Limits) (log : List ℕ) (at count : ℕ) (old new : List ℕ)
+pub record NotesGroup (limits : Format) (log : List ℕ) (at count : ℕ) (old new : List ℕ)
     : Type 0 where
   pub group : List Page
   pub good : IsGroup limits group
@@ -48,7 +48,7 @@ pub record NotesGroup (limits : Limits) (log : List ℕ) (at count : ℕ) (old n
       → AreNoted limits log (before ++ group) new
 
 -- these are all images that the bytes stand for, and the open groups end there
-pub record AreAllImages (limits : Limits) (bytes : List ℕ) (images : List Page) (end : ℕ)
+pub record AreAllImages (limits : Format) (bytes : List ℕ) (images : List Page) (end : ℕ)
     : Type 0 where
   pub groups : List (List Page)
   pub spells : SpellsGroups limits bytes groups
@@ -59,18 +59,18 @@ pub record AreAllImages (limits : Limits) (bytes : List ℕ) (images : List Page
   pub only : (others : List (List Page)) → SpellsGroups limits bytes others → others ≡ groups
 
 -- all images that the bytes stand for were noted, and the open groups end there
-pub record AreAllNoted (limits : Limits) (bytes lasts : List ℕ) (end : ℕ) : Type 0 where
+pub record AreAllNoted (limits : Format) (bytes lasts : List ℕ) (end : ℕ) : Type 0 where
   pub images : List Page
   pub all : AreAllImages limits bytes images end
   pub noted : AreNoted limits bytes images lasts
 
 -- no crash changes the log's range
-pub record IsFirm (limits : Limits) (m : Moment) : Type 0 where
+pub record IsFirm (limits : Format) (m : Moment) : Type 0 where
   pub firm : (i : ℕ) → i < limits.log_bytes → m.loose (log_start + i) ≡ false
 
 -- reading found these images, which the log's range of the device stands for and no others; and if
 -- no crash changes that range, the log keeps each of its groups as a forced action
-pub record Replays (limits : Limits) (m : Moment) (log : Log) (images : List Page) : Type 0 where
+pub record Replays (limits : Format) (m : Moment) (log : Log) (images : List Page) : Type 0 where
   pub groups : List (List Page)
   pub spells : SpellsGroups limits (log_range limits m.seen) groups
   pub images_are : images ≡ images_of groups
@@ -90,7 +90,7 @@ pub record KeepsLast (found : Replayed) (images : List Page) : Type 0 where
 
 -- what a replay kept are the last ones of these images, whatever the device answered; and an honest
 -- device has them
-pub record IsReplay (limits : Limits) (honest : Bool) (m : Moment) (found : Replayed)
+pub record IsReplay (limits : Format) (honest : Bool) (m : Moment) (found : Replayed)
     : Type 0 where
   pub images : List Page
   pub good : AreImages limits images
@@ -98,7 +98,7 @@ pub record IsReplay (limits : Limits) (honest : Bool) (m : Moment) (found : Repl
   pub replays : IsTrue honest → Replays limits m found.log images
 
 -- a log as it is opened: nothing waits, and no action was appended
-pub record IsOpened (limits : Limits) (log : Log) : Type 0 where
+pub record IsOpened (limits : Format) (log : Log) : Type 0 where
   pub limits_are : limits_of log ≡ limits
   pub actions : actions_of log ≡ 0
   pub waiting : waiting_count log ≡ 0
@@ -111,6 +111,6 @@ ReplayFails result old new = MatchResult result (λ _. new ≡ old)
     (λ e. ((e ≡ Io) × (new ≡ suc old)) ⊎ (((e ≡ NoMemory) ⊎ (e ≡ LogDamaged)) × (new ≡ old)))
 
 -- no groups are spelled in the log's range: an open group there is none
-abbrev pub IsDamaged : Limits → Moment → Type 0
+abbrev pub IsDamaged : Format → Moment → Type 0
 IsDamaged limits m =
     (groups : List (List Page)) → SpellsGroups limits (log_range limits m.seen) groups → ⊥

@@ -2,7 +2,7 @@
 
 ghost use Rattle.std.specs.Prelude.{◌≡◌, ◌+◌, ◌*◌, ◌≤◌, ◌<◌, ◌^◌, List, [], ◌∷◌, ◌++◌, length, take, drop, vec_capacity};
 ghost use Rattle.std.specs.Int.{w32, to_le_bytes};
-ghost use Rattle.index_model.specs.declared.limits.Limits.{Limits};
+ghost use Rattle.index_model.specs.declared.format.Format.{Format};
 ghost use Rattle.page_codec.specs.declared.page.Page.{Page};
 ghost use Rattle.page_codec.specs.Spelling.{page_bytes};
 ghost use Rattle.redo_log.specs.Groups.{IsImage, AreImages};
@@ -19,7 +19,7 @@ pub(crate) fn lay_images(waiting: &mut Waiting, buffer: &mut [u8], images: &[Pag
         ≤ vec_capacity waiting.old.blocks }
     requires buffer { 4 + 4096 * length (with_blocks waiting.old.blocks.items images.now)
         ≤ length buffer.old }
-    ensures laid { (limits : Limits) (laid : List Page) → AreImages limits images.now
+    ensures laid { (limits : Format) (laid : List Page) → AreImages limits images.now
         → AreLaid limits waiting.old.blocks.items buffer.old laid
         → AreLaid limits waiting.new.blocks.items buffer.new (with_images laid images.now) }
     ensures blocks { waiting.new.blocks.items
@@ -41,7 +41,7 @@ fn lay_image(waiting: &mut Waiting, buffer: &mut [u8], image: &Page)
         ≤ vec_capacity waiting.old.blocks }
     requires buffer { 4 + 4096 * length (with_block waiting.old.blocks.items image.now.block)
         ≤ length buffer.old }
-    ensures laid { (limits : Limits) (laid : List Page) → IsImage limits image.now
+    ensures laid { (limits : Format) (laid : List Page) → IsImage limits image.now
         → AreLaid limits waiting.old.blocks.items buffer.old laid
         → AreLaid limits waiting.new.blocks.items buffer.new (with_image laid image.now) }
     ensures blocks { waiting.new.blocks.items

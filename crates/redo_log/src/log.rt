@@ -13,7 +13,7 @@ use crate::reading::note_groups;
 use crate::waiting::Waiting;
 use device::Device;
 use device_layout::LOG_START;
-use index_model::{Fault, Limits};
+use index_model::{Fault, Format};
 use page_codec::Page;
 use std::alloc::Global;
 
@@ -21,7 +21,7 @@ use std::alloc::Global;
 /// was opened.
 #[derive(Drop)]
 pub struct Log {
-    limits: Limits,
+    limits: Format,
     /// Where the next group goes.
     at: usize,
     actions: u64,
@@ -46,7 +46,7 @@ impl Log {
     ghost use Rattle.redo_log.specs.Reading.{IsReplay, IsOpened, IsDamaged, ReplayFails};
 
     /// The sizes that it was opened with.
-    pub fn limits(&self) -> Limits
+    pub fn limits(&self) -> Format
         ensures { result ≡ limits_of self.now }
     {
         self.limits
@@ -230,7 +230,7 @@ impl Log {
     pub fn replay<D: Device>(
         alloc: Global,
         device: &mut D,
-        limits: Limits,
+        limits: Format,
     ) -> Result<Replayed, Fault>
         requires limits { AreLimits limits }
         requires range { log_end limits ≤ length (D.trace device.old).now.seen }

@@ -10,7 +10,7 @@ ghost use Rattle.redo_log.specs.Groups.{IsImage, AreImages, IsGroup, body, Spell
 ghost use Rattle.redo_log.specs.Reading.{NotesImages, NotesGroup, AreAllNoted};
 
 use crate::image::is_within;
-use index_model::Limits;
+use index_model::Format;
 use page_codec::{Page, decode};
 
 /// The page of these bytes, if they are those of a page.
@@ -23,7 +23,7 @@ fn page_of(bytes: &[u8]) -> Option<Page>
 }
 
 /// The block of the image of these bytes, if an index of these limits may have it.
-fn block_of(limits: &Limits, bytes: &[u8]) -> Option<u32>
+fn block_of(limits: &Format, bytes: &[u8]) -> Option<u32>
     requires { length bytes.now ≡ 4096 }
     ensures found { IfSome result (λ b.
         (p : Page) × IsImage limits.now p × (bytes.now ≡ page_bytes p) × (p.block ≡ b)) }
@@ -57,7 +57,7 @@ fn tail(log: &[u8], at: usize) -> &[u8]
 
 /// Whether so many images stand there. Each is judged once, and its place is noted as that of the
 /// last one of its block.
-fn note_images(limits: &Limits, lasts: &mut [u32], log: &[u8], at: usize, count: usize) -> bool
+fn note_images(limits: &Format, lasts: &mut [u32], log: &[u8], at: usize, count: usize) -> bool
     requires small { length log.now ≤ 16777216 }
     requires many { length lasts.old ≡ limits.now.pages }
     requires behind { 0 < at }
@@ -80,7 +80,7 @@ fn note_images(limits: &Limits, lasts: &mut [u32], log: &[u8], at: usize, count:
 
 /// Notes the images of the group that stands there, behind its gate, and answers how many they are.
 /// None: the bytes are no group, or nothing stands behind it.
-fn note_group(limits: &Limits, lasts: &mut [u32], log: &[u8], at: usize) -> Option<usize>
+fn note_group(limits: &Format, lasts: &mut [u32], log: &[u8], at: usize) -> Option<usize>
     requires small { length log.now ≤ 16777216 }
     requires many { length lasts.old ≡ limits.now.pages }
     requires inside { at ≤ length log.now }
@@ -103,7 +103,7 @@ fn note_group(limits: &Limits, lasts: &mut [u32], log: &[u8], at: usize) -> Opti
 
 /// Notes the images of the groups up to the first gate that isn't open, and answers where that gate
 /// stands. None: an open group is none.
-pub(crate) fn note_groups(limits: &Limits, lasts: &mut [u32], log: &[u8]) -> Option<usize>
+pub(crate) fn note_groups(limits: &Format, lasts: &mut [u32], log: &[u8]) -> Option<usize>
     requires small { length log.now ≤ 16777216 }
     requires some { 4096 ≤ length log.now }
     requires fresh { lasts.old ≡ replicate limits.now.pages 0 }

@@ -3,6 +3,7 @@ use Rattle.std.proofs.Common.{◌≡◌, ℕ, ◌≤◌, Bool, true, false, Opti
 use Rattle.index_model.specs.Faults.{HasCause}
 use Rattle.index_model.specs.declared.fault.Fault.{Fault}
 use Rattle.index_model.specs.declared.fault.Fault.TheVariants.{Stopped}
+use Rattle.index_model.specs.Formats.{sizes_of}
 use Rattle.index_model.specs.declared.limits.Limits.{Limits}
 use Rattle.page_codec.specs.declared.page.Page.{Page}
 use Rattle.page_action.specs.States.{State, Continues}
@@ -41,7 +42,7 @@ refuses g op old new fault steps same none stops cause = record {
 
 -- where a page leads a scan on its way
 pub scan_led : (st : State) (op : ScanOp) (way : Way) (page : Page) (most : Limits) (result : Option Onward) → op.at ≡ At way → IsInOrder st → (fits : ScanFits st op)
-    → slice_get st.pages way.block ≡ Some page → most ≡ st.limits → length st.pages ≤ st.limits.pages
+    → slice_get st.pages way.block ≡ Some page → most ≡ sizes_of st.limits → length st.pages ≤ st.limits.pages
     → ((s : State) (start : ℕ) (clear : Bool) → HasTree s → slice_get s.pages way.block ≡ Some page → IsOnWay s start (frontier_aim op.frontier) clear 0 way → (clear ≡ true → page.split ≡ false)
     → length s.pages ≤ most.pages → LeadsOnward s start (frontier_aim op.frontier) clear 0 way result)
     → LeadsOnward st fits.start (frontier_aim op.frontier) false 0 way result

@@ -3,7 +3,7 @@ use Rattle.std.specs.Prelude.{unwrap_or}
 use Rattle.std.proofs.Common.{◌≡◌, ◌≢◌, ◌==◌, ℕ, zero, suc, ◌+◌, ◌<◌, ◌≤◌, if◌then◌else◌, Bool, true, false, Option, Some, None, List, [], ◌∷◌, ◌++◌, length, refl, sym, ap, subst, arith, inl, inr, ◌∙◌}
 use Rattle.std.proofs.lemmas.Bool.{cases_eq, eq-eqb, eqb-true}
 use Rattle.index_model.specs.declared.entry.Entry.{Entry}
-use Rattle.index_model.specs.declared.limits.Limits.{Limits}
+use Rattle.index_model.specs.declared.format.Format.{Format}
 use Rattle.page_action.specs.States.{State}
 use Rattle.page_action.specs.declared.page_store.PageStore.{Ghosts}
 use Rattle.page_codec.specs.declared.page.Page.{Page}
@@ -87,7 +87,7 @@ module _ {S : Type 0} (g : Ghosts S) (start : Entry → Bool) (session : ℕ) (o
   there : (kind : Kind) (answer : Answer) → EventDoes g start kind answer old new → (slot : Option Op) → work_in (g.state new.store) slot ≡ work_in (g.state old.store) slot
   there kind answer does slot =
       ap (λ (pages : List Page). work_left (g.state new.store).limits.pages pages slot) (does.also.quiet.pages quiet)
-      ∙ ap (λ (most : ℕ). work_left most (g.state old.store).pages slot) (ap (λ (l : Limits). l.pages) does.also.quiet.limits)
+      ∙ ap (λ (most : ℕ). work_left most (g.state old.store).pages slot) (ap (λ (l : Format). l.pages) does.also.quiet.limits)
 
   same_acts : (kind : Kind) (answer : Answer) → EventDoes g start kind answer old new → (g.state new.store).acts ≡ (g.state old.store).acts
   same_acts kind answer does = (fits_behind does).explains.count ∙ ap length quiet ∙ sym fits.explains.count

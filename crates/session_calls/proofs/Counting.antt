@@ -3,7 +3,7 @@ use Rattle.std.proofs.Common.{◌≡◌, ℕ, suc, ◌<◌, Bool, true, false, O
 use Rattle.index_model.specs.Actions.{Effect, Add, Remove, Shape}
 use Rattle.index_model.specs.declared.bound.Bound.{Bound}
 use Rattle.index_model.specs.declared.entry.Entry.{Entry}
-use Rattle.index_model.specs.declared.limits.Limits.{Limits}
+use Rattle.index_model.specs.declared.format.Format.{Format}
 use Rattle.page_codec.specs.Edits.{entries_of}
 use Rattle.page_codec.specs.declared.page.Page.{Page}
 use Rattle.tree_shape.specs.Walks.{entry_aim, frontier_aim}
@@ -46,7 +46,7 @@ cover_still old new level aim block same c =
 
 room_still : (old new : State) (e : Entry) → new.limits ≡ old.limits → new.pages ≡ old.pages → HasRoomFor old e → HasRoomFor new e
 room_still old new e limits same room page found cover =
-    subst (λ (l : Limits). length (entries_of page.items) < l.items) (sym limits)
+    subst (λ (l : Format). length (entries_of page.items) < l.items) (sym limits)
     (room page (sym (ap (λ (ps : List Page). slice_get ps page.block) same) ∙ found) (cover_still new old 0 (entry_aim e) page.block (sym same) cover))
 
 insert_way_still : (old new : State) (e : Entry) (at : InsertAt) → new.pages ≡ old.pages → IsOnEntryWay old e at → IsOnEntryWay new e at

@@ -1,5 +1,6 @@
 -- What is known of a world as it was handed in, and holds of it on.
 use Rattle.std.specs.Prelude.{◌≡◌, ℕ, true, false, List, [], Option, length}
+use Rattle.index_model.specs.declared.layout.Layout.TheVariants.{One}
 use Rattle.page_action.specs.States.{State, Backing, IsLater}
 use Rattle.page_action.specs.declared.page_store.PageStore.{Ghosts}
 use Rattle.session_calls.specs.TheoremCalls.{DeadSets}
@@ -17,7 +18,7 @@ pub record Handed : Type 0 where
 abbrev pub nothing_handed : Handed
 nothing_handed = record {
   state = record {
-    limits = record { items = 0; pages = 0; log_bytes = 0 };
+    limits = record { layout = One; items = 0; pages = 0; log_bytes = 0 };
     frames = 0;
     pages = [];
     counted = [];

@@ -9,6 +9,7 @@ use Rattle.page_codec.specs.declared.page.Page.{Page}
 use Rattle.page_codec.specs.declared.page.PageState.TheVariants.{Live}
 use Rattle.page_action.specs.Reuse.{IsFresh}
 use Rattle.page_action.specs.States.{State, Backing, after_act}
+use Rattle.page_action.proofs.Writable.{writable}
 use Rattle.tree_shape.specs.Tree.{IsMetaOf}
 use Rattle.tree_acts.specs.Acts.{IsUnfinished, MayAct, RootIsSplit}
 use Rattle.tree_acts.specs.Flags.{FlagsMove}
@@ -26,7 +27,7 @@ use Rattle.split_finish.specs.Finishes.{FinishStepped}
 use Rattle.split_finish.specs.Acting.{AreGrown, IsRead}
 use Rattle.split_finish.specs.declared.finish.FinishOp.{FinishOp}
 use Rattle.split_finish.specs.declared.finish.FinishStep.{FinishStep}
-use Rattle.split_finish.proofs.Standing.{flagged_has, flagged_block, right_block, high_whole, fresh_not_live}
+use Rattle.split_finish.proofs.Standing.{flagged_has, flagged_block, right_block, high_bound, fresh_not_live}
 use Rattle.split_finish.proofs.Doing.{clears}
 use Rattle.tree_shape.specs.Nodes.{Node}
 
@@ -57,24 +58,21 @@ module _ (st : State) (op : FinishOp) (honest : Bool) (meta page : Page) (new fr
       let page_in = inside st.pages page.block page found in
       let page_at = grown.clear.block_is in
       let root_at = grown.root_block in (
-        record {
-          admitted = grown.root_admitted block blocked (high_whole page op.target.separator read.stored.storable.admitted ready.high_is) (right_block page new read.stored.storable.admitted right);
-          few = subst (λ (n : ℕ). n ≤ st.limits.items) (sym grown.root_items) items;
-        },
+        writable st.limits grown.root grown.root_layout
+            (grown.root_admitted block blocked (high_bound page op.target.separator read.stored.storable.admitted ready.high_is) (right_block page new read.stored.storable.admitted right))
+            (subst (λ (n : ℕ). n ≤ st.limits.items) (sym grown.root_items) items),
         (subst (λ (b : ℕ). b ≤ length st.pages) (sym root_at) free_block.within, subst (λ (b : ℕ). b < st.limits.pages) (sym root_at) free_block.inside),
         ((λ same. (let above = block.0 in omega arith)), ((λ same. apart_page (sym page_at ∙ same ∙ root_at)), tt)),
         (
-          record {
-            admitted = grown.meta_admitted read_meta.stored.storable.admitted ready.meta_is block;
-            few = count_same st.limits.items grown.meta_after.items meta.items grown.meta_items read_meta.stored.storable.few;
-          },
+          writable st.limits grown.meta_after grown.meta_layout
+              (grown.meta_admitted read_meta.stored.storable.admitted ready.meta_is block)
+              (count_same st.limits.items grown.meta_after.items meta.items grown.meta_items read_meta.stored.storable.few),
           (omega arith, omega arith),
           ((λ same. (let above = blocked.0 in omega arith)), tt),
           (
-            record {
-              admitted = grown.page_admitted read.stored.storable.admitted;
-              few = count_same st.limits.items grown.page_after.items page.items grown.page_items read.stored.storable.few;
-            },
+            writable st.limits grown.page_after (ap (λ (p : Page). p.layout) grown.clear.only)
+                (grown.page_admitted read.stored.storable.admitted)
+                (count_same st.limits.items grown.page_after.items page.items grown.page_items read.stored.storable.few),
             (omega arith, omega arith),
             tt,
             tt,

@@ -2,7 +2,8 @@
 use Rattle.std.proofs.Common.{◌≡◌, ◌+◌, ◌++◌, ℕ, suc, List, [], ◌∷◌, length, take, slice_set, refl, sym, ap, subst, arith}
 use Rattle.std.specs.Prelude.{slice_index_or}
 use Rattle.index_model.specs.declared.bound.Bound.{Bound}
-use Rattle.page_codec.specs.Grammar.{IsBlock, IsPage, IsWhole}
+use Rattle.page_codec.specs.Grammar.{IsBlock, IsPage, IsBoundIn}
+use Rattle.index_model.specs.declared.layout.Layout.TheVariants.{Two}
 use Rattle.page_codec.specs.Spelling.{count_of}
 use Rattle.page_codec.specs.declared.page.Items.{Items}
 use Rattle.page_codec.specs.declared.page.Items.TheVariants.{Meta, Entries, Downlinks}
@@ -46,10 +47,11 @@ pub record AreLinked (parent page : Page) (separator : Bound) (new : ℕ) (pages
   pub added : IsLinkAdded page.block new separator (links_of parent.items)
       (links_of parent_after.items)
   pub after_is : node_of parent_after ≡ with_links (node_of parent) (links_of parent_after.items)
+  pub layout_is : parent_after.layout ≡ Two
   pub block_is : parent_after.block ≡ parent.block
   pub clear : IsClear page page_after
   pub count : count_of parent_after.items ≡ suc (length (links_of parent.items))
-  pub admitted : IsPage parent → IsBlock new → IsWhole separator → IsPage parent_after
+  pub admitted : IsPage parent → IsBlock new → IsBoundIn Two separator → IsPage parent_after
   pub page_items : page_after.items ≡ page.items
   pub page_admitted : IsPage page → IsPage page_after
 
@@ -57,10 +59,11 @@ pub record AreLinked (parent page : Page) (separator : Bound) (new : ℕ) (pages
 pub record IsLinked (parent parent_after : Page) (separator : Bound) (at new : ℕ) : Type 0 where
   pub added : IsLinkAdded (child_at (links_of parent.items) at) new separator (links_of parent.items) (links_of parent_after.items)
   pub node_is : node_of parent_after ≡ with_links (node_of parent) (links_of parent_after.items)
+  pub layout_is : parent_after.layout ≡ Two
   pub block_is : parent_after.block ≡ parent.block
   pub count : length (links_of parent_after.items) ≡ length (links_of parent.items) + 1
   pub internal : HasLinks parent_after.items
-  pub admitted : IsPage parent → IsBlock new → IsWhole separator → FitsBehind (links_of parent.items) at separator parent.high → IsPage parent_after
+  pub admitted : IsPage parent → IsBlock new → IsBoundIn Two separator → FitsBehind (links_of parent.items) at separator parent.high → IsPage parent_after
 
 -- both pages of the act
 both_linked : (parent page parent_after page_after : Page) (separator : Bound) (at new : ℕ) → IsLinkPlace parent page.block separator at → IsLinked parent parent_after separator at new → IsClear page page_after
@@ -71,6 +74,7 @@ both_linked parent page parent_after page_after separator at new place linked cl
   pages_are = refl;
   added = subst (λ (b : ℕ). IsLinkAdded b new separator (links_of parent.items) (links_of parent_after.items)) place.leads linked.added;
   after_is = linked.node_is;
+  layout_is = linked.layout_is;
   block_is = linked.block_is;
   clear = clear;
   count = (let c = links_count parent_after.items linked.internal in omega (arith, c, linked.count));

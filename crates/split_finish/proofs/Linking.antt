@@ -10,6 +10,7 @@ use Rattle.page_codec.specs.declared.page.Page.{Page}
 use Rattle.page_codec.specs.declared.page.PageState.{PageState}
 use Rattle.page_codec.specs.declared.page.PageState.TheVariants.{Live, HalfDead, Deleted}
 use Rattle.page_action.specs.States.{State, Backing, after_act}
+use Rattle.page_action.proofs.Writable.{writable}
 use Rattle.tree_shape.specs.Nodes.{Node, node_of, links_of}
 use Rattle.tree_shape.specs.Walks.{bound_aim, is_within}
 use Rattle.tree_acts.specs.Acts.{IsUnfinished, MayAct, SplitIsFinished}
@@ -31,7 +32,7 @@ use Rattle.split_finish.specs.Acting.{IsRead}
 use Rattle.split_finish.specs.declared.finish.FinishAt.TheVariants.{Link}
 use Rattle.split_finish.specs.declared.finish.FinishOp.{FinishOp}
 use Rattle.split_finish.specs.declared.finish.FinishStep.{FinishStep}
-use Rattle.split_finish.proofs.Standing.{right_block, high_whole}
+use Rattle.split_finish.proofs.Standing.{right_block, high_bound}
 use Rattle.split_finish.proofs.Doing.{clears}
 use Rattle.split_finish.proofs.InPlace.{AreLinked}
 
@@ -110,17 +111,15 @@ module _ (st : State) (op : FinishOp) (honest : Bool) (way : Way) (page parent :
       let page_at = linked.clear.block_is in
       let parent_at = linked.block_is in
       let count = linked.count in (
-        record {
-          admitted = linked.admitted read_parent.stored.storable.admitted (right_block page new read.stored.storable.admitted right) (high_whole page op.target.separator read.stored.storable.admitted ready.high_is);
-          few = omega arith;
-        },
+        writable st.limits linked.parent_after linked.layout_is
+            (linked.admitted read_parent.stored.storable.admitted (right_block page new read.stored.storable.admitted right) (high_bound page op.target.separator read.stored.storable.admitted ready.high_is))
+            (omega arith),
         (omega arith, omega arith),
         ((λ same. two_pages st op honest way page parent new order fits sound at read read_parent ready right (sym page_at ∙ same ∙ parent_at)), tt),
         (
-          record {
-            admitted = linked.page_admitted read.stored.storable.admitted;
-            few = subst (λ (i : Items). count_of i ≤ st.limits.items) (sym linked.page_items) read.stored.storable.few;
-          },
+          writable st.limits linked.page_after (ap (λ (p : Page). p.layout) linked.clear.only)
+              (linked.page_admitted read.stored.storable.admitted)
+              (subst (λ (i : Items). count_of i ≤ st.limits.items) (sym linked.page_items) read.stored.storable.few),
           (omega arith, omega arith),
           tt,
           tt,

@@ -12,8 +12,10 @@ use Rattle.page_codec.specs.declared.page.PageState.{PageState}
 use Rattle.page_codec.specs.declared.page.PageState.TheVariants.{Live, HalfDead, Deleted}
 use Rattle.page_action.specs.Reuse.{IsFresh}
 use Rattle.page_action.specs.States.{State, Continues, after_act}
-use Rattle.page_action.specs.Stored.{IsStorable, IsApartFrom, AreActable}
+use Rattle.page_action.specs.Stored.{IsWritable, IsApartFrom, AreActable}
 use Rattle.page_action.specs.declared.page_store.PageStore.{Ghosts}
+use Rattle.index_model.specs.declared.layout.Layout.TheVariants.{Two}
+use Rattle.page_action.proofs.Writable.{writable}
 use Rattle.tree_shape.specs.LinkPlaces.{LinkSplit, HasLinks}
 use Rattle.tree_shape.specs.Nodes.{Node, node_of, links_of}
 use Rattle.tree_shape.specs.Walks.{bound_aim, is_within}
@@ -80,7 +82,7 @@ pub mends_right : (st : State) (session new : ℕ) (link : Option ℕ) (right : 
 mends_right st session new None None stored found = rightmost
 mends_right st session new None (Some page) stored found = absurd stored
 mends_right st session new (Some r) None stored found = absurd stored
-mends_right st session new (Some r) (Some page) stored found = neighbour page (record page { left = Some new }) found stored.0.block_is refl
+mends_right st session new (Some r) (Some page) stored found = neighbour page (record page { layout = Two; left = Some new }) found stored.0.block_is refl
 
 free_beside : (st : State) (session new : ℕ) (link : Option ℕ) (right : Option Page) (rest : List Page) → RightIsStored st session link right → AreFree st session rest → AreFree st session (mended_to new right ++ rest)
 free_beside st session new None None rest stored free = free
@@ -113,6 +115,8 @@ pub record PartsParent (st : State) (honest : Bool) (session : ℕ) (op : Finish
   pub ready : IsReadyToLink page parent op op
   pub right_is : page.right ≡ Some new
   pub split : LinkSplit (node_of parent) parent.block half.block page.block new op.target.separator (node_of left) (node_of half)
+  pub left_layout : left.layout ≡ Two
+  pub half_layout : half.layout ≡ Two
   pub left_block : left.block ≡ parent.block
   pub fresh : IsFresh st half.block
   pub free : is_held_by_another st.table session half.block Exclusive ≡ false
@@ -259,7 +263,7 @@ apart_append b (x ∷ xs) page h ne = (h.0, apart_append b xs page h.1 ne)
 
 -- the page to the right, and the page whose split is finished
 beside_may : (st : State) (session new : ℕ) (link : Option ℕ) (right : Option Page) (clear : Page) → RightIsStored st session link right
-    → AreActable st.limits (length st.pages) (mended_to new right) → IsStorable st.limits clear → clear.block ≤ length st.pages → clear.block < st.limits.pages → link ≢ Some clear.block
+    → AreActable st.limits (length st.pages) (mended_to new right) → IsWritable st.limits clear → clear.block ≤ length st.pages → clear.block < st.limits.pages → link ≢ Some clear.block
     → AreActable st.limits (length st.pages) (mended_to new right ++ clear ∷ [])
 beside_may st session new None None clear stored may storable low inside differ = (storable, (low, inside), tt, tt)
 beside_may st session new None (Some page) clear stored may storable low inside differ = absurd stored
@@ -289,7 +293,7 @@ parts_may st session op way page parent left half clear right new order fits at_
     let all : length (links_of parent.items) ≤ st.limits.items = subst (λ (n : ℕ). n ≤ st.limits.items) (links_count parent.items parent_links) h.read_parent.stored.storable.few in
     let not_new : page.block ≢ half.block = fresh_apart st half.block page.block page h.fresh found (λ gone. live_not_deleted (sym alive ∙ gone)) in
     let not_new_parent : parent.block ≢ half.block = fresh_apart st half.block parent.block parent h.fresh found_parent (λ gone. live_not_deleted (sym ready.alive ∙ gone)) in (
-      record { admitted = left_page; few = subst (λ (n : ℕ). n ≤ st.limits.items) (sym (links_count left.items left_links)) (omega (arith, kept, all, some)) },
+      writable st.limits left h.left_layout left_page (subst (λ (n : ℕ). n ≤ st.limits.items) (sym (links_count left.items left_links)) (omega (arith, kept, all, some))),
       (subst (λ (b : ℕ). b ≤ length st.pages) (sym h.left_block) (omega (arith, used_parent)), subst (λ (b : ℕ). b < st.limits.pages) (sym h.left_block) (omega (arith, used_parent, few))),
       (
         (λ same. not_new_parent (sym h.left_block ∙ sym same)),
@@ -297,10 +301,10 @@ parts_may st session op way page parent left half clear right new order fits at_
             (apart_append parent.block (mended_to half.block right) clear beside.apart (λ same. levels (sym clear_is ∙ same))),
       ),
       (
-        record { admitted = half_page; few = subst (λ (n : ℕ). n ≤ st.limits.items) (sym (links_count half.items half_links)) (omega (arith, kept, moved, all, some)) },
+        writable st.limits half h.half_layout half_page (subst (λ (n : ℕ). n ≤ st.limits.items) (sym (links_count half.items half_links)) (omega (arith, kept, moved, all, some))),
         (h.fresh.within, h.fresh.inside),
         apart_append half.block (mended_to half.block right) clear beside.apart_new (λ same. not_new (sym clear_is ∙ same)),
-        beside_may st session half.block parent.right right clear h.right_stored beside.may (record { admitted = clear_page; few = clear_few })
+        beside_may st session half.block parent.right right clear h.right_stored beside.may (writable st.limits clear (ap (λ (p : Page). p.layout) h.clears.only) clear_page clear_few)
             (subst (λ (b : ℕ). b ≤ length st.pages) (sym clear_is) (omega (arith, used))) (subst (λ (b : ℕ). b < st.limits.pages) (sym clear_is) (omega (arith, used, few)))
             (λ same. apart_p (same ∙ ap Some clear_is)),
       ),

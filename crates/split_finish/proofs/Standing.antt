@@ -2,7 +2,9 @@
 use Rattle.std.proofs.Common.{◌≡◌, ◌⊎◌, ℕ, zero, suc, ◌<◌, ◌≤◌, Bool, true, false, Option, Some, None, List, [], ◌∷◌, ◌++◌, length, slice_get, refl, sym, ap, subst, inl, inr, ◌∙◌, arith, length-append}
 use Rattle.index_model.specs.declared.bound.Bound.{Bound}
 use Rattle.page_codec.specs.declared.page.Page.{Page}
-use Rattle.page_codec.specs.Grammar.{IsPage, IsOfKind, IsLeafIn, IsBlock, IsWhole}
+use Rattle.page_codec.specs.Grammar.{IsPage, IsOfKind, IsLeafIn, IsBlock, IsBoundIn}
+use Rattle.index_model.specs.declared.layout.Layout.TheVariants.{Two}
+use Rattle.page_codec.proofs.Again.{slot_widens}
 use Rattle.page_codec.specs.declared.page.Items.{Items}
 use Rattle.page_codec.specs.declared.page.Items.TheVariants.{Meta, Entries, Downlinks}
 use Rattle.page_codec.specs.declared.page.PageState.{PageState}
@@ -251,8 +253,9 @@ if_some P (Some b) a h is = subst P (let k : b ≡ a = cc in k) h
 pub right_block : (page : Page) (new : ℕ) → IsPage page → page.right ≡ Some new → IsBlock new
 right_block page new admitted is = if_some IsBlock page.right new admitted.right is
 
-pub high_whole : (page : Page) (high : Bound) → IsPage page → page.high ≡ Some high → IsWhole high
-high_whole page high admitted is = if_some IsWhole page.high high admitted.high is
+-- the high key of a page of either layout is a bound of the second
+pub high_bound : (page : Page) (high : Bound) → IsPage page → page.high ≡ Some high → IsBoundIn Two high
+high_bound page high admitted is = if_some (IsBoundIn Two) page.high high (slot_widens page.layout page.high admitted.high) is
 
 -- a fresh block isn't that of a live page
 pub fresh_not_live : (st : State) (fresh block : ℕ) (page : Page) → HasTree st → IsFresh st fresh → slice_get st.pages block ≡ Some page → page.state ≡ Live → block ≡ fresh → ⊥

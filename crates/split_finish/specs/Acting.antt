@@ -5,7 +5,8 @@ use Rattle.index_model.specs.declared.fault.Fault.{Fault}
 use Rattle.latch_table.specs.Holdings.{is_held_by_another}
 use Rattle.latch_table.specs.declared.mode.Mode.TheVariants.{Exclusive}
 use Rattle.page_codec.specs.declared.page.Page.{Page}
-use Rattle.page_codec.specs.Grammar.{IsBlock, IsPage, IsWhole}
+use Rattle.index_model.specs.declared.layout.Layout.TheVariants.{Two}
+use Rattle.page_codec.specs.Grammar.{IsBlock, IsPage, IsBoundIn}
 use Rattle.page_action.specs.States.{State, Continues}
 use Rattle.page_action.specs.Stored.{IsStored}
 use Rattle.page_action.specs.declared.page_store.PageStore.{Ghosts}
@@ -51,11 +52,13 @@ pub record AreGrown (meta page : Page) (separator : Bound) (new fresh : ℕ) (pa
   pub page_after : Page
   pub pages_are : pages ≡ root ∷ meta_after ∷ page_after ∷ []
   pub root_is : node_of root ≡ new_root (suc meta.level) page.block separator new
+  pub root_layout : root.layout ≡ Two
   pub root_block : root.block ≡ fresh
   pub root_items : count_of root.items ≡ 2
-  pub root_admitted : IsBlock fresh → IsBlock page.block → IsWhole separator → IsBlock new
+  pub root_admitted : IsBlock fresh → IsBlock page.block → IsBoundIn Two separator → IsBlock new
       → IsPage root
   pub meta_is : meta.items ≡ Meta → IsMetaOf meta_after fresh (suc meta.level)
+  pub meta_layout : meta_after.layout ≡ Two
   pub meta_block : meta_after.block ≡ meta.block
   pub meta_items : meta_after.items ≡ meta.items
   pub meta_admitted : IsPage meta → meta.items ≡ Meta → IsBlock fresh → IsPage meta_after

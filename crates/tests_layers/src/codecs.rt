@@ -2,7 +2,7 @@
 
 use crate::trees::{keyed, leaf, marked, meta, page};
 use arrayvec::ArrayVec;
-use index_model::{Entry, RowAddr};
+use index_model::{Bound, Entry, Layout, RowAddr};
 use page_codec::{
     Downlink, Items, Page, add_entry, cut_entries, decode, decode_into, encode, is_page, is_unused,
 };
@@ -93,7 +93,7 @@ fn assert_damages(rt: &impl Abort, page: &Page, damages: &[(usize, u8)]) {
 fn fresh_pages(rt: HostRuntime) {
     let first = bytes_of(&marked(1, 0));
     let begins = [
-        0x42, 0x4c, 0x50, 0x31, 1, 0, 0, 0, 2, 0, 0, 0, 255, 255, 255, 255, 255, 255, 255, 255,
+        0x42, 0x4c, 0x50, 0x32, 1, 0, 0, 0, 2, 0, 0, 0, 255, 255, 255, 255, 255, 255, 255, 255,
     ];
     assert!(rt; &first[..20] == begins.as_slice());
     assert!(rt; first[20..].iter().all(|b| *b == 0));
@@ -101,7 +101,7 @@ fn fresh_pages(rt: HostRuntime) {
 
     let zeroth = bytes_of(&meta(1, 0));
     let begins = [
-        0x42, 0x4c, 0x50, 0x31, 0, 0, 0, 0, 1, 0, 0, 0, 255, 255, 255, 255, 1, 0, 0, 0,
+        0x42, 0x4c, 0x50, 0x32, 0, 0, 0, 0, 1, 0, 0, 0, 255, 255, 255, 255, 1, 0, 0, 0,
     ];
     assert!(rt; &zeroth[..20] == begins.as_slice());
     assert!(rt; zeroth[20..].iter().all(|b| *b == 0));
@@ -139,7 +139,7 @@ const LEAF_HEAD: [(usize, u8); 28] = [
     (0, 0),
     (1, 0),
     (2, 0),
-    (3, 0x32),
+    (3, 0x33),
     // its own block is 0, is above 65,535
     (4, 0),
     (6, 1),
@@ -289,6 +289,55 @@ fn damaged_pages(rt: HostRuntime) {
     assert_damages(&rt, &full_leaf(), &LEAF_ITEMS);
     assert_damages(&rt, &full_internal(), &INTERNAL);
     assert_damages(&rt, &meta(1, 0), &META);
+}
+
+/// The place before all rows of this key.
+fn before(key: &[u8]) -> Bound {
+    Bound {
+        row: None,
+        ..far(key).bound()
+    }
+}
+
+/// A bound before all rows of a key is an entry with block 0 and offset 0, on a page of layout 2 alone; its key isn't empty.
+#[test]
+fn bounds_before_all_rows(rt: HostRuntime) {
+    let entries = [nth_entry(0), nth_entry(1), nth_entry(2)];
+    let high = Some(before(&[7, 4, 1]));
+    let mut page = leaf(5, Some(4), Some(6), entries.as_slice(), high);
+    let bytes = bytes_of(&page);
+    assert!(rt; &bytes[..4] == b"BLP2".as_slice());
+    assert!(rt; &bytes[36..40] == [3, 7, 4, 1].as_slice());
+    assert!(rt; bytes[40..107].iter().all(|byte| *byte == 0));
+    assert_damages(&rt, &page, &[(3, 0x31), (36, 0), (38, 3), (101, 1)]);
+    page.high = Some(before(&[]));
+    assert!(rt; !is_page(&page));
+    page.high = Some(nth_entry(2).bound());
+    page.layout = Layout::One;
+    assert!(rt; is_page(&page));
+    let bytes = bytes_of(&page);
+    assert!(rt; &bytes[..4] == b"BLP1".as_slice());
+    assert!(rt; decode(&bytes).is_some_and(|read| read.layout == Layout::One));
+    page.high = Some(before(&[9]));
+    assert!(rt; !is_page(&page));
+}
+
+/// ... and so are those of an internal page, but for the first.
+#[test]
+fn downlinks_before_all_rows(rt: HostRuntime) {
+    let mut page = full_internal();
+    if let Items::Downlinks(links) = &mut page.items {
+        if let Some(link) = links.get_mut(3) {
+            link.bound = Some(before(&[7, 6]));
+        }
+    }
+    assert!(rt; is_page(&page));
+    let bytes = bytes_of(&page);
+    assert!(rt; &bytes[332..335] == [2, 7, 6].as_slice());
+    assert!(rt; bytes[335..403].iter().all(|byte| *byte == 0));
+    assert_damages(&rt, &page, &[(3, 0x31), (334, 4), (397, 1)]);
+    page.layout = Layout::One;
+    assert!(rt; !is_page(&page));
 }
 
 /// Puts an entry onto a leaf; false where it can't be.

@@ -7,12 +7,20 @@ use page_codec::{Downlink, Items, Page, is_page};
 use std::test::*;
 use tree_shape::{
     Aim, add_link, child_toward, clear_split, entries_on, find, find_child, fits_behind, has_links,
-    links_on, may_be_mended, may_hold, mend_left, point_to_root, root_over, separator, split_leaf,
+    links_on, may_be_mended, may_hold, mend_left, point_to_root, root_over, split_leaf,
     split_links,
 };
 
 fn at(key: u8) -> Bound {
-    separator(&[entry(key, 1, 1)], &[])
+    entry(key, 1, 1).bound()
+}
+
+// The place before all rows of a key.
+fn before(key: u8) -> Bound {
+    Bound {
+        row: None,
+        ..at(key)
+    }
 }
 
 fn link(key: u8, child: u32) -> Downlink {
@@ -68,7 +76,7 @@ fn leaf_in_two_halves(rt: HostRuntime) {
     };
     assert!(rt; entries_on(&page) == [entry(1, 1, 1), entry(3, 1, 1), entry(4, 1, 1)].as_slice());
     assert!(rt; entries_on(&right) == [entry(5, 1, 1), entry(7, 1, 1)].as_slice());
-    assert!(rt; page.split && page.high == Some(at(4)));
+    assert!(rt; page.split && page.high == Some(before(5)));
     assert!(rt; page.right == Some(9));
     assert!(rt; right.left == Some(1));
     assert!(rt; !right.split && right.high.is_none());
@@ -111,7 +119,7 @@ fn downlink_comes_onto_a_page(rt: HostRuntime) {
 
 // Splits the page for a downlink of this key behind that place; None where it can't be.
 fn inner_halves(page: &mut Page, place: usize, key: u8, child: u32, new: u32) -> Option<Page> {
-    let separator = separator(&[entry(key, 1, 1)], &[]);
+    let separator = at(key);
     let links = links_on(page);
     if links.len() < 2
         || place >= links.len()

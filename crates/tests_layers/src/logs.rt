@@ -3,7 +3,7 @@
 use crate::trees::{limits, marked};
 use device::{CrashImage, Device, MemDevice};
 use device_layout::LOG_START;
-use index_model::Fault;
+use index_model::{Fault, Format};
 use page_codec::{Page, decode};
 use redo_log::{Log, Replayed, are_images};
 use std::alloc::Global;
@@ -17,7 +17,7 @@ const LEN: u64 = 4096 + 65_536 + 4096;
 const IMAGES: [CrashImage; 3] = [CrashImage::Drop, CrashImage::Keep, CrashImage::Tear];
 
 fn replay(alloc: Global, device: &mut MemDevice) -> Result<Replayed, Fault> {
-    let limits = limits(PAGES);
+    let limits = Format::new(&limits(PAGES));
     if !limits.are_valid() || device.len() < LOG_START + u64::from(limits.log_bytes) {
         return Err(Fault::DeviceTooSmall);
     }

@@ -2,7 +2,7 @@
 
 use crate::plain::{add, empty};
 use arrayvec::ArrayVec;
-use index_model::{Bound, Entry, Fault, Key, Limits, Range, RowAddr};
+use index_model::{Bound, Entry, Fault, Key, Layout, Limits, Range, RowAddr};
 use page_action::{MapStore, PageStore, find_misplaced};
 use page_codec::{Downlink, Items, Page, PageState};
 use std::alloc::Global;
@@ -48,6 +48,7 @@ pub fn bound(key: u8) -> Bound {
 /// A live page without a high key.
 pub fn page(block: u32, level: u8, left: Option<u32>, right: Option<u32>, items: Items) -> Page {
     Page {
+        layout: Layout::Two,
         block,
         level,
         state: PageState::Live,
@@ -159,7 +160,7 @@ pub fn tree(alloc: Global, pages: u32, entries: &[Entry]) -> Result<MapStore, Fa
 pub fn change(store: &mut MapStore, pages: &[Page]) -> Result<u64, Fault> {
     if pages.is_empty()
         || pages.len() > 4
-        || find_misplaced(pages, store.used(), store.limits()).is_some()
+        || find_misplaced(pages, store.used(), store.format()).is_some()
     {
         return Err(Fault::NoMemory);
     }

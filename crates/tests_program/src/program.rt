@@ -17,6 +17,7 @@ mod jobs;
 mod lines;
 mod long_chains;
 mod many_jobs;
+mod old_files;
 mod plain;
 mod rows;
 mod scans;
@@ -56,7 +57,7 @@ fn played(
         &mut input,
         &mut out,
         &mut err,
-    );
+    ).status;
     Printed { out, err, status }
 }
 

@@ -51,7 +51,7 @@ pub fn left_of(
 pub fn act(store: &mut Store<MemDevice>, pages: &[Page]) -> Result<u64, Fault> {
     if pages.is_empty()
         || pages.len() > 4
-        || find_misplaced(pages, store.used(), store.limits()).is_some()
+        || find_misplaced(pages, store.used(), store.format()).is_some()
     {
         return Err(Fault::PageDamaged(0));
     }

@@ -3,7 +3,7 @@
 use crate::plain::{create, device};
 use arrayvec::ArrayVec;
 use device::MemDevice;
-use index_model::{Fault, Limits};
+use index_model::{Fault, Layout, Limits};
 use page_action::MapStore;
 use page_codec::{Items, Page, PageState};
 use std::alloc::Global;
@@ -11,6 +11,7 @@ use std::alloc::Global;
 /// A live page without a left link or a high key, on level 0.
 fn page(block: u32, right: Option<u32>, items: Items) -> Page {
     Page {
+        layout: Layout::Two,
         block,
         level: 0,
         state: PageState::Live,

@@ -164,8 +164,8 @@ impl Watched {
     /// An act of some pages: whether it is right.
     fn acts(&mut self, pages: Vec<Page>, tally: &mut StoreTally) -> Result<bool, AllocError> {
         let used = self.store.used();
-        let limits = self.store.limits();
-        if pages.is_empty() || pages.len() > 4 || find_misplaced(&pages, used, limits).is_some() {
+        let format = self.store.format();
+        if pages.is_empty() || pages.len() > 4 || find_misplaced(&pages, used, format).is_some() {
             return Ok(true);
         }
         match act(&mut self.store, &pages) {

@@ -3,7 +3,7 @@
 use crate::plain::{act, checkpoint, device_of, flush, force, left, left_of, open, page, read};
 use crate::small::{LEN, LIMITS, limits, made_with, marked};
 use device::{CrashImage, Device, MemDevice};
-use index_model::{Fault, Limits, Session};
+use index_model::{Fault, Format, Limits, Session};
 use page_action::PageStore;
 use page_codec::{decode, is_unused};
 use page_store::Store;
@@ -47,10 +47,11 @@ fn cycle_at(device: &mut MemDevice, block: u32) -> u32 {
 }
 
 fn replay(alloc: Global, device: &mut MemDevice) -> Result<Replayed, Fault> {
-    if device.len() != LEN || !LIMITS.are_valid() {
+    let format = Format::new(&LIMITS);
+    if device.len() != LEN || !format.are_valid() {
         return Err(Fault::DeviceTooSmall);
     }
-    Log::replay(alloc, device, LIMITS)
+    Log::replay(alloc, device, format)
 }
 
 /// How many blocks have an image in the log.

@@ -73,7 +73,7 @@ pub fn device_of(store: Store<MemDevice>) -> MemDevice {
 pub fn act(store: &mut Store<MemDevice>, pages: &[Page]) -> Result<u64, Fault> {
     if pages.is_empty()
         || pages.len() > 4
-        || find_misplaced(pages, store.used(), store.limits()).is_some()
+        || find_misplaced(pages, store.used(), store.format()).is_some()
     {
         return Err(Fault::PageDamaged(0));
     }

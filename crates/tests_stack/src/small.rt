@@ -3,7 +3,7 @@
 use crate::plain::{create, device};
 use arrayvec::ArrayVec;
 use device::MemDevice;
-use index_model::{Entry, Fault, Key, Limits, Range, RowAddr};
+use index_model::{Entry, Fault, Key, Layout, Limits, Range, RowAddr};
 use page_action::MapStore;
 use page_codec::{Items, Page, PageState};
 use std::alloc::Global;
@@ -48,6 +48,7 @@ pub fn keyed(key: &[u8], block: u32, offset: u16) -> Entry {
 /// A live page without a left link or a high key, on level 0.
 fn page(block: u32, right: Option<u32>, items: Items) -> Page {
     Page {
+        layout: Layout::Two,
         block,
         level: 0,
         state: PageState::Live,

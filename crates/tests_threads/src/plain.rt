@@ -1,6 +1,6 @@
 //! Calls without their contracts: a test looks at the answers alone.
 
-use index_model::{Entry, Fault, Key, Limits, Range, RowAddr};
+use index_model::{Entry, Fault, Key, Layout, Limits, Range, RowAddr};
 use page_action::MapStore;
 use page_codec::{Items, Page, PageState};
 use std::alloc::Global;
@@ -23,6 +23,7 @@ pub fn entry(number: u16) -> Entry {
 // A live page on level 0, without links.
 fn page(block: u32, right: Option<u32>, items: Items) -> Page {
     Page {
+        layout: Layout::Two,
         block,
         level: 0,
         state: PageState::Live,

@@ -325,7 +325,7 @@ module _ (st : State) (start : ℕ) (s : Bound) (meta meta_after p p_after root 
   root_in_use = (
     live_in_use root.state (ap (λ (n : Node). n.state) h.root_is),
     (
-      live_in_use meta_after.state (let kind : IsMeta meta_after = subst (IsOfKind meta_after) h.meta_is.kind h.may.3.0.admitted.kind in kind.state),
+      live_in_use meta_after.state (let kind : IsMeta meta_after = subst (IsOfKind meta_after) h.meta_is.kind h.may.3.0.storable.admitted.kind in kind.state),
       (p_stays st start meta.level s p new has h.unfinished p_after h.clear, tt),
     ),
   )

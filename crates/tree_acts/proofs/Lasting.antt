@@ -2,7 +2,7 @@
 use Rattle.std.proofs.Common.{◌≡◌, ◌≢◌, ◌⊎◌, ℕ, zero, suc, ◌<◌, ◌≤◌, ◌&&◌, inl, inr, Bool, true, false, List, [], ◌∷◌, length, slice_get, slice_index, nat_le, Option, Some, None, refl, sym, ap, subst, ◌∙◌, arith}
 use Rattle.std.proofs.lemmas.Bool.{cases_lt, lt-leb}
 use Rattle.index_model.specs.declared.bound.Bound.{Bound}
-use Rattle.index_model.specs.declared.limits.Limits.{Limits}
+use Rattle.index_model.specs.declared.format.Format.{Format}
 use Rattle.page_codec.specs.Grammar.{IsOfKind, IsMeta}
 use Rattle.page_codec.specs.declared.page.Page.{Page}
 use Rattle.page_codec.specs.declared.page.PageState.{PageState}
@@ -30,12 +30,12 @@ use Rattle.tree_acts.proofs.Lows.{lows_of}
 use Rattle.tree_acts.proofs.Overlays.{page_length}
 use Rattle.tree_acts.proofs.Words.{place_in, trail_in}
 
-pub stored_after : (limits : Limits) (used : ℕ) (pages changed : List Page) → AreActable limits used changed → used ≤ length pages → AreStored limits 0 pages → AreStored limits 0 (with_pages pages changed)
+pub stored_after : (limits : Format) (used : ℕ) (pages changed : List Page) → AreActable limits used changed → used ≤ length pages → AreStored limits 0 pages → AreStored limits 0 (with_pages pages changed)
 stored_after limits used pages [] h le stored = stored
 stored_after limits used pages (page ∷ changed) h le stored =
     let place : page.block ≤ length pages = omega (arith, h.1.0) in
     let longer = page_length pages page place in
-    stored_after limits used (with_page pages page) changed h.3 (omega arith) (stored-with_page limits pages page h.0 place stored)
+    stored_after limits used (with_page pages page) changed h.3 (omega arith) (stored-with_page limits pages page h.0.storable place stored)
 
 -- the metapage of a tree is live
 pub meta_lives : (st : State) (h : HasTree st) → h.tree.meta.state ≡ Live

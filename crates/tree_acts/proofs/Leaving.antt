@@ -4,7 +4,7 @@ use Rattle.std.proofs.lemmas.Bool.{cases_eq, or_cases, and_parts}
 use Rattle.index_model.specs.Actions.{Effect, Add, Remove, Shape}
 use Rattle.index_model.specs.Order.{is_among, same_entry}
 use Rattle.index_model.specs.declared.entry.Entry.{Entry}
-use Rattle.index_model.specs.declared.limits.Limits.{Limits}
+use Rattle.index_model.specs.declared.format.Format.{Format}
 use Rattle.index_model.proofs.Ascending.{is_among-append}
 use Rattle.page_codec.specs.Edits.{entries_of, HasEntries}
 use Rattle.page_codec.specs.Grammar.{IsPage, IsOfKind}
@@ -39,7 +39,7 @@ pub record IsWritten (P : Page → Type 0) (pages : List Page) (b : ℕ) : Type 
   pub block : page.block ≡ b
   pub there : slice_get pages b ≡ Some page
 
-pub written_or : (P : Page → Type 0) (limits : Limits) (used : ℕ) (pages changed : List Page) (b : ℕ) → AreActable limits used changed → used ≤ length pages → Each P changed
+pub written_or : (P : Page → Type 0) (limits : Format) (used : ℕ) (pages changed : List Page) (b : ℕ) → AreActable limits used changed → used ≤ length pages → Each P changed
     → (slice_get (with_pages pages changed) b ≡ slice_get pages b) ⊎ IsWritten P (with_pages pages changed) b
 written_or P limits used pages [] b may le each = inl refl
 written_or P limits used pages (x ∷ changed) b may le each =
@@ -202,7 +202,7 @@ putting_leaves st start e page after has h = keeps_leaves (Some (Add e)) st (aft
       entries = λ x on. same_added e x (is_among (entries_of after.items) x) (is_among (entries_of page.items) x) (put_among e (entries_of page.items) (entries_of after.items) x h.put) on;
     };
     leaf = λ k. old_leaf;
-    still = λ k. ground_leaf after h.may.0.admitted (ap (λ (n : Node). n.level) h.after_is ∙ h.leaf) (subst (λ (b : ℕ). 0 < b) (sym h.block_is) on.above);
+    still = λ k. ground_leaf after h.may.0.storable.admitted (ap (λ (n : Node). n.level) h.after_is ∙ h.leaf) (subst (λ (b : ℕ). 0 < b) (sym h.block_is) on.above);
   }),
   tt,
 )
@@ -290,14 +290,14 @@ module _ (st : State) (start : ℕ) (e : Entry) (page left right : Page) (mended
   left_leaf = record {
     found = subst (λ (k : ℕ). slice_get (with_pages st.pages (left ∷ right ∷ mended)) k ≡ Some left) h.left_block (pages_first st.limits (length st.pages) st.pages left (right ∷ mended) h.may (omega arith));
     alive = ap (λ (n : Node). n.state) h.halves.left_is;
-    leaf = ground_leaf left h.may.0.admitted (ap (λ (n : Node). n.level) h.halves.left_is ∙ h.leaf) (subst (λ (b : ℕ). 0 < b) (sym h.left_block) split_on.above);
+    leaf = ground_leaf left h.may.0.storable.admitted (ap (λ (n : Node). n.level) h.halves.left_is ∙ h.leaf) (subst (λ (b : ℕ). 0 < b) (sym h.left_block) split_on.above);
   }
 
   right_leaf : IsLeafAt (with_pages st.pages (left ∷ right ∷ mended)) right.block right
   right_leaf = record {
     found = pages_second st.limits (length st.pages) st.pages left right mended h.may (omega arith);
     alive = ap (λ (n : Node). n.state) h.halves.right_is;
-    leaf = ground_leaf right h.may.3.0.admitted (ap (λ (n : Node). n.level) h.halves.right_is ∙ h.leaf) (fresh_free st right.block has h.fresh).past_meta;
+    leaf = ground_leaf right h.may.3.0.storable.admitted (ap (λ (n : Node). n.level) h.halves.right_is ∙ h.leaf) (fresh_free st right.block has h.fresh).past_meta;
   }
 
   parts : (x : Entry) → (is_among (entries_of left.items) x || is_among (entries_of right.items) x) ≡ (same_entry e x || is_among (entries_of page.items) x)

@@ -48,3 +48,4 @@ pub mod HalfDeathTree
 pub mod Unlink
 pub mod UnlinkTree
 pub mod Staying
+pub mod Shortest

@@ -12,7 +12,8 @@ use Rattle.index_model.specs.Order.{bound_cmp}
 use Rattle.index_model.specs.declared.bound.Bound.{Bound}
 use Rattle.index_model.proofs.Order.{bounds_total}
 use Rattle.index_model.proofs.Ascending.{AllByRecursion-append, AllByRecursion-front, AllByRecursion-back}
-use Rattle.page_codec.specs.Grammar.{FollowedBy, Ascends, LinkBefore, Below, StartsLow, IsDownlink, AreLinks, IsBlock, IsInternal, IsOfKind, IsPage, IsWhole}
+use Rattle.index_model.specs.declared.layout.Layout.{Layout}
+use Rattle.page_codec.specs.Grammar.{FollowedBy, Ascends, LinkBefore, Below, StartsLow, IsDownlink, AreLinks, IsBlock, IsInternal, IsOfKind, IsPage, IsBoundIn}
 use Rattle.page_codec.specs.declared.page.Downlink.{Downlink}
 use Rattle.page_codec.specs.declared.page.Items.{Items}
 use Rattle.page_codec.specs.declared.page.Items.TheVariants.{Meta, Entries, Downlinks}
@@ -96,10 +97,10 @@ below_high : (high : Option Bound) (separator : Bound) (new : ℕ) → Rises (So
 below_high None separator new h = tt
 below_high (Some b) separator new h = h
 
-pub links_put : (high : Option Bound) (ds : List Downlink) (at : ℕ) (separator : Bound) (new : ℕ) → at < length ds → AreLinks high ds → IsWhole separator → IsBlock new
-    → FitsBehind ds at separator high → AreLinks high (insert ds (suc at) (link_to separator new))
-links_put high ds at separator new lt h whole block fits = record {
-  valid = all_put IsDownlink ds (suc at) (link_to separator new) (record { bound = whole; child = block }) h.valid;
+pub links_put : (layout : Layout) (high : Option Bound) (ds : List Downlink) (at : ℕ) (separator : Bound) (new : ℕ) → at < length ds → AreLinks layout high ds → IsBoundIn layout separator → IsBlock new
+    → FitsBehind ds at separator high → AreLinks layout high (insert ds (suc at) (link_to separator new))
+links_put layout high ds at separator new lt h whole block fits = record {
+  valid = all_put (IsDownlink layout) ds (suc at) (link_to separator new) (record { bound = whole; child = block }) h.valid;
   ascends = ascends_put ds at separator new lt h.ascends fits.above (rw (← add-one) fits.before_next);
   within = all_put (Below high) ds (suc at) (link_to separator new) (below_high high separator new fits.below_high) h.within;
 }
@@ -136,21 +137,21 @@ below_cut cut [] y same h = tt
 below_cut cut (x ∷ xs) y same h = (subst (λ b. is_lt (option_cmp bound_cmp x.bound b) ≡ true) same h.0, below_cut cut xs y same h.1)
 
 -- ... the first part below the cut
-pub front_links : (high : Option Bound) (xs ys : List Downlink) (cut : Bound) → 0 < length xs → bound_at ys 0 ≡ Some cut → AreLinks high (xs ++ ys) → AreLinks (Some cut) xs
-front_links high [] ys cut some same h = absurd (omega arith)
-front_links high (x ∷ xs) [] cut some same h = absurd cc
-front_links high (x ∷ xs) (y ∷ ys) cut some same h = record {
-  valid = AllByRecursion-front IsDownlink (x ∷ xs) (y ∷ ys) h.valid;
+pub front_links : (layout : Layout) (high : Option Bound) (xs ys : List Downlink) (cut : Bound) → 0 < length xs → bound_at ys 0 ≡ Some cut → AreLinks layout high (xs ++ ys) → AreLinks layout (Some cut) xs
+front_links layout high [] ys cut some same h = absurd (omega arith)
+front_links layout high (x ∷ xs) [] cut some same h = absurd cc
+front_links layout high (x ∷ xs) (y ∷ ys) cut some same h = record {
+  valid = AllByRecursion-front (IsDownlink layout) (x ∷ xs) (y ∷ ys) h.valid;
   ascends = followed_front x xs (y ∷ ys) h.ascends;
   within = below_cut cut (x ∷ xs) y same (each_before x xs y ys h.ascends);
 }
 
 -- ... and the second with minus infinity for its first bound
-pub back_links : (high : Option Bound) (xs ys : List Downlink) (otherwise : Bound) → 0 < length xs → 0 < length ys → AreLinks high (xs ++ ys) → AreLinks high (from_low None ys)
-back_links high [] ys otherwise front back h = absurd (omega arith)
-back_links high (x ∷ xs) [] otherwise front back h = absurd (omega arith)
-back_links high (x ∷ xs) (y ∷ ys) otherwise front back h =
-    let valid : AllByRecursion IsDownlink (y ∷ ys) = AllByRecursion-back IsDownlink (x ∷ xs) (y ∷ ys) h.valid in
+pub back_links : (layout : Layout) (high : Option Bound) (xs ys : List Downlink) (otherwise : Bound) → 0 < length xs → 0 < length ys → AreLinks layout high (xs ++ ys) → AreLinks layout high (from_low None ys)
+back_links layout high [] ys otherwise front back h = absurd (omega arith)
+back_links layout high (x ∷ xs) [] otherwise front back h = absurd (omega arith)
+back_links layout high (x ∷ xs) (y ∷ ys) otherwise front back h =
+    let valid : AllByRecursion (IsDownlink layout) (y ∷ ys) = AllByRecursion-back (IsDownlink layout) (x ∷ xs) (y ∷ ys) h.valid in
     let within : AllByRecursion (Below high) (y ∷ ys) = AllByRecursion-back (Below high) (x ∷ xs) (y ∷ ys) h.within in
     record {
       valid = (record { bound = tt; child = valid.0.child }, valid.1);
@@ -158,11 +159,11 @@ back_links high (x ∷ xs) (y ∷ ys) otherwise front back h =
       within = (low_within high y.child, within.1);
     }
 
-pub cut_is : (high : Option Bound) (xs ys : List Downlink) (otherwise : Bound) → 0 < length xs → 0 < length ys → AreLinks high (xs ++ ys)
+pub cut_is : (layout : Layout) (high : Option Bound) (xs ys : List Downlink) (otherwise : Bound) → 0 < length xs → 0 < length ys → AreLinks layout high (xs ++ ys)
     → bound_at ys 0 ≡ Some (unwrap_or (bound_at ys 0) otherwise)
-cut_is high [] ys otherwise front back h = absurd (omega arith)
-cut_is high (x ∷ xs) [] otherwise front back h = absurd (omega arith)
-cut_is high (x ∷ xs) (y ∷ ys) otherwise front back h =
+cut_is layout high [] ys otherwise front back h = absurd (omega arith)
+cut_is layout high (x ∷ xs) [] otherwise front back h = absurd (omega arith)
+cut_is layout high (x ∷ xs) (y ∷ ys) otherwise front back h =
     bounded (lasts x xs).bound y.bound otherwise (last_before x xs y ys h.ascends)
   where
     lasts : Downlink → List Downlink → Downlink
@@ -222,7 +223,7 @@ abbrev pub right_inner : Page → ℕ → List Downlink → Page
 right_inner page new back = record (with_downlinks page back) { block = new; split = false; left = Some page.block }
 
 module _ (page : Page) (ds : List Downlink) (old : IsInner page ds) where
-  pub with_is_page : (links : List Downlink) → length links ≤ 50 → StartsLow links → AreLinks page.high links → IsPage (with_downlinks page links)
+  pub with_is_page : (links : List Downlink) → length links ≤ 50 → StartsLow links → AreLinks page.layout page.high links → IsPage (with_downlinks page links)
   with_is_page links few starts are = record {
     cycle = old.admitted.cycle;
     deletion = old.admitted.deletion;
@@ -243,7 +244,7 @@ module _ (page : Page) (ds : List Downlink) (old : IsInner page ds) where
     };
   }
 
-  pub left_is_page : (new : ℕ) (cut : Bound) (links : List Downlink) → IsBlock new → IsWhole cut → length links ≤ 50 → StartsLow links → AreLinks (Some cut) links
+  pub left_is_page : (new : ℕ) (cut : Bound) (links : List Downlink) → IsBlock new → IsBoundIn page.layout cut → length links ≤ 50 → StartsLow links → AreLinks page.layout (Some cut) links
       → IsPage (left_inner page new cut links)
   left_is_page new cut links block whole few starts are = record {
     cycle = old.admitted.cycle;
@@ -265,7 +266,7 @@ module _ (page : Page) (ds : List Downlink) (old : IsInner page ds) where
     };
   }
 
-  pub right_is_page : (new : ℕ) (links : List Downlink) → IsBlock new → length links ≤ 50 → StartsLow links → AreLinks page.high links → IsPage (right_inner page new links)
+  pub right_is_page : (new : ℕ) (links : List Downlink) → IsBlock new → length links ≤ 50 → StartsLow links → AreLinks page.layout page.high links → IsPage (right_inner page new links)
   right_is_page new links block few starts are = record {
     cycle = old.admitted.cycle;
     deletion = old.admitted.deletion;
@@ -286,13 +287,13 @@ module _ (page : Page) (ds : List Downlink) (old : IsInner page ds) where
     };
   }
 
-first_whole : (ys : List Downlink) (otherwise : Bound) → 0 < length ys → AllByRecursion IsDownlink ys → bound_at ys 0 ≡ Some (unwrap_or (bound_at ys 0) otherwise)
-    → IsWhole (unwrap_or (bound_at ys 0) otherwise)
-first_whole [] otherwise some valid same = absurd (omega arith)
-first_whole (y ∷ ys) otherwise some valid same = subst (λ b. IfSome b IsWhole) same valid.0.bound
+first_whole : (layout : Layout) (ys : List Downlink) (otherwise : Bound) → 0 < length ys → AllByRecursion (IsDownlink layout) ys → bound_at ys 0 ≡ Some (unwrap_or (bound_at ys 0) otherwise)
+    → IsBoundIn layout (unwrap_or (bound_at ys 0) otherwise)
+first_whole layout [] otherwise some valid same = absurd (omega arith)
+first_whole layout (y ∷ ys) otherwise some valid same = subst (λ b. IfSome b (IsBoundIn layout)) same valid.0.bound
 
 module _ (page : Page) (at : ℕ) (separator : Bound) (child : ℕ) (h : IsPage page) (inner : HasLinks page.items) (some : 2 ≤ length (links_of page.items))
-    (place : at < length (links_of page.items)) (fits : FitsBehind (links_of page.items) at separator page.high) (whole : IsWhole separator) (to : IsBlock child) where
+    (place : at < length (links_of page.items)) (fits : FitsBehind (links_of page.items) at separator page.high) (whole : IsBoundIn page.layout separator) (to : IsBlock child) where
   -- all the downlinks, how many the left half keeps, and those of the halves
   abbrev pub all : List Downlink
   all = insert (links_of page.items) (suc at) (link_to separator child)
@@ -318,8 +319,8 @@ module _ (page : Page) (at : ℕ) (separator : Bound) (child : ℕ) (h : IsPage 
   both : front ++ back ≡ all
   both = take-append-drop keep all
 
-  are : AreLinks page.high (front ++ back)
-  are = rw both (links_put page.high (links_of page.items) at separator child place old.inner.links whole to fits)
+  are : AreLinks page.layout page.high (front ++ back)
+  are = rw both (links_put page.layout page.high (links_of page.items) at separator child place old.inner.links whole to fits)
 
   starts : StartsLow (front ++ back)
   starts = rw both (starts_put (links_of page.items) at (link_to separator child) old.inner.first)
@@ -337,19 +338,19 @@ module _ (page : Page) (at : ℕ) (separator : Bound) (child : ℕ) (h : IsPage 
   back_some = omega (arith, front_count, back_count, length_low None back)
 
   cut_at : bound_at back 0 ≡ Some cut
-  cut_at = cut_is page.high front back separator front_some back_some are
+  cut_at = cut_is page.layout page.high front back separator front_some back_some are
 
-  cut_whole : IsWhole cut
-  cut_whole = first_whole back separator back_some (AllByRecursion-back IsDownlink front back are.valid) cut_at
+  cut_whole : IsBoundIn page.layout cut
+  cut_whole = first_whole page.layout back separator back_some (AllByRecursion-back (IsDownlink page.layout) front back are.valid) cut_at
 
   module _ (new : ℕ) (block : IsBlock new) where
     pub left_page : IsPage (left_inner page new cut front)
     left_page = left_is_page page (links_of page.items) old new cut front block cut_whole (omega (arith, front_count, old.inner.count))
-        (starts_front front back front_some starts) (front_links page.high front back cut front_some cut_at are)
+        (starts_front front back front_some starts) (front_links page.layout page.high front back cut front_some cut_at are)
 
     pub right_page : IsPage (right_inner page new (from_low None back))
     right_page = right_is_page page (links_of page.items) old new (from_low None back) block (omega (arith, front_count, back_count, old.inner.count))
-        (starts_back back back_some) (back_links page.high front back separator front_some back_some are)
+        (starts_back back back_some) (back_links page.layout page.high front back separator front_some back_some are)
 
     pub link_split : LinkSplit (node_of page) page.block new (child_at (links_of page.items) at) child separator
         (node_of (left_inner page new cut front)) (node_of (right_inner page new (from_low None back)))

@@ -1,4 +1,4 @@
-//! Empty leaves that leave the tree.
+//! Empty leaves that leave the tree. Each page that is changed is one of the second layout then.
 
 ghost use Rattle.std.specs.Prelude.{◌≡◌, ◌↔◌, IsTrue, [], Some, IfSome, IsSome};
 ghost use Rattle.page_codec.specs.Edits.{entries_of, HasEntries};
@@ -9,6 +9,7 @@ ghost use Rattle.tree_shape.specs.Deletion.{MayDie, as_deleted};
 ghost use Rattle.tree_shape.specs.Mending.{MayBeMended};
 
 use arrayvec::ArrayVec;
+use index_model::Layout;
 use page_codec::{Items, Page, PageState};
 
 /// Whether the page is a live leaf without entries, not flagged, with a right link: one that may be made half-dead.
@@ -30,12 +31,14 @@ fn is_empty_leaf(items: &Items) -> bool
     }
 }
 
-/// Makes a leaf half-dead, and changes nothing else.
+/// Makes a leaf half-dead, and changes nothing else but the layout.
+#[tactic(auto, using(page_codec::proofs::Renewed::renewed_is_page))]
 pub fn mark_half_dead(page: &mut Page)
-    ensures only { page.new ≡ record page.old { state = PageState.HalfDead } }
+    ensures only { page.new ≡ record page.old { layout = Layout.Two; state = PageState.HalfDead } }
     ensures node { node_of page.new ≡ half_dead (node_of page.old) }
     ensures page { IsPage page.old → MayDie page.old → IsPage page.new }
 {
+    page.layout = Layout::Two;
     page.state = PageState::HalfDead;
 }
 
@@ -47,6 +50,7 @@ pub fn deleted_page(page: &Page, number: u64) -> Page
     ensures page { IsPage page.now → page.now.state ≡ PageState.HalfDead → IsPage result }
 {
     Page {
+        layout: Layout::Two,
         block: page.block,
         level: 0,
         state: PageState::Deleted,
@@ -60,21 +64,25 @@ pub fn deleted_page(page: &Page, number: u64) -> Page
     }
 }
 
-/// Sets the right link of a page that has one to `right`, 1 to 65,535, and changes nothing else.
+/// Sets the right link of a page that has one to `right`, 1 to 65,535, and changes nothing else but the layout.
+#[tactic(auto, using(page_codec::proofs::Renewed::renewed_is_page))]
 pub fn mend_right(page: &mut Page, right: u32)
-    ensures only { page.new ≡ record page.old { right = Some right } }
+    ensures only { page.new ≡ record page.old { layout = Layout.Two; right = Some right } }
     ensures node { node_of page.new ≡ with_right (node_of page.old) (Some right) }
     ensures page { IsPage page.old → IsSome page.old.right → IsBlock right → IsPage page.new }
 {
+    page.layout = Layout::Two;
     page.right = Some(right);
 }
 
-/// Sets the left link of a page, 1 to 65,535 or none, and changes nothing else.
+/// Sets the left link of a page, 1 to 65,535 or none, and changes nothing else but the layout.
+#[tactic(auto, using(page_codec::proofs::Renewed::renewed_is_page))]
 pub fn set_left(page: &mut Page, left: Option<u32>)
-    ensures only { page.new ≡ record page.old { left = left } }
+    ensures only { page.new ≡ record page.old { layout = Layout.Two; left = left } }
     ensures node { node_of page.new ≡ with_left (node_of page.old) left }
     ensures page { IsPage page.old → MayBeMended page.old → IfSome left IsBlock
         → IsPage page.new }
 {
+    page.layout = Layout::Two;
     page.left = left;
 }

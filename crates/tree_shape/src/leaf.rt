@@ -5,13 +5,13 @@ ghost use Rattle.index_model.specs.Order.{is_among, same_entry, is_past, bound_o
 ghost use Rattle.index_model.specs.Range.{below_admits};
 ghost use Rattle.index_model.specs.declared.entry.Entry.{Entry};
 ghost use Rattle.page_codec.specs.Grammar.{IsPage};
-ghost use Rattle.page_codec.specs.Edits.{entries_of, HasEntries, with_entries};
+ghost use Rattle.page_codec.specs.Edits.{entries_of, HasEntries, with_entries, renewed};
 ghost use Rattle.tree_shape.specs.Edits.{IsPutIn, with_leaf};
 ghost use Rattle.tree_shape.specs.Nodes.{node_of};
 ghost use Rattle.tree_shape.specs.Leaf.{IsPlaceOf, IsCopiedFrom, AreParts, MayHold};
 
 use arrayvec::ArrayVec;
-use index_model::{Bound, Entry, Key};
+use index_model::{Bound, Entry, Key, Layout};
 use page_codec::{Items, Page, PageState};
 
 /// How many of the entries stand before the entry.
@@ -88,12 +88,13 @@ fn is_leaf(items: &Items) -> bool
     matches!(items, Items::Entries(_))
 }
 
-/// Puts an entry into a leaf, at the place that [`find`] gave.
+/// Puts an entry into a leaf, at the place that [`find`] gave. It is a page of the second layout then.
 pub fn put(page: &mut Page, at: usize, entry: Entry)
     requires leaf { HasEntries page.old.items }
     requires room { length (entries_of page.old.items) < 50 }
     requires place { at ≤ length (entries_of page.old.items) }
-    ensures put { page.new ≡ with_entries page.old (insert (entries_of page.old.items) at entry) }
+    ensures put { page.new ≡ with_entries (renewed page.old)
+        (insert (entries_of page.old.items) at entry) }
     ensures among { (y : Entry) → is_among (entries_of page.new.items) y
         ≡ (same_entry entry y || is_among (entries_of page.old.items) y) }
     ensures page { IsPage page.old → MayHold page.old entry
@@ -104,6 +105,7 @@ pub fn put(page: &mut Page, at: usize, entry: Entry)
     ensures node { node_of page.new ≡ with_leaf (node_of page.old) (entries_of page.new.items) }
 {
     entry.seen();
+    page.layout = Layout::Two;
     if let Items::Entries(entries) = &mut page.items {
         entries.insert(at, entry);
     }

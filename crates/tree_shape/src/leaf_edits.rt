@@ -1,29 +1,32 @@
 //! Leaves that are split.
 
-ghost use Rattle.std.specs.Prelude.{◌≡◌, ◌<◌, ◌≤◌, ◌+◌, ◌++◌, true, false, Some, length, insert, take, drop};
+ghost use Rattle.std.specs.Prelude.{◌≡◌, ◌<◌, ◌≤◌, ◌+◌, ◌++◌, true, false, Some, IfSome, length, insert, take, drop};
 ghost use Rattle.index_model.specs.Order.{IsAscending};
-ghost use Rattle.page_codec.specs.Grammar.{IsBlock, IsPage, IsWhole};
+ghost use Rattle.page_codec.specs.Grammar.{IsBlock, IsPage, IsBoundIn};
 ghost use Rattle.page_codec.specs.Edits.{entries_of, HasEntries, with_entries};
 ghost use Rattle.tree_shape.specs.Leaf.{IsPlaceOf, MayHold};
 ghost use Rattle.tree_shape.specs.Nodes.{node_of};
 ghost use Rattle.tree_shape.specs.Edits.{AreUpTo, LeafHalves};
 ghost use Rattle.tree_shape.specs.Halves.{left_count, LiesBefore};
+ghost use Rattle.tree_shape.specs.Separators.{IsCutOf};
 
 use crate::items::entries_on;
 use crate::parting::{end_at, put_and_part, stand_right};
-use index_model::{Bound, Entry};
+use crate::separators::part;
+use index_model::{Bound, Entry, Layout};
 use page_codec::{Items, Page, clear_entries};
 
-/// A bound between the two halves of a leaf's entries. The left half must have an entry.
+/// The bound between the two halves of a leaf's entries, each of which has one or more.
 pub fn separator(left: &[Entry], right: &[Entry]) -> Bound
-    requires { 0 < length left.now }
-    ensures up_to { IsAscending (left.now ++ right.now) → AreUpTo result left.now }
-    ensures beyond { IsAscending (left.now ++ right.now) → LiesBefore result right.now }
-    ensures whole { IsWhole result }
+    requires some { 0 < length left.now }
+    requires next { 0 < length right.now }
+    requires ascending { IsAscending (left.now ++ right.now) }
+    ensures is { IsCutOf left.now right.now result }
+    ensures up_to { AreUpTo result left.now }
+    ensures beyond { LiesBefore result right.now }
+    ensures bound { IsBoundIn Layout.Two result }
 {
-    let last = &left[left.len() - 1];
-    last.seen();
-    last.bound()
+    part(&left[left.len() - 1], &right[0])
 }
 
 // Puts the entry on the page, and what is behind the cut on the other one, instead of its items.
@@ -50,7 +53,7 @@ fn part_entries(page: &mut Page, at: usize, entry: Entry, half: &mut Page)
 /// Splits a live leaf of M entries, 2 to 50, with one entry put at the place that `find` gave: the
 /// page keeps the first (M + 2) / 2 of them, and the other page becomes its right half, on the block `new`,
 /// 1 to 65,535, whatever it was. Both halves carry `cycle`. The left link of the old right neighbour is left to the
-/// caller.
+/// caller. Both halves are of the second layout.
 pub fn split_leaf(page: &mut Page, at: usize, entry: Entry, new: u32, cycle: u32, half: &mut Page)
     requires page { IsPage page.old }
     requires may { MayHold page.old entry }
@@ -64,8 +67,12 @@ pub fn split_leaf(page: &mut Page, at: usize, entry: Entry, new: u32, cycle: u32
         ≡ left_count (length (entries_of page.old.items)) }
     ensures moved { length (entries_of page.new.items) + length (entries_of half.new.items)
         ≡ length (entries_of page.old.items) + 1 }
+    ensures cut { IfSome page.new.high
+        (IsCutOf (entries_of page.new.items) (entries_of half.new.items)) }
 
     // The fields that a tree doesn't see.
+    ensures left_layout { page.new.layout ≡ Layout.Two }
+    ensures right_layout { half.new.layout ≡ Layout.Two }
     ensures left_block { page.new.block ≡ page.old.block }
     ensures right_block { half.new.block ≡ new }
     ensures left_cycle { page.new.cycle ≡ cycle }
@@ -79,6 +86,7 @@ pub fn split_leaf(page: &mut Page, at: usize, entry: Entry, new: u32, cycle: u32
     ensures right_page { IsPage half.new }
 {
     entry.seen();
+    page.layout = Layout::Two;
     part_entries(page, at, entry, half);
     let cut = separator(entries_on(page), entries_on(half));
     page.cycle = cycle;

@@ -1,7 +1,8 @@
-//! Downlinks on an internal page, which may have to be split.
+//! Downlinks on an internal page, which may have to be split. A page that is changed is one of the second layout then.
 
 ghost use Rattle.std.specs.Prelude.{◌≡◌, ◌≢◌, ◌<◌, ◌≤◌, ◌+◌, ◌↔◌, IsTrue, true, false, Some, None, IfSome, IfNone, All, length, insert, take, drop, unwrap_or};
-ghost use Rattle.page_codec.specs.Grammar.{IsBlock, IsPage, IsWhole};
+ghost use Rattle.page_codec.specs.Grammar.{IsBlock, IsPage, IsBoundIn};
+ghost use Rattle.page_codec.specs.Edits.{renewed};
 ghost use Rattle.tree_shape.specs.Nodes.{node_of, links_of};
 ghost use Rattle.tree_shape.specs.Chains.{from_low, IsBeyond, Rises};
 ghost use Rattle.tree_shape.specs.Deletion.{handed_on};
@@ -11,7 +12,7 @@ ghost use Rattle.tree_shape.specs.LinkPlaces.{child_at, bound_at, with_downlinks
 
 use crate::parting::{end_at, put_and_part, right_half};
 use arrayvec::ArrayVec;
-use index_model::Bound;
+use index_model::{Bound, Layout};
 use page_codec::{Downlink, Items, Page};
 
 /// The place of the first downlink that leads to the child. None: none does.
@@ -85,13 +86,14 @@ pub fn add_link(page: &mut Page, at: usize, separator: Bound, new: u32)
     ensures added { IsLinkAdded (child_at (links_of page.old.items) at) new separator
         (links_of page.old.items) (links_of page.new.items) }
     ensures node { node_of page.new ≡ with_links (node_of page.old) (links_of page.new.items) }
-    ensures only { page.new ≡ with_downlinks page.old (links_of page.new.items) }
+    ensures only { page.new ≡ with_downlinks (renewed page.old) (links_of page.new.items) }
     ensures block { page.new.block ≡ page.old.block }
     ensures count { length (links_of page.new.items) ≡ length (links_of page.old.items) + 1 }
     ensures still_internal { HasLinks page.new.items }
-    ensures page { IsPage page.old → IsBlock new → IsWhole separator
+    ensures page { IsPage page.old → IsBlock new → IsBoundIn Layout.Two separator
         → FitsBehind (links_of page.old.items) at separator page.old.high → IsPage page.new }
 {
+    page.layout = Layout::Two;
     if let Items::Downlinks(links) = &mut page.items {
         let link = Downlink {
             bound: Some(separator),
@@ -144,7 +146,7 @@ pub fn split_links(page: &mut Page, at: usize, separator: Bound, child: u32, new
     requires some { 2 ≤ length (links_of page.old.items) }
     requires place { at < length (links_of page.old.items) }
     requires fits { FitsBehind (links_of page.old.items) at separator page.old.high }
-    requires whole { IsWhole separator }
+    requires bound { IsBoundIn Layout.Two separator }
     requires child { IsBlock child }
     requires block { IsBlock new }
 
@@ -156,6 +158,8 @@ pub fn split_links(page: &mut Page, at: usize, separator: Bound, child: u32, new
         ≡ length (links_of page.old.items) + 1 }
 
     // The fields that a tree doesn't see.
+    ensures left_layout { page.new.layout ≡ Layout.Two }
+    ensures right_layout { result.layout ≡ Layout.Two }
     ensures left_block { page.new.block ≡ page.old.block }
     ensures right_block { result.block ≡ new }
     ensures left_cycle { page.new.cycle ≡ 0 }
@@ -168,6 +172,7 @@ pub fn split_links(page: &mut Page, at: usize, separator: Bound, child: u32, new
     ensures left_page { IsPage page.new }
     ensures right_page { IsPage result }
 {
+    page.layout = Layout::Two;
     let link = Downlink {
         bound: Some(separator),
         child,
@@ -200,11 +205,12 @@ pub fn hand_on_link(page: &mut Page, at: usize)
     ensures handed { IsLinkHandedOn (child_at (links_of page.old.items) at)
         (child_at (links_of page.old.items) (at + 1)) (links_of page.old.items) (links_of page.new.items) }
     ensures node { node_of page.new ≡ with_links (node_of page.old) (links_of page.new.items) }
-    ensures only { page.new ≡ with_downlinks page.old (links_of page.new.items) }
+    ensures only { page.new ≡ with_downlinks (renewed page.old) (links_of page.new.items) }
     ensures block { page.new.block ≡ page.old.block }
     ensures count { length (links_of page.new.items) + 1 ≡ length (links_of page.old.items) }
     ensures page { IsPage page.old → IsPage page.new }
 {
+    page.layout = Layout::Two;
     if let Items::Downlinks(links) = &mut page.items {
         hand_on(links, at);
     }

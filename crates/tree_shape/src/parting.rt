@@ -52,6 +52,7 @@ pub fn right_half(page: &Page, items: Items, new: u32) -> Page
     } }
 {
     Page {
+        layout: page.layout,
         block: new,
         level: page.level,
         state: page.state,
@@ -74,6 +75,7 @@ pub fn stand_right(page: &Page, half: &mut Page, new: u32)
       items = half.old.items;
     } }
 {
+    half.layout = page.layout;
     half.block = new;
     half.level = page.level;
     half.state = page.state;

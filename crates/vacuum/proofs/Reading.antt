@@ -1,5 +1,5 @@
 -- Steps of a bulk delete.
-use Rattle.std.proofs.Common.{◌≡◌, ◌≢◌, ℕ, zero, suc, ◌+◌, ◌<◌, ◌≤◌, nat_lt, inl, inr, Bool, true, false, Option, Some, None, Ok, Err, List, [], ◌∷◌, length, slice_get, slice_index, refl, sym, ap, subst, ◌∙◌, arith}
+use Rattle.std.proofs.Common.{◌≡◌, ◌≢◌, ℕ, zero, suc, ◌+◌, ◌<◌, ◌≤◌, nat_lt, inl, inr, Bool, true, false, if◌then◌else◌, Option, Some, None, Ok, Err, List, [], ◌∷◌, length, slice_get, slice_index, refl, sym, ap, subst, ◌∙◌, arith}
 use Rattle.std.proofs.lemmas.Bool.{cases_eq, lt-ltb}
 use Rattle.index_model.specs.Faults.{HasCause}
 use Rattle.index_model.specs.Order.{is_among}
@@ -43,7 +43,7 @@ use Rattle.vacuum.specs.declared.steps.BulkDeleteStep.TheVariants.{Going, Finish
 use Rattle.vacuum.proofs.Counting.{counts_on, counted_beyond, leaves_less, no_leaf_count}
 use Rattle.vacuum.proofs.Holding.{pinned_is_held}
 use Rattle.vacuum.proofs.Lasting.{same_page}
-use Rattle.vacuum.proofs.Removing.{does_remove, swept_may, same_leaf, gone_is, left_lives, live_is, dead_is, none_lost, dead_are}
+use Rattle.vacuum.proofs.Removing.{does_remove, swept_may, IsLeft, is_left, gone_is, left_lives, live_is, dead_is, none_lost, dead_are}
 use Rattle.vacuum.proofs.Sweeping.{IsReadOn, due_comes_on, none_is_due}
 
 runs_no_more : (b : Bool) {A : Type 0} → b ≡ false → b ≡ true → A
@@ -140,13 +140,13 @@ module _ (changed : Bool) (after : Page) (st : State) where
       by true = page_other st.pages after b (λ same. differ (sym same)) (omega (arith, lt))
       by false = refl
 
-  pub written_there : (page : Page) → slice_get st.pages after.block ≡ Some page → (changed ≡ false → page ≡ after) → after.block < length st.pages
-      → slice_get (written changed after st).pages after.block ≡ Some after
-  written_there page found same lt = by changed same
+  pub written_there : (page : Page) → slice_get st.pages after.block ≡ Some page → after.block < length st.pages
+      → slice_get (written changed after st).pages after.block ≡ Some (if changed then after else page)
+  written_there page found lt = by changed
     where
-      by : (c : Bool) → (c ≡ false → page ≡ after) → slice_get (written c after st).pages after.block ≡ Some after
-      by true same = page_there st.pages after (omega (arith, lt))
-      by false same = found ∙ ap Some (same refl)
+      by : (c : Bool) → slice_get (written c after st).pages after.block ≡ Some (if c then after else page)
+      by true = page_there st.pages after (omega (arith, lt))
+      by false = found
 
 -- a leaf that loses nothing isn't written
 pub unwritten : (n : ℕ) → nat_lt 0 n ≡ false → n ≡ 0
@@ -325,12 +325,21 @@ module _ {S : Type 0} (g : Ghosts S) (dead : Row → Bool) (before : BulkDeleteO
   free_here : is_held_by_another (g.state old).table before.session page.block Cleanup ≡ false
   free_here = subst (λ (p : Page). is_held_by_another (g.state old).table before.session p.block Cleanup ≡ false) sw.after_is free
 
-  there : (g.backing new).honest ≡ true → slice_get now.pages page.block ≡ Some (without_dead dead page)
-  there honest = written_there (nat_lt 0 swept.gone) (without_dead dead page) (g.state old) page (found_here honest)
-      (λ h. sym (same_leaf dead page alive leaf (sym lost ∙ unwritten swept.gone h))) lt
+  -- what stands there then
+  abbrev stands : Page
+  stands = if nat_lt 0 swept.gone then without_dead dead page else page
 
-  after_here : (g.backing new).honest ≡ true → (p : Page) → IsLeafAt now.pages (next_block before.cursor before.back) p → p ≡ without_dead dead page
-  after_here honest p h = same_page now.pages page.block p (without_dead dead page) (subst (λ (b : ℕ). slice_get now.pages b ≡ Some p) (sym next_is) h.found) (there honest)
+  left : IsLeft dead page stands
+  left = is_left dead page alive leaf (nat_lt 0 swept.gone) (λ h. sym lost ∙ unwritten swept.gone h)
+
+  there : (g.backing new).honest ≡ true → slice_get now.pages page.block ≡ Some stands
+  there honest = written_there (nat_lt 0 swept.gone) (without_dead dead page) (g.state old) page (found_here honest) lt
+
+  after_here : (g.backing new).honest ≡ true → (p : Page) → IsLeafAt now.pages (next_block before.cursor before.back) p → p ≡ stands
+  after_here honest p h = same_page now.pages page.block p stands (subst (λ (b : ℕ). slice_get now.pages b ≡ Some p) (sym next_is) h.found) (there honest)
+
+  live_there : (g.backing new).honest ≡ true → (p : Page) (e : Entry) → IsLeafAt now.pages (next_block before.cursor before.back) p → is_among (entries_of p.items) e ≡ true → dead e.row ≡ false
+  live_there honest p e at_leaf on = left_lives dead page e (subst (λ (es : List Entry). is_among es e ≡ true) (ap (λ (q : Page). entries_of q.items) (after_here honest p at_leaf) ∙ left.entries) on)
 
   others : (b : ℕ) → b ≢ next_block before.cursor before.back → slice_get now.pages b ≡ slice_get (g.state old).pages b
   others b differ = written_other (nat_lt 0 swept.gone) (without_dead dead page) (g.state old) b (λ same. differ (same ∙ next_is)) lt
@@ -339,7 +348,7 @@ module _ {S : Type 0} (g : Ghosts S) (dead : Row → Bool) (before : BulkDeleteO
   read_on honest = record {
     cycle = written_cycle (nat_lt 0 swept.gone) (without_dead dead page) (g.state old);
     others = others;
-    stays = λ p h. record { page = without_dead dead page; was = record { found = subst (λ (b : ℕ). slice_get now.pages b ≡ Some (without_dead dead page)) next_is (there honest); alive = alive; leaf = tt } };
+    stays = λ p h. record { page = stands; was = record { found = subst (λ (b : ℕ). slice_get now.pages b ≡ Some stands) next_is (there honest); alive = left.alive; leaf = left.leaf } };
     turn = λ p b h leads.
         let is_page = same_page (g.state old).pages (next_block before.cursor before.back) p page h.found (leaf_here honest).found in
         turned (g.state old).cycle (g.state old).limits.pages (last_read before.cursor before.back) (moves_of before.back) page onward turn b
@@ -417,9 +426,9 @@ module _ {S : Type 0} (g : Ghosts S) (dead : Row → Bool) (before : BulkDeleteO
       (λ b is.
       let t = turned_from (g.state old).cycle (g.state old).limits.pages (last_read before.cursor before.back) (moves_of before.back) page onward turn b is in
       (t.0.below, t.1))
-      (λ k. ap entry_count (subst (λ (b : ℕ). slice_get now.pages b ≡ Some (without_dead dead page)) (next_is ∙ ap (λ (o : Option Back). next_block before.cursor o) k) (there honest))
-      ∙ ap length (live_is (without_dead dead page) alive tt) ∙ ap (λ (p : Page). length (entries_of p.items)) (sym sw.after_is) ∙ sym sw.kept_is)
-      (λ p e at_leaf on. left_lives dead page e (subst (λ (q : Page). is_among (entries_of q.items) e ≡ true) (after_here honest p at_leaf) on))
+      (λ k. ap entry_count (subst (λ (b : ℕ). slice_get now.pages b ≡ Some stands) (next_is ∙ ap (λ (o : Option Back). next_block before.cursor o) k) (there honest))
+      ∙ ap length (live_is stands left.alive left.leaf ∙ left.entries) ∙ ap (λ (p : Page). length (entries_of p.items)) (sym sw.after_is) ∙ sym sw.kept_is)
+      (λ p e at_leaf on. live_there honest p e at_leaf on)
       (λ b k.
       let low : b.block < before.cursor = (subst (IsBelow before.cursor) k h.below).0 in
       let is : next_block before.cursor before.back ≡ b.block = ap (λ (o : Option Back). next_block before.cursor o) k in
@@ -444,7 +453,7 @@ module _ {S : Type 0} (g : Ghosts S) (dead : Row → Bool) (before : BulkDeleteO
         (λ b k. let t = turned_from (g.state old).cycle (g.state old).limits.pages (last_read before.cursor before.back) (moves_of before.back) page onward turn b k in (t.2, t.3))));
     due = λ honest due of h. subst (λ (s : State). DueIsToCome due s (cursor_past before.cursor before.back) onward) (sym new_is)
         (due_comes_on (g.state old) now before.cursor before.back onward h.from (read_on honest) due h
-        (λ p e at_leaf on is_due. clash (dead e.row) (of e is_due) (left_lives dead page e (subst (λ (q : Page). is_among (entries_of q.items) e ≡ true) (after_here honest p at_leaf) on))));
+        (λ p e at_leaf on is_due. clash (dead e.row) (of e is_due) (live_there honest p e at_leaf on)));
     pins = λ honest other b p differ at_leaf pin le. past honest other b differ pin le;
     counts = λ honest h. subst (λ (s : State). IsCounted dead s (gone_on before onward swept.kept swept.gone)) (sym new_is) (counted honest h);
     stepped = λ honest order fits. record {

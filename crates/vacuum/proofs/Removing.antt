@@ -7,11 +7,12 @@ use Rattle.index_model.specs.Actions.{Remove, said_of}
 use Rattle.index_model.specs.Order.{is_among, IsUpTo, IsAscending, IsEntry}
 use Rattle.index_model.specs.Row.{Row}
 use Rattle.index_model.specs.declared.entry.Entry.{Entry}
-use Rattle.index_model.specs.declared.limits.Limits.{Limits}
+use Rattle.index_model.specs.declared.format.Format.{Format}
 use Rattle.index_model.proofs.Ascending.{same_entry-self}
 use Rattle.latch_table.specs.Holdings.{is_held_by_another}
 use Rattle.latch_table.specs.declared.mode.Mode.TheVariants.{Exclusive, Cleanup}
-use Rattle.page_codec.specs.Edits.{entries_of, HasEntries, with_entries}
+use Rattle.page_codec.specs.Edits.{entries_of, HasEntries, with_entries, renewed}
+use Rattle.page_codec.proofs.Renewed.{renewed_is_page}
 use Rattle.page_codec.specs.Grammar.{AreEntries, IsLeafIn, IsLiveLeaf, IsOfKind, IsPage}
 use Rattle.page_codec.specs.Spelling.{count_of}
 use Rattle.page_codec.specs.declared.page.Items.{Items}
@@ -23,6 +24,7 @@ use Rattle.page_action.specs.Contents.{live_entries, entry_on_live_leaf}
 use Rattle.page_action.specs.States.{State, after_act}
 use Rattle.page_action.specs.Stored.{IsStored, AreActable}
 use Rattle.page_action.proofs.StoredPages.{stored_page}
+use Rattle.page_action.proofs.Writable.{writable}
 use Rattle.tree_shape.specs.Edits.{removed_from}
 use Rattle.tree_shape.proofs.Removal.{AscendsPast-filter, AllByRecursion-filter, is_among-filter}
 use Rattle.tree_acts.specs.Acts.{EntriesAreRemoved, TreeLasts, ContentsLose}
@@ -73,15 +75,21 @@ gone_is dead page swept alive leaf h =
     let gone : swept.gone ≡ length (removed_from (lives dead) (entries_of page.items)) = omega (arith, kept, parts, sum) in
     gone ∙ ap length (sym (dead_is dead page alive leaf))
 
--- a leaf without dead entries stays as it is
-pub same_leaf : (dead : Row → Bool) (page : Page) → page.state ≡ Live → HasEntries page.items → length (dead_entries dead page) ≡ 0 → without_dead dead page ≡ page
-same_leaf dead page alive leaf none =
-    ap (with_entries page) (none_removed (lives dead) (entries_of page.items) (ap length (sym (dead_is dead page alive leaf)) ∙ none)) ∙ again page.items refl leaf
-  where
-    again : (items : Items) → page.items ≡ items → HasEntries items → with_entries page (entries_of page.items) ≡ page
-    again Meta is h = absurd h
-    again (Entries v) is h = ap (λ (i : Items). let p : Page = record page { items = i } in p) (ap (λ (i : Items). let j : Items = Entries (record { items = entries_of i }) in j) is ∙ sym is)
-    again (Downlinks v) is h = absurd h
+-- a live leaf with those entries of the page that live
+pub record IsLeft (dead : Row → Bool) (page left : Page) : Type 0 where
+  pub alive : left.state ≡ Live
+  pub leaf : HasEntries left.items
+  pub entries : entries_of left.items ≡ filter (lives dead) (entries_of page.items)
+
+-- the page is one where none is dead; else it is one when it has been written
+pub is_left : (dead : Row → Bool) (page : Page) → page.state ≡ Live → HasEntries page.items → (changed : Bool) → (changed ≡ false → length (dead_entries dead page) ≡ 0)
+    → IsLeft dead page (if changed then without_dead dead page else page)
+is_left dead page alive leaf true none = record { alive = alive; leaf = tt; entries = refl }
+is_left dead page alive leaf false none = record {
+  alive = alive;
+  leaf = leaf;
+  entries = sym (none_removed (lives dead) (entries_of page.items) (ap length (sym (dead_is dead page alive leaf)) ∙ none refl));
+}
 
 -- each entry that is left lives
 pub left_lives : (dead : Row → Bool) (page : Page) (e : Entry) → is_among (entries_of (without_dead dead page).items) e ≡ true → dead e.row ≡ false
@@ -145,10 +153,11 @@ leaf_few page leaf h = by page.items leaf h.kind
     by (Downlinks v) has kind = absurd has
     by (Entries v) has kind = kind.count
 
-pub swept_may : (dead : Row → Bool) (limits : Limits) (used block : ℕ) (page : Page) → page.state ≡ Live → HasEntries page.items → IsStored limits block page → block < used → used ≤ limits.pages
+pub swept_may : (dead : Row → Bool) (limits : Format) (used block : ℕ) (page : Page) → page.state ≡ Live → HasEntries page.items → IsStored limits block page → block < used → used ≤ limits.pages
     → AreActable limits used (without_dead dead page ∷ [])
 swept_may dead limits used block page alive leaf stored in_use few = (
-  record { admitted = swept_page page (lives dead) alive leaf stored.storable.admitted; few = fewer page.items leaf stored.storable.few },
+  writable limits (without_dead dead page) refl
+      (swept_page (renewed page) (lives dead) alive leaf (renewed_is_page page stored.storable.admitted)) (fewer page.items leaf stored.storable.few),
   (omega (arith, in_use, stored.block_is), omega (arith, in_use, few, stored.block_is)),
   tt,
   tt,

@@ -3,7 +3,7 @@ use Rattle.std.specs.Prelude.{ℕ, Bool, not, suc, Option, Some, None, List}
 use Rattle.std.specs.List.{filter}
 use Rattle.index_model.specs.Row.{Row}
 use Rattle.index_model.specs.declared.entry.Entry.{Entry}
-use Rattle.page_codec.specs.Edits.{entries_of, with_entries}
+use Rattle.page_codec.specs.Edits.{entries_of, with_entries, renewed}
 use Rattle.page_codec.specs.declared.page.Page.{Page}
 use Rattle.page_action.specs.Contents.{live_entries}
 use Rattle.tree_shape.specs.Edits.{removed_from}
@@ -24,9 +24,9 @@ fresh_bulk_delete session = record {
 abbrev pub lives : (Row → Bool) → Entry → Bool
 lives dead e = not (dead e.row)
 
--- a leaf without its dead entries
+-- a leaf without its dead entries, in the second layout
 abbrev pub without_dead : (Row → Bool) → Page → Page
-without_dead dead page = with_entries page (filter (lives dead) (entries_of page.items))
+without_dead dead page = with_entries (renewed page) (filter (lives dead) (entries_of page.items))
 
 -- the dead entries of a page
 abbrev pub dead_entries : (Row → Bool) → Page → List Entry

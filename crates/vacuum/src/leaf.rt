@@ -7,14 +7,14 @@ ghost use Rattle.vacuum.specs.Ops.{lives, without_dead};
 ghost use Rattle.vacuum.specs.Turns.{IsSwept};
 
 use arrayvec::ArrayVec;
-use index_model::{DeadRows, Entry};
+use index_model::{DeadRows, Entry, Layout};
 use page_codec::{Items, Page, PageState};
 use tree_shape::entries_on;
 
 /// What a bulk delete leaves of a leaf.
 #[derive(Drop)]
 pub struct Swept {
-    /// The leaf without its dead entries.
+    /// The leaf without its dead entries, in the second layout.
     pub after: Page,
     /// How many entries it keeps, at most 50.
     pub kept: u64,
@@ -43,12 +43,13 @@ fn live_ones<T: DeadRows>(entries: &[Entry], dead: &T) -> ArrayVec<Entry, 50>
     kept
 }
 
-// A copy of a leaf without its dead entries.
+// A copy of a leaf without its dead entries, in the second layout.
 fn without_dead<T: DeadRows>(page: &Page, dead: &T) -> Page
     requires { length (entries_of page.now.items) ≤ 50 }
     ensures { result ≡ without_dead (T.is_in dead.now) page.now }
 {
     Page {
+        layout: Layout::Two,
         block: page.block,
         level: page.level,
         state: page.state,

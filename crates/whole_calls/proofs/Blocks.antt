@@ -9,7 +9,7 @@ use Rattle.session_calls.specs.Sessions.{start_number, after_call, after_slot}
 use Rattle.session_calls.specs.declared.op.Op.TheVariants.{Insert}
 use Rattle.session_calls.proofs.Freeing.{go_running, go_counted}
 use Rattle.schedule.proofs.Fitting.{running_of}
-use Rattle.whole_calls.proofs.Words.{Entry, Limits, State, Ghosts, Page, session_of, Op, Snapshot, Fits, slot_of, SlotRuns}
+use Rattle.whole_calls.proofs.Words.{Entry, Format, State, Ghosts, Page, session_of, Op, Snapshot, Fits, slot_of, SlotRuns}
 use Rattle.whole_calls.specs.Refusing.{with_number, has_no_block}
 
 -- one of the first so many blocks may be used again
@@ -24,7 +24,7 @@ same_reusable a b pages counted running (suc n) =
 -- no block is unused, and none may be used again
 pub same_out : (a b : State) → a.limits ≡ b.limits → a.pages ≡ b.pages → a.counted ≡ b.counted → a.running ≡ b.running → is_out_of_blocks a ≡ is_out_of_blocks b
 same_out a b limits pages counted running =
-    ap (λ (l : Limits). nat_le l.pages (length a.pages) && not (any_is_reusable a (length a.pages))) limits
+    ap (λ (l : Format). nat_le l.pages (length a.pages) && not (any_is_reusable a (length a.pages))) limits
     ∙ ap (λ (l : List Page). nat_le b.limits.pages (length l) && not (any_is_reusable a (length l))) pages
     ∙ ap (λ (some : Bool). nat_le b.limits.pages (length b.pages) && not some) (same_reusable a b pages counted running (length b.pages))
 

@@ -14,7 +14,7 @@ use Rattle.page_delete.specs.declared.steps.CleanupAt.TheVariants.{Look}
 use Rattle.page_delete.specs.declared.steps.CleanupOp.{CleanupOp}
 use Rattle.session_calls.specs.Sweeps.{OpSweeps}
 use Rattle.session_calls.specs.declared.op.Op.TheVariants.{Bulk, Cleanup}
-use Rattle.whole_calls.proofs.Words.{Effect, Action, AskBulkDelete, Call, removed_by, Entry, Limits, Ghosts, asked_of, noted, Op, Snapshot, IsRunningCall, Fits, slot_of, Laws}
+use Rattle.whole_calls.proofs.Words.{Effect, Action, AskBulkDelete, Call, removed_by, Entry, Format, Ghosts, asked_of, noted, Op, Snapshot, IsRunningCall, Fits, slot_of, Laws}
 use Rattle.whole_calls.specs.Refusing.{is_full_vacuum}
 use Rattle.whole_calls.specs.Stepping.{HasGoneTo}
 use Rattle.whole_calls.specs.Sweeping.{of_cleanup, IsCountedAs, IsCountedIn, removed_of}
@@ -63,15 +63,15 @@ module _ {S : Type 0} (g : Ghosts S) (laws : Laws g) (start : Entry → Bool) (s
 
   left_low : (now : Snapshot S) → (g.state now.store).limits ≡ (g.state first.store).limits → (n : ℕ) → entries_below (g.state now.store).pages n ≤ 3276800
   left_low now limits n =
-      let items : (g.state now.store).limits.items ≤ 50 = subst (λ (l : Limits). l.items ≤ 50) (sym limits) are.items_to in
-      let low : (g.state now.store).limits.pages ≤ 65536 = subst (λ (l : Limits). l.pages ≤ 65536) (sym limits) are.pages_to in
+      let items : (g.state now.store).limits.items ≤ 50 = subst (λ (l : Format). l.items ≤ 50) (sym limits) are.items_to in
+      let low : (g.state now.store).limits.pages ≤ 65536 = subst (λ (l : Format). l.pages ≤ 65536) (sym limits) are.pages_to in
       let most = entries_few (g.state now.store).limits (g.state now.store).pages n items (laws.stored now.store) in
       let few = laws.few now.store in
       omega (arith, most, few, low)
 
   used_low : (now : Snapshot S) → (g.state now.store).limits ≡ (g.state first.store).limits → length (g.state now.store).pages ≤ 65536
   used_low now limits =
-      let low : (g.state now.store).limits.pages ≤ 65536 = subst (λ (l : Limits). l.pages ≤ 65536) (sym limits) are.pages_to in
+      let low : (g.state now.store).limits.pages ≤ 65536 = subst (λ (l : Format). l.pages ≤ 65536) (sym limits) are.pages_to in
       let few = laws.few now.store in
       omega (arith, few, low)
 

@@ -19,7 +19,7 @@ use Rattle.page_action.specs.Contents.{live_entries, is_on, entry_on_live_leaf}
 use Rattle.page_action.specs.Stored.{AreStored}
 use Rattle.vacuum.specs.Counts.{entry_count, entries_below}
 use Rattle.schedule.proofs.Lists.{get_append_new, get_append_some, get_within, same_some}
-use Rattle.whole_calls.proofs.Words.{Effect, Add, Remove, Shape, Action, contents_after, AskBulkDelete, Call, removed_count, removed_by, MayAct, ActionsAreOwned, Entry, Limits, Page}
+use Rattle.whole_calls.proofs.Words.{Effect, Add, Remove, Shape, Action, contents_after, AskBulkDelete, Call, removed_count, removed_by, MayAct, ActionsAreOwned, Entry, Format, Page}
 use Rattle.whole_calls.specs.Sweeping.{removed_of}
 use Rattle.whole_calls.specs.Telling.{acts_by}
 use Rattle.whole_calls.proofs.Refusing.{or_left, or_right, or_none}
@@ -210,7 +210,7 @@ live_few Live (Downlinks v) = omega arith
 live_few HalfDead items = omega arith
 live_few Deleted items = omega arith
 
-all_few : (limits : Limits) (block : ℕ) (pages : List Page) → limits.items ≤ 50 → AreStored limits block pages → length (all_entries pages) ≤ 50 * length pages
+all_few : (limits : Format) (block : ℕ) (pages : List Page) → limits.items ≤ 50 → AreStored limits block pages → length (all_entries pages) ≤ 50 * length pages
 unfolding all_entries
 all_few limits block [] low stored = omega arith
 all_few limits block (page ∷ pages) low stored =
@@ -220,19 +220,19 @@ all_few limits block (page ∷ pages) low stored =
     let rest = all_few limits (suc block) pages low stored.1 in
     omega (arith, a, here, few, rest, low)
 
-one_few : (limits : Limits) (block : ℕ) (pages : List Page) (i : ℕ) → limits.items ≤ 50 → AreStored limits block pages → entry_count (slice_get pages i) ≤ 50
+one_few : (limits : Format) (block : ℕ) (pages : List Page) (i : ℕ) → limits.items ≤ 50 → AreStored limits block pages → entry_count (slice_get pages i) ≤ 50
 one_few limits block [] i low stored = omega arith
 one_few limits block (page ∷ pages) zero low stored = (let here = live_few page.state page.items in let few = stored.0.storable.few in omega (arith, here, few, low))
 one_few limits block (page ∷ pages) (suc i) low stored = one_few limits (suc block) pages i low stored.1
 
-below_few : (limits : Limits) (pages : List Page) (n : ℕ) → limits.items ≤ 50 → AreStored limits 0 pages → n ≤ length pages → entries_below pages n ≤ 50 * n
+below_few : (limits : Format) (pages : List Page) (n : ℕ) → limits.items ≤ 50 → AreStored limits 0 pages → n ≤ length pages → entries_below pages n ≤ 50 * n
 below_few limits pages zero low stored within = omega arith
 below_few limits pages (suc n) low stored within =
     let here = one_few limits 0 pages n low stored in
     let rest = below_few limits pages n low stored (omega (arith, within)) in
     omega (arith, here, rest)
 
-pub entries_few : (limits : Limits) (pages : List Page) (n : ℕ) → limits.items ≤ 50 → AreStored limits 0 pages → entries_below pages n ≤ 50 * length pages
+pub entries_few : (limits : Format) (pages : List Page) (n : ℕ) → limits.items ≤ 50 → AreStored limits 0 pages → entries_below pages n ≤ 50 * length pages
 entries_few limits pages zero low stored = omega arith
 entries_few limits pages (suc n) low stored = of (slice_get pages n) (entries_few limits pages n low stored) refl
   where
@@ -246,7 +246,7 @@ entries_few limits pages (suc n) low stored = of (slice_get pages n) (entries_fe
         omega (arith, all, within)
 
 -- what was removed of these pages' entries is not more than they have
-pub removed_few : (limits : Limits) (pages : List Page) (gone : List Entry) → limits.items ≤ 50 → AreStored limits 0 pages → IsDistinct same_entry gone → ((e : Entry) → is_among gone e ≡ true → entry_on_live_leaf pages e ≡ true)
+pub removed_few : (limits : Format) (pages : List Page) (gone : List Entry) → limits.items ≤ 50 → AreStored limits 0 pages → IsDistinct same_entry gone → ((e : Entry) → is_among gone e ≡ true → entry_on_live_leaf pages e ≡ true)
     → length gone ≤ 50 * length pages
 removed_few limits pages gone low stored once were =
     let all = all_few limits 0 pages low stored in

@@ -7,7 +7,7 @@ use Rattle.descent.specs.Shared.{MovesFlags}
 use Rattle.session_calls.specs.declared.op.Op.TheVariants.{Insert, Scan, Bulk, Cleanup}
 use Rattle.schedule.proofs.Bounds.{work_bounded}
 use Rattle.schedule.proofs.Lists.{get_set_same, get_within}
-use Rattle.whole_calls.proofs.Words.{Effect, Add, Shape, Action, contents_after, Ask, AskInsert, AskScan, AskBulkDelete, AskCleanup, Call, Entry, Limits, State, Ghosts, Page, DeadSets, acts_of, asked_of, add_of, IsAsked, MovesShape, add_after, work_in, OwesLess, Answer, Going, Op, Snapshot, IsRunningCall, EventDoes, Fits, slot_of, has_call, MovesCall, Steps, CallMoves, MovesOn, Laws}
+use Rattle.whole_calls.proofs.Words.{Effect, Add, Shape, Action, contents_after, Ask, AskInsert, AskScan, AskBulkDelete, AskCleanup, Call, Entry, Format, State, Ghosts, Page, DeadSets, acts_of, asked_of, add_of, IsAsked, MovesShape, add_after, work_in, OwesLess, Answer, Going, Op, Snapshot, IsRunningCall, EventDoes, Fits, slot_of, has_call, MovesCall, Steps, CallMoves, MovesOn, Laws}
 use Rattle.whole_calls.specs.Spending.{brought_by, acts_left, steps_left, TakesFewer}
 use Rattle.whole_calls.proofs.Given.{owes}
 use Rattle.whole_calls.proofs.Tellings.{runs_in_slot, one_runs}
@@ -102,7 +102,7 @@ module _ {S : Type 0} (g : Ghosts S) (start : Entry → Bool) (session : ℕ) (x
   fewer_left = steps_left now (slot_of y.slots session) < steps_left old (slot_of x.slots session)
 
   low_now : now.limits.pages ≤ 65536
-  low_now = subst (λ (l : Limits). l.pages ≤ 65536) (sym does.also.quiet.limits) low
+  low_now = subst (λ (l : Format). l.pages ≤ 65536) (sym does.also.quiet.limits) low
 
   -- the step leaves less
   less_by : OwesLess (slot_of x.slots session) old now → work_in now (slot_of y.slots session) < work_in old (slot_of x.slots session)

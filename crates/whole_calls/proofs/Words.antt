@@ -4,7 +4,7 @@ pub use Rattle.index_model.specs.Calls.{Ask, AskInsert, AskScan, AskBulkDelete, 
 pub use Rattle.index_model.specs.Faults.{HasCause, Circumstances}
 pub use Rattle.index_model.specs.declared.entry.Entry.{Entry}
 pub use Rattle.index_model.specs.declared.fault.Fault.{Fault}
-pub use Rattle.index_model.specs.declared.limits.Limits.{Limits}
+pub use Rattle.index_model.specs.declared.format.Format.{Format}
 pub use Rattle.page_action.specs.States.{State, IsLater, Continues, Backing}
 pub use Rattle.page_action.specs.declared.page_store.PageStore.{Ghosts}
 pub use Rattle.page_codec.specs.declared.page.Page.{Page}

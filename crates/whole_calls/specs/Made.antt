@@ -2,7 +2,7 @@
 use Rattle.std.specs.Prelude.{◌≡◌, ◌⊎◌, ℕ, ◌<◌, ◌≤◌, Option, Some, None, Result, Ok, Err, List, [], ◌∷◌, length}
 use Rattle.index_model.specs.declared.fault.Fault.{Fault}
 use Rattle.index_model.specs.declared.fault.Fault.TheVariants.{PageDamaged}
-use Rattle.index_model.specs.declared.limits.Limits.{Limits}
+use Rattle.index_model.specs.declared.format.Format.{Format}
 use Rattle.page_action.specs.States.{Backing}
 use Rattle.page_action.specs.declared.page_store.PageStore.{Ghosts}
 use Rattle.session_calls.specs.declared.answer.Answer.{Answer}
@@ -18,7 +18,7 @@ use Rattle.whole_calls.specs.declared.inserted.Inserted.{Inserted}
 
 -- the log's room is as an event asks: a checkpoint is made only where there is room for fewer images than these; a step only where there is
 -- room for so many, or the whole room; and nothing else is done for the store
-abbrev pub HasItsRoom : ℕ → Kind → Limits → Backing → Type 0
+abbrev pub HasItsRoom : ℕ → Kind → Format → Backing → Type 0
 HasItsRoom least_room (KeepsStore Checkpoints) limits backing = backing.room < least_room
 HasItsRoom least_room (KeepsStore upkeep) limits backing = ⊥
 HasItsRoom least_room (MovesCall session Steps) limits backing = RoomIsMade least_room limits backing

@@ -5,7 +5,7 @@ use Rattle.index_model.specs.Calls.{Ask, AskInsert, AskScan, AskBulkDelete, AskC
 use Rattle.index_model.specs.declared.fault.Fault.{Fault}
 use Rattle.index_model.specs.declared.fault.Fault.TheVariants.{NoSession, Exists}
 use Rattle.index_model.specs.declared.entry.Entry.{Entry}
-use Rattle.index_model.specs.declared.limits.Limits.{Limits}
+use Rattle.index_model.specs.declared.format.Format.{Format}
 use Rattle.page_action.specs.Room.{HasWholeRoom}
 use Rattle.page_action.specs.States.{Backing}
 use Rattle.session_calls.specs.Ops.{asked_of}
@@ -198,5 +198,5 @@ room_came (Ok made) = None
 room_came (Err fault) = Some (Refused fault)
 
 -- there is room for so many images, or the log is empty
-abbrev pub RoomIsMade : ℕ → Limits → Backing → Type 0
+abbrev pub RoomIsMade : ℕ → Format → Backing → Type 0
 RoomIsMade least limits backing = (least ≤ backing.room) ⊎ HasWholeRoom limits backing

@@ -2,7 +2,7 @@
 use Rattle.std.specs.Prelude.{◌≡◌, ℕ, zero, suc, ◌<◌, unwrap_or, Option, Some, None, List, [], ◌∷◌, length, replicate, slice_get, slice_index}
 use Rattle.std.proofs.Common.{refl, sym, ap, subst, ◌∙◌, arith}
 use Rattle.std.proofs.lemmas.List.{length-replicate}
-use Rattle.index_model.specs.declared.limits.Limits.{Limits}
+use Rattle.index_model.specs.declared.format.Format.{Format}
 use Rattle.latch_table.specs.Holdings.{Holding, nothing_held, holding_of, latches_exclude}
 use Rattle.latch_table.specs.declared.mode.Mode.TheVariants.{Exclusive}
 use Rattle.page_codec.specs.declared.page.Page.{Page}
@@ -39,7 +39,7 @@ none_runs : (start : ℕ) → IsStart (replicate 64 None) start → ⊥
 none_runs start is = (let none : Some start ≡ None = sym (ap (λ (o : Option (Option ℕ)). unwrap_or o None) is.is) ∙ all_same 64 is.session None in cc)
 
 -- pages that are a tree, each stored and counted, are in order as they are opened
-opened_unused : (limits : Limits) (frames : ℕ) (pages : List Page) (counted : List ℕ) (counter : ℕ) → IsTree pages → AreStored limits 0 pages → length counted ≡ length pages
+opened_unused : (limits : Format) (frames : ℕ) (pages : List Page) (counted : List ℕ) (counter : ℕ) → IsTree pages → AreStored limits 0 pages → length counted ≡ length pages
     → ((block : ℕ) → slice_index counted block ≡ 0) → IsUnused (opened_state limits frames pages counted counter)
 opened_unused limits frames pages counted counter tree stored count none = record {
   order = record {

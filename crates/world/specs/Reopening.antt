@@ -3,7 +3,7 @@ use Rattle.std.specs.Prelude.{◌≡◌, ℕ, ◌≤◌, Bool, false, List, [], 
 use Rattle.device.specs.declared.device.Device.{Ghosts as DeviceGhosts}
 use Rattle.index_model.specs.Actions.{Action}
 use Rattle.index_model.specs.declared.entry.Entry.{Entry}
-use Rattle.index_model.specs.declared.limits.Limits.{Limits}
+use Rattle.index_model.specs.declared.format.Format.{Format}
 use Rattle.index_model.specs.declared.dead_rows.DeadRows.{Ghosts as SetGhosts}
 use Rattle.page_action.specs.Contents.{entry_on_live_leaf}
 use Rattle.page_action.specs.declared.page_store.PageStore.{Ghosts}
@@ -18,7 +18,7 @@ use Rattle.world.specs.declared.world.World.{World}
 
 -- these bytes are an index whose pages are a B-link tree, with the contents after a first part of the history of at least
 -- so many actions
-pub record IsIndexAfterFirstPart (limits : Limits) (start : Entry → Bool) (history : List Action) (least : ℕ) (image : List ℕ) : Type 0 where
+pub record IsIndexAfterFirstPart (limits : Format) (start : Entry → Bool) (history : List Action) (least : ℕ) (image : List ℕ) : Type 0 where
   pub part : ℕ
   pub from : least ≤ part
   pub to : part ≤ length history
@@ -27,7 +27,7 @@ pub record IsIndexAfterFirstPart (limits : Limits) (start : Entry → Bool) (his
   pub are : ArePagesAfter start (take part history) pages
 
 -- a world of these limits, fitted by the contents of these pages, no action and no call, which keeps that history
-pub record BeginsWith {D T : Type 0} (d : DeviceGhosts D) (g : Ghosts (Store D d)) (rows : SetGhosts T) (limits : Limits) (pages : List Page) (world : World (Store D d) T) : Type 0 where
+pub record BeginsWith {D T : Type 0} (d : DeviceGhosts D) (g : Ghosts (Store D d)) (rows : SetGhosts T) (limits : Format) (pages : List Page) (world : World (Store D d) T) : Type 0 where
   pub limits_are : (state_of d world.store).limits ≡ limits
   pub fits : WorldFits g rows world (entry_on_live_leaf pages) [] []
   pub keeps : WorldKeeps g rows world (entry_on_live_leaf pages) [] []
@@ -39,7 +39,7 @@ world_device d (Err not_opened) = not_opened.device
 
 -- the world begins with the pages of an index that hold the contents after a first part of the history, of at least so
 -- many actions
-pub record BeginsAfterFirstPart {D T : Type 0} (d : DeviceGhosts D) (g : Ghosts (Store D d)) (rows : SetGhosts T) (limits : Limits) (start : Entry → Bool) (history : List Action) (least : ℕ) (world : World (Store D d) T) : Type 0 where
+pub record BeginsAfterFirstPart {D T : Type 0} (d : DeviceGhosts D) (g : Ghosts (Store D d)) (rows : SetGhosts T) (limits : Format) (start : Entry → Bool) (history : List Action) (least : ℕ) (world : World (Store D d) T) : Type 0 where
   pub part : ℕ
   pub from : least ≤ part
   pub to : part ≤ length history
@@ -48,7 +48,7 @@ pub record BeginsAfterFirstPart {D T : Type 0} (d : DeviceGhosts D) (g : Ghosts 
   pub begins : BeginsWith d g rows limits pages world
 
 -- the world begins with the pages of an empty index
-pub record BeginsEmpty {D T : Type 0} (d : DeviceGhosts D) (g : Ghosts (Store D d)) (rows : SetGhosts T) (limits : Limits) (world : World (Store D d) T) : Type 0 where
+pub record BeginsEmpty {D T : Type 0} (d : DeviceGhosts D) (g : Ghosts (Store D d)) (rows : SetGhosts T) (limits : Format) (world : World (Store D d) T) : Type 0 where
   pub pages : List Page
   pub empty : (e : Entry) → entry_on_live_leaf pages e ≡ false
   pub begins : BeginsWith d g rows limits pages world

@@ -2,7 +2,7 @@
 
 ghost use Rattle.std.specs.Prelude.{◌≡◌, ◌⊎◌, ◌≤◌, ◌<◌, suc, List, IsTrue, IfOk, IfErr, OnOk, MatchResult, length};
 ghost use Rattle.device.specs.Moments.{Goes};
-ghost use Rattle.index_model.specs.declared.limits.Limits.{Limits};
+ghost use Rattle.index_model.specs.declared.format.Format.{Format};
 ghost use Rattle.page_codec.specs.declared.page.Page.{Page};
 ghost use Rattle.page_store.specs.Restart.{LeavesPages};
 ghost use Rattle.page_store.specs.Stores.{state_of};
@@ -48,14 +48,14 @@ impl<D: Device, T: DeadRows + Drop> World<Store<D>, T> {
         // An index whose pages are a B-link tree is opened with them, or refused for want of memory or of the device.
         ensures begins { IsTrue (D.is_honest (world_device D.Device result))
             → AreFrames frames → 1 ≤ sessions → sessions ≤ 64
-            → (limits : Limits) (pages : List Page)
+            → (limits : Format) (pages : List Page)
             → HasIndex limits pages (D.trace device).now.seen → IsTree pages
             → MatchResult result
             (BeginsWith D.Device ⟦<Store<D> as PageStore>⟧ T.DeadRows limits pages)
             (λ not_opened. IsNoMemoryOrIo not_opened.fault) }
         // A crash at each moment since leaves the same index, whatever was answered.
         ensures moments { IsTrue (D.is_honest (world_device D.Device result))
-            → (limits : Limits) (pages : List Page)
+            → (limits : Format) (pages : List Page)
             → HasIndex limits pages (D.trace device).now.seen
             → Goes (LeavesPages limits pages) (D.trace device)
             (D.trace (world_device D.Device result)) }

@@ -61,7 +61,7 @@ fn into_narrow(
         &mut input,
         &mut out,
         &mut err,
-    );
+    ).status;
     let out = out.taken;
     Printed { out, err, status }
 }
@@ -78,7 +78,7 @@ fn output_fails(rt: HostRuntime) -> Result<(), Fail> {
     Ok(())
 }
 
-/// More lines than the buffer of the output holds come out whole, also where a line is no event.
+/// Very many lines come out whole, also where a line is no event.
 #[test]
 fn long_output(rt: HostRuntime) -> Result<(), Fail> {
     let mut script = String::new(rt.alloc());

@@ -145,7 +145,7 @@ fn on_no_chain(rt: HostRuntime) -> Result<(), Fail> {
     let path = "btidx_damage_11.idx";
     let leaf: [Patch<'_>; 1] = [(
         86_016,
-        b"BLP1\x04\0\0\0\x02\0\0\0\xff\xff\xff\xff\xff\xff\xff\xff",
+        b"BLP2\x04\0\0\0\x02\0\0\0\xff\xff\xff\xff\xff\xff\xff\xff",
     )];
     let sound = "ok levels=2 pages=5 entries=5 halfdead=0 deleted=0 unfinished=0\n";
     is_found_of_parents(&rt, path, &FIVE, &leaf, sound, "damage 11 block 4\n")

@@ -32,7 +32,7 @@ refused 5
 # The pages: the metapage leads to the root, the root to the leaves, and each leaf to its right sibling.
 > dump
 0 meta root=3 level=1
-1 leaf live left=- right=2 high=63 (0,3) split=0 cycle=0 n=3
+1 leaf live left=- right=2 high=64 before split=0 cycle=0 n=3
   61 (0,1)
   62 (0,2)
   63 (0,3)
@@ -41,7 +41,7 @@ refused 5
   65 (0,5)
 3 internal level=1 left=- right=- high=- split=0 n=2
   * -> 1
-  63 (0,3) -> 2
+  64 before -> 2
 # All six actions are made durable.
 > force
 forced 6
@@ -72,7 +72,7 @@ going
 ended
 > dump
 0 meta root=1 level=0
-1 leaf live left=- right=2 high=63 (0,3) split=1 cycle=0 n=3
+1 leaf live left=- right=2 high=64 before split=1 cycle=0 n=3
   61 (0,1)
   62 (0,2)
   63 (0,3)
@@ -93,7 +93,7 @@ done 5
 added 7
 > dump
 0 meta root=3 level=1
-1 leaf live left=- right=2 high=63 (0,3) split=0 cycle=0 n=3
+1 leaf live left=- right=2 high=64 before split=0 cycle=0 n=3
   61 (0,1)
   62 (0,2)
   63 (0,3)
@@ -103,7 +103,7 @@ added 7
   66 (0,6)
 3 internal level=1 left=- right=- high=- split=0 n=2
   * -> 1
-  63 (0,3) -> 2
+  64 before -> 2
 ";
 
 const HALF_DEAD: &str =
@@ -173,11 +173,11 @@ going
 ended
 > dump
 0 meta root=3 level=1
-1 leaf halfdead left=- right=4 high=63 (0,3) split=0 cycle=0 n=0
+1 leaf halfdead left=- right=4 high=64 before split=0 cycle=0 n=0
 2 leaf deleted right=4 number=11
 3 internal level=1 left=- right=- high=- split=0 n=1
   * -> 4
-4 leaf live left=1 right=5 high=69 (0,9) split=1 cycle=0 n=3
+4 leaf live left=1 right=5 high=6a before split=1 cycle=0 n=3
   67 (0,7)
   68 (0,8)
   69 (0,9)

@@ -101,13 +101,13 @@ fn fresh_file(rt: HostRuntime) -> Result<(), Fail> {
     create(&rt, path)?;
     let bytes = fs::read(&rt, path)?;
     assert_eq!(rt; bytes.len(), 331_776);
-    let superblock = b"BLINKIDX\x01\0\0\0\x04\0\0\0\x40\0\0\0\0\0\x01\0";
+    let superblock = b"BLINKIDX\x02\0\0\0\x04\0\0\0\x40\0\0\0\0\0\x01\0";
     assert!(rt; stand(bytes.as_slice(), 0, superblock));
     assert!(rt; are_zeros(bytes.as_slice(), 24, 4_097));
-    let metapage = b"BLP1\0\0\0\0\x01\0\0\0\xff\xff\xff\xff\x01\0\0\0";
+    let metapage = b"BLP2\0\0\0\0\x01\0\0\0\xff\xff\xff\xff\x01\0\0\0";
     assert!(rt; stand(bytes.as_slice(), 69_632, metapage));
     assert!(rt; are_zeros(bytes.as_slice(), 69_652, 73_728));
-    let leaf = b"BLP1\x01\0\0\0\x02\0\0\0\xff\xff\xff\xff\xff\xff\xff\xff";
+    let leaf = b"BLP2\x01\0\0\0\x02\0\0\0\xff\xff\xff\xff\xff\xff\xff\xff";
     assert!(rt; stand(bytes.as_slice(), 73_728, leaf));
     assert!(rt; are_zeros(bytes.as_slice(), 73_748, 331_776));
     checks(&rt, path, FRESH, 0)?;
@@ -166,7 +166,8 @@ fn refused_files(rt: HostRuntime) -> Result<(), Fail> {
 #[test]
 fn altered_files(rt: HostRuntime) -> Result<(), Fail> {
     let path = "btidx_altered.idx";
-    let altered: [(u64, &[u8], &str); 6] = [
+    let altered: [(u64, &[u8], &str); 7] = [
+        (8, &[0, 0, 0, 0], "btidx: refused 15 BadVersion\n"),
         (8, &[3, 0, 0, 0], "btidx: refused 15 BadVersion\n"),
         (28, &[1], "btidx: refused 14 BadSuper\n"),
         // The number of items.
@@ -221,7 +222,7 @@ fn two_levels(rt: HostRuntime) -> Result<(), Fail> {
         ["btidx", "dump", path].as_slice(),
         "",
         "0 meta root=3 level=1
-1 leaf live left=- right=2 high=63 (0,3) split=0 cycle=0 n=3
+1 leaf live left=- right=2 high=64 before split=0 cycle=0 n=3
   61 (0,1)
   62 (0,2)
   63 (0,3)
@@ -230,7 +231,7 @@ fn two_levels(rt: HostRuntime) -> Result<(), Fail> {
   65 (0,5)
 3 internal level=1 left=- right=- high=- split=0 n=2
   * -> 1
-  63 (0,3) -> 2
+  64 before -> 2
 ",
         "",
         0,

@@ -106,7 +106,7 @@ entry 62 (0,2)
 entry 63 (0,3)
 done 2
 0 meta root=3 level=1
-1 leaf live left=- right=2 high=63 (0,3) split=0 cycle=0 n=3
+1 leaf live left=- right=2 high=64 before split=0 cycle=0 n=3
   61 (0,1)
   62 (0,2)
   63 (0,3)
@@ -115,7 +115,7 @@ done 2
   65 (0,5)
 3 internal level=1 left=- right=- high=- split=0 n=2
   * -> 1
-  63 (0,3) -> 2
+  64 before -> 2
 ",
         "",
         0,
@@ -143,7 +143,7 @@ added 4
 added 5
 forced 6
 0 meta root=3 level=1
-1 leaf live left=- right=2 high=63 (0,3) split=0 cycle=0 n=3
+1 leaf live left=- right=2 high=64 before split=0 cycle=0 n=3
   61 (0,1)
   62 (0,2)
   63 (0,3)
@@ -152,7 +152,7 @@ forced 6
   65 (0,5)
 3 internal level=1 left=- right=- high=- split=0 n=2
   * -> 1
-  63 (0,3) -> 2
+  64 before -> 2
 ",
         "",
         0,

@@ -55,7 +55,7 @@ fn put_entry(page: &mut [u8; 4_096], at: usize, leaf: u32) {
 
 /// Writes what all pages begin with: the block, the kind, the level and the links.
 fn put_head(page: &mut [u8; 4_096], block: u32, kind: u8, level: u8, left: u32, right: u32) {
-    put(page, 0, b"BLP1");
+    put(page, 0, b"BLP2");
     put(page, 4, &block.to_le_bytes());
     put(page, 8, &[kind, level]);
     put(page, 12, &left.to_le_bytes());

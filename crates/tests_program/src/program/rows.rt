@@ -48,14 +48,14 @@ ended
 forced 12
 > dump
 0 meta root=3 level=1
-1 leaf live left=- right=2 high=63 (0,3) split=0 cycle=0 n=3
+1 leaf live left=- right=2 high=64 before split=0 cycle=0 n=3
   61 (0,1)
   62 (0,2)
   63 (0,3)
-2 leaf halfdead left=1 right=4 high=66 (0,6) split=0 cycle=0 n=0
+2 leaf halfdead left=1 right=4 high=67 before split=0 cycle=0 n=0
 3 internal level=1 left=- right=- high=- split=0 n=2
   * -> 1
-  63 (0,3) -> 4
+  64 before -> 4
 4 leaf live left=2 right=- high=- split=0 cycle=0 n=2
   67 (0,7)
   68 (0,8)
@@ -142,12 +142,22 @@ added 18
 added 19
 > put 0 63 (0,3)
 added 21
+> put 0 5f (0,9)
+added 22
+> run 1
+ready 0
+> next 1
+none
 > run 1
 ready 2
 > next 1
 entry 67 (0,7)
 > next 1
 entry 68 (0,8)
+> next 1
+none
+> run 1
+done
 ";
 
 /// A deleted page isn't used again while an insert runs that may still come to it.
@@ -212,6 +222,56 @@ entry 6b (0,11)
 done 6
 ";
 
+/// Keys that differ at the cut are parted by the shortest beginning of the right one that is greater than the left one.
+const SHORTENED: &str = "> put 0 6161 (0,1)
+added 1
+> put 0 6162 (0,2)
+added 2
+> put 0 6163 (0,3)
+added 3
+> put 0 6262 (0,4)
+added 4
+> put 0 6263 (0,5)
+added 5
+> dump
+0 meta root=3 level=1
+1 leaf live left=- right=2 high=62 before split=0 cycle=0 n=3
+  6161 (0,1)
+  6162 (0,2)
+  6163 (0,3)
+2 leaf live left=1 right=- high=- split=0 cycle=0 n=2
+  6262 (0,4)
+  6263 (0,5)
+3 internal level=1 left=- right=- high=- split=0 n=2
+  * -> 1
+  62 before -> 2
+";
+
+/// Rows of one key at the cut are parted by the last entry of the left half.
+const EQUAL_KEYS: &str = "> put 0 61 (0,1)
+added 1
+> put 0 61 (0,2)
+added 2
+> put 0 61 (0,3)
+added 3
+> put 0 61 (0,4)
+added 4
+> put 0 61 (0,5)
+added 5
+> dump
+0 meta root=3 level=1
+1 leaf live left=- right=2 high=61 (0,3) split=0 cycle=0 n=3
+  61 (0,1)
+  61 (0,2)
+  61 (0,3)
+2 leaf live left=1 right=- high=- split=0 cycle=0 n=2
+  61 (0,4)
+  61 (0,5)
+3 internal level=1 left=- right=- high=- split=0 n=2
+  * -> 1
+  61 (0,3) -> 2
+";
+
 /// One bulk delete or cleanup runs at a time.
 const BESIDE: &str = "> bulk 1 (0,1)
 begun
@@ -244,5 +304,7 @@ fn rows(rt: HostRuntime) -> Result<(), Fail> {
         let [first, second, third] = parts;
         plays(&rt, [EIGHT, first, second, third].as_slice())?;
     }
+    plays(&rt, [SHORTENED].as_slice())?;
+    plays(&rt, [EQUAL_KEYS].as_slice())?;
     plays(&rt, [BESIDE].as_slice())
 }

@@ -2,7 +2,7 @@ use Rattle.std.proofs.Common.{ℕ, List, sym, ap, subst, ◌∙◌}
 use Rattle.std.proofs.lemmas.Result.{IfErr-weaker, on_ok_weaker}
 use Rattle.device.specs.Disk.{MayLeave}
 use Rattle.index_model.specs.Actions.{Action}
-use Rattle.index_model.specs.declared.limits.Limits.{Limits}
+use Rattle.index_model.specs.declared.format.Format.{Format}
 use Rattle.page_store.specs.Crashing.{left_now}
 use Rattle.page_store.specs.Following.{follows_same}
 use Rattle.page_store.specs.Stores.{state_of, held_by}
@@ -26,7 +26,7 @@ returns-clause-stands g c =
     let same = sym store.held.log_limits ∙ on.limits ∙ old.held.log_limits in
     let there = subst (λ x. MayLeave (d.trace x).now image) device may in
     let left = left_index d store store kept.own (follows_same (held_by d store)) start run.then_history run.ran.fits.explains.count kept.parts image (left_now (held_by d store) image there) in
-    subst (λ (limits : Limits). IsIndexAfterFirstPart limits start history n image) same
+    subst (λ (limits : Format). IsIndexAfterFirstPart limits start history n image) same
     (subst (λ (m : ℕ). IsIndexAfterFirstPart (state_of d store).limits start history m image) (durable ∙ sym number)
     (subst (λ (actions : List Action). IsIndexAfterFirstPart (state_of d store).limits start actions (held_by d store).durable image) run.tells.history_is left)))
     c.checkpoint-written.ensures.number c.checkpoint-written.ensures.durable

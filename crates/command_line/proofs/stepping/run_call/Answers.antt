@@ -1,5 +1,5 @@
 use Rattle.std.proofs.Common.{◌≡◌, ◌≤◌, ◌∙◌, refl, sym, subst, arith, rules}
-use Rattle.index_model.specs.declared.limits.Limits.{Limits}
+use Rattle.index_model.specs.declared.format.Format.{Format}
 use Rattle.session_calls.specs.declared.answer.Answer.TheVariants.{Going}
 use Rattle.command_line.proofs.Stepped.{gone_nowhere, gone_then, gone_more, within_more, within_some}
 use Rattle.command_line.proofs.stepping.run_call.Goals as goal
@@ -17,7 +17,7 @@ pub loop-left-preserved : goal.loop-left-preserved
 loop-left-preserved g c =
     let old = c.loop-left.invariant in
     let going : c.one.result ≡ Going = search rules in
-    let low = subst (λ (l : Limits). l.pages ≤ 65536) (sym old.limits) c.requires.pages in
+    let low = subst (λ (l : Format). l.pages ≤ 65536) (sym old.limits) c.requires.pages in
     record {
       steps = λ first h. c.one.ensures.steps first (old.steps first h);
       limits = c.one.ensures.always.kept.limits ∙ old.limits;

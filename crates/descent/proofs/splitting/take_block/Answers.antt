@@ -1,6 +1,5 @@
-use Rattle.std.proofs.Common.{arith, true, ◌≡◌, ◌<◌, ◌≤◌, ap, sym, subst}
+use Rattle.std.proofs.Common.{arith, true, ◌<◌, ◌≤◌, sym, subst}
 use Rattle.index_model.specs.Faults.{HasCause}
-use Rattle.index_model.specs.declared.limits.Limits.{Limits}
 use Rattle.page_action.specs.States.{State}
 use Rattle.descent.specs.Shared.{where_working}
 use Rattle.descent.proofs.Blocks.{fresh_past_meta}
@@ -11,10 +10,9 @@ pub returns-in-Ok-ask_for-clause-block : goal.returns-in-Ok-ask_for-clause-block
 returns-in-Ok-ask_for-clause-block g c some =
     let st : State = g.S.PageStore.state c.args.store.now in
     let fresh = c.in-Ok.ensures.fresh in
-    let most : c.limits-limits.result.pages ≡ st.limits.pages = ap (λ (l : Limits). l.pages) c.limits-limits.ensures.value in
-    let few : c.limits-limits.result.pages ≤ 65536 = c.limits-limits.ensures.allowed.pages_to in
+    let few : st.limits.pages ≤ 65536 = c.limits-limits.ensures.allowed.pages_to in
     let inside : c.in-Ok.block < st.limits.pages = fresh.inside in
-    (fresh_past_meta st c.in-Ok.block (g.met.S.PageStore.laws.stored c.args.store.now) some fresh, omega (arith, most))
+    (fresh_past_meta st c.in-Ok.block (g.met.S.PageStore.laws.stored c.args.store.now) some fresh, omega arith)
 
 pub returns-in-Err-clause-cause : goal.returns-in-Err-clause-cause
 returns-in-Err-clause-cause g c room images frames splits =

@@ -1,5 +1,4 @@
-use Rattle.std.proofs.Common.{◌≡◌, ◌∙◌, ap, sym, arith, inl, inr, Ok, Err, Some, None}
-use Rattle.access_method.specs.declared.index.Index.{Index}
+use Rattle.std.proofs.Common.{◌≡◌, ◌∙◌, ap, arith, inl, inr, Ok, Err, Some, None}
 use Rattle.ledger.specs.Calls.{IsGive}
 use Rattle.ledger.proofs.Given.{answered, given_more, stays_open}
 use Rattle.ledger.proofs.calls.list_scan.Goals as goal

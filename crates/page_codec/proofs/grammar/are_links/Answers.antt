@@ -7,6 +7,7 @@ use Rattle.page_codec.proofs.grammar.are_links.Goals as goal
 
 pub loop-rest-preserved : goal.loop-rest-preserved
 loop-rest-preserved c =
+    let layout = c.args.layout in
     let high = c.args.high.now in
     let rest = c.loop-rest.rest.now in
     let first = c.first-item.result in
@@ -14,6 +15,6 @@ loop-rest-preserved c =
     let valid = c.is_downlink.ensures.0 c.if-not-is_downlink.false in
     let place = c.is_link_in_place.ensures.0 c.if-not-is_link_in_place.false in
     record {
-      whole = λ h. c.loop-rest.invariant.whole (subst (λ (ds : List Downlink). AreLinks high ds) (sym parts) (links_more high first (behind rest) valid place h));
-      part = λ h. links_rest high first (behind rest) (subst (λ (ds : List Downlink). AreLinks high ds) parts (c.loop-rest.invariant.part h));
+      whole = λ h. c.loop-rest.invariant.whole (subst (λ (ds : List Downlink). AreLinks layout high ds) (sym parts) (links_more layout high first (behind rest) valid place h));
+      part = λ h. links_rest layout high first (behind rest) (subst (λ (ds : List Downlink). AreLinks layout high ds) parts (c.loop-rest.invariant.part h));
     }

@@ -1,8 +1,8 @@
-use Rattle.std.proofs.Common.{ℕ, ◌+◌, ◌-◌, ◌*◌, ◌≤◌, arith}
+use Rattle.std.proofs.Common.{ℕ, ◌+◌, ◌-◌, ◌*◌, arith}
 use Rattle.device.specs.Moments.{Goes}
 use Rattle.device.specs.Places.{ChangesOnly}
 use Rattle.device_layout.specs.Layout.{place}
-use Rattle.index_model.specs.declared.limits.Limits.{Limits}
+use Rattle.index_model.specs.declared.format.Format.{Format}
 use Rattle.recovery.proofs.Creating.{only_now, wider_goes, more_goes, synced_goes, body_made}
 use Rattle.recovery.proofs.creation.place_body.Given.{Over}
 use Rattle.recovery.proofs.creation.place_body.Goals.{After-place, After-place_pages}
@@ -11,7 +11,7 @@ use Rattle.recovery.proofs.Outside.{untouched_on, sync_untouched, gate_keeps, pa
 use Rattle.recovery.proofs.creation.place_body.Goals as goal
 
 -- the bytes behind the superblock
-abbrev behind : Limits → ℕ
+abbrev behind : Format → ℕ
 behind limits = limits.log_bytes + 4096 * limits.pages
 
 -- the gate is one of them

@@ -1,5 +1,5 @@
 use Rattle.std.proofs.Common.{◌≡◌, ◌∙◌, ℕ, Bool, true, IsTrue, List, sym, ap, subst}
-use Rattle.index_model.specs.declared.limits.Limits.{Limits}
+use Rattle.index_model.specs.declared.format.Format.{Format}
 use Rattle.page_action.specs.States.{State}
 use Rattle.page_codec.specs.declared.page.Page.{Page}
 use Rattle.page_store.specs.Logged.{StandsOpened}
@@ -30,9 +30,9 @@ stands_on honest st old new parts is found limits_are pages_are =
     let all = found.restored.read in
     let same : st.limits ≡ found.limits = limits_are ∙ all.read.limits_are in
     record {
-      front = subst (λ (limits : Limits). IsFront limits old) (sym same) (found.front is);
-      undamaged = subst (λ (limits : Limits). HasGroups limits old) (sym same) (found.undamaged is);
-      in_use = subst (λ (limits : Limits). AreInUse limits st.pages new) (sym same)
+      front = subst (λ (limits : Format). IsFront limits old) (sym same) (found.front is);
+      undamaged = subst (λ (limits : Format). HasGroups limits old) (sym same) (found.undamaged is);
+      in_use = subst (λ (limits : Format). AreInUse limits st.pages new) (sym same)
           (subst (λ (pages : List Page). AreInUse found.limits pages new) (sym pages_are)
           (record { stored = all.read.stored; few = all.few; stand = all.read.stand is; end = all.end is }));
     }
@@ -47,7 +47,7 @@ returns-in-Ok-clause-read g c = λ honest.
 seen_on : (honest : Bool) (old : List ℕ) (m : Moment) (parts : Parts) → honest ≡ true → IsFound honest old m.seen parts → AreSeen (limits_of_room parts.found.room) (pages_of_room parts.found.room) m
 seen_on honest old m parts is found =
     let all = found.restored.read in
-    subst (λ (limits : Limits). AreSeen limits (pages_of_room parts.found.room) m) (sym all.read.limits_are)
+    subst (λ (limits : Format). AreSeen limits (pages_of_room parts.found.room) m) (sym all.read.limits_are)
     (seen_of found.limits (pages_of_room parts.found.room) m all.read.stored all.few found.long (all.read.stand is))
 
 pub new-requires-clause-seen : goal.new-requires-clause-seen

@@ -1,7 +1,7 @@
 use Rattle.std.proofs.Common.{◌≡◌, ◌≤◌, List, ⊎_elim, inl, inr, length, sym, ap, subst, arith}
 use Rattle.device.specs.Disk.{Trace}
 use Rattle.device.specs.Moments.{Goes}
-use Rattle.index_model.specs.declared.limits.Limits.{Limits}
+use Rattle.index_model.specs.declared.format.Format.{Format}
 use Rattle.device_layout.specs.Layout.{place}
 use Rattle.page_store.specs.Restart.{LeavesPages, RestartsTo}
 use Rattle.page_codec.specs.declared.page.Page.{Page}
@@ -23,11 +23,11 @@ returns-in_err-limits-clause-cause g c =
     (⊎_elim (λ io. inl io) (λ front. inr (inl (front.0, c.find_limits.ensures.calls.trace), front.1)) c.in_err-limits.ensures.cause)
 
 -- the index, by the sizes that were found
-index_found : (g : Over) (c : After-restore g) (limits : Limits) (pages : List Page) → c.in_ok-limits.limits ≡ limits → HasIndex limits pages (g.D.Device.trace c.args.device.now).now.seen
+index_found : (g : Over) (c : After-restore g) (limits : Format) (pages : List Page) → c.in_ok-limits.limits ≡ limits → HasIndex limits pages (g.D.Device.trace c.args.device.now).now.seen
     → RestartsTo c.in_ok-limits.limits (g.D.Device.trace c.find_limits.new.device).now.seen pages
 index_found g c limits pages is index =
     subst (λ (u : Trace). RestartsTo c.in_ok-limits.limits u.now.seen pages) (sym c.find_limits.ensures.calls.trace)
-    (subst (λ (l : Limits). RestartsTo l (g.D.Device.trace c.args.device.now).now.seen pages) (sym is) index.restarts)
+    (subst (λ (l : Format). RestartsTo l (g.D.Device.trace c.args.device.now).now.seen pages) (sym is) index.restarts)
 
 pub returns-clause-same : goal.returns-clause-same
 returns-clause-same g c = λ honest frames limits pages index.
@@ -42,7 +42,7 @@ returns-clause-moments g c = λ honest limits pages index.
     let found = c.in_ok-limits.limits in
     let is = one_front found limits t.now.seen (c.in_ok-limits.ensures.front (c.restore.ensures.calls.honest honest)) (front_of limits pages t.now.seen index) in
     let moments = c.restore.ensures.moments honest pages (index_found g (goal.at.returns-clause-moments g c).After-restore limits pages is index) in
-    subst (λ (l : Limits). Goes (LeavesPages l pages) t v) is (subst (λ (u : Trace). Goes (LeavesPages found pages) u v) c.find_limits.ensures.calls.trace moments)
+    subst (λ (l : Format). Goes (LeavesPages l pages) t v) is (subst (λ (u : Trace). Goes (LeavesPages found pages) u v) c.find_limits.ensures.calls.trace moments)
 
 pub returns-clause-cause : goal.returns-clause-cause
 returns-clause-cause g c =

@@ -2,7 +2,7 @@ use Rattle.std.proofs.Common.{◌∙◌, IsTrue, Err, List, length, ap, subst, a
 use Rattle.device.specs.Disk.{Trace}
 use Rattle.device.specs.Moments.{Goes}
 use Rattle.device.proofs.Going.{goes_on, goes_weaker}
-use Rattle.index_model.specs.declared.limits.Limits.{Limits}
+use Rattle.index_model.specs.declared.format.Format.{Format}
 use Rattle.page_codec.specs.declared.page.Page.{Page}
 use Rattle.page_store.specs.Restart.{RestartsTo, LeavesPages}
 use Rattle.recovery.specs.Homing.{ChangesNamed, AreHomed}
@@ -56,7 +56,7 @@ returns-in_err-bring_home-clause-moments g c = λ honest firm pages restarts.
 pub reset-requires : goal.reset-requires
 reset-requires g c =
     let is = c.in-Ok.ensures.opened.limits_are in
-    record { range = omega (arith, ap (λ (l : Limits). l.log_bytes) is, c.bring_home.ensures.calls.len, ap (λ (t : Trace). length t.now.seen) c.replay.ensures.trace, c.requires.inside) }
+    record { range = omega (arith, ap (λ (l : Format). l.log_bytes) is, c.bring_home.ensures.calls.len, ap (λ (t : Trace). length t.now.seen) c.replay.ensures.trace, c.requires.inside) }
 
 -- the same while the log is closed, and it stands then
 module _ (g : Over) (c : After-reset g) where
@@ -105,7 +105,7 @@ returns-in_err-bring_home-clause-outside g c = home_inside g (goal.at.returns-in
 
 reset_inside : (g : Over) (c : After-reset g) → ChangesBehindFront c.args.limits (g.D.Device.trace c.args.device.now) (g.D.Device.trace c.reset.new.device)
 reset_inside g c =
-    let range = subst (λ (limits : Limits). ChangesItsRange limits (g.D.Device.trace c.bring_home.new.device) (g.D.Device.trace c.reset.new.device)) c.in-Ok.ensures.opened.limits_are c.reset.ensures.outside in
+    let range = subst (λ (limits : Format). ChangesItsRange limits (g.D.Device.trace c.bring_home.new.device) (g.D.Device.trace c.reset.new.device)) c.in-Ok.ensures.opened.limits_are c.reset.ensures.outside in
     behind_on c.args.limits _ _ _ (home_inside g (found g c)) (log_inside c.args.limits _ _ range)
 
 pub returns-in_err-reset-clause-outside : goal.returns-in_err-reset-clause-outside

@@ -1,7 +1,7 @@
 use Rattle.std.proofs.Common.{◌≡◌, ◌⊎◌, ◌<◌, ◌≤◌, ◌∙◌, ℕ, Bool, IsTrue, List, Some, length, inl, inr, sym, ap, subst, arith, length-append, [], ◌∷◌}
 use Rattle.index_model.specs.declared.fault.Fault.{Fault}
 use Rattle.index_model.specs.declared.fault.Fault.TheVariants.{IndexFull, PageDamaged}
-use Rattle.index_model.specs.declared.limits.Limits.{Limits}
+use Rattle.index_model.specs.declared.format.Format.{Format}
 use Rattle.page_action.specs.Stored.{IsStored}
 use Rattle.page_codec.specs.declared.page.Page.{Page}
 use Rattle.page_store.specs.Rooms.{limits_of_room, pages_of_room}
@@ -14,12 +14,12 @@ use Rattle.recovery.proofs.reading.add_pages.Goals.{In-Some}
 use Rattle.recovery.proofs.reading.add_pages.Goals as goal
 
 -- the page was not taken: it isn't one that may be stored there
-not_taken : (limits : Limits) (before after : Bool) (file : List ℕ) (found : Found) (page : Page) (block fails failed : ℕ) (e : Fault) → (IsTrue after → IsTrue before) → HasReadPages limits before file found → length (pages_of_room found.room) ≡ block → block < limits.pages
+not_taken : (limits : Format) (before after : Bool) (file : List ℕ) (found : Found) (page : Page) (block fails failed : ℕ) (e : Fault) → (IsTrue after → IsTrue before) → HasReadPages limits before file found → length (pages_of_room found.room) ≡ block → block < limits.pages
     → fails ≡ failed → (IsTrue after → AreBytesOf (Some page) (block_bytes limits block file))
     → ((e ≡ IndexFull) × ((limits_of_room found.room).pages ≤ length (pages_of_room found.room))) ⊎ ((e ≡ PageDamaged (length (pages_of_room found.room))) × (IsStored (limits_of_room found.room) (length (pages_of_room found.room)) page → ⊥))
     → IsIoOr (IsDamage limits after file) failed fails e
 not_taken limits before after file found page block fails failed e earlier read count within same here (inl full) =
-    absurd (omega (arith, full.1, ap (λ (l : Limits). l.pages) read.limits_are, count, within))
+    absurd (omega (arith, full.1, ap (λ (l : Format). l.pages) read.limits_are, count, within))
 not_taken limits before after file found page block fails failed e earlier read count within same here (inr wrong) =
     let used = length (pages_of_room found.room) in
     inr (
@@ -28,7 +28,7 @@ not_taken limits before after file found page block fails failed e earlier read 
         wrong.0,
         λ honest. damaged_here limits before file found page read (earlier honest) (omega (arith, count, within))
             (subst (λ (b : ℕ). AreBytesOf (Some page) (block_bytes limits b file)) (sym count) (here honest))
-            (subst (λ (l : Limits). IsStored l used page → ⊥) read.limits_are wrong.1),
+            (subst (λ (l : Format). IsStored l used page → ⊥) read.limits_are wrong.1),
       ),
       same,
     )
@@ -52,7 +52,7 @@ loop-block-preserved g c =
     let so_far = c.loop-block.invariant in
     let limits = c.args.limits in
     let page = page_read g (goal.at.loop-block-preserved g c).In-Some in
-    let stored = subst (λ (l : Limits). IsStored l (length (pages_of_room c.loop-block.found.room)) c.in-Some.page) so_far.read.limits_are c.in_ok-add.ensures.stored in
+    let stored = subst (λ (l : Format). IsStored l (length (pages_of_room c.loop-block.found.room)) c.in-Some.page) so_far.read.limits_are c.in_ok-add.ensures.stored in
     record {
       read = read_more limits (g.D.Device.is_honest c.loop-block.device) (g.D.Device.is_honest c.read_page.new.device) _ c.loop-block.found _ c.in-Some.page c.read_page.ensures.calls.honest so_far.read c.add.ensures.limits
           c.in_ok-add.ensures.done c.in_ok-add.ensures.counts stored c.max-found.ensures

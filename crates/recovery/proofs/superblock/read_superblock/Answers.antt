@@ -1,9 +1,9 @@
 use Rattle.std.proofs.Common.{rules, ◌≡◌, ◌∙◌, take, sym, ap, subst, Ok}
 use Rattle.index_model.specs.Limits.{AreLimits}
-use Rattle.index_model.specs.declared.limits.Limits.{Limits}
-use Rattle.recovery.specs.Superblock.{number_at}
+use Rattle.index_model.specs.declared.format.Format.{Format}
+use Rattle.recovery.specs.Superblock.{number_at, layout_of, IsLayout}
 use Rattle.device_layout.specs.Layout.{magic, superblock}
-use Rattle.recovery.proofs.Spelling.{layout_spelled, sizes_read, magic_spelled}
+use Rattle.recovery.proofs.Spelling.{layout_spelled, is_layout, sizes_read, magic_spelled}
 use Rattle.recovery.proofs.superblock.read_superblock.Goals.{After-number_at-4}
 use Rattle.recovery.proofs.superblock.read_superblock.Goals as goal
 
@@ -12,13 +12,13 @@ returns-then-ne-clause-only c = λ limits are is.
     let e : take 8 c.args.bytes.now ≡ magic = ap (take 8) is ∙ magic_spelled limits in
     search rules
 
-pub returns-then-number_at-ne1-clause-only : goal.returns-then-number_at-ne1-clause-only
-returns-then-number_at-ne1-clause-only c = λ limits are is.
-    absurd (c.if-number_at-ne1.true (c.number_at.ensures ∙ (ap (number_at 8) is ∙ layout_spelled limits)))
+pub returns-in_default-clause-only : goal.returns-in_default-clause-only
+returns-in_default-clause-only c = λ limits are is.
+    absurd (c.in_default.ensures.none (subst IsLayout (sym (c.number_at.ensures ∙ (ap (number_at 8) is ∙ layout_spelled limits))) (is_layout limits.layout)))
 
 -- the sizes that were read
-read : (c : After-number_at-4) (limits : Limits) → AreLimits limits → c.args.bytes.now ≡ superblock limits → record { items = c.number_at-2.result; pages = c.number_at-3.result; log_bytes = c.number_at-4.result } ≡ limits
-read c limits are is = sizes_read c.args.bytes.now limits _ _ _ are is c.number_at-2.ensures c.number_at-3.ensures c.number_at-4.ensures
+read : (c : After-number_at-4) (limits : Format) → AreLimits limits → c.args.bytes.now ≡ superblock limits → record { layout = c.in-Some.layout; items = c.number_at-2.result; pages = c.number_at-3.result; log_bytes = c.number_at-4.result } ≡ limits
+read c limits are is = sizes_read c.args.bytes.now limits _ _ _ _ are is (c.in-Some.ensures.found.1 ∙ ap layout_of c.number_at.ensures) c.number_at-2.ensures c.number_at-3.ensures c.number_at-4.ensures
 
 pub returns-then-not-are_valid-clause-only : goal.returns-then-not-are_valid-clause-only
 returns-then-not-are_valid-clause-only c = λ limits are is.

@@ -1,5 +1,5 @@
 use Rattle.std.proofs.Common.{◌≡◌, List, length, vec_capacity}
-use Rattle.index_model.specs.declared.limits.Limits.{Limits}
+use Rattle.index_model.specs.declared.format.Format.{Format}
 use Rattle.page_codec.specs.declared.page.Page.{Page}
 use Rattle.redo_log.specs.Groups.{AreImages}
 use Rattle.redo_log.specs.Blocks.{with_blocks, with_images, AreInside, AreLaid}
@@ -11,7 +11,7 @@ invariant-loop-rest l = record {
   places : length l.waiting.places.items ≡ length l.fn.waiting.places.items;
   capacity : vec_capacity l.waiting.blocks ≡ vec_capacity l.fn.waiting.blocks;
   inside : AreInside (length l.waiting.places.items) l.rest;
-  laid : (limits : Limits) (laid : List Page) → AreImages limits l.images → AreLaid limits l.fn.waiting.blocks.items l.fn.buffer laid
+  laid : (limits : Format) (laid : List Page) → AreImages limits l.images → AreLaid limits l.fn.waiting.blocks.items l.fn.buffer laid
       → (now : List Page) × AreImages limits l.rest × AreLaid limits l.waiting.blocks.items l.buffer now × (with_images now l.rest ≡ with_images laid l.images);
 }
 

@@ -1,6 +1,8 @@
 use Rattle.std.proofs.Common.{◌≡◌, ℕ, true, Some, None, suc, ◌+◌, List, length, take, drop, unwrap_or, ap, ap₂, sym, subst, ◌∙◌, add-one}
 use Rattle.std.specs.Prelude.{insert}
 use Rattle.index_model.specs.declared.bound.Bound.{Bound}
+use Rattle.page_codec.specs.Edits.{renewed}
+use Rattle.page_codec.proofs.Renewed.{renewed_is_page}
 use Rattle.page_codec.specs.Grammar.{IsPage}
 use Rattle.page_codec.specs.declared.page.Downlink.{Downlink}
 use Rattle.page_codec.specs.declared.page.Page.{Page}
@@ -25,8 +27,8 @@ module _ (c : After-end_at) where
   behind : c.part_links-behind.result.items ≡ drop count those
   behind = c.part_links-behind.ensures.behind ∙ ap (λ l. drop count l) those_are
 
-  kept : c.part_links-behind.new.page ≡ with_downlinks c.args.page.now (take count those)
-  kept = c.part_links-behind.ensures.kept ∙ ap (λ l. with_downlinks c.args.page.now (take count l)) those_are
+  kept : c.part_links-behind.new.page ≡ with_downlinks (renewed c.args.page.now) (take count those)
+  kept = c.part_links-behind.ensures.kept ∙ ap (λ l. with_downlinks (renewed c.args.page.now) (take count l)) those_are
 
   cut_is : c.begin_low-cut.result ≡ unwrap_or (bound_at (drop count those) 0) c.args.separator
   cut_is = c.begin_low-cut.ensures.cut ∙ ap (λ l. unwrap_or (bound_at l 0) c.args.separator) behind
@@ -34,12 +36,12 @@ module _ (c : After-end_at) where
   lows : c.begin_low-cut.new.links.items ≡ from_low None (drop count those)
   lows = c.begin_low-cut.ensures.low ∙ ap (λ l. from_low None l) behind
 
-  left_is : c.end_at.new.page ≡ left_inner c.args.page.now c.args.new (unwrap_or (bound_at (drop count those) 0) c.args.separator) (take count those)
+  left_is : c.end_at.new.page ≡ left_inner (renewed c.args.page.now) c.args.new (unwrap_or (bound_at (drop count those) 0) c.args.separator) (take count those)
   left_is =
       c.end_at.ensures
       ∙ ap₂ (λ (p : Page) (b : Bound). record p { split = true; right = Some c.args.new; high = Some b }) kept cut_is
 
-  right_is : c.right_half-right.result ≡ right_inner c.args.page.now c.args.new (from_low None (drop count those))
+  right_is : c.right_half-right.result ≡ right_inner (renewed c.args.page.now) c.args.new (from_low None (drop count those))
   right_is =
       c.right_half-right.ensures
       ∙ ap₂ (λ (p : Page) (l : List Downlink). right_inner p c.args.new l) kept lows
@@ -47,22 +49,22 @@ module _ (c : After-end_at) where
 pub returns-clause-left_page : goal.returns-clause-left_page
 returns-clause-left_page c =
     subst IsPage (sym (left_is c))
-    (left_page c.args.page.now c.args.at c.args.separator c.args.child c.requires.page c.requires.internal c.requires.some c.requires.place c.requires.fits c.requires.whole c.requires.child
+    (left_page (renewed c.args.page.now) c.args.at c.args.separator c.args.child (renewed_is_page c.args.page.now c.requires.page) c.requires.internal c.requires.some c.requires.place c.requires.fits c.requires.bound c.requires.child
     c.args.new c.requires.block)
 
 pub returns-clause-right_page : goal.returns-clause-right_page
 returns-clause-right_page c =
     subst IsPage (sym (right_is c))
-    (right_page c.args.page.now c.args.at c.args.separator c.args.child c.requires.page c.requires.internal c.requires.some c.requires.place c.requires.fits c.requires.whole c.requires.child
+    (right_page (renewed c.args.page.now) c.args.at c.args.separator c.args.child (renewed_is_page c.args.page.now c.requires.page) c.requires.internal c.requires.some c.requires.place c.requires.fits c.requires.bound c.requires.child
     c.args.new c.requires.block)
 
 pub returns-clause-split : goal.returns-clause-split
 returns-clause-split c =
     rw (left_is c, right_is c)
-    (link_split c.args.page.now c.args.at c.args.separator c.args.child c.requires.page c.requires.internal c.requires.some c.requires.place c.requires.fits c.requires.whole c.requires.child
+    (link_split (renewed c.args.page.now) c.args.at c.args.separator c.args.child (renewed_is_page c.args.page.now c.requires.page) c.requires.internal c.requires.some c.requires.place c.requires.fits c.requires.bound c.requires.child
     c.args.new c.requires.block)
 
 pub returns-clause-moved : goal.returns-clause-moved
 returns-clause-moved c =
     rw (left_is c, right_is c)
-    (back_count c.args.page.now c.args.at c.args.separator c.args.child c.requires.page c.requires.internal c.requires.some c.requires.place c.requires.fits c.requires.whole c.requires.child)
+    (back_count (renewed c.args.page.now) c.args.at c.args.separator c.args.child (renewed_is_page c.args.page.now c.requires.page) c.requires.internal c.requires.some c.requires.place c.requires.fits c.requires.bound c.requires.child)

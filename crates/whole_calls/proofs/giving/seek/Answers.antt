@@ -1,7 +1,7 @@
 use Rattle.std.proofs.Common.{map, ◌≤◌, length-append, arith, Some, None, refl, subst, inl, inr, ◌∙◌}
 use Rattle.session_calls.proofs.RunningOn.{runs_on_same, runs_on_then}
 use Rattle.schedule.proofs.Bounds.{work_bounded}
-use Rattle.whole_calls.proofs.Words.{Limits, snapshot_of, here_with, slot_of}
+use Rattle.whole_calls.proofs.Words.{Format, snapshot_of, here_with, slot_of}
 use Rattle.whole_calls.specs.Stepping.{ScanWaits, ScanGoes}
 use Rattle.whole_calls.specs.Going.{IsAmong}
 use Rattle.whole_calls.specs.Made.{Answered}
@@ -69,7 +69,7 @@ loop-left-preserved g c =
 
 pub returns-clause-goes : goal.returns-clause-goes
 returns-clause-goes g c honest start history calls fits =
-    let low = subst (λ (l : Limits). l.pages ≤ 65536) c.limits-limits.ensures.value c.limits-limits.ensures.allowed.pages_to in
+    let low = c.limits-limits.ensures.allowed.pages_to in
     let few = work_bounded g.S.PageStore start (snapshot_of (here_with c.args.store.now c.args.calls.now.slots.items (map g.T.DeadRows.is_in c.args.sets.now)) history calls) fits low c.args.session in
     let most = c.loop-left.invariant.budget honest in
     let out = c.loop-left-test.false in

@@ -1,7 +1,7 @@
 use Rattle.std.proofs.Common.{map, ◌≡◌, ◌≤◌, Some, None, refl, sym, subst, arith, inl, inr, ◌∙◌, rules, length-append}
 use Rattle.session_calls.proofs.RunningOn.{runs_on_same, runs_on_then}
 use Rattle.index_model.specs.declared.fault.Fault.TheVariants.{PageDamaged}
-use Rattle.whole_calls.proofs.Words.{Limits, Answer, Going, snapshot_of, here_with, slot_of}
+use Rattle.whole_calls.proofs.Words.{Format, Answer, Going, snapshot_of, here_with, slot_of}
 use Rattle.whole_calls.specs.Going.{IsAmong}
 use Rattle.whole_calls.specs.Made.{Answered}
 use Rattle.whole_calls.specs.Stepping.{StepGoes, HasGoneTo, FinishGoes}
@@ -69,13 +69,13 @@ loop-left-preserved g c =
           let most = c.loop-left.invariant.budget low (later.honest honest) start history calls fits in
           let r = c.loop-left.invariant.goes (later.honest honest) start history calls fits in
           let t = c.step.ensures.goes honest start r.then_history r.then_calls r.ran.fits in
-          let fewer = t.tells.fewer (subst (λ (l : Limits). l.pages ≤ 65536) (sym c.loop-left.invariant.limits) low) going in
+          let fewer = t.tells.fewer (subst (λ (l : Format). l.pages ≤ 65536) (sym c.loop-left.invariant.limits) low) going in
           omega (arith, most, fewer));
     }
 
 pub returns-clause-goes : goal.returns-clause-goes
 returns-clause-goes g c honest start history calls fits =
-    let low = subst (λ (l : Limits). l.pages ≤ 65536) c.limits-limits.ensures.value c.limits-limits.ensures.allowed.pages_to in
+    let low = c.limits-limits.ensures.allowed.pages_to in
     let few = steps_few g.S.PageStore g.met.S.PageStore.laws start (snapshot_of (here_with c.args.store.now c.args.calls.now.slots.items (map g.T.DeadRows.is_in c.args.sets.now)) history calls) c.args.session fits low in
     let most = c.loop-left.invariant.budget low honest start history calls fits in
     let out = c.loop-left-test.false in

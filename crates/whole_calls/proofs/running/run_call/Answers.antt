@@ -1,6 +1,6 @@
 use Rattle.std.proofs.Common.{map, Option, Some, None, Ok, Err, refl, sym, subst, inl, inr, ◌∙◌}
 use Rattle.index_model.specs.Limits.{AreLimits}
-use Rattle.whole_calls.proofs.Words.{Limits, Ask, asked_by, Op, Begun, Refused, snapshot_of, here_with, slot_of}
+use Rattle.whole_calls.proofs.Words.{Format, Ask, asked_by, Op, Begun, Refused, snapshot_of, here_with, slot_of}
 use Rattle.whole_calls.specs.Going.{CameBy}
 use Rattle.whole_calls.specs.Made.{Answered, ComesTo}
 use Rattle.whole_calls.specs.Stepping.{BeginGoes, FinishGoes, RunGoes}
@@ -25,7 +25,7 @@ returns-clause-goes g c =
     let begun = here_with c.begin.new.store c.begin.new.calls.slots.items sets in
     let here = here_with c.finish-answer.new.store c.finish-answer.new.calls.slots.items sets in
     let there = here_with c.give_up.new.store c.give_up.new.calls.slots.items sets in
-    let are = subst (λ (l : Limits). AreLimits l) (c.limits-limits.ensures.value ∙ sym c.begin.ensures.limits) c.limits-limits.ensures.allowed in
+    let are = subst (λ (l : Format). AreLimits l) (sym c.begin.ensures.limits) c.limits-limits.ensures.allowed in
     let end = c.give_up.ensures in
     let out = joined g.S.PageStore laws session (FinishGoes g.S.PageStore session least answer) (λ s. TellsEnd session) (RunsOut g.S.PageStore session least answer added) (Some answer) None (Some answer) begun here there
     c.finish-answer.ensures.steps end.steps (to_first (Some answer) None)

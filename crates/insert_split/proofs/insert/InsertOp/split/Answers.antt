@@ -110,7 +110,7 @@ returns-in-Err-act_on_halves-clause-cause g c honest room fits pinned =
     let block : IsBlock half.block = subst IsBlock (sym is_new)
     (c.in-Ok-take_block.ensures.block (subst (λ (s : State). 0 < length s.pages) (sym read) (let u : c.args.page.now.block < length st.pages = c.requires.used in omega arith))) in
     let may : AreActable st.limits (length st.pages) changed = halves_may st session c.args.self.now.entry c.args.page.now left half right fits c.requires.may c.requires.some
-    parted.left_page parted.half_page parted.left_leaf parted.half_leaf
+    parted.left_layout parted.half_layout parted.left_page parted.half_page parted.left_leaf parted.half_leaf
     parted.kept
     parted.moved left_block fresh block c.in-Ok.ensures.stored in
     let why : HasCause (where_acting st second third changed) c.in-Err-act_on_halves.fault =

@@ -59,7 +59,7 @@ returns-in-Some-Going-clause-all g c =
     let on : Way = c.in-Some-Going.on in
     let result : c.lead.result ≡ Some (Going on) = c.in-Some-Going.is ∙ ap Some c.in-Some-Going.field-0-is in
     let op : InsertOp = c.args.self.now in
-    let most : c.limits.result.pages ≡ st.limits.pages = ap (λ (l : Limits). l.pages) (c.limits.ensures.value ∙ ap (λ (s : State). s.limits) c.look.ensures.state) in
+    let most : c.limits.result.pages ≡ st.limits.pages = ap (λ (l : Limits). l.pages) c.limits.ensures.value ∙ ap (λ (s : State). s.limits.pages) c.look.ensures.state in
     let shorter : IsShorter 0 c.limits.result.pages c.args.way on = subst (LeavesLess 0 c.limits.result.pages c.args.way) result c.lead.ensures.less in
     let less : way_left st.limits.pages on < way_left st.limits.pages c.args.way = way_shortens 0 st.limits.pages c.args.way on (subst (λ (n : ℕ). IsShorter 0 n c.args.way on) most shorter) in
     rw c.come_to.ensures (subst (λ (w : Way). InsertSteps g.S.PageStore op (record { session = op.session; entry = op.entry; at = Coming (At w); added = op.added }) c.args.store.now c.look.new.store (Ok InsertGoing)) (sym c.in-Some-Going.on-is)
@@ -95,7 +95,7 @@ returns-else-not-may_hold-clause-all g c =
     let op : InsertOp = c.args.self.now in
     let result : c.lead.result ≡ Some Here = c.in-Some-Here.is ∙ ap Some c.in-Some-Here.field-0-is in
     let arrived = c.lead.ensures.here result in
-    let most : c.limits.result.pages ≡ st.limits.pages = ap (λ (l : Limits). l.pages) (c.limits.ensures.value ∙ ap (λ (s : State). s.limits) c.look.ensures.state) in
+    let most : c.limits.result.pages ≡ st.limits.pages = ap (λ (l : Limits). l.pages) c.limits.ensures.value ∙ ap (λ (s : State). s.limits.pages) c.look.ensures.state in
     let later : IsLater (g.S.PageStore.backing c.look.new.store) (g.S.PageStore.backing c.take.new.store) = g.met.S.PageStore.laws.follows_later _ _ (c.take.ensures.steps _ (g.met.S.PageStore.laws.follows_same _)) in
     let block_is : c.view-page.result.now.block ≡ c.args.way.block = (stored g (goal.at.returns-else-not-may_hold-clause-all g c).After-view-page).block_is in
     takes g.S.PageStore op c.take.new.self c.args.store.now c.look.new.store c.take.new.store c.view-page.result.now c.args.way c.take.result
@@ -120,7 +120,7 @@ returns-then-not-may_hold-clause-all g c =
     let op : InsertOp = c.args.self.now in
     let result : c.lead.result ≡ Some Here = c.in-Some-Here.is ∙ ap Some c.in-Some-Here.field-0-is in
     let arrived = c.lead.ensures.here result in
-    let most : c.limits.result.pages ≡ st.limits.pages = ap (λ (l : Limits). l.pages) (c.limits.ensures.value ∙ ap (λ (s : State). s.limits) c.look.ensures.state) in
+    let most : c.limits.result.pages ≡ st.limits.pages = ap (λ (l : Limits). l.pages) c.limits.ensures.value ∙ ap (λ (s : State). s.limits.pages) c.look.ensures.state in
     refuses g.S.PageStore op c.args.store.now c.look.new.store _ c.look.ensures.steps c.look.ensures.state c.requires.alive
     (λ honest order fits.
     let there = found g (goal.at.returns-then-not-may_hold-clause-all g c).After-view-page honest in
@@ -136,7 +136,7 @@ pub returns-in-None-clause-all : goal.returns-in-None-clause-all
 returns-in-None-clause-all g c =
     let st : State = g.S.PageStore.state c.args.store.now in
     let op : InsertOp = c.args.self.now in
-    let most : c.limits.result.pages ≡ st.limits.pages = ap (λ (l : Limits). l.pages) (c.limits.ensures.value ∙ ap (λ (s : State). s.limits) c.look.ensures.state) in
+    let most : c.limits.result.pages ≡ st.limits.pages = ap (λ (l : Limits). l.pages) c.limits.ensures.value ∙ ap (λ (s : State). s.limits.pages) c.look.ensures.state in
     refuses g.S.PageStore op c.args.store.now c.look.new.store _ c.look.ensures.steps c.look.ensures.state c.requires.alive
     (λ honest order fits.
     let led_on = led st op c.args.way c.view-page.result.now c.bound.result c.limits.result.pages c.lead.result c.requires.at order fits (found g (goal.at.returns-in-None-clause-all g c).After-view-page honest) (stored g (goal.at.returns-in-None-clause-all g c).After-view-page).storable.admitted

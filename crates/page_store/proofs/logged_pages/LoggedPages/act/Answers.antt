@@ -1,6 +1,6 @@
 use Rattle.std.proofs.Common.{◌≡◌, ◌≤◌, ◌∙◌, ℕ, suc, Err, List, ap, subst, sym, length, get_or, arith}
 use Rattle.std.proofs.lemmas.Option.{slice_get-get_or}
-use Rattle.index_model.specs.declared.limits.Limits.{Limits}
+use Rattle.index_model.specs.declared.format.Format.{Format}
 use Rattle.page_codec.specs.declared.page.Page.{Page}
 use Rattle.page_action.specs.States.{with_pages}
 use Rattle.page_action.specs.Stored.{AreStored, AreActable}
@@ -25,7 +25,7 @@ use Rattle.page_store.proofs.logged_pages.LoggedPages.act.Goals as goal
 
 pub append-requires : goal.append-requires
 append-requires g c = record {
-  images = subst (λ (l : Limits). AreImages l c.args.pages.now) (sym c.args.self.now.log_limits) (are_images c.args.self.now.limits _ c.args.pages.now c.requires.actable);
+  images = subst (λ (l : Format). AreImages l c.args.pages.now) (sym c.args.self.now.log_limits) (are_images c.args.self.now.limits _ c.args.pages.now c.requires.actable);
 }
 
 pub returns-in_err-number-clause-steps : goal.returns-in_err-number-clause-steps
@@ -96,7 +96,7 @@ returns-clause-steps g c =
     let held = c.args.self.now in
     follows_act (held_of g.D.Device held) c.append.new.self c.args.pages.now c.room-self.result c.room-self.result c.append.ensures.limits c.append.ensures.stopped
     (λ m acts forced k. c.in_ok-number.ensures.keeps m acts forced k)
-    (subst (λ (l : Limits). AreActable l (length (pages_now held.history)) c.args.pages.now) (sym held.log_limits) c.requires.actable)
+    (subst (λ (l : Format). AreActable l (length (pages_now held.history)) c.args.pages.now) (sym held.log_limits) c.requires.actable)
     _ _ (λ block named. c.change_all.ensures.acted block named ∙ number_is g here) (λ block none. c.change_all.ensures.before block none)
     c.in_ok-number.number c.note.new.self (number_is g here) c.note.ensures
 
@@ -105,7 +105,7 @@ returns-clause-room g c =
     let own = c.args.self.now in
     let limits = sym (c.append.ensures.limits ∙ own.log_limits) in
     room_left own.log c.append.new.self (length c.args.pages.now) own.room c.room-self.result
-    (λ some. subst (λ (l : Limits). end_with own.log own.room ≤ l.log_bytes) limits (own.fits (alive_of c.append.result _ _ c.in_ok-number.was c.append.ensures.stopped_first) some))
+    (λ some. subst (λ (l : Format). end_with own.log own.room ≤ l.log_bytes) limits (own.fits (alive_of c.append.result _ _ c.in_ok-number.was c.append.ensures.stopped_first) some))
     c.in_ok-number.ensures.room c.room-self.ensures.no_more
 
 pub returns-clause-pages : goal.returns-clause-pages
@@ -119,5 +119,5 @@ returns-in_err-number-clause-full g c is =
     let own = c.args.self.now in
     let refused = c.in_err-number.was ∙ ap Err (full_is c.from_residual.result _ c.from_residual.ensures.1 is) in
     no_room own.log own.room c.args.pages.now
-    (λ some. subst (λ (l : Limits). end_with own.log own.room ≤ l.log_bytes) (sym own.log_limits) (own.fits (alive_full c.append.result _ refused c.append.ensures.stopped_first) some))
+    (λ some. subst (λ (l : Format). end_with own.log own.room ≤ l.log_bytes) (sym own.log_limits) (own.fits (alive_full c.append.result _ refused c.append.ensures.stopped_first) some))
     (c.append.ensures.some refused) (c.append.ensures.full refused)

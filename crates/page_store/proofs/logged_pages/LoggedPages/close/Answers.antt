@@ -3,7 +3,7 @@ use Rattle.std.specs.Result.{is_err}
 use Rattle.device.specs.Places.{ChangesOnly}
 use Rattle.device.proofs.Going.{goes_now}
 use Rattle.device.proofs.Standing.{same_only}
-use Rattle.index_model.specs.declared.limits.Limits.{Limits}
+use Rattle.index_model.specs.declared.format.Format.{Format}
 use Rattle.page_action.specs.Room.{whole_room}
 use Rattle.redo_log.specs.Kept.{is_stopped, limits_of}
 use Rattle.redo_log.proofs.Keeping.{forgets_all}
@@ -37,7 +37,7 @@ closing g c =
 -- only the log's range changes
 only : (g : Over) (c : After-reset g) → ChangesOnly 4096 c.args.self.now.limits.log_bytes (g.D.Device.trace c.args.self.now.device).now (g.D.Device.trace c.reset.new.device).now
 only g c =
-    subst (λ (l : Limits). ChangesOnly 4096 l.log_bytes (g.D.Device.trace c.args.self.now.device).now (g.D.Device.trace c.reset.new.device).now) c.args.self.now.log_limits
+    subst (λ (l : Format). ChangesOnly 4096 l.log_bytes (g.D.Device.trace c.args.self.now.device).now (g.D.Device.trace c.reset.new.device).now) c.args.self.now.log_limits
     (goes_now _ (g.D.Device.trace c.args.self.now.device) (g.D.Device.trace c.reset.new.device) c.reset.ensures.outside (same_only 4096 _ _))
 
 pub invariant_of-self : goal.invariant_of-self
@@ -87,7 +87,7 @@ pub returns-clause-room : goal.returns-clause-room
 returns-clause-room g c =
     let own = c.args.self.now in
     let limits = c.reset.ensures.same.limits ∙ own.log_limits in
-    let bytes : 6 ≤ (limits_of c.reset.new.self).log_bytes = subst (λ (l : Limits). 6 ≤ l.log_bytes) (sym limits) (omega (arith, own.allowed.log_from)) in
+    let bytes : 6 ≤ (limits_of c.reset.new.self).log_bytes = subst (λ (l : Format). 6 ≤ l.log_bytes) (sym limits) (omega (arith, own.allowed.log_from)) in
     let whole : c.room-self.result ≡ whole_room own.limits =
     whole_left c.reset.new.self c.room-self.result (λ n. omega (arith, c.in_ok-reset.ensures.room n, own.forced c.requires.alive c.requires.all)) c.room-self.ensures.fit c.room-self.ensures.no_more bytes
     ∙ ap whole_room limits in

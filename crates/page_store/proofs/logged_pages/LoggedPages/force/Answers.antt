@@ -1,6 +1,6 @@
 use Rattle.std.proofs.Common.{rules, ◌≡◌, ◌∙◌, ◌+◌, ◌<◌, [], inl, inr, refl, ap, subst, sym, arith}
 use Rattle.std.specs.Result.{is_err}
-use Rattle.index_model.specs.declared.limits.Limits.{Limits}
+use Rattle.index_model.specs.declared.format.Format.{Format}
 use Rattle.page_action.specs.Room.{WaitsOn}
 use Rattle.redo_log.specs.Kept.{end_with, waiting_blocks}
 use Rattle.page_store.specs.Logged.{held_of, backing_of}
@@ -21,7 +21,7 @@ use Rattle.page_store.proofs.logged_pages.LoggedPages.force.Goals as goal
 -- only the log's range changes
 only : (g : Over) (c : After-force g) → ChangesOnly 4096 c.args.self.now.limits.log_bytes (g.D.Device.trace c.args.self.now.device).now (g.D.Device.trace c.force.new.device).now
 only g c =
-    subst (λ (l : Limits). ChangesOnly 4096 l.log_bytes (g.D.Device.trace c.args.self.now.device).now (g.D.Device.trace c.force.new.device).now) c.args.self.now.log_limits
+    subst (λ (l : Format). ChangesOnly 4096 l.log_bytes (g.D.Device.trace c.args.self.now.device).now (g.D.Device.trace c.force.new.device).now) c.args.self.now.log_limits
     (goes_now _ (g.D.Device.trace c.args.self.now.device) (g.D.Device.trace c.force.new.device) c.force.ensures.outside (same_only 4096 _ _))
 
 pub invariant_of-self : goal.invariant_of-self
@@ -65,7 +65,7 @@ invariant_of-self-then-self-clause-kept_promise g c =
     let held = c.args.self.now in
     let left = c.room.result in
     let most = promise_left held.log c.force.new.self held.limits.log_bytes held.room left (held.fits (sym c.is_stopped.ensures ∙ c.if-is_stopped.false)) (c.in_ok-force.ensures.room (left + 1))
-    (subst (λ (l : Limits). l.log_bytes < end_with c.force.new.self (left + 1)) (c.force.ensures.same.limits ∙ held.log_limits) (misfit c.force.new.self (left + 1) (c.room.ensures.no_more (left + 1) (omega arith)))) in
+    (subst (λ (l : Format). l.log_bytes < end_with c.force.new.self (left + 1)) (c.force.ensures.same.limits ∙ held.log_limits) (misfit c.force.new.self (left + 1) (c.room.ensures.no_more (left + 1) (omega arith)))) in
     omega (arith, most, held.new_promise c.if-self.true, c.min-self.ensures)
 
 pub returns-clause-steps : goal.returns-clause-steps

@@ -1,6 +1,6 @@
 use Rattle.std.proofs.Common.{◌<◌, ◌≤◌, ◌∙◌, ℕ, List, length, refl, subst, sym, ap, arith}
 use Rattle.redo_log.specs.Kept.{end_with, waiting_count}
-use Rattle.index_model.specs.declared.limits.Limits.{Limits}
+use Rattle.index_model.specs.declared.format.Format.{Format}
 use Rattle.page_codec.specs.declared.page.Page.{Page}
 use Rattle.page_action.specs.Stored.{AreStored}
 use Rattle.device_layout.specs.Layout.{place}
@@ -12,9 +12,9 @@ use Rattle.page_store.proofs.logged_pages.LoggedPages.new.Goals as goal
 pub returns-clause-own : goal.returns-clause-own
 returns-clause-own g c =
     let log_limits = sym c.requires.log_limits in
-    is_own _ (subst (λ (l : Limits). AreStored l 0 c.args.history.start) log_limits c.requires.stored)
-    (subst (λ (l : Limits). length c.args.history.start ≤ l.pages) log_limits (subst (λ n. n ≤ c.args.limits.pages) c.requires.used c.requires.few))
-    (subst (λ (l : Limits). place l l.pages ≤ length (g.D.Device.trace c.args.device).now.seen) log_limits c.requires.sized)
+    is_own _ (subst (λ (l : Format). AreStored l 0 c.args.history.start) log_limits c.requires.stored)
+    (subst (λ (l : Format). length c.args.history.start ≤ l.pages) log_limits (subst (λ n. n ≤ c.args.limits.pages) c.requires.used c.requires.few))
+    (subst (λ (l : Format). place l l.pages ≤ length (g.D.Device.trace c.args.device).now.seen) log_limits c.requires.sized)
     (none_changed c.args.pool c.law.ensures c.requires.empty) c.requires.begun refl refl
 
 pub invariant_of-result-clause-stored : goal.invariant_of-result-clause-stored
@@ -30,12 +30,12 @@ invariant_of-result-clause-holds g c =
 
 pub invariant_of-result-clause-fits : goal.invariant_of-result-clause-fits
 invariant_of-result-clause-fits g c =
-    λ alive some. subst (λ (l : Limits). end_with c.args.log c.room-room.result ≤ l.log_bytes) c.requires.log_limits (c.room-room.ensures.fit c.room-room.result some (omega arith))
+    λ alive some. subst (λ (l : Format). end_with c.args.log c.room-room.result ≤ l.log_bytes) c.requires.log_limits (c.room-room.ensures.fit c.room-room.result some (omega arith))
 
 pub returns-clause-closed : goal.returns-clause-closed
 returns-clause-closed g c = λ empty.
     let log = c.args.log in
-    let fits = subst (λ (l : Limits). (n : ℕ) → 0 < n → n ≤ c.room-room.result → end_with log n ≤ l.log_bytes) c.requires.log_limits c.room-room.ensures.fit in
+    let fits = subst (λ (l : Format). (n : ℕ) → 0 < n → n ≤ c.room-room.result → end_with log n ≤ l.log_bytes) c.requires.log_limits c.room-room.ensures.fit in
     let room = room_is log.at (waiting_count log) c.room-room.result c.args.limits.log_bytes empty c.requires.idle fits
-    (subst (λ (l : Limits). (n : ℕ) → c.room-room.result < n → end_with log n ≤ l.log_bytes → ⊥) c.requires.log_limits c.room-room.ensures.no_more) in
+    (subst (λ (l : Format). (n : ℕ) → c.room-room.result < n → end_with log n ≤ l.log_bytes → ⊥) c.requires.log_limits c.room-room.ensures.no_more) in
     record { room = room; promised = room }

@@ -4,7 +4,7 @@ use Rattle.std.proofs.lemmas.Option.{slice_get_within}
 use Rattle.std.specs.Prelude.{IsSome}
 use Rattle.buffer_pool.specs.Frames.{has_block}
 use Rattle.buffer_pool.specs.Pools.{frame_of}
-use Rattle.index_model.specs.declared.limits.Limits.{Limits}
+use Rattle.index_model.specs.declared.format.Format.{Format}
 use Rattle.page_codec.specs.declared.page.Page.{Page}
 use Rattle.page_action.specs.Stored.{IsStored}
 use Rattle.page_action.proofs.StoredPages.{slice_get_at}
@@ -24,7 +24,7 @@ at g c = slice_get_at c.args.pages.now c.loop-page.page-index c.page-item.result
 -- it may be stored, at a block below the limit
 may : (g : Over) (c : After-page-item g) → IsStored c.loop-page.self.limits c.page-item.result.block c.page-item.result × (c.page-item.result.block < c.loop-page.self.limits.pages)
 may g c =
-    subst (λ (l : Limits). IsStored l c.page-item.result.block c.page-item.result × (c.page-item.result.block < l.pages)) (sym c.loop-page.invariant.quiet.pages.limits)
+    subst (λ (l : Format). IsStored l c.page-item.result.block c.page-item.result × (c.page-item.result.block < l.pages)) (sym c.loop-page.invariant.quiet.pages.limits)
     (actable_at c.args.self.now.limits _ c.args.pages.now c.loop-page.page-index c.page-item.result c.requires.actable (at g c))
 
 -- the frames for those before, and for the page

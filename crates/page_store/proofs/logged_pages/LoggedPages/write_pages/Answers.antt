@@ -4,7 +4,7 @@ use Rattle.buffer_pool.specs.Frames.{has_block}
 use Rattle.buffer_pool.specs.Pools.{changed_of, IsPool}
 use Rattle.buffer_pool.specs.declared.pool.Pool.{Pool}
 use Rattle.device.specs.Disk.{Moment}
-use Rattle.index_model.specs.declared.limits.Limits.{Limits}
+use Rattle.index_model.specs.declared.format.Format.{Format}
 use Rattle.page_store.specs.Following.{follows_same}
 use Rattle.page_store.specs.Histories.{pages_now}
 use Rattle.page_store.specs.Logged.{held_of}
@@ -23,9 +23,9 @@ law : (g : Over) (c : After-write_home g) → IsPool c.loop-written.self.pool
 law g c = subst IsPool (sym c.loop-written.invariant.same.pool) c.law.ensures
 
 -- the same under equal limits, of an equal pool
-moved : (l k : Limits) (p q : Pool) (count : ℕ) (m : Moment) → l ≡ k → p ≡ q → AreWrittenUpTo l p count m → AreWrittenUpTo k q count m
+moved : (l k : Format) (p q : Pool) (count : ℕ) (m : Moment) → l ≡ k → p ≡ q → AreWrittenUpTo l p count m → AreWrittenUpTo k q count m
 moved l k p q count m same_limits same_pool home =
-    subst (λ (x : Pool). AreWrittenUpTo k x count m) same_pool (subst (λ (x : Limits). AreWrittenUpTo x p count m) same_limits home)
+    subst (λ (x : Pool). AreWrittenUpTo k x count m) same_pool (subst (λ (x : Format). AreWrittenUpTo x p count m) same_limits home)
 
 -- those before it stand at their places
 before : (g : Over) (c : After-write_home g) → AreWrittenUpTo c.loop-written.self.limits c.loop-written.self.pool c.loop-written.written (g.D.Device.trace c.loop-written.self.device).now

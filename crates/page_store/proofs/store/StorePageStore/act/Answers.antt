@@ -1,7 +1,7 @@
 use Rattle.std.proofs.Common.{◌≡◌, ◌∙◌, ◌++◌, inl, Result, Ok, Err, suc, List, length, refl, ap, sym, subst, arith}
 use Rattle.std.specs.Prelude.{OnErr}
 use Rattle.index_model.specs.declared.fault.Fault.{Fault}
-use Rattle.index_model.specs.declared.limits.Limits.{Limits}
+use Rattle.index_model.specs.declared.format.Format.{Format}
 use Rattle.page_codec.specs.declared.page.Page.{Page}
 use Rattle.page_action.specs.CallTables.{TableOfCalls}
 use Rattle.latch_table.specs.Holdings.{pinned_blocks}
@@ -67,7 +67,7 @@ invariant_of-self-2-clause-count_room g c =
     let here = (goal.at.invariant_of-self-2-clause-count_room g c).After-note in
     let store = c.args.self.now in
     let same = ap (λ (t : TableOfCalls). length t.waiting) (calls_are g here) in
-    let limits = ap (λ (l : Limits). l.pages) (limits_are g here) in
+    let limits = ap (λ (l : Format). l.pages) (limits_are g here) in
     omega (arith, same, limits, store.count_room, length-with_all_waiting store.calls.waiting c.args.pages.now)
 
 pub returns-in_err-number-clause-steps : goal.returns-in_err-number-clause-steps

@@ -4,6 +4,7 @@ use Rattle.std.proofs.lemmas.Bool.{and_parts}
 use Rattle.index_model.specs.Faults.{HasCause}
 use Rattle.index_model.specs.Order.{is_among, IsAscending}
 use Rattle.index_model.specs.declared.entry.Entry.{Entry}
+use Rattle.index_model.specs.Formats.{sizes_of}
 use Rattle.index_model.specs.declared.limits.Limits.{Limits}
 use Rattle.latch_table.specs.Holdings.{pinned}
 use Rattle.page_codec.specs.Edits.{entries_of}
@@ -80,7 +81,7 @@ returns-in_default-clause-all g c =
     (λ honest order fits.
     let found = found_there g (goal.at.returns-in_default-clause-all g c).After-view-page honest in
     let led = scan_led old before way page c.limits-most.result c.lead.result c.requires.at order fits found
-    (c.limits-most.ensures.value ∙ ap (λ (st : State). st.limits) c.look.ensures.state) c.in_ok-look.ensures.inside c.lead.ensures.goes in
+    (c.limits-most.ensures.value ∙ ap (λ (st : State). sizes_of st.limits) c.look.ensures.state) c.in_ok-look.ensures.inside c.lead.ensures.goes in
     let here = subst (LeadsOnward old fits.start (frontier_aim before.frontier) false 0 way) (c.in-Some-Here.is ∙ ap Some c.in-Some-Here.field-0-is) led in
     let block_is : page.block ≡ way.block = (stored_there g (goal.at.returns-in_default-clause-all g c).After-view-page).block_is in
     absurd (other_items page.items c.in_default.not-Entries (leaf_has_entries old (frontier_aim before.frontier) page order.tree
@@ -95,7 +96,7 @@ returns-in-None-clause-all g c =
     (λ honest order fits.
     absurd (subst (LeadsOnward old fits.start (frontier_aim c.args.self.now.frontier) false 0 c.args.way) c.in-None.is
     (scan_led old c.args.self.now c.args.way c.view-page.result.now c.limits-most.result c.lead.result c.requires.at order fits (found_there g (goal.at.returns-in-None-clause-all g c).After-view-page honest)
-    (c.limits-most.ensures.value ∙ ap (λ (st : State). st.limits) c.look.ensures.state) c.in_ok-look.ensures.inside c.lead.ensures.goes)))
+    (c.limits-most.ensures.value ∙ ap (λ (st : State). sizes_of st.limits) c.look.ensures.state) c.in_ok-look.ensures.inside c.lead.ensures.goes)))
 
 pub returns-in-Some-Going-clause-all : goal.returns-in-Some-Going-clause-all
 returns-in-Some-Going-clause-all g c =
@@ -107,7 +108,7 @@ returns-in-Some-Going-clause-all g c =
     let is : new ≡ with_table old (without_leaf old.table before.session before.leaf) =
     c.go_on.ensures.state ∙ ap (λ (st : State). with_table st (without_leaf st.table before.session before.leaf)) c.look.ensures.state in
     let answer : c.lead.result ≡ Some (Going on) = c.in-Some-Going.is ∙ ap Some c.in-Some-Going.field-0-is in
-    let most : c.limits-most.result.pages ≡ old.limits.pages = ap (λ (l : Limits). l.pages) (c.limits-most.ensures.value ∙ ap (λ (st : State). st.limits) c.look.ensures.state) in
+    let most : c.limits-most.result.pages ≡ old.limits.pages = ap (λ (l : Limits). l.pages) c.limits-most.ensures.value ∙ ap (λ (st : State). st.limits.pages) c.look.ensures.state in
     let shorter : IsShorter 0 old.limits.pages c.args.way on =
     subst (λ (n : ℕ). IsShorter 0 n c.args.way on) most (subst (LeavesLess 0 c.limits-most.result.pages c.args.way) answer c.lead.ensures.less) in
     let less : scan_left old.limits.pages old.pages after < scan_left old.limits.pages old.pages before =
@@ -129,7 +130,7 @@ returns-in-Some-Going-clause-all g c =
           let later : IsLater (g.S.PageStore.backing c.look.new.store) (g.S.PageStore.backing c.go_on.new.store) = g.met.S.PageStore.laws.follows_later _ _ (c.go_on.ensures.steps _ (g.met.S.PageStore.laws.follows_same _)) in
           let way : Way = c.args.way in
           let led = scan_led old before way c.view-page.result.now c.limits-most.result c.lead.result c.requires.at order fits (found_there g (goal.at.returns-in-Some-Going-clause-all g c).After-view-page (later.honest honest))
-          (c.limits-most.ensures.value ∙ ap (λ (st : State). st.limits) c.look.ensures.state) c.in_ok-look.ensures.inside c.lead.ensures.goes in
+          (c.limits-most.ensures.value ∙ ap (λ (st : State). sizes_of st.limits) c.look.ensures.state) c.in_ok-look.ensures.inside c.lead.ensures.goes in
           record {
             does = going_does old new before order fits is;
             fits = subst (ScanFits new) (sym c.go_on.ensures.op)
@@ -186,7 +187,7 @@ returns-in-Entries-clause-all g c =
           let on_way : IsOnWay old fits.start (frontier_aim before.frontier) false 0 way = subst (ScanStands old fits.start before.leaf before.frontier) c.requires.at fits.stands in
           let found : slice_get old.pages way.block ≡ Some page = found_there g (goal.at.returns-in-Entries-clause-all g c).After-view-page (later.honest honest) in
           let led = scan_led old before way page c.limits-most.result c.lead.result c.requires.at order fits found
-          (c.limits-most.ensures.value ∙ ap (λ (st : State). st.limits) c.look.ensures.state) c.in_ok-look.ensures.inside c.lead.ensures.goes in
+          (c.limits-most.ensures.value ∙ ap (λ (st : State). sizes_of st.limits) c.look.ensures.state) c.in_ok-look.ensures.inside c.lead.ensures.goes in
           let here : (way.level ≡ 0) × HasCover old 0 (frontier_aim before.frontier) way.block =
           subst (LeadsOnward old fits.start (frontier_aim before.frontier) false 0 way) (c.in-Some-Here.is ∙ ap Some c.in-Some-Here.field-0-is) led in
           let admitted = (stored_there g (goal.at.returns-in-Entries-clause-all g c).After-view-page).storable.admitted in

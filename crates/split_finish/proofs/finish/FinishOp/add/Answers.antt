@@ -22,7 +22,7 @@ returns-in-Ok-clause-all g c =
     g.met.S.PageStore.laws.follows_later _ _ (c.act_on.ensures.steps _ (g.met.S.PageStore.laws.follows_same _)) in
     let linked = linked_there c.args.pages.now ready.parent ready.page ready.rest c.index-pages-0.result c.index-pages-1.result c.add_link.new.page c.clear_split.new.page op.target.separator c.args.at c.args.new
     ready.pages_are have.place
-    (record { added = put.added; node_is = put.node; block_is = put.block; count = put.count; internal = put.still_internal; admitted = put.page })
+    (record { added = put.added; node_is = put.node; layout_is = ap (λ (p : Page). p.layout) put.only; block_is = put.block; count = put.count; internal = put.still_internal; admitted = put.page })
     (record { only = clear.only; after_is = clear.node; block_is = ap (λ (p : Page). p.block) clear.only }) clear.page in
     let changed : List Page = take 2 (slice_set (slice_set c.args.pages.now 0 c.add_link.new.page) 1 c.clear_split.new.page) in
     acts_done g.S.PageStore op c.pop.new.self c.args.store.now c.act_on.new.store c.pop.result changed c.act_on.ensures.steps c.in-Ok.ensures.done
@@ -44,7 +44,7 @@ returns-in-Err-clause-all g c =
     g.met.S.PageStore.laws.follows_later _ _ (c.act_on.ensures.steps _ (g.met.S.PageStore.laws.follows_same _)) in
     let are = linked_there c.args.pages.now ready.parent ready.page ready.rest c.index-pages-0.result c.index-pages-1.result c.add_link.new.page c.clear_split.new.page op.target.separator c.args.at c.args.new
     ready.pages_are have.place
-    (record { added = put.added; node_is = put.node; block_is = put.block; count = put.count; internal = put.still_internal; admitted = put.page })
+    (record { added = put.added; node_is = put.node; layout_is = ap (λ (p : Page). p.layout) put.only; block_is = put.block; count = put.count; internal = put.still_internal; admitted = put.page })
     (record { only = clear.only; after_is = clear.node; block_is = ap (λ (p : Page). p.block) clear.only }) clear.page in
     let changed : List Page = take 2 (slice_set (slice_set c.args.pages.now 0 c.add_link.new.page) 1 c.clear_split.new.page) in
     act_refused g.S.PageStore op c.args.store.now c.act_on.new.store c.in-Err.fault changed c.act_on.ensures.steps c.in-Err.ensures.refused

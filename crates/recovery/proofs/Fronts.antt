@@ -1,0 +1,31 @@
+-- What refuses what stands in front of an index.
+use Rattle.std.proofs.Common.{◌≡◌, ◌⊎◌, ◌≤◌, ◌<◌, inl, inr, refl, sym, subst, ◌∙◌, ℕ, Bool, IsTrue, List, length, take}
+use Rattle.index_model.specs.Limits.{AreLimits}
+use Rattle.index_model.specs.declared.fault.Fault.{Fault}
+use Rattle.index_model.specs.declared.fault.Fault.TheVariants.{BadSuper, BadVersion, BadLimits}
+use Rattle.index_model.specs.declared.format.Format.{Format}
+use Rattle.device_layout.specs.Layout.{needed_length, superblock}
+use Rattle.recovery.specs.Opening.{AreFrames, IsFrontFault, IsFrontRefusal}
+use Rattle.recovery.specs.Superblock.{IsNoSuperblock}
+
+-- a superblock is refused with one of three faults
+fault_of : (bytes : List ℕ) (fault : Fault) → IsNoSuperblock bytes fault → IsFrontFault fault
+fault_of bytes fault (inl begins) = inl begins.0
+fault_of bytes fault (inr magic) = behind_magic magic.1
+  where
+    behind_layout : {A B C : Type 0} → ((fault ≡ BadLimits) × A) ⊎ (B × (fault ≡ BadSuper) × C) → IsFrontFault fault
+    behind_layout (inl limits) = inr (inr limits.0)
+    behind_layout (inr rest) = inl rest.1
+
+    behind_magic : {A B C D E : Type 0} → ((fault ≡ BadVersion) × A) ⊎ (B × (((fault ≡ BadLimits) × C) ⊎ (D × (fault ≡ BadSuper) × E))) → IsFrontFault fault
+    behind_magic (inl layout) = inr (inl layout.0)
+    behind_magic (inr rest) = behind_layout rest.1
+
+module _ (honest : Bool) (frames : ℕ) (file bytes : List ℕ) (are : AreFrames frames) (long : 4096 ≤ length file) (read : IsTrue honest → take 4096 file ≡ bytes) where
+  -- bytes that are no superblock
+  pub no_superblock : (fault : Fault) → IsNoSuperblock bytes fault → IsFrontRefusal honest frames file fault
+  no_superblock fault why = inr (are, inr (long, fault_of bytes fault why, (λ h. inl (subst (λ (b : List ℕ). IsNoSuperblock b fault) (sym (read h)) why))))
+
+  -- a device that is shorter than its superblock says
+  pub too_short : (limits : Format) → AreLimits limits → bytes ≡ superblock limits → length file < needed_length limits → IsFrontRefusal honest frames file BadSuper
+  too_short limits allowed found less = inr (are, inr (long, inl refl, (λ h. inr (refl, limits, allowed, read h ∙ found, less))))
