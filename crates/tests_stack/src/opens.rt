@@ -108,7 +108,7 @@ fn hostile_indexes(rt: HostRuntime) -> Result<(), Fail> {
     for (at, bytes, number) in [
         (4_096, &[1, 16, 0, 0, 0][..], 16),
         (69_632 + 4_096 + 9, &[1], 17),
-        (8, &[2], 15),
+        (8, &[3], 15),
     ] {
         let mut device = made(rt.alloc())?;
         write(&mut device, at, bytes)?;
