@@ -1,8 +1,10 @@
 //! Pages that are split, and the way down.
 
+ghost use Rattle.page_codec.specs.Grammar.{IsBoundIn};
+
 use crate::trees::{entry, leaf, page};
 use arrayvec::ArrayVec;
-use index_model::{Bound, Entry};
+use index_model::{Bound, Entry, Layout};
 use page_codec::{Downlink, Items, Page, is_page};
 use std::test::*;
 use tree_shape::{
@@ -11,8 +13,13 @@ use tree_shape::{
     split_links,
 };
 
-fn at(key: u8) -> Bound {
-    entry(key, 1, 1).bound()
+// The place of an entry of this key, which a page of each layout may have as a bound.
+fn at(key: u8) -> Bound
+    ensures { IsBoundIn Layout.Two result }
+{
+    let entry = entry(key, 1, 1);
+    entry.seen();
+    entry.bound()
 }
 
 // The place before all rows of a key.
