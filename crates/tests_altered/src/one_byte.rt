@@ -52,7 +52,7 @@ fn bases_are_sound(rt: HostRuntime) -> Result<(), Fail> {
             report_of(rt.alloc(), base),
             Some(Report {
                 levels: 3,
-                pages: 17,
+                pages: 16,
                 entries: ENTRIES,
                 half_dead: 0,
                 deleted: 0,
