@@ -120,7 +120,7 @@ int main(int argc, char **argv) {
     if (!w.commit_every) w.commit_every = 1;
     nardsill *index;
     unlink(path);
-    need(nardsill_create(path, &(nardsill_limits){50, 65536, 16777216}), "create");
+    need(nardsill_create(path, &(nardsill_limits){50, 65536, 16777216, 0}), "create");
     need(nardsill_open(path, w.frames, &index), "open");
     run(index, w);
     need(nardsill_close(index), "close");

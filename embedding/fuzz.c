@@ -1,4 +1,4 @@
-/* The exports called with random bytes in each field: each answers one of the 20 numbers, or 0. */
+/* The exports called with random bytes in each field: each answers one of the 21 numbers, or 0. */
 #define _GNU_SOURCE
 #include "nardsill.h"
 #include "nardsill_proved.h"
@@ -34,9 +34,9 @@ static struct nardsill_ask random_ask(void) {
 }
 
 int main(int argc, char **argv) {
-    long rounds = argc > 1 ? atol(argv[1]) : 300000, seen[21] = {0};
+    long rounds = argc > 1 ? atol(argv[1]) : 300000, seen[22] = {0};
     nardsill *index;
-    nardsill_limits limits = {4, 1024, 65536};
+    nardsill_limits limits = {4, 1024, 65536, 0};
     unlink("fuzz.idx");
     if (nardsill_create("fuzz.idx", &limits) || nardsill_open("fuzz.idx", 16, &index)) return 1;
     struct nardsill_shell *shell = ((struct head *)index)->shell;
@@ -51,13 +51,13 @@ int main(int argc, char **argv) {
         struct nardsill_ask ask = random_ask();
         struct nardsill_given given = nardsill_proved_next(shell, (struct nardsill_token){ask.number, ask.session});
         struct nardsill_answer answer = nardsill_proved_call(shell, ask);
-        if (given.status > 20 || given.len > 64 || answer.status > 20) {
+        if (given.status > 21 || given.len > 64 || answer.status > 21) {
             fprintf(stderr, "fuzz: status %u %u\n", given.status, answer.status);
             return 1;
         }
         seen[answer.status]++;
     }
-    for (int k = 0; k <= 20; k++)
+    for (int k = 0; k <= 21; k++)
         if (seen[k]) printf("%s %ld\n", nardsill_errname(k), seen[k]);
     int status = nardsill_close(index);
     unlink("fuzz.idx");

@@ -44,6 +44,13 @@ static int refused(int status) {
     return printf("refused %d %s\n", status, nardsill_errname(status));
 }
 
+/* Behind KeyExists stands the row that is there. */
+static int refused_insert(nardsill *index, int status) {
+    if (status != NARDSILL_KEY_EXISTS) return refused(status);
+    nardsill_row row = nardsill_fault_row(index);
+    return printf("refused %d %s (%u,%u)\n", status, nardsill_errname(status), row.block, row.offset);
+}
+
 static int insert(nardsill *index, const char *key_word, const char *row_word) {
     uint8_t key[NARDSILL_KEY_MAX];
     size_t len;
@@ -52,7 +59,7 @@ static int insert(nardsill *index, const char *key_word, const char *row_word) {
     int bad_key = key_of(key_word, key, &len), bad_row = row_of(row_word, &row);
     if (bad_key == FORM || bad_row == FORM) return refused(FORM);
     int status = bad_key ? bad_key : bad_row ? bad_row : nardsill_insert(index, key, len, row, &action);
-    return status ? refused(status) : printf("added %llu\n", (unsigned long long)action);
+    return status ? refused_insert(index, status) : printf("added %llu\n", (unsigned long long)action);
 }
 
 static int delete(nardsill *index, char *words) {

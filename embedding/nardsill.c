@@ -15,6 +15,7 @@ struct nardsill {
     pthread_mutex_t lock;
     struct nardsill_shell *shell;
     uint32_t page;
+    nardsill_row row;
 };
 
 struct nardsill_scan {
@@ -114,7 +115,7 @@ static int create_by(const char *draft, const char *path, struct nardsill_open_a
 int nardsill_create(const char *path, const nardsill_limits *limits) {
     if (!path) return NARDSILL_MISUSE;
     struct nardsill_open_ask ask = {.frames = 16, .is_new = 1, .items = 50, .pages = 4096, .log_bytes = 1 << 20};
-    if (limits) ask.items = limits->items, ask.pages = limits->pages, ask.log_bytes = limits->log_bytes;
+    if (limits) ask.items = limits->items, ask.pages = limits->pages, ask.log_bytes = limits->log_bytes, ask.unique = limits->unique;
     struct stat there;
     if (!lstat(path, &there)) {
         errno = EEXIST;
@@ -150,6 +151,7 @@ int nardsill_open_fd(int fd, uint32_t frames, nardsill **out) {
         return status;
     }
     index->page = 0;
+    index->row = (nardsill_row){0, 0};
     *out = index;
     return 0;
 }
@@ -167,7 +169,7 @@ int nardsill_open(const char *path, uint32_t frames, nardsill **out) {
 
 static struct nardsill_answer call_locked(nardsill *index, struct nardsill_ask ask) {
     struct nardsill_answer answer = nardsill_proved_call(index->shell, ask);
-    if (answer.status) index->page = answer.page;
+    if (answer.status) index->page = answer.page, index->row = (nardsill_row){answer.block, answer.offset};
     return answer;
 }
 
@@ -347,11 +349,14 @@ int nardsill_check(const char *path, uint32_t frames, nardsill_report *out) {
 
 uint32_t nardsill_fault_page(nardsill *index) { return index ? index->page : 0; }
 
+nardsill_row nardsill_fault_row(nardsill *index) { return index ? index->row : (nardsill_row){0, 0}; }
+
 const char *nardsill_errname(int status) {
     static const char *const names[] = {
         "Ok", "NoMemory", "Io", "Stopped", "Blocked", "Exists", "KeyTooLong", "BadRow", "IndexFull", "LogFull", "NoFrame", "VacuumRunning",
-        "NoSession", "SessionBusy", "BadSuper", "BadVersion", "LogDamaged", "PageDamaged", "BadLimits", "TooTall", "DeviceTooSmall"};
-    if (status >= 0 && status <= 20) return names[status];
+        "NoSession", "SessionBusy", "BadSuper", "BadVersion", "LogDamaged", "PageDamaged", "BadLimits", "TooTall", "DeviceTooSmall",
+        "KeyExists"};
+    if (status >= 0 && status <= 21) return names[status];
     return status == NARDSILL_DONE ? "Done" : status == NARDSILL_MISUSE ? "Misuse" : status == NARDSILL_LOCKED ? "Locked" : "Unknown";
 }
 
@@ -361,8 +366,8 @@ const char *nardsill_strerror(int status) {
         "an open scan stands on the page", "the entry is there", "the key has more than 64 bytes", "there is no such row",
         "the index is full", "the log is full", "open scans hold all pages in memory", "a vacuum runs", "no such scan",
         "the session is busy", "the file is no index", "the file's layout is unknown", "the log is damaged", "a page is damaged",
-        "a limit is out of its range", "the tree is too tall", "the file is too short"};
-    if (status >= 0 && status <= 20) return names[status];
+        "a limit is out of its range", "the tree is too tall", "the file is too short", "the key is there with another row"};
+    if (status >= 0 && status <= 21) return names[status];
     return status == NARDSILL_DONE ? "no entry is left" : status == NARDSILL_MISUSE ? "a wrong argument"
            : status == NARDSILL_LOCKED ? "another handle has the file" : "no such status";
 }

@@ -33,6 +33,7 @@ enum {
     NARDSILL_BAD_LIMITS = 18,
     NARDSILL_TOO_TALL = 19,
     NARDSILL_DEVICE_TOO_SMALL = 20,
+    NARDSILL_KEY_EXISTS = 21,      /* on a unique index: the key is there, with the row of nardsill_fault_row */
     NARDSILL_DONE = 100,           /* a scan has no entry left */
     NARDSILL_MISUSE = 101,         /* a null pointer */
     NARDSILL_LOCKED = 102          /* another handle, in this process or another, has the file */
@@ -43,8 +44,9 @@ typedef struct nardsill_scan nardsill_scan; /* an open scan of it: 63 at most */
 typedef struct { uint32_t block; uint16_t offset; } nardsill_row;
 typedef struct { nardsill_row row; uint8_t key_len; uint8_t key[NARDSILL_KEY_MAX]; } nardsill_entry;
 
-/* Sizes of an index: items a page, 4 to 50; pages, 8 to 65,536; bytes of the log, 65,536 to 16,777,216, a multiple of 4,096. */
-typedef struct { uint32_t items, pages, log_bytes; } nardsill_limits;
+/* Sizes of an index: items a page, 4 to 50; pages, 8 to 65,536; bytes of the log, 65,536 to 16,777,216, a multiple of 4,096. And whether
+   it is unique: 0 where entries may share a key. */
+typedef struct { uint32_t items, pages, log_bytes, unique; } nardsill_limits;
 
 typedef struct {
     uint64_t entries, removed;
@@ -100,6 +102,9 @@ int nardsill_check(const char *path, uint32_t frames, nardsill_report *out);
 
 /* The page of the last NARDSILL_BLOCKED or NARDSILL_PAGE_DAMAGED. */
 uint32_t nardsill_fault_page(nardsill *index);
+
+/* The row of the last NARDSILL_KEY_EXISTS. */
+nardsill_row nardsill_fault_row(nardsill *index);
 
 const char *nardsill_strerror(int status); /* a sentence */
 const char *nardsill_errname(int status);  /* "Exists", as the programs print it */

@@ -30,7 +30,7 @@ struct nardsill_ask {
 
 struct nardsill_open_ask {
     int32_t descriptor;
-    uint32_t frames, is_new, items, pages, log_bytes;
+    uint32_t frames, is_new, items, pages, log_bytes, unique;
 };
 
 struct nardsill_answer {
@@ -39,6 +39,8 @@ struct nardsill_answer {
     uint32_t session;
     bool is_durable;
     uint32_t num_pages, pages_newly_deleted, pages_deleted, pages_free;
+    uint32_t block; /* the row that a fault names */
+    uint16_t offset;
 };
 
 struct nardsill_token {

@@ -25,7 +25,7 @@ static void ends_so(int status, const char *call) {
 }
 
 int main(void) {
-    nardsill_limits limits = {50, 1024, 65536};
+    nardsill_limits limits = {50, 1024, 65536, 0};
     for (long n = 0;; n++) {
         nardsill *index = 0;
         nardsill_scan *scan = 0;

@@ -39,7 +39,7 @@ static unsigned count(nardsill *index) {
 
 int main(void) {
     nardsill *index, *other;
-    nardsill_limits few = {4, 7, 65536}, limits = {50, 1024, 1048576};
+    nardsill_limits few = {4, 7, 65536, 0}, limits = {50, 1024, 1048576, 0}, unique = {50, 1024, 1048576, 1};
     unlink(PATH);
     IS(NARDSILL_IO, nardsill_open(PATH, 64, &index));
     IS(NARDSILL_BAD_LIMITS, nardsill_create(PATH, &few));
@@ -120,6 +120,27 @@ int main(void) {
     fclose(file);
     IS(NARDSILL_PAGE_DAMAGED, nardsill_check(PATH, 0, &report));
     IS(0, nardsill_close(0));
+    unlink(PATH);
+    /* A unique index: a key that is there names its row, whatever was refused before. */
+    IS(0, nardsill_create(PATH, &unique));
+    IS(0, nardsill_open(PATH, 64, &index));
+    IS(0, nardsill_insert(index, "one", 3, (nardsill_row){7, 1}, 0));
+    IS(NARDSILL_EXISTS, nardsill_insert(index, "one", 3, (nardsill_row){7, 1}, 0));
+    IS(NARDSILL_KEY_EXISTS, nardsill_insert(index, "one", 3, (nardsill_row){8, 2}, 0));
+    nardsill_row there = nardsill_fault_row(index);
+    if (there.block != 7 || there.offset != 1 || nardsill_fault_page(index)) IS(0, 10);
+    IS(0, nardsill_insert(index, "two", 3, (nardsill_row){8, 2}, 0));
+    nardsill_entry pair[2] = {{{9, 1}, 5, "three"}, {{9, 1}, 3, "two"}};
+    IS(NARDSILL_KEY_EXISTS, nardsill_insert_many(index, pair, 2, &done));
+    there = nardsill_fault_row(index);
+    if (done != 1 || there.block != 8 || there.offset != 2) IS(0, 11);
+    IS(0, nardsill_close(index));
+    IS(0, nardsill_open(PATH, 64, &index));
+    IS(NARDSILL_KEY_EXISTS, nardsill_insert(index, "two", 3, (nardsill_row){7, 1}, 0));
+    if (count(index) != 3) IS(0, 12);
+    IS(0, nardsill_close(index));
+    IS(0, nardsill_check(PATH, 0, &report));
+    if (report.damage || report.entries != 3) IS(0, 13);
     unlink(PATH);
     puts("all is as it must be");
     return 0;

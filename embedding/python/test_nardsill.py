@@ -82,6 +82,20 @@ def exceptions(path):
         raise AssertionError("a closed index answered")
 
 
+def unique_index(path):
+    nardsill.create(path, unique=True)
+    with nardsill.Index(path) as index:
+        index.insert(b"one", (7, 1))
+        refused(nardsill.Exists, index.insert, b"one", (7, 1))
+        assert refused(nardsill.KeyExists, index.insert, b"one", (8, 2)).row == nardsill.Row(7, 1)
+        error = refused(nardsill.KeyExists, index.insert_many, [(b"two", (8, 2)), (b"one", (8, 2))])
+        assert error.done == 1 and error.row == (7, 1)
+        assert refused(nardsill.BadRow, index.insert, b"one", (1, 0)).row is None
+    with nardsill.Index(path) as index:
+        assert refused(nardsill.KeyExists, index.insert, b"two", (7, 1)).row == (8, 2)
+        assert listed(index) == [(b"one", (7, 1)), (b"two", (8, 2))]
+
+
 def killed_child(path):
     many = [(b"kept%04d" % at, (at, 5)) for at in range(1000)]
     child = os.fork()
@@ -116,6 +130,7 @@ with tempfile.TemporaryDirectory() as room:
     at = os.path.join(room, "test.idx")
     count = random_calls(at)
     exceptions(at)
+    unique_index(at + ".unique")
     killed_child(at)
     forked_child(at)
     print(f"test_nardsill.py: all is as it must be, {count} entries")

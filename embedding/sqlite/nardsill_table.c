@@ -41,7 +41,7 @@ static int fail(sqlite3_vtab *base, int status) {
     switch (status) {
     case NARDSILL_NO_MEMORY: return SQLITE_NOMEM;
     case NARDSILL_IO: case NARDSILL_STOPPED: return SQLITE_IOERR;
-    case NARDSILL_EXISTS: return SQLITE_CONSTRAINT;
+    case NARDSILL_EXISTS: case NARDSILL_KEY_EXISTS: return SQLITE_CONSTRAINT;
     case NARDSILL_BLOCKED: case NARDSILL_LOCKED: return SQLITE_BUSY;
     case NARDSILL_INDEX_FULL: case NARDSILL_TOO_TALL: return SQLITE_FULL;
     default: return SQLITE_ERROR;
@@ -276,7 +276,7 @@ static int update(sqlite3_vtab *base, int argc, sqlite3_value **argv, sqlite3_in
     int status = delete_named(t);
     if (status) return status;
     status = nardsill_insert(t->index, key, (size_t)len, (nardsill_row){(uint32_t)block, (uint16_t)offset}, 0);
-    if (status == NARDSILL_EXISTS && sqlite3_vtab_on_conflict(t->db) == SQLITE_IGNORE) status = 0;
+    if ((status == NARDSILL_EXISTS || status == NARDSILL_KEY_EXISTS) && sqlite3_vtab_on_conflict(t->db) == SQLITE_IGNORE) status = 0;
     *id = block << 16 | offset;
     return fail(base, status);
 }

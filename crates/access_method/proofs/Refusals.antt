@@ -19,12 +19,14 @@ use Rattle.std.proofs.lemmas.Bool.{cases_lt, or_cases, ltb-true, leb-true, eqb-t
 use Rattle.index_model.specs.Faults.{HasCause}
 use Rattle.index_model.specs.declared.entry.Entry.{Entry}
 use Rattle.index_model.specs.declared.fault.Fault.{Fault}
-use Rattle.index_model.specs.declared.fault.Fault.TheVariants.{NoMemory, Io, Stopped, Blocked, Exists, KeyTooLong, BadRow, IndexFull, LogFull, NoFrame, VacuumRunning, NoSession, SessionBusy, BadSuper, BadVersion, LogDamaged, PageDamaged, BadLimits, TooTall, DeviceTooSmall}
-use Rattle.page_action.specs.Causes.{has_failed, is_at_end}
+use Rattle.index_model.specs.declared.format.Format.{Format}
+use Rattle.index_model.specs.declared.fault.Fault.TheVariants.{NoMemory, Io, Stopped, Blocked, Exists, KeyTooLong, BadRow, IndexFull, LogFull, NoFrame, VacuumRunning, NoSession, SessionBusy, BadSuper, BadVersion, LogDamaged, PageDamaged, BadLimits, TooTall, DeviceTooSmall, KeyExists}
+use Rattle.page_action.specs.Causes.{has_failed, is_at_end, other_row_is_there}
 use Rattle.page_action.specs.declared.page_store.PageStore.{Ghosts}
 use Rattle.session_calls.specs.Ops.{IsFaultCaused, is_vacuum}
 use Rattle.session_calls.specs.Sessions.{is_busy}
 use Rattle.session_calls.specs.declared.request.Request.TheVariants.{Insert as ToInsert, Bulk as ToBulk, Cleanup as ToCleanup}
+use Rattle.session_calls.proofs.Meeting.{other_row_so}
 use Rattle.schedule.specs.TheoremMoments.{StoreAndSlots, Snapshot, snapshot_of}
 use Rattle.session_calls.specs.Slots.{slot_of, slot_vacuums, one_vacuums}
 use Rattle.schedule.specs.Snapshots.{IsFree}
@@ -88,24 +90,29 @@ module _ {S : Type 0} (g : Ghosts S) (old : Index S) (new : S) where
     there : is_none (slice_get old.calls.slots.items 63) ≡ false
     there = there_at old slots
 
-    refused_cause : (was_there used_up tall : Bool) (fault : Fault) → (fault ≡ Exists → was_there ≡ true)
-        → HasCause (where_called g 63 (ToInsert entry) (slots_within old) (where_inserted g 63 5 true used_up tall (slots_within old) new)) fault → HasCause (where_inserting g was_there used_up tall old new) fault
-    refused_cause was_there used_up tall Stopped was h = stopped_called h
-    refused_cause was_there used_up tall Exists was h = was refl
-    refused_cause was_there used_up tall NoSession was h = absurd (true_false (sym h ∙ there))
-    refused_cause was_there used_up tall SessionBusy was h = absurd (true_false (sym h ∙ free))
-    refused_cause was_there used_up tall fault was h = h
+    refused_cause : (was_there : Bool) (key_was : Row → Bool) (used_up tall : Bool) (fault : Fault) → (fault ≡ Exists → was_there ≡ true)
+        → ((row : Row) → fault ≡ KeyExists row → (g.state new).limits.unique ≡ true → key_was row ≡ true)
+        → HasCause (where_called g 63 (ToInsert entry) (slots_within old) (where_inserted g 63 5 true (λ r. (g.state new).limits.unique) used_up tall (slots_within old) new)) fault
+        → HasCause (where_inserting g was_there key_was used_up tall old new) fault
+    refused_cause was_there key_was used_up tall Stopped was key h = stopped_called h
+    refused_cause was_there key_was used_up tall Exists was key h = was refl
+    refused_cause was_there key_was used_up tall (KeyExists row) was key h = key row refl h
+    refused_cause was_there key_was used_up tall NoSession was key h = absurd (true_false (sym h ∙ there))
+    refused_cause was_there key_was used_up tall SessionBusy was key h = absurd (true_false (sym h ∙ free))
+    refused_cause was_there key_was used_up tall fault was key h = h
 
-    left_cause : (used_up tall : Bool) (unfinished : Option Fault) → IsFaultCaused (where_inserted g 63 5 false used_up tall (slots_within old) new) unfinished
-        → IsFaultCaused (where_inserting g false used_up tall old new) unfinished
+    left_cause : (used_up tall : Bool) (unfinished : Option Fault) → IsFaultCaused (where_inserted g 63 5 false (λ r. false) used_up tall (slots_within old) new) unfinished
+        → IsFaultCaused (where_inserting g false (λ r. false) used_up tall old new) unfinished
     left_cause used_up tall None h = tt
     left_cause used_up tall (Some Stopped) h = stopped_run h
     left_cause used_up tall (Some fault) h = h
 
-    pub insert_cause : (result : Result Inserted Fault) → InsertsOrKeeps g entry result old.store new
+    pub insert_cause : (g.state new).limits ≡ (g.state old.store).limits → (result : Result Inserted Fault) → InsertsOrKeeps g entry result old.store new
         → InsertCallIsCaused g 63 5 entry (slots_within old) new result → InsertHasCause g entry result old new
-    insert_cause (Ok inserted) told h = left_cause (none_is_left (g.state old.store).begun (g.state new)) (is_tall (g.state new)) inserted.unfinished h
-    insert_cause (Err fault) told h = refused_cause (has_entry g old.store entry) (none_is_left (g.state old.store).begun (g.state new)) (is_tall (g.state new)) fault told.was_there h
+    insert_cause limits (Ok inserted) told h = left_cause (none_is_left (g.state old.store).begun (g.state new)) (is_tall (g.state new)) inserted.unfinished h
+    insert_cause limits (Err fault) told h =
+        refused_cause (has_entry g old.store entry) (other_row_is_there (g.state old.store) entry) (none_is_left (g.state old.store).begun (g.state new)) (is_tall (g.state new)) fault told.was_there
+        (λ row is unique. (let key = told.key_was_there row is in other_row_so (g.state old.store) entry row (ap (λ (f : Format). f.unique) (sym limits) ∙ unique) key.0 key.1)) h
 
 -- a run leaves the number of frames as it was
 run_frames : {S : Type 0} (g : Ghosts S) (start : Entry → Bool) (told : List Answer) (events : List Event) (answers : List Answer) (first last : Snapshot S) → IsRun g start told events answers first last
@@ -114,6 +121,24 @@ run_frames {S} g start told [] [] first last is = ap (λ (m : Snapshot S). (g.st
 run_frames g start told [] (answer ∷ answers) first last is = absurd is
 run_frames g start told (event ∷ events) [] first last is = absurd is
 run_frames g start told (event ∷ events) (answer ∷ answers) first last is = run_frames g start (told ++ answer ∷ []) events answers is.1.0 last is.1.2 ∙ is.1.1.also.quiet.frames
+
+-- ... and the limits
+run_limits : {S : Type 0} (g : Ghosts S) (start : Entry → Bool) (told : List Answer) (events : List Event) (answers : List Answer) (first last : Snapshot S) → IsRun g start told events answers first last
+    → (g.state last.store).limits ≡ (g.state first.store).limits
+run_limits {S} g start told [] [] first last is = ap (λ (m : Snapshot S). (g.state m.store).limits) (sym is)
+run_limits g start told [] (answer ∷ answers) first last is = absurd is
+run_limits g start told (event ∷ events) [] first last is = absurd is
+run_limits g start told (event ∷ events) (answer ∷ answers) first last is = run_limits g start (told ++ answer ∷ []) events answers is.1.0 last is.1.2 ∙ is.1.1.also.quiet.limits
+
+pub limits_stay : {S : Type 0} (g : Ghosts S) (session : ℕ) (Tells : Snapshot S → Snapshot S → Type 0) (came : Option Answer) (old new : StoreAndSlots S) (start : Entry → Bool) (history : List Action) (calls : List Call)
+    → CallRuns g session Tells came old new start history calls → (g.state new.store).limits ≡ (g.state old.store).limits
+limits_stay g session Tells came old new start history calls r = run_limits g start [] r.events r.answers (snapshot_of old history calls) (snapshot_of new r.then_history r.then_calls) r.ran.run
+
+pub insert_limits : {S : Type 0} (g : Ghosts S) (entry : Entry) (result : Result Inserted Fault) (old new : StoreAndSlots S)
+    → InsertGoes g 63 entry result old new → Carries g old new (λ start history calls. (g.state new.store).limits ≡ (g.state old.store).limits)
+insert_limits g entry (Ok inserted) old new (inl goes) honest start history calls fits = limits_stay g 63 _ _ old new start history calls (goes honest start history calls fits)
+insert_limits g entry (Ok inserted) old new (inr cut) honest start history calls fits = limits_stay g 63 _ _ old new start history calls (cut.goes honest start history calls fits)
+insert_limits g entry (Err fault) old new goes honest start history calls fits = limits_stay g 63 _ _ old new start history calls (goes honest start history calls fits)
 
 pub frames_stay : {S : Type 0} (g : Ghosts S) (session : ℕ) (Tells : Snapshot S → Snapshot S → Type 0) (came : Option Answer) (old new : StoreAndSlots S) (start : Entry → Bool) (history : List Action) (calls : List Call)
     → CallRuns g session Tells came old new start history calls → (g.state new.store).frames ≡ (g.state old.store).frames
@@ -173,16 +198,20 @@ module _ {S : Type 0} (g : Ghosts S) (session : ℕ) (old : Index S) (new : S) (
   run_unhindered BadLimits h = h
   run_unhindered TooTall h = true_false (sym h)
   run_unhindered DeviceTooSmall h = h
+  run_unhindered (KeyExists row) h = true_false (sym h)
 
 -- ... of an insert
 module _ {S : Type 0} (g : Ghosts S) (entry : Entry) (old : Index S) (new : S) (un : IsUnhindered g 63 old new) (same_frames : (g.state new).frames ≡ (g.state old.store).frames) where
-  refused_unhindered : (fault : Fault) → HasCause (where_inserting g (has_entry g old.store entry) (none_is_left (g.state old.store).begun (g.state new)) (is_tall (g.state new)) old new) fault → IsForWantOfSpace g entry old.store new fault
+  refused_unhindered : (fault : Fault)
+      → HasCause (where_inserting g (has_entry g old.store entry) (other_row_is_there (g.state old.store) entry) (none_is_left (g.state old.store).begun (g.state new)) (is_tall (g.state new)) old new) fault
+      → IsForWantOfSpace g entry old.store new fault
   refused_unhindered Exists h = h
+  refused_unhindered (KeyExists row) h = h
   refused_unhindered IndexFull h = h
   refused_unhindered TooTall h = h
   refused_unhindered fault h = absurd (run_unhindered g 63 old new un same_frames fault h)
 
-  left_unhindered : (unfinished : Option Fault) → IsFaultCaused (where_inserting g false (none_is_left (g.state old.store).begun (g.state new)) (is_tall (g.state new)) old new) unfinished → IsOfSpace (g.state old.store).begun (g.state new) unfinished
+  left_unhindered : (unfinished : Option Fault) → IsFaultCaused (where_inserting g false (λ r. false) (none_is_left (g.state old.store).begun (g.state new)) (is_tall (g.state new)) old new) unfinished → IsOfSpace (g.state old.store).begun (g.state new) unfinished
   left_unhindered None h = tt
   left_unhindered (Some IndexFull) h = h
   left_unhindered (Some TooTall) h = h

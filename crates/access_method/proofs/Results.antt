@@ -1,7 +1,7 @@
 -- What the answers of an insert and of a scan say, read off the run.
 use Rattle.std.specs.Prelude.{IfOk, IfErr, OnOk, unwrap_or}
 use Rattle.index_model.specs.Faults.{HasCause}
-use Rattle.page_action.specs.Causes.{where_forced}
+use Rattle.page_action.specs.Causes.{where_forced, with_row}
 use Rattle.session_calls.specs.declared.answer.Answer.{Answer}
 use Rattle.session_calls.specs.declared.answer.Answer.TheVariants.{Begun, Going, Added, Ready, Done, Finished, Gave, Ended, Forced, Flushed, Checkpointed, Refused}
 use Rattle.schedule.specs.TheoremKinds.{Kind, KeepsStore, Upkeep, Forces, Flushes, Checkpoints, kind_of}
@@ -15,16 +15,19 @@ use Rattle.whole_calls.specs.Going.{CallGoes}
 use Rattle.whole_calls.proofs.Composing.{goes_by}
 use Rattle.whole_calls.proofs.Tellings.{keeps_silent}
 use Rattle.access_method.specs.Counted.{counted, kept_came}
-use Rattle.std.proofs.Common.{◌≡◌, ◌||◌, ℕ, zero, suc, ◌+◌, ◌-◌, Bool, Option, Some, None, Result, Ok, Err, List, [], ◌∷◌, ◌++◌, length, take, slice_get, refl, sym, ap, subst, inl, inr, ◌∙◌, arith, length-append, append_assoc}
+use Rattle.std.proofs.Common.{◌≡◌, ◌||◌, ℕ, zero, suc, ◌+◌, ◌-◌, Bool, true, false, Option, Some, None, Result, Ok, Err, List, [], ◌∷◌, ◌++◌, length, take, slice_get, refl, sym, ap, subst, inl, inr, ◌∙◌, arith, length-append, append_assoc}
 use Rattle.std.proofs.lemmas.List.{take_at, length-replicate}
 use Rattle.std.proofs.Math.Seq.{take-append-add}
-use Rattle.index_model.specs.Actions.{Add, ThereAtSomeMoment, Action, later_or, last_said, contents_after}
-use Rattle.index_model.specs.Calls.{Failed, Ask, AskInsert, AskScan, Call, Ending, Running, Finished as EndsFinished, Meets, AnswersRight, IsScanAnswer, IsScanAnswerSoFar, end_of}
+use Rattle.index_model.specs.Actions.{Add, ThereAtSomeMoment, Action, KeysDiffer, later_or, last_said, contents_after}
+use Rattle.index_model.specs.Calls.{Failed, Ask, AskInsert, AskScan, Call, Ending, Running, Finished as EndsFinished, Meets, AnswersRight, InsertMayFail, IsScanAnswer, IsScanAnswerSoFar, end_of}
 use Rattle.index_model.specs.Order.{same_entry}
+use Rattle.index_model.specs.Row.{Row}
 use Rattle.index_model.specs.declared.entry.Entry.{Entry}
 use Rattle.index_model.specs.declared.fault.Fault.{Fault}
-use Rattle.index_model.specs.declared.fault.Fault.TheVariants.{Exists}
+use Rattle.index_model.specs.declared.fault.Fault.TheVariants.{Exists, KeyExists}
+use Rattle.index_model.specs.declared.format.Format.{Format}
 use Rattle.index_model.specs.declared.range.Range.{Range}
+use Rattle.index_model.proofs.Ascending.{same_entry-self}
 use Rattle.index_model.proofs.Histories.{contents_after-append, contents_after-add}
 use Rattle.page_action.specs.declared.page_store.PageStore.{Ghosts}
 use Rattle.session_calls.specs.TheoremCalls.{begun_call}
@@ -35,7 +38,9 @@ use Rattle.whole_calls.specs.Telling.{InsertTold, inserted_call, shapes}
 use Rattle.whole_calls.specs.Inserting.{InsertGoes}
 use Rattle.whole_calls.specs.Giving.{Becomes, TellsGiven, give_came}
 use Rattle.whole_calls.specs.Going.{CallRuns}
-use Rattle.access_method.specs.Indexes.{InsertsOrKeeps, AnswersScan}
+use Rattle.whole_calls.proofs.Refusing.{or_left, or_right}
+use Rattle.access_method.specs.Indexes.{has_entry, InsertsOrKeeps, AnswersScan}
+use Rattle.access_method.proofs.Refusals.{limits_stay}
 use Rattle.whole_calls.specs.declared.inserted.Inserted.{Inserted}
 
 -- changes of the shape say nothing of an entry, nor do the first of them
@@ -52,6 +57,19 @@ all_shapes_say n (suc k) e = ap (λ (o : Option Bool). later_or o None) (all_sha
 -- what says nothing of an entry leaves the contents
 after_nothing : (start : Entry → Bool) (l m : List Action) (e : Entry) → last_said m e ≡ None → contents_after start (l ++ m) e ≡ contents_after start l e
 after_nothing start l m e none = contents_after-append start l m e ∙ ap (λ (o : Option Bool). unwrap_or o (contents_after start l e)) none
+
+-- where no two entries share a key, no entry of the key of one that is inserted was there
+key_was_free : (was is : Entry → Bool) (entry : Entry) → ((e : Entry) → is e ≡ (same_entry entry e || was e)) → was entry ≡ false → KeysDiffer is → (row : Row) → was (with_row entry row) ≡ false
+key_was_free was is entry grown absent differ row = by (was (with_row entry row)) refl
+  where
+    by : (b : Bool) → was (with_row entry row) ≡ b → b ≡ false
+    by false at = refl
+    by true at =
+        let here : is entry ≡ true = grown entry ∙ or_left (same_entry entry entry) (was entry) (same_entry-self entry) in
+        let there : is (with_row entry row) ≡ true = grown (with_row entry row) ∙ or_right (same_entry entry (with_row entry row)) (was (with_row entry row)) at in
+        let same : entry ≡ with_row entry row = differ entry (with_row entry row) here there refl in
+        let both : false ≡ true = sym absent ∙ ap was same ∙ at in
+        absurd cc
 
 -- an insert's answer in words of the contents
 told_or_kept : {S : Type 0} (g : Ghosts S) (entry : Entry) (result : Result Inserted Fault) (came : Option Answer) (old new : StoreAndSlots S) (start : Entry → Bool) (history : List Action) (calls : List Call)
@@ -73,11 +91,16 @@ told_or_kept g entry (Ok inserted) came old new start history calls fits r =
     let first : take added.before r.then_history ≡ front = ap (λ (n : ℕ). take n r.then_history) before ∙ ap (λ (l : List Action). take (length front) l) t.history_is ∙ take_at front (act ∷ behind) (length front) refl in
     let kept : (e : Entry) → contents_after start front e ≡ contents_after start history e = λ e. after_nothing start history (shapes (length calls) t.before) e (all_shapes_say (length calls) t.before e) in
     let whole : r.then_history ≡ (front ++ act ∷ []) ++ behind = t.history_is ∙ sym (append_assoc front (act ∷ []) behind) in
+    let absent : has_entry g old.store entry ≡ false =
+    fits.explains.contents entry ∙ sym (kept entry) ∙ ap (λ (l : List Action). contents_after start l entry) (sym first) ∙ added.was_absent in
+    let grown : (e : Entry) → has_entry g new.store e ≡ (same_entry entry e || has_entry g old.store e) = λ e. r.ran.fits.explains.contents e ∙ ap (λ (l : List Action). contents_after start l e) whole
+    ∙ after_nothing start (front ++ act ∷ []) behind e (all_shapes_say (length calls) t.behind e) ∙ contents_after-add start front (length calls) entry e
+    ∙ ap (λ (b : Bool). same_entry entry e || b) (kept e ∙ sym (fits.explains.contents e)) in
     record {
-      was_absent = fits.explains.contents entry ∙ sym (kept entry) ∙ ap (λ (l : List Action). contents_after start l entry) (sym first) ∙ added.was_absent;
-      contents = λ e. r.ran.fits.explains.contents e ∙ ap (λ (l : List Action). contents_after start l e) whole
-          ∙ after_nothing start (front ++ act ∷ []) behind e (all_shapes_say (length calls) t.behind e) ∙ contents_after-add start front (length calls) entry e
-          ∙ ap (λ (b : Bool). same_entry entry e || b) (kept e ∙ sym (fits.explains.contents e));
+      was_absent = absent;
+      key_was_absent = λ unique. key_was_free (has_entry g old.store) (has_entry g new.store) entry grown absent
+          (r.ran.fits.explains.keyed (ap (λ (f : Format). f.unique) (limits_stay g 63 (InsertTold 63 entry (Ok inserted)) came old new start history calls r) ∙ unique)).keys;
+      contents = grown;
       since = (let a = t.action_is in let b : (g.state old.store).acts ≡ length history = fits.explains.count in omega (arith, a, b));
       until = (
           let a = t.action_is in
@@ -88,20 +111,33 @@ told_or_kept g entry (Ok inserted) came old new start history calls fits r =
     }
 told_or_kept g entry (Err fault) came old new start history calls fits r =
     let t = r.tells in
-    let failed : Call = ended (begun_call 63 (AskInsert entry) (length history)) (Failed Exists) (length r.then_history) in
     record {
       contents = λ e. r.ran.fits.explains.contents e ∙ ap (λ (l : List Action). contents_after start l e) t.history_is ∙ after_nothing start history (shapes (length calls) t.shaped) e (all_shapes_say (length calls) t.shaped e) ∙ sym (fits.explains.contents e);
-      was_there = λ exists. (
-          let found : slice_get r.then_calls (length calls) ≡ Some failed = ap (λ (l : List Call). slice_get l (length calls)) (t.exists_is exists) ∙ get_append_new calls failed in
-          let meets : Meets start r.then_history (length calls) failed = r.ran.fits.explains.meets (length calls) failed found in
-          let at : ThereAtSomeMoment start r.then_history (length history) (length r.then_history) entry = meets.right.end.1 refl in
-          let more : ℕ = at.moment - length history in
-          let moment : at.moment ≡ length history + more = (let a = at.since in omega (arith, a)) in
-          let first : take at.moment r.then_history ≡ history ++ take more (shapes (length calls) t.shaped) =
-          ap (λ (n : ℕ). take n r.then_history) moment ∙ ap (λ (l : List Action). take (length history + more) l) t.history_is ∙ take-append-add history (shapes (length calls) t.shaped) more in
-          fits.explains.contents entry ∙ sym (after_nothing start history (take more (shapes (length calls) t.shaped)) entry (shapes_say (length calls) t.shaped more entry))
-          ∙ ap (λ (l : List Action). contents_after start l entry) (sym first) ∙ at.there);
+      was_there = λ exists. held entry ((refused Exists (t.exists_is exists)).0 refl);
+      key_was_there = λ row is.
+          let may = (refused (KeyExists row) (t.key_exists_is row is)).1 row refl in
+          (may.0, held (with_row entry row) may.1);
     }
+  where
+    -- the call that has ended with this fault meets its definition
+    refused : (of : Fault) → r.then_calls ≡ calls ++ ended (begun_call 63 (AskInsert entry) (length history)) (Failed of) (length r.then_history) ∷ []
+        → InsertMayFail start r.then_history (length history) (length r.then_history) entry of
+    refused of is =
+        let failed : Call = ended (begun_call 63 (AskInsert entry) (length history)) (Failed of) (length r.then_history) in
+        let found : slice_get r.then_calls (length calls) ≡ Some failed = ap (λ (l : List Call). slice_get l (length calls)) is ∙ get_append_new calls failed in
+        let meets : Meets start r.then_history (length calls) failed = r.ran.fits.explains.meets (length calls) failed found in
+        meets.right.end.1
+
+    -- what was there since the call began was there before, since it has changed the shape of the pages only
+    held : (e : Entry) → ThereAtSomeMoment start r.then_history (length history) (length r.then_history) e → has_entry g old.store e ≡ true
+    held e at =
+        let t = r.tells in
+        let more : ℕ = at.moment - length history in
+        let moment : at.moment ≡ length history + more = (let a = at.since in omega (arith, a)) in
+        let first : take at.moment r.then_history ≡ history ++ take more (shapes (length calls) t.shaped) =
+        ap (λ (n : ℕ). take n r.then_history) moment ∙ ap (λ (l : List Action). take (length history + more) l) t.history_is ∙ take-append-add history (shapes (length calls) t.shaped) more in
+        fits.explains.contents e ∙ sym (after_nothing start history (take more (shapes (length calls) t.shaped)) e (shapes_say (length calls) t.shaped more e))
+        ∙ ap (λ (l : List Action). contents_after start l e) (sym first) ∙ at.there
 
 pub inserts_or_keeps : {S : Type 0} (g : Ghosts S) (entry : Entry) (result : Result Inserted Fault) (old new : StoreAndSlots S)
     → InsertGoes g 63 entry result old new → Carries g old new (λ start history calls. InsertsOrKeeps g entry result old.store new.store)

@@ -7,7 +7,7 @@ use Rattle.index_model.specs.Calls.{AskScan}
 use Rattle.std.specs.Prelude.{◌||◌, Bool, true, false}
 use Rattle.index_model.specs.Faults.{HasCause}
 use Rattle.index_model.specs.declared.fault.Fault.{Fault}
-use Rattle.index_model.specs.declared.fault.Fault.TheVariants.{NoMemory, Io, Stopped, Blocked, Exists, KeyTooLong, BadRow, IndexFull, LogFull, NoFrame, VacuumRunning, NoSession, SessionBusy, BadSuper, BadVersion, LogDamaged, PageDamaged, BadLimits, TooTall, DeviceTooSmall}
+use Rattle.index_model.specs.declared.fault.Fault.TheVariants.{NoMemory, Io, Stopped, Blocked, Exists, KeyTooLong, BadRow, IndexFull, LogFull, NoFrame, VacuumRunning, NoSession, SessionBusy, BadSuper, BadVersion, LogDamaged, PageDamaged, BadLimits, TooTall, DeviceTooSmall, KeyExists}
 use Rattle.page_action.specs.Causes.{nothing_wrong, is_at_end}
 use Rattle.page_action.specs.States.{Backing}
 use Rattle.index_model.specs.declared.range.Range.{Range}
@@ -149,6 +149,7 @@ no_cause stopped runs (PageDamaged b) h = cc
 no_cause stopped runs BadLimits h = h
 no_cause stopped runs TooTall h = cc
 no_cause stopped runs DeviceTooSmall h = h
+no_cause stopped runs (KeyExists row) h = cc
 
 -- a scan that may begin is not refused
 pub may_begin : {S : Type 0} (g : Ghosts S) (old store : S) (slots : List (Option Op)) (session : ℕ) (fault : Fault) (at_end : Bool)

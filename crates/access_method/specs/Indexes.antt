@@ -6,11 +6,11 @@ use Rattle.index_model.specs.Actions.{Action}
 use Rattle.index_model.specs.Calls.{AskScan, Call, IsScanAnswer, IsScanAnswerSoFar}
 use Rattle.index_model.specs.Order.{same_entry, is_among}
 use Rattle.index_model.specs.Row.{Row}
-use Rattle.page_action.specs.Causes.{is_at_end}
+use Rattle.page_action.specs.Causes.{is_at_end, with_row}
 use Rattle.page_action.specs.Contents.{entry_on_live_leaf}
 use Rattle.index_model.specs.declared.entry.Entry.{Entry}
 use Rattle.index_model.specs.declared.fault.Fault.{Fault}
-use Rattle.index_model.specs.declared.fault.Fault.TheVariants.{Stopped, NoSession, Exists}
+use Rattle.index_model.specs.declared.fault.Fault.TheVariants.{Stopped, NoSession, Exists, KeyExists}
 use Rattle.index_model.specs.declared.format.Format.{Format}
 use Rattle.index_model.specs.declared.range.Range.{Range}
 use Rattle.index_model.specs.declared.stats.VacuumStats.{VacuumStats}
@@ -133,17 +133,20 @@ TokenAfter token (Err fault) old new = SeatBecomes token (seat_with token true) 
 abbrev pub has_entry : {S : Type 0} → Ghosts S → S → Entry → Bool
 has_entry g store e = entry_on_live_leaf (g.state store).pages e
 
--- the entry wasn't there; the contents are those before and the entry; and the action that added it is one since
+-- the entry wasn't there, and on a unique index no entry of its key; the contents are those before and the entry; and the action that added it is one since
 pub record IsInserted {S : Type 0} (g : Ghosts S) (entry : Entry) (inserted : Inserted) (old new : S) : Type 0 where
   pub was_absent : has_entry g old entry ≡ false
+  pub key_was_absent : (g.state old).limits.unique ≡ true → (row : Row) → has_entry g old (with_row entry row) ≡ false
   pub contents : (e : Entry) → has_entry g new e ≡ (same_entry entry e || has_entry g old e)
   pub since : (g.state old).acts < inserted.action
   pub until : inserted.action ≤ (g.state new).acts
 
--- the contents are those before; and where an insert was refused because the entry was there, it was
+-- the contents are those before; and where an insert was refused because the entry was there, it was; where because its key was
+-- there with a row, that was another row, and its entry was there
 pub record KeepsContents {S : Type 0} (g : Ghosts S) (entry : Entry) (fault : Fault) (old new : S) : Type 0 where
   pub contents : (e : Entry) → has_entry g new e ≡ has_entry g old e
   pub was_there : fault ≡ Exists → has_entry g old entry ≡ true
+  pub key_was_there : (row : Row) → fault ≡ KeyExists row → (row ≢ entry.row) × (has_entry g old (with_row entry row) ≡ true)
 
 -- the entry is inserted; or the contents are those before
 abbrev pub InsertsOrKeeps : {S : Type 0} → Ghosts S → Entry → Result Inserted Fault → S → S → Type 0

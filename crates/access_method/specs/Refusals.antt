@@ -7,10 +7,11 @@ use Rattle.tree_acts.specs.Deletions.{state_in}
 use Rattle.index_model.specs.Actions.{Action}
 use Rattle.std.specs.Prelude.{◌≡◌, ◌≢◌, ℕ, ◌<◌, ◌≤◌, ◌||◌, nat_lt, nat_le, Bool, true, false, Option, Some, None, Result, Ok, Err, List, IfErr, IsOk}
 use Rattle.index_model.specs.Faults.{Circumstances, HasCause}
+use Rattle.index_model.specs.Row.{Row}
 use Rattle.index_model.specs.declared.entry.Entry.{Entry}
 use Rattle.index_model.specs.declared.fault.Fault.{Fault}
-use Rattle.index_model.specs.declared.fault.Fault.TheVariants.{Exists, IndexFull, TooTall}
-use Rattle.page_action.specs.Causes.{nothing_wrong, has_failed, is_at_end}
+use Rattle.index_model.specs.declared.fault.Fault.TheVariants.{Exists, IndexFull, TooTall, KeyExists}
+use Rattle.page_action.specs.Causes.{nothing_wrong, has_failed, is_at_end, other_row_is_there}
 use Rattle.page_action.specs.States.{State}
 use Rattle.page_action.specs.declared.page_store.PageStore.{Ghosts}
 use Rattle.session_calls.specs.Ops.{IsFaultCaused}
@@ -31,10 +32,12 @@ where_run g session old new = record nothing_wrong {
   frames_are_pinned = another_runs old.calls.slots.items session || nat_lt (g.state new).frames 4;
 }
 
--- ... of an insert also that its entry was there, that no block can be had, or that the root is on level 31, as far as these say so
-abbrev pub where_inserting : {S : Type 0} → Ghosts S → Bool → Bool → Bool → Index S → S → Circumstances
-where_inserting g was_there no_block tall old new = record (where_run g 63 old new) {
+-- ... of an insert also that its entry was there, or another row of its key, that no block can be had, or that the root is on level 31,
+-- as far as these say so
+abbrev pub where_inserting : {S : Type 0} → Ghosts S → Bool → (Row → Bool) → Bool → Bool → Index S → S → Circumstances
+where_inserting g was_there key_was no_block tall old new = record (where_run g 63 old new) {
   entry_was_there = was_there;
+  key_was_there = key_was;
   no_block_is_free = no_block;
   root_is_at_31 = tall;
 }
@@ -44,11 +47,13 @@ where_inserting g was_there no_block tall old new = record (where_run g 63 old n
 abbrev pub none_is_left : ℕ → State → Bool
 none_is_left begun st = has_no_block 63 (Some begun) st
 
--- a refused insert had its cause; and so had what an insert leaves unfinished: never that its entry was there
+-- a refused insert had its cause, on a unique index maybe that another row of its key was there; and so had what an insert leaves
+-- unfinished: never that its entry or its key was there
 abbrev pub InsertHasCause : {S : Type 0} → Ghosts S → Entry → Result Inserted Fault → Index S → S → Type 0
-InsertHasCause g entry (Ok inserted) old new = IsFaultCaused (where_inserting g false (none_is_left (g.state old.store).begun (g.state new)) (is_tall (g.state new)) old new) inserted.unfinished
+InsertHasCause g entry (Ok inserted) old new = IsFaultCaused (where_inserting g false (λ r. false) (none_is_left (g.state old.store).begun (g.state new)) (is_tall (g.state new)) old new) inserted.unfinished
 InsertHasCause g entry (Err fault) old new =
-    HasCause (where_inserting g (has_entry g old.store entry) (none_is_left (g.state old.store).begun (g.state new)) (is_tall (g.state new)) old new) fault
+    HasCause (where_inserting g (has_entry g old.store entry) (other_row_is_there (g.state old.store) entry) (none_is_left (g.state old.store).begun (g.state new))
+    (is_tall (g.state new)) old new) fault
 
 -- Nothing hinders a call of this session between these moments: no other open scan's call runs, the log hasn't failed before and no
 -- device call meanwhile, no counter is at its end, and there are 16 frames.
@@ -65,9 +70,11 @@ pub record IsCalm {S : Type 0} (g : Ghosts S) (index : Index S) : Type 0 where
   pub alone : another_runs index.calls.slots.items 63 ≡ false
   pub none_dead : (block : ℕ) → state_in (g.state index.store) block ≢ HalfDead
 
--- why an insert is refused that nothing hinders: its entry was there, no block is left, or the root is on level 31
+-- why an insert is refused that nothing hinders: its entry was there, on a unique index another row of its key, no block is left, or
+-- the root is on level 31
 abbrev pub IsForWantOfSpace : {S : Type 0} → Ghosts S → Entry → S → S → Fault → Type 0
 IsForWantOfSpace g entry old new Exists = has_entry g old entry ≡ true
+IsForWantOfSpace g entry old new (KeyExists row) = other_row_is_there (g.state old) entry row ≡ true
 IsForWantOfSpace g entry old new IndexFull = none_is_left (g.state old).begun (g.state new) ≡ true
 IsForWantOfSpace g entry old new TooTall = is_tall (g.state new) ≡ true
 IsForWantOfSpace g entry old new fault = ⊥

@@ -17,7 +17,7 @@ ghost use Rattle.page_store.specs.declared.store.Store.{Store as StoreOver};
 ghost use Rattle.recovery.specs.Fresh.{IsEmptyIndex, LeavesEmpty};
 ghost use Rattle.recovery.specs.Index.{HasIndex};
 ghost use Rattle.recovery.specs.Opening.{AreFrames, IsFreshlyOpened, IsSameIndex, StandsOnDevice};
-ghost use Rattle.tree_acts.specs.TheoremTree.{IsTree};
+ghost use Rattle.tree_acts.specs.TheoremKeys.{IsTreeFor};
 
 use crate::draft::{draft_of, make_draft, place_draft, want_free};
 use crate::index::Index;
@@ -125,7 +125,7 @@ pub fn open<R: Files<File = File>, S: Start>(
         IsTrue (d.is_honest (device_of d index.store))
         → (limits : Format) (pages : List Page)
         → HasIndex limits pages (bytes_before S.Start.bytes (d.trace (device_of d index.store)))
-        → IsTree pages
+        → IsTreeFor limits pages
         → IndexBegins d ⟦<Store<FileDevice<S>> as PageStore>⟧ limits pages index) }
     // It has as many frames as were asked for, 16 or more.
     ensures frames { IfOk result (λ index.

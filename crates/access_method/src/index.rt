@@ -141,6 +141,7 @@ impl<S: PageStore> Index<S> {
     }
 
     /// Inserts an entry: begins an insert and runs its steps to the end. Refused with `Exists` (5) where the entry is there;
+    /// on a unique index with `KeyExists` (21), which names the row, where an entry of its key and another row is there;
     /// with `IndexFull` (8) where a page is full and no block is left, with `TooTall` (19) where the root is full on level 31;
     /// with `Io` (2), `Stopped` (3), and with `Blocked` (4) or `NoFrame` (10) where open scans hold what it needs; with
     /// `PageDamaged` (17) on pages that are no tree: no entry is added then. Once the entry is added, a fault that
@@ -457,17 +458,17 @@ impl<D: Device> Index<Store<D>> {
     ghost use Rattle.recovery.specs.Calls.{IsIoOr};
     ghost use Rattle.recovery.specs.Index.{HasIndex};
     ghost use Rattle.recovery.specs.Opening.{AreFrames, IsNoMemoryOrIo, IsRefusal};
-    ghost use Rattle.tree_acts.specs.TheoremTree.{IsTree};
+    ghost use Rattle.tree_acts.specs.TheoremKeys.{IsTreeFor};
     ghost use Rattle.world.specs.Reopening.{IsIndexAfterFirstPart};
     ghost use Rattle.access_method.specs.Indexes.{IndexFits, IndexKeeps, IndexBegins, index_device};
 
     /// Opens the index on the device, after any crash, for so many pages in memory at once (16 to 1,024). Refused as `open` of
     /// `recovery` is, with the device given back. It may be called again after any refusal, and after a crash at any moment.
     pub fn open(alloc: Global, device: D, frames: u32) -> Result<Index<Store<D>>, Refused<D>>
-        // An index whose pages are a B-link tree is opened with them, or refused for want of memory or of the device.
+        // An index whose pages are a B-link tree, of a unique one keyed, is opened with them, or refused for want of memory or of the device.
         ensures begins { IsTrue (D.is_honest (index_device D.Device result)) → AreFrames frames
             → (limits : Format) (pages : List Page)
-            → HasIndex limits pages (D.trace device).now.seen → IsTree pages
+            → HasIndex limits pages (D.trace device).now.seen → IsTreeFor limits pages
             → MatchResult result (IndexBegins D.Device ⟦<Store<D> as PageStore>⟧ limits pages)
             (λ refused. IsNoMemoryOrIo refused.fault) }
         // It has as many frames as were asked for, 16 or more.

@@ -26,10 +26,10 @@ taken (x ∷ xs) zero le = refl
 taken (x ∷ xs) (suc n) le = (let r = taken xs n (omega arith) in omega (arith, r))
 
 -- a walk along a chain without damage ends at its last page
-pub ends_clear : (ix : Index) (depth n : ℕ) (end : End) → depth ≤ ix.top → IsClearChain ix depth → IsEnd ix depth n end → (place_at ix depth n).block ≡ None
-ends_clear ix depth n Whole deep clear e = e
-ends_clear ix depth n (Off b) deep clear e = absurd (clear (record { depth = depth; place = n; block = b; deep = deep; is = e.0 }) 1 refl (inl (refl, e.1)))
-ends_clear ix depth n (Met s) deep clear e =
+pub ends_clear : (ix : Index) (keys : Bool) (depth n : ℕ) (end : End) → depth ≤ ix.top → IsClearChain ix keys depth → IsEnd ix depth n end → (place_at ix depth n).block ≡ None
+ends_clear ix keys depth n Whole deep clear e = e
+ends_clear ix keys depth n (Off b) deep clear e = absurd (clear (record { depth = depth; place = n; block = b; deep = deep; is = e.0 }) 1 refl (inl (refl, e.1)))
+ends_clear ix keys depth n (Met s) deep clear e =
     absurd (clear (record { depth = depth; place = n; block = s.block; deep = deep; is = ap (λ (p : Place). p.block) e.0 }) 3 refl
     (inr (inr (inl (refl, record { earlier = e.2.earlier; before = e.2.before; same = e.2.is })))))
 

@@ -1,5 +1,5 @@
 -- Whether an entry or a bound of a page of the format isn't beyond its low: the first entry and the second bound tell.
-use Rattle.std.proofs.Common.{◌≡◌, ◌≢◌, ◌⊎◌, ℕ, ◌<◌, inl, inr, Option, Some, None, List, [], ◌∷◌, length, slice_get, refl, sym, ap, subst, ◌∙◌, arith}
+use Rattle.std.proofs.Common.{◌≡◌, ◌≢◌, ◌⊎◌, ℕ, ◌<◌, inl, inr, Bool, true, false, Option, Some, None, List, [], ◌∷◌, length, slice_get, refl, sym, ap, subst, ◌∙◌, arith}
 use Rattle.std.specs.List.{Contains, AllByRecursion}
 use Rattle.index_model.specs.Order.{bound_of}
 use Rattle.index_model.specs.declared.bound.Bound.{Bound}
@@ -15,7 +15,7 @@ use Rattle.page_codec.specs.declared.page.PageState.TheVariants.{Live, HalfDead,
 use Rattle.tree_shape.specs.Nodes.{links_of, node_of}
 use Rattle.tree_shape.specs.Chains.{Spot, Rises, IsBeyond, LinksWithin}
 use Rattle.damages.specs.Damages.{HasNotBeyond}
-use Rattle.damages.proofs.Decided.{no_link}
+use Rattle.damages.proofs.Decided.{no_link, bool_so}
 use Rattle.damages.specs.Lows.{IsFirstBeyond, IsSecondBeyond, IsBoundBeyond}
 use Rattle.damages.proofs.Items.{entries_within, links_within}
 use Rattle.damages.proofs.TreesSound.{entry_beyond, link_beyond}
@@ -128,36 +128,43 @@ least_right low page admitted h wrong = (let both = by page.items (links_ascend 
     by (Entries v) up h = (first_one v.items h, tt)
     by (Downlinks v) up h = (tt, second_back low v.items up h)
 
+not_both : (b : Bool) → b ≡ true → b ≡ false → ⊥
+not_both true e f = cc
+not_both false e f = cc
+
 -- what is wrong as the sketch tells is wrong, and the other way round
-module _ (page : Page) (sketch : Sketch) (root : Option ℕ) (s : Spot) (block : ℕ) (admitted : IsPage page) (is : IsSketch (node_of page) sketch) where
-  pub wrong_to : (n : ℕ) → IsWrongSketch sketch root s block n → IsWrong (node_of page) root s block n
+module _ (keys : Bool) (page : Page) (sketch : Sketch) (root : Option ℕ) (s : Spot) (block : ℕ) (admitted : IsPage page) (is : IsSketch (node_of page) sketch) where
+  pub wrong_to : (n : ℕ) → IsWrongSketch keys sketch root s block n → IsWrong keys (node_of page) root s block n
   wrong_to n (inl a) = inl (a.0, λ e. a.1 (is.left ∙ e))
   wrong_to n (inr (inl a)) = inr (inl (a.0, sym is.state ∙ a.1))
   wrong_to n (inr (inr (inl a))) = inr (inr (inl (a.0, sym is.state ∙ a.1, λ rises. a.2 (subst (Rises s.low) (sym is.high) rises))))
   wrong_to n (inr (inr (inr (inl a)))) = inr (inr (inr (inl (a.0, least_wrong s.low page admitted (λ beyond. a.1 (subst (IsNoneOrBeyond s.low) (sym is.least) beyond))))))
   wrong_to n (inr (inr (inr (inr (inl a))))) = inr (inr (inr (inr (inl a))))
-  wrong_to n (inr (inr (inr (inr (inr a))))) = inr (inr (inr (inr (inr (a.0, sym is.state ∙ a.1, a.2)))))
+  wrong_to n (inr (inr (inr (inr (inr (inl a)))))) = inr (inr (inr (inr (inr (inl (a.0, sym is.state ∙ a.1, a.2))))))
+  wrong_to n (inr (inr (inr (inr (inr (inr a)))))) = inr (inr (inr (inr (inr (inr (a.0, a.1, λ unique. not_both sketch.unique (is.unique.1 unique) a.2))))))
 
-  pub wrong_from : (n : ℕ) → IsWrong (node_of page) root s block n → IsWrongSketch sketch root s block n
+  pub wrong_from : (n : ℕ) → IsWrong keys (node_of page) root s block n → IsWrongSketch keys sketch root s block n
   wrong_from n (inl a) = inl (a.0, λ e. a.1 (sym is.left ∙ e))
   wrong_from n (inr (inl a)) = inr (inl (a.0, is.state ∙ a.1))
   wrong_from n (inr (inr (inl a))) = inr (inr (inl (a.0, is.state ∙ a.1, λ rises. a.2 (subst (Rises s.low) is.high rises))))
   wrong_from n (inr (inr (inr (inl a)))) = inr (inr (inr (inl (a.0, λ beyond. least_right s.low page admitted (subst (IsNoneOrBeyond s.low) is.least beyond) a.1))))
   wrong_from n (inr (inr (inr (inr (inl a))))) = inr (inr (inr (inr (inl a))))
-  wrong_from n (inr (inr (inr (inr (inr a))))) = inr (inr (inr (inr (inr (a.0, is.state ∙ a.1, a.2)))))
+  wrong_from n (inr (inr (inr (inr (inr (inl a)))))) = inr (inr (inr (inr (inr (inl (a.0, is.state ∙ a.1, a.2))))))
+  wrong_from n (inr (inr (inr (inr (inr (inr a)))))) = inr (inr (inr (inr (inr (inr (a.0, a.1, bool_so sketch.unique (λ unique. a.2 (is.unique.0 unique))))))))
 
-  pub least_told : (o : Option ℕ) → IsLeastNumber (IsWrongSketch sketch root s block) o → IsLeastNumber (IsWrong (node_of page) root s block) o
+  pub least_told : (o : Option ℕ) → IsLeastNumber (IsWrongSketch keys sketch root s block) o → IsLeastNumber (IsWrong keys (node_of page) root s block) o
   least_told None least = λ n w. least n (wrong_from n w)
   least_told (Some n) least = (wrong_to n least.0, λ m lt w. least.1 m lt (wrong_from m w))
 
-pub least_six : (sketch : Sketch) (root : Option ℕ) (s : Spot) (block : ℕ) → ((sketch.left ≢ s.left) → ⊥) → (sketch.state ≡ Deleted → ⊥) → ((sketch.state ≡ Live) × (Rises s.low sketch.high → ⊥) → ⊥)
-    → (IsNoneOrBeyond s.low sketch.least → ⊥) → IsLeastNumber (IsWrongSketch sketch root s block) (Some 6)
-least_six sketch root s block linked stands rises wrong = (inr (inr (inr (inl (refl, wrong)))), less)
+pub least_six : (keys : Bool) (sketch : Sketch) (root : Option ℕ) (s : Spot) (block : ℕ) → ((sketch.left ≢ s.left) → ⊥) → (sketch.state ≡ Deleted → ⊥) → ((sketch.state ≡ Live) × (Rises s.low sketch.high → ⊥) → ⊥)
+    → (IsNoneOrBeyond s.low sketch.least → ⊥) → IsLeastNumber (IsWrongSketch keys sketch root s block) (Some 6)
+least_six keys sketch root s block linked stands rises wrong = (inr (inr (inr (inl (refl, wrong)))), less)
   where
-    less : (m : ℕ) → m < 6 → IsWrongSketch sketch root s block m → ⊥
+    less : (m : ℕ) → m < 6 → IsWrongSketch keys sketch root s block m → ⊥
     less m lt (inl a) = linked a.1
     less m lt (inr (inl a)) = stands a.1
     less m lt (inr (inr (inl a))) = rises (a.1, a.2)
     less m lt (inr (inr (inr (inl a)))) = (let k = a.0 in omega arith)
     less m lt (inr (inr (inr (inr (inl a))))) = (let k = a.0 in omega arith)
-    less m lt (inr (inr (inr (inr (inr a))))) = (let k = a.0 in omega arith)
+    less m lt (inr (inr (inr (inr (inr (inl a)))))) = (let k = a.0 in omega arith)
+    less m lt (inr (inr (inr (inr (inr (inr a)))))) = (let k = a.0 in omega arith)

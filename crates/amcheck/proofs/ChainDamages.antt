@@ -59,19 +59,19 @@ not_so : false ≡ true → ⊥
 not_so e = cc
 
 -- where each level is clear, so is the index without its parents and children
-pub sound_levels : (pages : List Page) → ((depth : ℕ) → depth ≤ (index_of pages).top → IsClearLevel (index_of pages) depth) → IsSound false pages
-sound_levels pages clear (on_way depth step deep) number damage = (clear depth deep).way step number damage
-sound_levels pages clear (on_chain h) number damage = (clear h.depth h.deep).chain h number refl damage
-sound_levels pages clear (at_child h i) number damage = not_so damage.0
-sound_levels pages clear (at_page h) number damage = not_so damage.0
-sound_levels pages clear (nowhere block) number damage = not_so damage.0
+pub sound_levels : (keys : Bool) (pages : List Page) → ((depth : ℕ) → depth ≤ (index_of pages).top → IsClearLevel (index_of pages) keys depth) → IsSound false keys pages
+sound_levels keys pages clear (on_way depth step deep) number damage = (clear depth deep).way step number damage
+sound_levels keys pages clear (on_chain h) number damage = (clear h.depth h.deep).chain h number refl damage
+sound_levels keys pages clear (at_child h i) number damage = not_so damage.0
+sound_levels keys pages clear (at_page h) number damage = not_so damage.0
+sound_levels keys pages clear (nowhere block) number damage = not_so damage.0
 
-module _ (pages : List Page) (depth number block : ℕ) (deep : depth ≤ (index_of pages).top) (above : (d : ℕ) → d < depth → IsClearLevel (index_of pages) d) where
+module _ (keys : Bool) (pages : List Page) (depth number block : ℕ) (deep : depth ≤ (index_of pages).top) (above : (d : ℕ) → d < depth → IsClearLevel (index_of pages) keys d) where
   abbrev ix : Index
   ix = index_of pages
 
   -- what comes before a damage of the way is one of an earlier step, or of a lesser number, or of a level above
-  way_first : (f : IsFirstOfWay ix depth number block) (other : Site ix) (n : ℕ) → IsDamage false other n → ComesBefore (rank other n) (0 ∷ depth ∷ 0 ∷ f.step ∷ number ∷ []) → ⊥
+  way_first : (f : IsFirstOfWay ix depth number block) (other : Site ix) (n : ℕ) → IsDamage false keys other n → ComesBefore (rank other n) (0 ∷ depth ∷ 0 ∷ f.step ∷ number ∷ []) → ⊥
   way_first f (on_way d s e) n damage (inl lt) = omega (arith, lt)
   way_first f (on_way d s e) n damage (inr (same, inl lt)) = (above d lt).way s n damage
   way_first f (on_way d s e) n damage (inr (same, inr (is, inl lt))) = omega (arith, lt)
@@ -87,7 +87,7 @@ module _ (pages : List Page) (depth number block : ℕ) (deep : depth ≤ (index
   way_first f (nowhere b) n damage before = not_so damage.0
 
   -- ... and before one of the chain, where the way is clear
-  chain_first : (way : IsClearWay ix depth) (f : IsFirstOfChain ix depth number block) (other : Site ix) (n : ℕ) → IsDamage false other n → ComesBefore (rank other n) (rank (on_chain f.here) number) → ⊥
+  chain_first : (way : IsClearWay ix depth) (f : IsFirstOfChain ix keys depth number block) (other : Site ix) (n : ℕ) → IsDamage false keys other n → ComesBefore (rank other n) (rank (on_chain f.here) number) → ⊥
   chain_first way f (on_way d s e) n damage (inl lt) = omega (arith, lt)
   chain_first way f (on_way d s e) n damage (inr (same, inl lt)) = (above d (let k = f.deep in omega (arith, lt))).way s n damage
   chain_first way f (on_way d s e) n damage (inr (same, inr (is, more))) = way s n (subst (λ (k : ℕ). IsOfWay ix k s n) (is ∙ f.deep) damage)
@@ -102,10 +102,10 @@ module _ (pages : List Page) (depth number block : ℕ) (deep : depth ≤ (index
   chain_first way f (nowhere b) n damage before = not_so damage.0
 
   -- the first damage of the first level that isn't clear is the first of all
-  pub first_level : IsFirstOfLevel ix depth number block → IsFirstDamage false pages number block
+  pub first_level : IsFirstOfLevel ix keys depth number block → IsFirstDamage false keys pages number block
   first_level f = by f.is
     where
-      by : IsFirstOfWay ix depth number block ⊎ (IsClearWay ix depth × IsFirstOfChain ix depth number block) → IsFirstDamage false pages number block
+      by : IsFirstOfWay ix depth number block ⊎ (IsClearWay ix depth × IsFirstOfChain ix keys depth number block) → IsFirstDamage false keys pages number block
       by (inl w) = record { site = on_way depth w.step deep; is = w.is; block_is = w.block_is; first = λ other n damage before. way_first w other n damage before }
       by (inr c) = record { site = on_chain c.1.here; is = c.1.is; block_is = c.1.block_is; first = λ other n damage before. chain_first c.0 c.1 other n damage before }
 

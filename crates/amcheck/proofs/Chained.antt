@@ -1,8 +1,9 @@
 -- The damages of a chain, and what is wrong at the stops of a walk along it.
-use Rattle.std.proofs.Common.{◌≡◌, ◌≢◌, ◌⊎◌, ℕ, ◌<◌, ◌≤◌, inl, inr, Option, Some, None, List, length, slice_get, get_or, refl, sym, ap, subst, ◌∙◌, arith}
+use Rattle.std.proofs.Common.{◌≡◌, ◌≢◌, ◌⊎◌, ℕ, ◌<◌, ◌≤◌, inl, inr, Bool, Option, Some, None, List, length, slice_get, get_or, refl, sym, ap, subst, ◌∙◌, arith}
 use Rattle.std.proofs.lemmas.Bool.{cases_lt}
 use Rattle.std.proofs.lemmas.Option.{slice_get-get_or}
 use Rattle.tree_shape.specs.Chains.{Spot, Rises}
+use Rattle.tree_shape.specs.KeyPages.{IsUniqueNode}
 use Rattle.damages.specs.Damages.{Index, Place, place_at, Here, node, spot, IsOnLevel, IsMetBefore, HasNotBeyond, IsBehindRoot, IsOfChain}
 use Rattle.damages.proofs.Decided.{no_link, some_is}
 use Rattle.damages.proofs.Walks.{has_before}
@@ -14,26 +15,28 @@ use Rattle.amcheck.proofs.Found.{no_stop, wrong_there}
 use Rattle.amcheck.proofs.Walked.{stop_inside}
 
 -- each damage of a chain has a number
-number_some : {ix : Index} (h : Here ix) (n : ℕ) → IsOfChain h n → 0 < n
-number_some h n (inl a) = (let k = a.0 in omega arith)
-number_some h n (inr (inl a)) = (let k = a.0 in omega arith)
-number_some h n (inr (inr (inl a))) = (let k = a.0 in omega arith)
-number_some h n (inr (inr (inr (inl a)))) = (let k = a.0 in omega arith)
-number_some h n (inr (inr (inr (inr (inl a))))) = (let k = a.0 in omega arith)
-number_some h n (inr (inr (inr (inr (inr (inl a)))))) = (let k = a.0 in omega arith)
-number_some h n (inr (inr (inr (inr (inr (inr (inl a))))))) = (let k = a.0 in omega arith)
-number_some h n (inr (inr (inr (inr (inr (inr (inr a))))))) = (let k = a.0 in omega arith)
+number_some : {ix : Index} (keys : Bool) (h : Here ix) (n : ℕ) → IsOfChain keys h n → 0 < n
+number_some keys h n (inl a) = (let k = a.0 in omega arith)
+number_some keys h n (inr (inl a)) = (let k = a.0 in omega arith)
+number_some keys h n (inr (inr (inl a))) = (let k = a.0 in omega arith)
+number_some keys h n (inr (inr (inr (inl a)))) = (let k = a.0 in omega arith)
+number_some keys h n (inr (inr (inr (inr (inl a))))) = (let k = a.0 in omega arith)
+number_some keys h n (inr (inr (inr (inr (inr (inl a)))))) = (let k = a.0 in omega arith)
+number_some keys h n (inr (inr (inr (inr (inr (inr (inl a))))))) = (let k = a.0 in omega arith)
+number_some keys h n (inr (inr (inr (inr (inr (inr (inr (inl a)))))))) = (let k = a.0 in omega arith)
+number_some keys h n (inr (inr (inr (inr (inr (inr (inr (inr a)))))))) = (let k = a.0 in omega arith)
 
 -- ... that is 1 where the page isn't on the level, 2 where its left link is wrong, and else more
-number_cases : {ix : Index} (h : Here ix) (n : ℕ) → IsOfChain h n → ((n ≡ 1) × (IsOnLevel ix h.depth h.block → ⊥)) ⊎ ((n ≡ 2) × ((node h).left ≢ (spot h).left)) ⊎ (3 ≤ n)
-number_cases h n (inl a) = inl a
-number_cases h n (inr (inl a)) = inr (inl a)
-number_cases h n (inr (inr (inl a))) = inr (inr (let k = a.0 in omega arith))
-number_cases h n (inr (inr (inr (inl a)))) = inr (inr (let k = a.0 in omega arith))
-number_cases h n (inr (inr (inr (inr (inl a))))) = inr (inr (let k = a.0 in omega arith))
-number_cases h n (inr (inr (inr (inr (inr (inl a)))))) = inr (inr (let k = a.0 in omega arith))
-number_cases h n (inr (inr (inr (inr (inr (inr (inl a))))))) = inr (inr (let k = a.0 in omega arith))
-number_cases h n (inr (inr (inr (inr (inr (inr (inr a))))))) = inr (inr (let k = a.0 in omega arith))
+number_cases : {ix : Index} (keys : Bool) (h : Here ix) (n : ℕ) → IsOfChain keys h n → ((n ≡ 1) × (IsOnLevel ix h.depth h.block → ⊥)) ⊎ ((n ≡ 2) × ((node h).left ≢ (spot h).left)) ⊎ (3 ≤ n)
+number_cases keys h n (inl a) = inl a
+number_cases keys h n (inr (inl a)) = inr (inl a)
+number_cases keys h n (inr (inr (inl a))) = inr (inr (let k = a.0 in omega arith))
+number_cases keys h n (inr (inr (inr (inl a)))) = inr (inr (let k = a.0 in omega arith))
+number_cases keys h n (inr (inr (inr (inr (inl a))))) = inr (inr (let k = a.0 in omega arith))
+number_cases keys h n (inr (inr (inr (inr (inr (inl a)))))) = inr (inr (let k = a.0 in omega arith))
+number_cases keys h n (inr (inr (inr (inr (inr (inr (inl a))))))) = inr (inr (let k = a.0 in omega arith))
+number_cases keys h n (inr (inr (inr (inr (inr (inr (inr (inl a)))))))) = inr (inr (let k = a.0 in omega arith))
+number_cases keys h n (inr (inr (inr (inr (inr (inr (inr (inr a)))))))) = inr (inr (let k = a.0 in omega arith))
 
 -- what the root's level asks
 too_much : (ix : Index) (depth : ℕ) (root : Option ℕ) (s : Spot) (block : ℕ) → IsRootAt ix depth root → depth ≡ 0 → block ≢ ix.root → (IsBehindRoot ix.root s → ⊥) → IsTooMuch root s block
@@ -53,9 +56,9 @@ place_same {ix} h depth place s b deep there is =
     let whole : place_at ix h.depth h.place ≡ record { spot = s; block = Some b } = (λ i. place_at ix (deep i) (there i)) ∙ is in
     (some_is h.block b (sym h.is ∙ ap (λ (p : Place). p.block) whole), ap (λ (p : Place). p.spot) whole)
 
-module _ (ix : Index) (depth : ℕ) (root : Option ℕ) (stops : List Stop) (deep : depth ≤ ix.top) (root_is : IsRootAt ix depth root) (are : AreStops ix depth stops) where
+module _ (ix : Index) (keys : Bool) (depth : ℕ) (root : Option ℕ) (stops : List Stop) (deep : depth ≤ ix.top) (root_is : IsRootAt ix depth root) (are : AreStops ix depth stops) where
   -- a damage at a stop is wrong there
-  wrong_here : (h : Here ix) (n : ℕ) (s : Stop) → h.depth ≡ depth → slice_get stops h.place ≡ Some s → IsOfChain h n → IsWrong (ix.at s.block) root (spot_at ix.at s) s.block n
+  wrong_here : (h : Here ix) (n : ℕ) (s : Stop) → h.depth ≡ depth → slice_get stops h.place ≡ Some s → IsOfChain keys h n → IsWrong keys (ix.at s.block) root (spot_at ix.at s) s.block n
   wrong_here h n s same there damage = by damage
     where
       told : (h.block ≡ s.block) × (spot h ≡ spot_at ix.at s)
@@ -70,7 +73,7 @@ module _ (ix : Index) (depth : ℕ) (root : Option ℕ) (stops : List Stop) (dee
           let block : t.block ≡ h.block = some_is t.block h.block (sym (ap (λ (p : Place). p.block) (are.placed m.earlier t first)) ∙ subst (λ (d : ℕ). (place_at ix d m.earlier).block ≡ Some h.block) same m.same) in
           are.once m.earlier h.place t s m.before first there (block ∙ told.0)
 
-      by : IsOfChain h n → IsWrong (ix.at s.block) root (spot_at ix.at s) s.block n
+      by : IsOfChain keys h n → IsWrong keys (ix.at s.block) root (spot_at ix.at s) s.block n
       by (inl a) = absurd (a.1 (subst (λ (d : ℕ). IsOnLevel ix d h.block) (sym same) (subst (IsOnLevel ix depth) (sym told.0) (are.on_level h.place s there))))
       by (inr (inl a)) = inl (a.0, subst (λ (b : ℕ). (ix.at b).left ≢ s.left) told.0 (subst (λ (t : Spot). (node h).left ≢ t.left) told.1 a.1))
       by (inr (inr (inl a))) = absurd (met a.1)
@@ -88,55 +91,61 @@ module _ (ix : Index) (depth : ℕ) (root : Option ℕ) (stops : List Stop) (dee
         a.0,
         subst (λ (b : ℕ). IsTooMuch root (spot_at ix.at s) b) told.0 (subst (λ (t : Spot). IsTooMuch root t h.block) told.1 (too_much ix depth root (spot h) h.block root_is (sym same ∙ a.1) a.2 a.3)),
       )))))
-      by (inr (inr (inr (inr (inr (inr (inr a))))))) = inr (inr (inr (inr (inr (
+      by (inr (inr (inr (inr (inr (inr (inr (inl a)))))))) = inr (inr (inr (inr (inr (inl (
         a.0,
         ap (λ (b : ℕ). (ix.at b).state) (sym told.0) ∙ a.1,
         ap (λ (t : Spot). t.behind) (sym told.1) ∙ a.2,
-      )))))
+      ))))))
+      by (inr (inr (inr (inr (inr (inr (inr (inr a)))))))) = inr (inr (inr (inr (inr (inr (
+        a.0,
+        a.1,
+        subst (λ (b : ℕ). IsUniqueNode (ix.at b) → ⊥) told.0 a.2,
+      ))))))
 
-  wrong_at : (h : Here ix) (n : ℕ) → h.depth ≡ depth → h.place < length stops → IsOfChain h n → IsWrongAt ix.at root stops h.place n
+  wrong_at : (h : Here ix) (n : ℕ) → h.depth ≡ depth → h.place < length stops → IsOfChain keys h n → IsWrongAt ix.at keys root stops h.place n
   wrong_at h n same inside damage =
       let there : slice_get stops h.place ≡ Some (get_or stops h.place no_stop) = slice_get-get_or stops h.place no_stop inside in
       record { stop = get_or stops h.place no_stop; there = there; wrong = wrong_here h n (get_or stops h.place no_stop) same there damage }
 
   -- what is wrong at a stop is a damage there
-  is_damage : (h : Here ix) (n : ℕ) → h.depth ≡ depth → IsWrong (node h) root (spot h) h.block n → IsOfChain h n
+  is_damage : (h : Here ix) (n : ℕ) → h.depth ≡ depth → IsWrong keys (node h) root (spot h) h.block n → IsOfChain keys h n
   is_damage h n same (inl a) = inr (inl a)
   is_damage h n same (inr (inl a)) = inr (inr (inr (inl a)))
   is_damage h n same (inr (inr (inl a))) = inr (inr (inr (inr (inl a))))
   is_damage h n same (inr (inr (inr (inl a)))) = inr (inr (inr (inr (inr (inl (a.0, a.1.is))))))
   is_damage h n same (inr (inr (inr (inr (inl a))))) = (let m = too_many ix depth root (spot h) h.block root_is a.1 in inr (inr (inr (inr (inr (inr (inl (a.0, same ∙ m.0, m.1, m.2))))))))
-  is_damage h n same (inr (inr (inr (inr (inr a))))) = inr (inr (inr (inr (inr (inr (inr a))))))
+  is_damage h n same (inr (inr (inr (inr (inr (inl a)))))) = inr (inr (inr (inr (inr (inr (inr (inl a)))))))
+  is_damage h n same (inr (inr (inr (inr (inr (inr a)))))) = inr (inr (inr (inr (inr (inr (inr (inr a)))))))
 
-  pub first_at : (k n : ℕ) (s : Stop) → slice_get stops k ≡ Some s → IsFirstPlace (IsBad ix.at root stops) (Some k) → IsLeastNumber (IsWrongAt ix.at root stops k) (Some n) → IsFirstOfChain ix depth n s.block
+  pub first_at : (k n : ℕ) (s : Stop) → slice_get stops k ≡ Some s → IsFirstPlace (IsBad ix.at keys root stops) (Some k) → IsLeastNumber (IsWrongAt ix.at keys root stops k) (Some n) → IsFirstOfChain ix keys depth n s.block
   first_at k n s there first least =
       let placed = are.placed k s there in
       record {
         here = record { depth = depth; place = k; block = s.block; deep = deep; is = ap (λ (p : Place). p.block) placed };
         deep = refl;
         is = is_damage (record { depth = depth; place = k; block = s.block; deep = deep; is = ap (λ (p : Place). p.block) placed }) n refl
-            (subst (λ (p : Place). IsWrong (ix.at s.block) root p.spot s.block n) (sym placed) (wrong_there ix.at root stops k s n there least.0));
+            (subst (λ (p : Place). IsWrong keys (ix.at s.block) root p.spot s.block n) (sym placed) (wrong_there ix.at keys root stops k s n there least.0));
         block_is = refl;
         first = λ other m same damage earlier.
             let inside = stop_inside stops k s there in
             elim earlier [
               | inl lt ↦ first.1 other.place lt (record { number = m; wrong = wrong_at other m same (omega arith) damage })
-              | inr here ↦ let e = here.0 in least.1 m here.1 (subst (λ (j : ℕ). IsWrongAt ix.at root stops j m) here.0 (wrong_at other m same (omega arith) damage))
+              | inr here ↦ let e = here.0 in least.1 m here.1 (subst (λ (j : ℕ). IsWrongAt ix.at keys root stops j m) here.0 (wrong_at other m same (omega arith) damage))
             ];
       }
 
   -- where nothing is wrong at a stop, nothing is damaged before the end of the walk
-  module _ (right : IsFirstPlace (IsBad ix.at root stops) None) where
-    clear_before : (h : Here ix) (n : ℕ) → h.depth ≡ depth → h.place < length stops → IsOfChain h n → ⊥
+  module _ (right : IsFirstPlace (IsBad ix.at keys root stops) None) where
+    clear_before : (h : Here ix) (n : ℕ) → h.depth ≡ depth → h.place < length stops → IsOfChain keys h n → ⊥
     clear_before h n same inside damage = right h.place (record { number = n; wrong = wrong_at h n same inside damage })
 
-    pub clear_whole : (place_at ix depth (length stops)).block ≡ None → IsClearChain ix depth
+    pub clear_whole : (place_at ix depth (length stops)).block ≡ None → IsClearChain ix keys depth
     clear_whole ended h n same damage = elim (cases_lt h.place (length stops)) [
       | inl lt ↦ clear_before h n same lt damage
       | inr ge ↦ let c = has_before ix depth h.place h.block (subst (λ (d : ℕ). (place_at ix d h.place).block ≡ Some h.block) same h.is) (length stops) ge in no_link (sym ended ∙ c.1)
     ]
 
-    pub first_off : (b : ℕ) → (place_at ix depth (length stops)).block ≡ Some b → (IsOnLevel ix depth b → ⊥) → IsFirstOfChain ix depth 1 b
+    pub first_off : (b : ℕ) → (place_at ix depth (length stops)).block ≡ Some b → (IsOnLevel ix depth b → ⊥) → IsFirstOfChain ix keys depth 1 b
     first_off b is off = record {
       here = record { depth = depth; place = length stops; block = b; deep = deep; is = is };
       deep = refl;
@@ -144,7 +153,7 @@ module _ (ix : Index) (depth : ℕ) (root : Option ℕ) (stops : List Stop) (dee
       block_is = refl;
       first = λ other m same damage earlier. elim earlier [
         | inl lt ↦ clear_before other m same lt damage
-        | inr here ↦ let some = number_some other m damage in let lt = here.1 in absurd (omega arith)
+        | inr here ↦ let some = number_some keys other m damage in let lt = here.1 in absurd (omega arith)
       ];
     }
 
@@ -154,7 +163,7 @@ module _ (ix : Index) (depth : ℕ) (root : Option ℕ) (stops : List Stop) (dee
           let told = place_same other depth (length stops) (spot_at ix.at s) s.block same there placed in
           off (subst (λ (d : ℕ). IsOnLevel ix d other.block) (sym same) (subst (IsOnLevel ix depth) (sym told.0) on))
 
-      pub first_two : (ix.at s.block).left ≢ s.left → IsFirstOfChain ix depth 2 s.block
+      pub first_two : (ix.at s.block).left ≢ s.left → IsFirstOfChain ix keys depth 2 s.block
       first_two differs = record {
         here = record { depth = depth; place = length stops; block = s.block; deep = deep; is = ap (λ (p : Place). p.block) placed };
         deep = refl;
@@ -162,7 +171,7 @@ module _ (ix : Index) (depth : ℕ) (root : Option ℕ) (stops : List Stop) (dee
         block_is = refl;
         first = λ other m same damage earlier. elim earlier [
           | inl lt ↦ clear_before other m same lt damage
-          | inr here ↦ elim (number_cases other m damage) [
+          | inr here ↦ elim (number_cases keys other m damage) [
             | inl one ↦ on_it other same here.0 one.1
             | inr (inl two) ↦ let k = two.0 in let lt = here.1 in absurd (omega arith)
             | inr (inr more) ↦ let lt = here.1 in absurd (omega arith)
@@ -170,7 +179,7 @@ module _ (ix : Index) (depth : ℕ) (root : Option ℕ) (stops : List Stop) (dee
         ];
       }
 
-      pub first_three : (ix.at s.block).left ≡ s.left → IsEarlier ix depth (length stops) s.block → IsFirstOfChain ix depth 3 s.block
+      pub first_three : (ix.at s.block).left ≡ s.left → IsEarlier ix depth (length stops) s.block → IsFirstOfChain ix keys depth 3 s.block
       first_three left before = record {
         here = record { depth = depth; place = length stops; block = s.block; deep = deep; is = ap (λ (p : Place). p.block) placed };
         deep = refl;
@@ -178,7 +187,7 @@ module _ (ix : Index) (depth : ℕ) (root : Option ℕ) (stops : List Stop) (dee
         block_is = refl;
         first = λ other m same damage earlier. elim earlier [
           | inl lt ↦ clear_before other m same lt damage
-          | inr here ↦ elim (number_cases other m damage) [
+          | inr here ↦ elim (number_cases keys other m damage) [
             | inl one ↦ on_it other same here.0 one.1
             | inr (inl two) ↦
                 let told = place_same other depth (length stops) (spot_at ix.at s) s.block same here.0 placed in
@@ -188,6 +197,6 @@ module _ (ix : Index) (depth : ℕ) (root : Option ℕ) (stops : List Stop) (dee
         ];
       }
 
-      pub first_met : (n : ℕ) → (n ≡ 2 → (ix.at s.block).left ≢ s.left) → (n ≡ 3 → (ix.at s.block).left ≡ s.left) → (n ≡ 2) ⊎ (n ≡ 3) → IsEarlier ix depth (length stops) s.block → IsFirstOfChain ix depth n s.block
-      first_met n two three (inl e) before = subst (λ (k : ℕ). IsFirstOfChain ix depth k s.block) (sym e) (first_two (two e))
-      first_met n two three (inr e) before = subst (λ (k : ℕ). IsFirstOfChain ix depth k s.block) (sym e) (first_three (three e) before)
+      pub first_met : (n : ℕ) → (n ≡ 2 → (ix.at s.block).left ≢ s.left) → (n ≡ 3 → (ix.at s.block).left ≡ s.left) → (n ≡ 2) ⊎ (n ≡ 3) → IsEarlier ix depth (length stops) s.block → IsFirstOfChain ix keys depth n s.block
+      first_met n two three (inl e) before = subst (λ (k : ℕ). IsFirstOfChain ix keys depth k s.block) (sym e) (first_two (two e))
+      first_met n two three (inr e) before = subst (λ (k : ℕ). IsFirstOfChain ix keys depth k s.block) (sym e) (first_three (three e) before)

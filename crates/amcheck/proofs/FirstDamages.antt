@@ -30,10 +30,10 @@ not_so : false ≡ true → ⊥
 not_so e = cc
 
 -- without a metapage the root is block 0, which is on no level
-nothing_there : IsFirstDamage false [] 1 0
-nothing_there = record { site = on_way 0 0 (omega arith); is = inl (refl, λ on. (let k = on.in_use in omega arith)); block_is = refl; first = first }
+nothing_there : (keys : Bool) → IsFirstDamage false keys [] 1 0
+nothing_there keys = record { site = on_way 0 0 (omega arith); is = inl (refl, λ on. (let k = on.in_use in omega arith)); block_is = refl; first = first }
   where
-    first : (other : Site (index_of [])) (n : ℕ) → IsDamage false other n → ComesBefore (rank other n) (0 ∷ 0 ∷ 0 ∷ 0 ∷ 1 ∷ []) → ⊥
+    first : (other : Site (index_of [])) (n : ℕ) → IsDamage false keys other n → ComesBefore (rank other n) (0 ∷ 0 ∷ 0 ∷ 0 ∷ 1 ∷ []) → ⊥
     first (on_way d s e) n damage (inl lt) = omega (arith, lt)
     first (on_way d s e) n damage (inr (same, inl lt)) = omega (arith, lt)
     first (on_way d s e) n damage (inr (same, inr (is, inl lt))) = omega (arith, lt)
@@ -49,11 +49,11 @@ nothing_there = record { site = on_way 0 0 (omega arith); is = inl (refl, λ on.
     first (at_page h) n damage before = not_so damage.0
     first (nowhere b) n damage before = not_so damage.0
 
-pub no_pages : (pages : List Page) (number block : ℕ) → length pages ≡ 0 → number ≡ 1 → block ≡ 0 → IsFirstDamage false pages number block
-no_pages pages number block none one zero_is =
-    subst (λ (n : ℕ). IsFirstDamage false pages n block) (sym one)
-    (subst (λ (b : ℕ). IsFirstDamage false pages 1 b) (sym zero_is)
-    (subst (λ (ps : List Page). IsFirstDamage false ps 1 0) (sym (none_of_length pages none)) nothing_there))
+pub no_pages : (keys : Bool) (pages : List Page) (number block : ℕ) → length pages ≡ 0 → number ≡ 1 → block ≡ 0 → IsFirstDamage false keys pages number block
+no_pages keys pages number block none one zero_is =
+    subst (λ (n : ℕ). IsFirstDamage false keys pages n block) (sym one)
+    (subst (λ (b : ℕ). IsFirstDamage false keys pages 1 b) (sym zero_is)
+    (subst (λ (ps : List Page). IsFirstDamage false keys ps 1 0) (sym (none_of_length pages none)) (nothing_there keys)))
 
 -- the root that the metapage names, and its level
 module _ (pages : List Page) (root top : ℕ) (names : NamesRoot pages root top) where
@@ -119,11 +119,11 @@ pub tree_back : (pages : List Page) → levels.HasTree pages → IsTree pages
 tree_back pages t = record { meta = t.meta; meta_at = t.meta_at; root = t.root; names_root = t.names_root; chain = t.chain; is = t.is }
 
 -- what is told of the judgement
-pub answer_told : (parents : Bool) (pages : List Page) (judged : Result Report Damage) (result : Result Report CheckFault) → OnOk judged (IsSound parents pages) → IfOk judged (IsReport pages)
-    → IfErr judged (λ d. IsFirstDamage parents pages d.number d.block)
-    → IfOk judged (λ report. result ≡ Ok report) → IfErr judged (λ d. result ≡ Err (Damaged d.number d.block)) → IsAnswer parents pages result
-answer_told parents pages (Ok report) result sound is first ok err = subst (IsAnswer parents pages) (sym ok) (sound, is)
-answer_told parents pages (Err d) result sound is first ok err = subst (IsAnswer parents pages) (sym err) first
+pub answer_told : (parents keys : Bool) (pages : List Page) (judged : Result Report Damage) (result : Result Report CheckFault) → OnOk judged (IsSound parents keys pages) → IfOk judged (IsReport pages)
+    → IfErr judged (λ d. IsFirstDamage parents keys pages d.number d.block)
+    → IfOk judged (λ report. result ≡ Ok report) → IfErr judged (λ d. result ≡ Err (Damaged d.number d.block)) → IsAnswer parents keys pages result
+answer_told parents keys pages (Ok report) result sound is first ok err = subst (IsAnswer parents keys pages) (sym ok) (sound, is)
+answer_told parents keys pages (Err d) result sound is first ok err = subst (IsAnswer parents keys pages) (sym err) first
 
 abbrev pub refused : Fault → Result Report CheckFault
 refused fault = Err (Refused fault)

@@ -3,6 +3,7 @@ pub mod Kept
 pub mod Steps
 pub mod ReadOn
 pub mod Judged
+pub mod KeysSeen
 pub mod WaysLeft
 pub mod Beyond
 pub mod Walked

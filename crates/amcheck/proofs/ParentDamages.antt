@@ -39,17 +39,17 @@ abbrev Precedes : {ix : Index} → Here ix → Here ix → Type 0
 Precedes o h = (o.depth < h.depth) ⊎ ((o.depth ≡ h.depth) × (o.place < h.place))
 
 -- the first damage without parents and children is the first with them
-pub with_parents : (pages : List Page) (number block : ℕ) → IsFirstDamage false pages number block → IsFirstDamage true pages number block
-with_parents pages number block f = by f.site f.is f.block_is f.first
+pub with_parents : (keys : Bool) (pages : List Page) (number block : ℕ) → IsFirstDamage false keys pages number block → IsFirstDamage true keys pages number block
+with_parents keys pages number block f = by f.site f.is f.block_is f.first
   where
     not_so : false ≡ true → ⊥
     not_so e = cc
 
-    by : (site : Site (index_of pages)) → IsDamage false site number → block ≡ damages.block_of site
-        → ((other : Site (index_of pages)) (n : ℕ) → IsDamage false other n → ComesBefore (rank other n) (rank site number) → ⊥) → IsFirstDamage true pages number block
+    by : (site : Site (index_of pages)) → IsDamage false keys site number → block ≡ damages.block_of site
+        → ((other : Site (index_of pages)) (n : ℕ) → IsDamage false keys other n → ComesBefore (rank other n) (rank site number) → ⊥) → IsFirstDamage true keys pages number block
     by (on_way d s e) damage is first = record { site = on_way d s e; is = damage; block_is = is; first = later }
       where
-        later : (other : Site (index_of pages)) (n : ℕ) → IsDamage true other n → ComesBefore (rank other n) (0 ∷ d ∷ 0 ∷ s ∷ number ∷ []) → ⊥
+        later : (other : Site (index_of pages)) (n : ℕ) → IsDamage true keys other n → ComesBefore (rank other n) (0 ∷ d ∷ 0 ∷ s ∷ number ∷ []) → ⊥
         later (on_way a b c) n found before = first (on_way a b c) n found before
         later (on_chain h) n found before = first (on_chain h) n found before
         later (at_child h i) n found (inl lt) = omega (arith, lt)
@@ -60,7 +60,7 @@ with_parents pages number block f = by f.site f.is f.block_is f.first
         later (nowhere b) n found (inr (same, more)) = omega (arith, same)
     by (on_chain g) damage is first = record { site = on_chain g; is = damage; block_is = is; first = later }
       where
-        later : (other : Site (index_of pages)) (n : ℕ) → IsDamage true other n → ComesBefore (rank other n) (0 ∷ g.depth ∷ 1 ∷ g.place ∷ number ∷ []) → ⊥
+        later : (other : Site (index_of pages)) (n : ℕ) → IsDamage true keys other n → ComesBefore (rank other n) (0 ∷ g.depth ∷ 1 ∷ g.place ∷ number ∷ []) → ⊥
         later (on_way a b c) n found before = first (on_way a b c) n found before
         later (on_chain h) n found before = first (on_chain h) n found before
         later (at_child h i) n found (inl lt) = omega (arith, lt)
@@ -73,7 +73,7 @@ with_parents pages number block f = by f.site f.is f.block_is f.first
     by (at_page h) damage is first = absurd (not_so damage.0)
     by (nowhere b) damage is first = absurd (not_so damage.0)
 
-module _ (pages : List Page) (stops : List Stop) (all : AreAllStops (index_of pages) (suc (index_of pages).top) stops) (sound : IsSound false pages) where
+module _ (pages : List Page) (stops : List Stop) (all : AreAllStops (index_of pages) (suc (index_of pages).top) stops) (sound : IsSound false false pages) where
   abbrev ix : Index
   ix = index_of pages
 
@@ -445,7 +445,7 @@ module _ (pages : List Page) (stops : List Stop) (all : AreAllStops (index_of pa
     page_before : (h o : Here ix) → IsAt stops k h → Precedes o h → (n : ℕ) → IsOfParents o n → ⊥
     page_before h o a before n damage = (clear (index o).index (index_before o h k a before)).page o n (at_of o) damage
 
-    child_first : (f : IsFirstChild ix stops k number block) (other : Site ix) (n : ℕ) → IsDamage true other n → ComesBefore (rank other n) (1 ∷ f.here.depth ∷ f.here.place ∷ number ∷ f.item.item ∷ []) → ⊥
+    child_first : (f : IsFirstChild ix stops k number block) (other : Site ix) (n : ℕ) → IsDamage true false other n → ComesBefore (rank other n) (1 ∷ f.here.depth ∷ f.here.place ∷ number ∷ f.item.item ∷ []) → ⊥
     child_first f (on_way d s e) n damage before = sound (on_way d s e) n damage
     child_first f (on_chain h) n damage before = sound (on_chain h) n damage
     child_first f (at_child o i) n damage (inl lt) = omega (arith, lt)
@@ -462,7 +462,7 @@ module _ (pages : List Page) (stops : List Stop) (all : AreAllStops (index_of pa
     child_first f (nowhere b) n damage (inl lt) = omega (arith, lt)
     child_first f (nowhere b) n damage (inr (same, more)) = omega (arith, same)
 
-    page_first_of : (f : IsFirstOfPage ix stops k number block) (other : Site ix) (n : ℕ) → IsDamage true other n → ComesBefore (rank other n) (1 ∷ f.here.depth ∷ f.here.place ∷ number ∷ 0 ∷ []) → ⊥
+    page_first_of : (f : IsFirstOfPage ix stops k number block) (other : Site ix) (n : ℕ) → IsDamage true false other n → ComesBefore (rank other n) (1 ∷ f.here.depth ∷ f.here.place ∷ number ∷ 0 ∷ []) → ⊥
     page_first_of f (on_way d s e) n damage before = sound (on_way d s e) n damage
     page_first_of f (on_chain h) n damage before = sound (on_chain h) n damage
     page_first_of f (at_child o i) n damage (inl lt) = omega (arith, lt)
@@ -478,10 +478,10 @@ module _ (pages : List Page) (stops : List Stop) (all : AreAllStops (index_of pa
     page_first_of f (nowhere b) n damage (inl lt) = omega (arith, lt)
     page_first_of f (nowhere b) n damage (inr (same, more)) = omega (arith, same)
 
-    pub first_parent : IsFirstAt ix stops k number block → IsFirstDamage true pages number block
+    pub first_parent : IsFirstAt ix stops k number block → IsFirstDamage true false pages number block
     first_parent f = by f.is
       where
-        by : IsFirstChild ix stops k number block ⊎ IsFirstOfPage ix stops k number block → IsFirstDamage true pages number block
+        by : IsFirstChild ix stops k number block ⊎ IsFirstOfPage ix stops k number block → IsFirstDamage true false pages number block
         by (inl c) = record { site = at_child c.here c.item; is = (refl, c.one, c.off); block_is = c.block_is; first = λ other n damage before. child_first c other n damage before }
         by (inr p) = record { site = at_page p.here; is = (refl, p.is); block_is = p.block_is; first = λ other n damage before. page_first_of p other n damage before }
 
@@ -490,7 +490,7 @@ module _ (pages : List Page) (stops : List Stop) (all : AreAllStops (index_of pa
     clear_of : (h : Here ix) → IsClearAt ix stops (index h).index
     clear_of h = clear (index h).index (stop_inside stops (index h).index (index h).stop (index h).there)
 
-    not_stray : (site : Site ix) (n : ℕ) → IsDamage true site n → (b : ℕ) × (n ≡ 11) × damages.IsStray ix b × (rank site n ≡ 2 ∷ b ∷ [])
+    not_stray : (site : Site ix) (n : ℕ) → IsDamage true false site n → (b : ℕ) × (n ≡ 11) × damages.IsStray ix b × (rank site n ≡ 2 ∷ b ∷ [])
     not_stray (on_way d s e) n damage = absurd (sound (on_way d s e) n damage)
     not_stray (on_chain h) n damage = absurd (sound (on_chain h) n damage)
     not_stray (at_child h i) n damage = absurd (damage.2 ((clear_of h).children h (at_of h) i))
@@ -520,10 +520,10 @@ module _ (pages : List Page) (stops : List Stop) (all : AreAllStops (index_of pa
             w.unmet (subst (IsIn b) (sym met_is) (subst (λ (c : ℕ). IsIn c (blocks_of stops)) f.is (in_blocks stops f.place (index h).stop f.there))),
       )
 
-      pub all_sound : ((b : ℕ) → IsStray pages met b → ⊥) → IsSound true pages
+      pub all_sound : ((b : ℕ) → IsStray pages met b → ⊥) → IsSound true false pages
       all_sound none site n damage = (let r = not_stray site n damage in none r.0 (stray_there r.0 r.2))
 
-      pub first_stray : (b : ℕ) → IsStray pages met b → ((c : ℕ) → c < b → IsStray pages met c → ⊥) → IsFirstDamage true pages 11 b
+      pub first_stray : (b : ℕ) → IsStray pages met b → ((c : ℕ) → c < b → IsStray pages met c → ⊥) → IsFirstDamage true false pages 11 b
       first_stray b stray least = record {
         site = nowhere b;
         is = (refl, refl, stray_back b stray);

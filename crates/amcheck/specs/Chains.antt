@@ -1,16 +1,16 @@
 -- The first damage of the chain of a level.
-use Rattle.std.specs.Prelude.{◌≡◌, ◌⊎◌, ℕ, ◌<◌}
+use Rattle.std.specs.Prelude.{◌≡◌, ◌⊎◌, ℕ, ◌<◌, Bool}
 use Rattle.damages.specs.Damages.{Index, Here, IsOfChain}
 
 -- on the chain of this level nothing is damaged
-abbrev pub IsClearChain : Index → ℕ → Type 0
-IsClearChain ix depth = (h : Here ix) (number : ℕ) → h.depth ≡ depth → IsOfChain h number → ⊥
+abbrev pub IsClearChain : Index → Bool → ℕ → Type 0
+IsClearChain ix keys depth = (h : Here ix) (number : ℕ) → h.depth ≡ depth → IsOfChain keys h number → ⊥
 
 -- this is, with this number and block, and nothing that comes before it: at an earlier place, or of a lesser number
-pub record IsFirstOfChain (ix : Index) (depth number block : ℕ) : Type 0 where
+pub record IsFirstOfChain (ix : Index) (keys : Bool) (depth number block : ℕ) : Type 0 where
   pub here : Here ix
   pub deep : here.depth ≡ depth
-  pub is : IsOfChain here number
+  pub is : IsOfChain keys here number
   pub block_is : block ≡ here.block
-  pub first : (other : Here ix) (n : ℕ) → other.depth ≡ depth → IsOfChain other n
+  pub first : (other : Here ix) (n : ℕ) → other.depth ≡ depth → IsOfChain keys other n
       → (other.place < here.place) ⊎ ((other.place ≡ here.place) × (n < number)) → ⊥

@@ -20,11 +20,11 @@ IsAnswered (Err (Refused fault)) = ⊥
 
 -- two answers, neither refused, are one, whichever check they are of, in one thread or in many
 abbrev pub AnswersAreOne : Type 0
-AnswersAreOne = (parents : Bool) (pages : List Page) (one other : Result Report CheckFault)
-    → IsAnswer parents pages one → IsAnswer parents pages other → IsAnswered one → IsAnswered other → one ≡ other
+AnswersAreOne = (parents keys : Bool) (pages : List Page) (one other : Result Report CheckFault)
+    → IsAnswer parents keys pages one → IsAnswer parents keys pages other → IsAnswered one → IsAnswered other → one ≡ other
 
 -- so are one without parents and children and one with them, unless only the second is a damage
 abbrev pub ParentsSeeMore : Type 0
-ParentsSeeMore = (pages : List Page) (one other : Result Report CheckFault)
-    → IsAnswer false pages one → IsAnswer true pages other → IsAnswered one → IsAnswered other
+ParentsSeeMore = (keys : Bool) (pages : List Page) (one other : Result Report CheckFault)
+    → IsAnswer false keys pages one → IsAnswer true keys pages other → IsAnswered one → IsAnswered other
     → (one ≡ other) ⊎ ((IsDamaged one → ⊥) × IsDamaged other)

@@ -7,13 +7,13 @@ use Rattle.amcheck.specs.Ways.{IsClearWay, IsFirstOfWay}
 use Rattle.amcheck.specs.declared.marks.Met.{Met}
 
 -- nothing is damaged there
-pub record IsClearLevel (ix : Index) (depth : ℕ) : Type 0 where
+pub record IsClearLevel (ix : Index) (keys : Bool) (depth : ℕ) : Type 0 where
   pub way : IsClearWay ix depth
-  pub chain : IsClearChain ix depth
+  pub chain : IsClearChain ix keys depth
 
 -- this is, with this number and block, and nothing that comes before it; the chain is looked at where the way is clear
-pub record IsFirstOfLevel (ix : Index) (depth number block : ℕ) : Type 0 where
-  pub is : IsFirstOfWay ix depth number block ⊎ (IsClearWay ix depth × IsFirstOfChain ix depth number block)
+pub record IsFirstOfLevel (ix : Index) (keys : Bool) (depth number block : ℕ) : Type 0 where
+  pub is : IsFirstOfWay ix depth number block ⊎ (IsClearWay ix depth × IsFirstOfChain ix keys depth number block)
 
 -- the block is of a level above this one
 pub record IsOfUpper (ix : Index) (depth block : ℕ) : Type 0 where

@@ -16,5 +16,6 @@ pub mod AllStops
 pub mod Downlinks
 pub mod ParentDamages
 pub mod Answers
+pub mod Sound
 pub mod Searching
 pub mod Laws

@@ -1,10 +1,11 @@
 -- What is kept of the pages that were read: of each a sketch, and of those with downlinks the page itself.
-use Rattle.std.specs.Prelude.{◌≡◌, ℕ, ◌<◌, ◌≤◌, Option, Some, None, List, [], ◌∷◌, ◌++◌, length, slice_get}
+use Rattle.std.specs.Prelude.{◌≡◌, ◌↔◌, ℕ, ◌<◌, ◌≤◌, true, Option, Some, None, List, [], ◌∷◌, ◌++◌, length, slice_get}
 use Rattle.index_model.specs.Order.{bound_of}
 use Rattle.index_model.specs.declared.bound.Bound.{Bound}
 use Rattle.index_model.specs.declared.entry.Entry.{Entry}
 use Rattle.page_codec.specs.declared.page.Downlink.{Downlink}
 use Rattle.page_codec.specs.declared.page.Page.{Page}
+use Rattle.tree_shape.specs.KeyPages.{KeyBefore, IsUniqueNode}
 use Rattle.tree_shape.specs.Nodes.{Node, node_of, node_from}
 use Rattle.amcheck.specs.Reports.{entry_count}
 use Rattle.amcheck.specs.declared.sketches.Sketch.{Sketch}
@@ -20,6 +21,11 @@ abbrev pub least_bound : List Entry → List Downlink → Option Bound
 least_bound [] links = second_bound links
 least_bound (e ∷ es) links = Some (bound_of e)
 
+-- the entry's key is less than that of the first of these, if there is one
+abbrev pub IsBelowFirst : Entry → List Entry → Type 0
+IsBelowFirst e [] = Unit {0}
+IsBelowFirst e (x ∷ xs) = KeyBefore e x
+
 -- the sketch of a page, as the tree sees it
 pub record IsSketch (node : Node) (sketch : Sketch) : Type 0 where
   pub level : sketch.level ≡ node.level
@@ -29,6 +35,7 @@ pub record IsSketch (node : Node) (sketch : Sketch) : Type 0 where
   pub right : sketch.right ≡ node.right
   pub high : sketch.high ≡ node.high
   pub least : sketch.least ≡ least_bound node.entries node.links
+  pub unique : (sketch.unique ≡ true) ↔ IsUniqueNode node
 
 -- the downlinks of the page that is kept at this place
 abbrev pub links_at : List Page → Option ℕ → List Downlink

@@ -1,7 +1,8 @@
 -- A chain as it was walked along, and what is judged of each of its pages.
-use Rattle.std.specs.Prelude.{◌≡◌, ◌≢◌, ◌⊎◌, ℕ, ◌<◌, true, Option, Some, None, List, [], ◌∷◌, slice_get}
+use Rattle.std.specs.Prelude.{◌≡◌, ◌≢◌, ◌⊎◌, ℕ, ◌<◌, Bool, true, Option, Some, None, List, [], ◌∷◌, slice_get}
 use Rattle.index_model.specs.declared.bound.Bound.{Bound}
 use Rattle.page_codec.specs.declared.page.PageState.TheVariants.{Live, HalfDead, Deleted}
+use Rattle.tree_shape.specs.KeyPages.{IsUniqueNode}
 use Rattle.tree_shape.specs.Nodes.{Node}
 use Rattle.tree_shape.specs.Chains.{Spot, Rises}
 use Rattle.damages.specs.Damages.{Index, place_at, IsOnLevel, IsBehindRoot, HasNotBeyond}
@@ -45,15 +46,17 @@ IsTooMuch (Some root) s block = (block ≢ root) × (IsBehindRoot root s → ⊥
 pub record HasWrongItem (low : Option Bound) (node : Node) : Type 0 where
   pub is : HasNotBeyond low node
 
--- Number by number, what is judged of a page of the level that wasn't met before: all but 1 and 3, which the walk finds.
-abbrev pub IsWrong : Node → Option ℕ → Spot → ℕ → ℕ → Type 0
-IsWrong node root s block number =
+-- Number by number, what is judged of a page of the level that wasn't met before: all but 1 and 3, which the walk finds. The
+-- last is judged where keys are seen.
+abbrev pub IsWrong : Bool → Node → Option ℕ → Spot → ℕ → ℕ → Type 0
+IsWrong keys node root s block number =
     ((number ≡ 2) × (node.left ≢ s.left))
     ⊎ ((number ≡ 4) × (node.state ≡ Deleted))
     ⊎ ((number ≡ 5) × (node.state ≡ Live) × (Rises s.low node.high → ⊥))
     ⊎ ((number ≡ 6) × HasWrongItem s.low node)
     ⊎ ((number ≡ 10) × IsTooMuch root s block)
     ⊎ ((number ≡ 12) × (node.state ≡ HalfDead) × (s.behind ≡ true))
+    ⊎ ((number ≡ 13) × (keys ≡ true) × (IsUniqueNode node → ⊥))
 
 -- the least number of which this is so, if there is one
 abbrev pub IsLeastNumber : (ℕ → Type 0) → Option ℕ → Type 0
@@ -61,15 +64,15 @@ IsLeastNumber P None = (n : ℕ) → P n → ⊥
 IsLeastNumber P (Some n) = P n × ((m : ℕ) → m < n → P m → ⊥)
 
 -- this is wrong at the stop at this place
-pub record IsWrongAt (at : ℕ → Node) (root : Option ℕ) (stops : List Stop) (k number : ℕ) : Type 0 where
+pub record IsWrongAt (at : ℕ → Node) (keys : Bool) (root : Option ℕ) (stops : List Stop) (k number : ℕ) : Type 0 where
   pub stop : Stop
   pub there : slice_get stops k ≡ Some stop
-  pub wrong : IsWrong (at stop.block) root (spot_at at stop) stop.block number
+  pub wrong : IsWrong keys (at stop.block) root (spot_at at stop) stop.block number
 
 -- something is
-pub record IsBad (at : ℕ → Node) (root : Option ℕ) (stops : List Stop) (k : ℕ) : Type 0 where
+pub record IsBad (at : ℕ → Node) (keys : Bool) (root : Option ℕ) (stops : List Stop) (k : ℕ) : Type 0 where
   pub number : ℕ
-  pub wrong : IsWrongAt at root stops k number
+  pub wrong : IsWrongAt at keys root stops k number
 
 -- the first place of which this is so, if there is one
 abbrev pub IsFirstPlace : (ℕ → Type 0) → Option ℕ → Type 0

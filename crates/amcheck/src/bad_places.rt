@@ -20,32 +20,43 @@ use std::thread::Threads;
 const LEAST_PIECE: usize = 256;
 
 /// The least number of what is wrong at the stop at this place.
-fn number_at(pages: &Pages, root: Option<u32>, stops: &[Stop], place: usize) -> Option<u8>
+fn number_at(
+    pages: &Pages,
+    keys: bool,
+    root: Option<u32>,
+    stops: &[Stop],
+    place: usize,
+) -> Option<u8>
     requires searchable { AreSearchable pages.now stops.now }
     requires inside { place < length stops.now }
-    ensures least { IsLeastNumber (IsWrongAt (nodes_of pages.now) root stops.now place) result }
+    ensures least { IsLeastNumber (IsWrongAt (nodes_of pages.now) keys root stops.now place) result }
 {
     let stop = &stops[place];
     let low = low(pages, stop.low_at);
-    find_number(pages.sketch(stop.block), root, &low, stop)
+    find_number(pages.sketch(stop.block), keys, root, &low, stop)
 }
 
 /// Whether something is wrong at the stop at this place.
-fn is_bad(pages: &Pages, root: Option<u32>, stops: &[Stop], place: usize) -> bool
+fn is_bad(pages: &Pages, keys: bool, root: Option<u32>, stops: &[Stop], place: usize) -> bool
     requires searchable { AreSearchable pages.now stops.now }
     requires inside { place < length stops.now }
-    ensures { IsTrue result ↔ IsBad (nodes_of pages.now) root stops.now place }
+    ensures { IsTrue result ↔ IsBad (nodes_of pages.now) keys root stops.now place }
 {
-    number_at(pages, root, stops, place).is_some()
+    number_at(pages, keys, root, stops, place).is_some()
 }
 
 /// The first bad stop of a chain, stop by stop in this thread.
-pub(crate) fn find_bad_one(pages: &Pages, root: Option<u32>, stops: &[Stop]) -> Option<usize>
+pub(crate) fn find_bad_one(
+    pages: &Pages,
+    keys: bool,
+    root: Option<u32>,
+    stops: &[Stop],
+) -> Option<usize>
     requires searchable { AreSearchable pages.now stops.now }
-    ensures first { IsFirstPlace (IsBad (nodes_of pages.now) root stops.now) result }
+    ensures first { IsFirstPlace (IsBad (nodes_of pages.now) keys root stops.now) result }
 {
     for place in 0..stops.len() {
-        if is_bad(pages, root, stops, place) {
+        if is_bad(pages, keys, root, stops, place) {
             return Some(place);
         }
     }
@@ -56,11 +67,12 @@ pub(crate) fn find_bad_one(pages: &Pages, root: Option<u32>, stops: &[Stop]) -> 
 pub(crate) fn find_bad(
     rt: &(impl Threads + Sync),
     pages: &Pages,
+    keys: bool,
     root: Option<u32>,
     stops: &[Stop],
 ) -> Option<usize>
     requires searchable { AreSearchable pages.now stops.now }
-    ensures first { IsFirstPlace (IsBad (nodes_of pages.now) root stops.now) result }
+    ensures first { IsFirstPlace (IsBad (nodes_of pages.now) keys root stops.now) result }
 {
     (0..stops.len())
         .into_par_iter()
@@ -69,8 +81,8 @@ pub(crate) fn find_bad(
             rt,
             |place: usize| -> bool
                 requires { (place < length stops.now) × AreSearchable pages.now stops.now }
-                ensures { IsTrue result ↔ IsBad (nodes_of pages.entry.now) root stops.entry.now place }
-            { is_bad(pages, root, stops, place) },
+                ensures { IsTrue result ↔ IsBad (nodes_of pages.entry.now) keys root stops.entry.now place }
+            { is_bad(pages, keys, root, stops, place) },
         )
 }
 
@@ -90,6 +102,7 @@ fn met_number(pages: &Pages, stop: &Stop) -> u8
 /// The damage where the walk ended, if it didn't end at the rightmost page. Nothing is wrong at its stops.
 fn damage_at_end(
     pages: &Pages,
+    keys: bool,
     root: Option<u32>,
     depth: u8,
     stops: &[Stop],
@@ -99,10 +112,10 @@ fn damage_at_end(
     requires root { IsRootAt (index_of pages.now) depth root }
     requires stops { AreStops (index_of pages.now) depth stops.now }
     requires end { IsEnd (index_of pages.now) depth (length stops.now) end }
-    requires right { IsFirstPlace (IsBad (nodes_of pages.now) root stops.now) None }
-    ensures none { IfNone result (IsClearChain (index_of pages.now) depth) }
+    requires right { IsFirstPlace (IsBad (nodes_of pages.now) keys root stops.now) None }
+    ensures none { IfNone result (IsClearChain (index_of pages.now) keys depth) }
     ensures some { IfSome result
-        (λ d. IsFirstOfChain (index_of pages.now) depth d.number d.block) }
+        (λ d. IsFirstOfChain (index_of pages.now) keys depth d.number d.block) }
 {
     match end {
         End::Whole => None,
@@ -115,9 +128,10 @@ fn damage_at_end(
 }
 
 /// The first damage of the chain of a level, along which these stops were made. The first bad one of them is found so.
-pub(crate) fn first_in_chain<F: Fn(&Pages, Option<u32>, &[Stop]) -> Option<usize>>(
+pub(crate) fn first_in_chain<F: Fn(&Pages, bool, Option<u32>, &[Stop]) -> Option<usize>>(
     find: &F,
     pages: &Pages,
+    keys: bool,
     root: Option<u32>,
     depth: u8,
     stops: &[Stop],
@@ -131,15 +145,15 @@ pub(crate) fn first_in_chain<F: Fn(&Pages, Option<u32>, &[Stop]) -> Option<usize
     requires root { IsRootAt (index_of pages.now) depth root }
     requires stops { AreStops (index_of pages.now) depth stops.now }
     requires end { IsEnd (index_of pages.now) depth (length stops.now) end }
-    ensures none { IfNone result (IsClearChain (index_of pages.now) depth) }
+    ensures none { IfNone result (IsClearChain (index_of pages.now) keys depth) }
     ensures some { IfSome result
-        (λ d. IsFirstOfChain (index_of pages.now) depth d.number d.block) }
+        (λ d. IsFirstOfChain (index_of pages.now) keys depth d.number d.block) }
 {
-    let place = match find(pages, root, stops) {
-        None => return damage_at_end(pages, root, depth, stops, end),
+    let place = match find(pages, keys, root, stops) {
+        None => return damage_at_end(pages, keys, root, depth, stops, end),
         Some(place) => place,
     };
-    match number_at(pages, root, stops, place) {
+    match number_at(pages, keys, root, stops, place) {
         None => None,
         Some(number) => Some(Damage {
             number,

@@ -37,9 +37,10 @@ fn root_at(root: u32, depth: u8) -> Option<u32>
 }
 
 /// Judges the chain of a level: the leftmost page, or the first damage. `stops` has room for a stop at each page in use.
-fn judge_level<F: Fn(&Pages, Option<u32>, &[Stop]) -> Option<usize>>(
+fn judge_level<F: Fn(&Pages, bool, Option<u32>, &[Stop]) -> Option<usize>>(
     find: &F,
     pages: &Pages,
+    keys: bool,
     seen: &mut [bool],
     met: &mut Met,
     stops: &mut Vec<Stop>,
@@ -65,19 +66,19 @@ fn judge_level<F: Fn(&Pages, Option<u32>, &[Stop]) -> Option<usize>>(
     ensures room { vec_capacity stops.new ≡ vec_capacity stops.old }
     ensures upper { AreOfUpper (index_of pages.now) (suc depth) seen.new met.new }
     ensures head { IfOk result (λ found. found ≡ head (index_of pages.now) depth) }
-    ensures clear { OnOk result (IsClearLevel (index_of pages.now) depth) }
+    ensures clear { OnOk result (IsClearLevel (index_of pages.now) keys depth) }
     ensures whole { OnOk result (AreWhole (index_of pages.now) depth stops.new.items) }
     ensures added { OnOk result (met.new.blocks.items
         ≡ met.old.blocks.items ++ blocks_of stops.new.items) }
     ensures first { IfErr result
-        (λ d. IsFirstOfLevel (index_of pages.now) depth d.number d.block) }
+        (λ d. IsFirstOfLevel (index_of pages.now) keys depth d.number d.block) }
 {
     let head = match find_leftmost(pages, seen, depth, level, begin) {
         Ok(head) => head,
         Err(damage) => return Err(damage),
     };
     let end = walk(pages, met, stops, depth, level, head);
-    match first_in_chain(find, pages, root_at(root, depth), depth, stops, end) {
+    match first_in_chain(find, pages, keys, root_at(root, depth), depth, stops, end) {
         None => Ok(head),
         Some(damage) => Err(damage),
     }
@@ -95,10 +96,12 @@ fn keep(chains: &mut Vec<Stop>, stops: &[Stop])
 }
 
 /// The first damage of the chains of all levels, from the root's to the leaves. No block was seen or met before; `stops` and
-/// `chains` have room for a stop at each page in use. Where there is no damage `chains` has the stops of all levels.
-pub(crate) fn find_chain_damage<F: Fn(&Pages, Option<u32>, &[Stop]) -> Option<usize>>(
+/// `chains` have room for a stop at each page in use. Where there is no damage `chains` has the stops of all levels. What a
+/// unique index asks of bounds and keys is judged if `keys`.
+pub(crate) fn find_chain_damage<F: Fn(&Pages, bool, Option<u32>, &[Stop]) -> Option<usize>>(
     find: &F,
     pages: &Pages,
+    keys: bool,
     seen: &mut [bool],
     met: &mut Met,
     stops: &mut Vec<Stop>,
@@ -121,17 +124,18 @@ pub(crate) fn find_chain_damage<F: Fn(&Pages, Option<u32>, &[Stop]) -> Option<us
     requires top { top ≡ (index_of pages.now).top }
     requires low { top ≤ 31 }
     ensures met { IsMet met.new (length pages.now) }
-    ensures none { IfNone result (IsSound false pages.now) }
+    ensures none { IfNone result (IsSound false keys pages.now) }
     ensures chains { IfNone result
         (AreAllStops (index_of pages.now) (suc (index_of pages.now).top) chains.new.items) }
     ensures added { IfNone result (met.new.blocks.items ≡ blocks_of chains.new.items) }
-    ensures some { IfSome result (λ d. IsFirstDamage false pages.now d.number d.block) }
+    ensures some { IfSome result (λ d. IsFirstDamage false keys pages.now d.number d.block) }
 {
     let mut begin = root;
     for depth in 0..top + 1 {
         match judge_level(
             find,
             pages,
+            keys,
             seen,
             met,
             stops,

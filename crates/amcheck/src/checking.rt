@@ -4,14 +4,14 @@ ghost use Rattle.std.specs.Prelude.{◌≡◌, true, false, Err, IfOk, IfErr, On
 ghost use Rattle.latch_table.specs.Holdings.{pinned_blocks};
 ghost use Rattle.page_action.specs.Room.{KeepsRoom};
 ghost use Rattle.page_action.specs.States.{Continues};
-ghost use Rattle.tree_acts.specs.TheoremTree.{IsTree};
-ghost use Rattle.damages.specs.Levels.{HasLevels};
+ghost use Rattle.tree_acts.specs.TheoremKeys.{IsTreeFor};
 ghost use Rattle.amcheck.specs.Answers.{IsAnswer};
 ghost use Rattle.amcheck.specs.Checks.{IsCheckFault};
 ghost use Rattle.amcheck.specs.Laws.{IsAnswered};
 ghost use Rattle.amcheck.specs.Reading.{AreFetched, IsRestBut};
 ghost use Rattle.amcheck.specs.Reports.{IsReport};
 ghost use Rattle.amcheck.specs.Searching.{MaySearch, FindsFirst};
+ghost use Rattle.amcheck.specs.Sound.{HasLevelsFor};
 
 use crate::judging::{judge, judge_chains};
 use crate::page_room::PageRoom;
@@ -38,7 +38,7 @@ fn told(judged: Result<Report, Damage>) -> Result<Report, CheckFault>
 }
 
 /// Judges the levels of an index and their links, as `check` and `check_one` do, where the first bad stop is found so.
-pub(crate) fn check_by<F: Fn(&Pages, Option<u32>, &[Stop]) -> Option<usize>, S: PageStore>(
+pub(crate) fn check_by<F: Fn(&Pages, bool, Option<u32>, &[Stop]) -> Option<usize>, S: PageStore>(
     find: F,
     alloc: Global,
     store: &mut S,
@@ -56,16 +56,18 @@ pub(crate) fn check_by<F: Fn(&Pages, Option<u32>, &[Stop]) -> Option<usize>, S: 
     ensures alive { IsAnswered result
         → (S.backing store.new).stopped ≡ true → (S.backing store.old).stopped ≡ true }
     ensures levels { (S.backing store.new).honest ≡ true
-        → OnOk result (HasLevels (S.state store.old).pages) }
+        → OnOk result (HasLevelsFor (S.state store.old).limits (S.state store.old).pages) }
     ensures report { (S.backing store.new).honest ≡ true
         → IfOk result (IsReport (S.state store.old).pages) }
     ensures answer { (S.backing store.new).honest ≡ true
-        → IsAnswer false (S.state store.old).pages result }
+        → IsAnswer false (S.state store.old).limits.unique (S.state store.old).pages result }
     ensures fault { IfErr result (IsCheckFault (S.state store.old) (S.backing store.old)
-        (S.backing store.new) (IsTree (S.state store.old).pages)) }
+        (S.backing store.new)
+        (IsTreeFor (S.state store.old).limits (S.state store.old).pages)) }
     ensures unread { result ≡ Err (CheckFault.Refused Fault.NoMemory) → store.new ≡ store.old }
 {
     let used = store.used();
+    let keys = store.format().unique;
     let mut room = match Room::new(alloc, used) {
         Ok(room) => room,
         Err(fault) => return Err(CheckFault::Refused(fault)),
@@ -81,6 +83,7 @@ pub(crate) fn check_by<F: Fn(&Pages, Option<u32>, &[Stop]) -> Option<usize>, S: 
     told(judge_chains(
         &find,
         &pages,
+        keys,
         &mut room.seen,
         &mut room.met,
         &mut room.stops,
@@ -89,11 +92,10 @@ pub(crate) fn check_by<F: Fn(&Pages, Option<u32>, &[Stop]) -> Option<usize>, S: 
 }
 
 /// Judges parents and children too, as `check_parents` and `check_parents_one` do, where the first bad stop is found so.
-pub(crate) fn check_parents_by<F: Fn(&Pages, Option<u32>, &[Stop]) -> Option<usize>, S: PageStore>(
-    find: F,
-    alloc: Global,
-    store: &mut S,
-) -> Result<Report, CheckFault>
+pub(crate) fn check_parents_by<
+    F: Fn(&Pages, bool, Option<u32>, &[Stop]) -> Option<usize>,
+    S: PageStore,
+>(find: F, alloc: Global, store: &mut S) -> Result<Report, CheckFault>
     requires may { MaySearch (F.pre find) }
     requires finds { FindsFirst (F.post find) }
     ensures steps { Continues S.follows store.old store.new }
@@ -107,16 +109,18 @@ pub(crate) fn check_parents_by<F: Fn(&Pages, Option<u32>, &[Stop]) -> Option<usi
     ensures alive { IsAnswered result
         → (S.backing store.new).stopped ≡ true → (S.backing store.old).stopped ≡ true }
     ensures tree { (S.backing store.new).honest ≡ true
-        → OnOk result (IsTree (S.state store.old).pages) }
+        → OnOk result (IsTreeFor (S.state store.old).limits (S.state store.old).pages) }
     ensures report { (S.backing store.new).honest ≡ true
         → IfOk result (IsReport (S.state store.old).pages) }
     ensures answer { (S.backing store.new).honest ≡ true
-        → IsAnswer true (S.state store.old).pages result }
+        → IsAnswer true (S.state store.old).limits.unique (S.state store.old).pages result }
     ensures fault { IfErr result (IsCheckFault (S.state store.old) (S.backing store.old)
-        (S.backing store.new) (IsTree (S.state store.old).pages)) }
+        (S.backing store.new)
+        (IsTreeFor (S.state store.old).limits (S.state store.old).pages)) }
     ensures unread { result ≡ Err (CheckFault.Refused Fault.NoMemory) → store.new ≡ store.old }
 {
     let used = store.used();
+    let keys = store.format().unique;
     let mut room = match Room::new(alloc, used) {
         Ok(room) => room,
         Err(fault) => return Err(CheckFault::Refused(fault)),
@@ -132,6 +136,7 @@ pub(crate) fn check_parents_by<F: Fn(&Pages, Option<u32>, &[Stop]) -> Option<usi
     told(judge(
         &find,
         &pages,
+        keys,
         &mut room.seen,
         &mut room.met,
         &mut room.stops,

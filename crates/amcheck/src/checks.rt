@@ -5,14 +5,14 @@ ghost use Rattle.latch_table.specs.Holdings.{pinned_blocks};
 ghost use Rattle.page_action.specs.Room.{KeepsRoom};
 ghost use Rattle.page_action.specs.States.{Continues};
 ghost use Rattle.tree_shape.specs.Nodes.{nodes_of};
-ghost use Rattle.tree_acts.specs.TheoremTree.{IsTree};
-ghost use Rattle.damages.specs.Levels.{HasLevels};
+ghost use Rattle.tree_acts.specs.TheoremKeys.{IsTreeFor};
 ghost use Rattle.amcheck.specs.Answers.{IsAnswer};
 ghost use Rattle.amcheck.specs.Checks.{IsCheckFault};
 ghost use Rattle.amcheck.specs.Laws.{AnswersAreOne, IsAnswered, ParentsSeeMore};
 ghost use Rattle.amcheck.specs.Reading.{AreFetched, IsRestBut};
 ghost use Rattle.amcheck.specs.Reports.{IsReport};
 ghost use Rattle.amcheck.specs.Searching.{AreSearchable};
+ghost use Rattle.amcheck.specs.Sound.{HasLevelsFor};
 ghost use Rattle.amcheck.specs.Stops.{IsBad, IsFirstPlace};
 ghost use denote.Param.Send.{IsSync};
 
@@ -29,12 +29,15 @@ use std::thread::Threads;
 
 /// Judges the levels of an index and their links: a report, or the first damage. It makes its room, brings each page in use into
 /// memory once, and changes none. The pages of a level are judged in as many threads as serve. Parents and children are not
-/// judged.
+/// judged. Whether the index is unique is known from its format.
 ///
 /// Over a device that kept its model, a report means that each level, from the root's to the leaves, is one chain of pages,
-/// linked both ways, whose bounds and entries ascend; and its numbers are those of the pages. On pages that are a B-link tree
-/// no damage is found. Refused with `NoMemory` (1), and then nothing was read; with `Io` (2), `Stopped` (3); with `NoFrame`
-/// (10) where all frames are pinned; with `PageDamaged` (17) only where the device did not keep its model.
+/// linked both ways, whose bounds and entries ascend; and its numbers are those of the pages. On a unique index it also means
+/// that no page of a chain has a whole entry as a bound, or two entries of one key. On pages that are a B-link tree no damage
+/// is found, if, on a unique index, no bound is a whole entry and no two entries share a key.
+///
+/// Refused with `NoMemory` (1), and then nothing was read; with `Io` (2), `Stopped` (3); with `NoFrame` (10) where all frames are
+/// pinned; with `PageDamaged` (17) only where the device did not keep its model.
 pub fn check<R: Threads + Sync, S: PageStore>(
     rt: &R,
     alloc: Global,
@@ -51,21 +54,22 @@ pub fn check<R: Threads + Sync, S: PageStore>(
     ensures alive { IsAnswered result
         → (S.backing store.new).stopped ≡ true → (S.backing store.old).stopped ≡ true }
     ensures levels { (S.backing store.new).honest ≡ true
-        → OnOk result (HasLevels (S.state store.old).pages) }
+        → OnOk result (HasLevelsFor (S.state store.old).limits (S.state store.old).pages) }
     ensures report { (S.backing store.new).honest ≡ true
         → IfOk result (IsReport (S.state store.old).pages) }
     // It answers the first damage that there is, if there is one.
     ensures answer { (S.backing store.new).honest ≡ true
-        → IsAnswer false (S.state store.old).pages result }
+        → IsAnswer false (S.state store.old).limits.unique (S.state store.old).pages result }
     ensures fault { IfErr result (IsCheckFault (S.state store.old) (S.backing store.old)
-        (S.backing store.new) (IsTree (S.state store.old).pages)) }
+        (S.backing store.new)
+        (IsTreeFor (S.state store.old).limits (S.state store.old).pages)) }
     ensures unread { result ≡ Err (CheckFault.Refused Fault.NoMemory) → store.new ≡ store.old }
 {
     check_by(
-        |pages: &Pages, root: Option<u32>, stops: &[Stop]| -> Option<usize>
+        |pages: &Pages, keys: bool, root: Option<u32>, stops: &[Stop]| -> Option<usize>
             requires { IsSync R.row × AreSearchable pages.now stops.now }
-            ensures { IsFirstPlace (IsBad (nodes_of pages.now) root stops.now) result }
-        { find_bad(rt, pages, root, stops) },
+            ensures { IsFirstPlace (IsBad (nodes_of pages.now) keys root stops.now) result }
+        { find_bad(rt, pages, keys, root, stops) },
         alloc,
         store,
     )
@@ -84,20 +88,21 @@ pub fn check_one<S: PageStore>(alloc: Global, store: &mut S) -> Result<Report, C
     ensures alive { IsAnswered result
         → (S.backing store.new).stopped ≡ true → (S.backing store.old).stopped ≡ true }
     ensures levels { (S.backing store.new).honest ≡ true
-        → OnOk result (HasLevels (S.state store.old).pages) }
+        → OnOk result (HasLevelsFor (S.state store.old).limits (S.state store.old).pages) }
     ensures report { (S.backing store.new).honest ≡ true
         → IfOk result (IsReport (S.state store.old).pages) }
     ensures answer { (S.backing store.new).honest ≡ true
-        → IsAnswer false (S.state store.old).pages result }
+        → IsAnswer false (S.state store.old).limits.unique (S.state store.old).pages result }
     ensures fault { IfErr result (IsCheckFault (S.state store.old) (S.backing store.old)
-        (S.backing store.new) (IsTree (S.state store.old).pages)) }
+        (S.backing store.new)
+        (IsTreeFor (S.state store.old).limits (S.state store.old).pages)) }
     ensures unread { result ≡ Err (CheckFault.Refused Fault.NoMemory) → store.new ≡ store.old }
 {
     check_by(
-        |pages: &Pages, root: Option<u32>, stops: &[Stop]| -> Option<usize>
+        |pages: &Pages, keys: bool, root: Option<u32>, stops: &[Stop]| -> Option<usize>
             requires { AreSearchable pages.now stops.now }
-            ensures { IsFirstPlace (IsBad (nodes_of pages.now) root stops.now) result }
-        { find_bad_one(pages, root, stops) },
+            ensures { IsFirstPlace (IsBad (nodes_of pages.now) keys root stops.now) result }
+        { find_bad_one(pages, keys, root, stops) },
         alloc,
         store,
     )
@@ -107,7 +112,8 @@ pub fn check_one<S: PageStore>(alloc: Global, store: &mut S) -> Result<Report, C
 /// brings each page in use into memory once, and changes none. The pages of a level are judged in as many threads as serve.
 ///
 /// Over a device that kept its model, a report means that the pages are a B-link tree, and its numbers are those of the pages;
-/// and on pages that are a B-link tree no damage is found. Refused as [`check`].
+/// on a unique index also that no bound is a whole entry, and that no two entries share a key. On such pages no damage is
+/// found. Refused as [`check`].
 pub fn check_parents<R: Threads + Sync, S: PageStore>(
     rt: &R,
     alloc: Global,
@@ -124,21 +130,22 @@ pub fn check_parents<R: Threads + Sync, S: PageStore>(
     ensures alive { IsAnswered result
         → (S.backing store.new).stopped ≡ true → (S.backing store.old).stopped ≡ true }
     ensures tree { (S.backing store.new).honest ≡ true
-        → OnOk result (IsTree (S.state store.old).pages) }
+        → OnOk result (IsTreeFor (S.state store.old).limits (S.state store.old).pages) }
     ensures report { (S.backing store.new).honest ≡ true
         → IfOk result (IsReport (S.state store.old).pages) }
     // It answers the first damage that there is, if there is one.
     ensures answer { (S.backing store.new).honest ≡ true
-        → IsAnswer true (S.state store.old).pages result }
+        → IsAnswer true (S.state store.old).limits.unique (S.state store.old).pages result }
     ensures fault { IfErr result (IsCheckFault (S.state store.old) (S.backing store.old)
-        (S.backing store.new) (IsTree (S.state store.old).pages)) }
+        (S.backing store.new)
+        (IsTreeFor (S.state store.old).limits (S.state store.old).pages)) }
     ensures unread { result ≡ Err (CheckFault.Refused Fault.NoMemory) → store.new ≡ store.old }
 {
     check_parents_by(
-        |pages: &Pages, root: Option<u32>, stops: &[Stop]| -> Option<usize>
+        |pages: &Pages, keys: bool, root: Option<u32>, stops: &[Stop]| -> Option<usize>
             requires { IsSync R.row × AreSearchable pages.now stops.now }
-            ensures { IsFirstPlace (IsBad (nodes_of pages.now) root stops.now) result }
-        { find_bad(rt, pages, root, stops) },
+            ensures { IsFirstPlace (IsBad (nodes_of pages.now) keys root stops.now) result }
+        { find_bad(rt, pages, keys, root, stops) },
         alloc,
         store,
     )
@@ -157,20 +164,21 @@ pub fn check_parents_one<S: PageStore>(alloc: Global, store: &mut S) -> Result<R
     ensures alive { IsAnswered result
         → (S.backing store.new).stopped ≡ true → (S.backing store.old).stopped ≡ true }
     ensures tree { (S.backing store.new).honest ≡ true
-        → OnOk result (IsTree (S.state store.old).pages) }
+        → OnOk result (IsTreeFor (S.state store.old).limits (S.state store.old).pages) }
     ensures report { (S.backing store.new).honest ≡ true
         → IfOk result (IsReport (S.state store.old).pages) }
     ensures answer { (S.backing store.new).honest ≡ true
-        → IsAnswer true (S.state store.old).pages result }
+        → IsAnswer true (S.state store.old).limits.unique (S.state store.old).pages result }
     ensures fault { IfErr result (IsCheckFault (S.state store.old) (S.backing store.old)
-        (S.backing store.new) (IsTree (S.state store.old).pages)) }
+        (S.backing store.new)
+        (IsTreeFor (S.state store.old).limits (S.state store.old).pages)) }
     ensures unread { result ≡ Err (CheckFault.Refused Fault.NoMemory) → store.new ≡ store.old }
 {
     check_parents_by(
-        |pages: &Pages, root: Option<u32>, stops: &[Stop]| -> Option<usize>
+        |pages: &Pages, keys: bool, root: Option<u32>, stops: &[Stop]| -> Option<usize>
             requires { AreSearchable pages.now stops.now }
-            ensures { IsFirstPlace (IsBad (nodes_of pages.now) root stops.now) result }
-        { find_bad_one(pages, root, stops) },
+            ensures { IsFirstPlace (IsBad (nodes_of pages.now) keys root stops.now) result }
+        { find_bad_one(pages, keys, root, stops) },
         alloc,
         store,
     )

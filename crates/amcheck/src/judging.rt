@@ -2,13 +2,15 @@
 
 ghost use Rattle.std.specs.Prelude.{◌≡◌, ◌≢◌, ◌≤◌, ◌<◌, suc, true, false, None, [], IfNone, IfSome, IfOk, IfErr, OnOk, OnErr, length, replicate, vec_capacity};
 ghost use Rattle.damages.specs.Damages.{index_of, IsSound, IsFirstDamage};
-ghost use Rattle.damages.specs.Levels.{HasLevels};
+ghost use Rattle.tree_shape.specs.KeyPages.{AreUnique};
+ghost use Rattle.damages.specs.Levels.{HasLevels, HasUniqueLevels};
 ghost use Rattle.tree_acts.specs.TheoremTree.{IsTree};
 ghost use Rattle.amcheck.specs.AllStops.{AreAllStops};
 ghost use Rattle.amcheck.specs.Levels.{NamesRoot};
 ghost use Rattle.amcheck.specs.Marks.{IsMet};
 ghost use Rattle.amcheck.specs.Places.{StandAtTheirBlocks};
 ghost use Rattle.amcheck.specs.Reports.{IsReport};
+ghost use Rattle.amcheck.specs.Sound.{IsSoundTree};
 ghost use Rattle.amcheck.specs.Searching.{MaySearch, FindsFirst};
 ghost use Rattle.amcheck.specs.Stops.{blocks_of};
 
@@ -56,7 +58,7 @@ fn find_root(pages: &Pages) -> Result<Root, Damage>
 }
 
 /// Judges parents and children, where the chains of all levels are right, and at last the pages on no chain: the first
-/// damage, if there is one. No block was noted or marked before.
+/// damage, if there is one. No block was noted or marked before. Nothing here depends on keys.
 fn judge_parents(
     pages: &Pages,
     met: &Met,
@@ -71,11 +73,11 @@ fn judge_parents(
     requires met { IsMet met.now (length pages.now) }
     requires chains { AreAllStops (index_of pages.now) (suc (index_of pages.now).top) chains.now }
     requires added { met.now.blocks.items ≡ blocks_of chains.now }
-    requires sound { IsSound false pages.now }
+    requires sound { IsSound false false pages.now }
     requires places { places.old ≡ replicate (length pages.now) None }
     requires linked { linked.old ≡ replicate (length pages.now) false }
-    ensures none { IfNone result (IsSound true pages.now) }
-    ensures some { IfSome result (λ d. IsFirstDamage true pages.now d.number d.block) }
+    ensures none { IfNone result (IsSound true false pages.now) }
+    ensures some { IfSome result (λ d. IsFirstDamage true false pages.now d.number d.block) }
 {
     note_places(chains, places);
     if let Some(damage) = find_parent_damage(pages, chains, places, linked, top) {
@@ -88,9 +90,10 @@ fn judge_parents(
 }
 
 /// Judges the chains of all levels: a report, or the first damage. No block was seen or met before.
-pub(crate) fn judge_chains<F: Fn(&Pages, Option<u32>, &[Stop]) -> Option<usize>>(
+pub(crate) fn judge_chains<F: Fn(&Pages, bool, Option<u32>, &[Stop]) -> Option<usize>>(
     find: &F,
     pages: &Pages,
+    keys: bool,
     seen: &mut [bool],
     met: &mut Met,
     stops: &mut Vec<Stop>,
@@ -106,11 +109,12 @@ pub(crate) fn judge_chains<F: Fn(&Pages, Option<u32>, &[Stop]) -> Option<usize>>
     requires no_stops { chains.old.items ≡ [] }
     requires room { length pages.now ≤ vec_capacity stops.old }
     requires more_room { length pages.now ≤ vec_capacity chains.old }
-    ensures sound { OnOk result (IsSound false pages.now) }
+    ensures sound { OnOk result (IsSound false keys pages.now) }
     ensures levels { OnOk result (HasLevels pages.now) }
+    ensures unique { keys ≡ true → OnOk result (HasUniqueLevels pages.now) }
     ensures report { IfOk result (IsReport pages.now) }
-    ensures first { IfErr result (λ d. IsFirstDamage false pages.now d.number d.block) }
-    ensures damaged { OnErr result (IsTree pages.now → ⊥) }
+    ensures first { IfErr result (λ d. IsFirstDamage false keys pages.now d.number d.block) }
+    ensures damaged { OnErr result (IsSoundTree keys pages.now → ⊥) }
 {
     first_damage_is_one();
     sound_pages_are_a_tree();
@@ -120,7 +124,7 @@ pub(crate) fn judge_chains<F: Fn(&Pages, Option<u32>, &[Stop]) -> Option<usize>>
         Err(damage) => return Err(damage),
     };
     match find_chain_damage(
-        find, pages, seen, met, stops, chains, root.block, root.level,
+        find, pages, keys, seen, met, stops, chains, root.block, root.level,
     ) {
         Some(damage) => Err(damage),
         None => Ok(count_up(pages, root.level as u32 + 1)),
@@ -128,9 +132,10 @@ pub(crate) fn judge_chains<F: Fn(&Pages, Option<u32>, &[Stop]) -> Option<usize>>
 }
 
 /// Judges all pages, with parents and children: a report, or the first damage. No block was seen, met, noted or marked before.
-pub(crate) fn judge<F: Fn(&Pages, Option<u32>, &[Stop]) -> Option<usize>>(
+pub(crate) fn judge<F: Fn(&Pages, bool, Option<u32>, &[Stop]) -> Option<usize>>(
     find: &F,
     pages: &Pages,
+    keys: bool,
     seen: &mut [bool],
     met: &mut Met,
     stops: &mut Vec<Stop>,
@@ -150,11 +155,12 @@ pub(crate) fn judge<F: Fn(&Pages, Option<u32>, &[Stop]) -> Option<usize>>(
     requires more_room { length pages.now ≤ vec_capacity chains.old }
     requires places { places.old ≡ replicate (length pages.now) None }
     requires linked { linked.old ≡ replicate (length pages.now) false }
-    ensures sound { OnOk result (IsSound true pages.now) }
+    ensures sound { OnOk result (IsSound true keys pages.now) }
     ensures tree { OnOk result (IsTree pages.now) }
+    ensures unique { keys ≡ true → OnOk result (AreUnique pages.now) }
     ensures report { IfOk result (IsReport pages.now) }
-    ensures first { IfErr result (λ d. IsFirstDamage true pages.now d.number d.block) }
-    ensures damaged { OnErr result (IsTree pages.now → ⊥) }
+    ensures first { IfErr result (λ d. IsFirstDamage true keys pages.now d.number d.block) }
+    ensures damaged { OnErr result (IsSoundTree keys pages.now → ⊥) }
 {
     first_damage_is_one();
     sound_pages_are_a_tree();
@@ -164,7 +170,7 @@ pub(crate) fn judge<F: Fn(&Pages, Option<u32>, &[Stop]) -> Option<usize>>(
         Err(damage) => return Err(damage),
     };
     if let Some(damage) = find_chain_damage(
-        find, pages, seen, met, stops, chains, root.block, root.level,
+        find, pages, keys, seen, met, stops, chains, root.block, root.level,
     ) {
         return Err(damage);
     }

@@ -20,6 +20,7 @@ mod report;
 mod sketches;
 mod stops;
 mod strays;
+mod unique_pages;
 mod walks;
 mod ways;
 

@@ -23,7 +23,7 @@ fn damage_at(
     requires few { length stops.now ≤ 65536 }
     requires top { top ≡ (index_of pages.now).top }
     requires stops { AreAllStops (index_of pages.now) (suc (index_of pages.now).top) stops.now }
-    requires sound { IsSound false pages.now }
+    requires sound { IsSound false false pages.now }
     requires places { ArePlaces stops.now places.now }
     requires size { length linked.old ≡ length pages.now }
     requires inside { place < length stops.now }
@@ -66,13 +66,13 @@ pub(crate) fn find_parent_damage(
     requires few { length stops.now ≤ 65536 }
     requires top { top ≡ (index_of pages.now).top }
     requires stops { AreAllStops (index_of pages.now) (suc (index_of pages.now).top) stops.now }
-    requires sound { IsSound false pages.now }
+    requires sound { IsSound false false pages.now }
     requires places { ArePlaces stops.now places.now }
     requires size { length linked.old ≡ length pages.now }
     requires marked { AreMarked (index_of pages.now) stops.now 0 linked.old }
     ensures none { IfNone result
         ((k : ℕ) → k < length stops.now → IsClearAt (index_of pages.now) stops.now k) }
-    ensures some { IfSome result (λ d. IsFirstDamage true pages.now d.number d.block) }
+    ensures some { IfSome result (λ d. IsFirstDamage true false pages.now d.number d.block) }
 {
     for place in 0..stops.len() {
         if let Some(damage) = damage_at(pages, stops, places, linked, top, place) {

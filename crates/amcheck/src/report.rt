@@ -38,7 +38,9 @@ pub enum CheckFault {
     ///    second downlink to a page;
     /// 10. a page too many on the root's level;
     /// 11. a page in use, neither deleted nor the metapage, on no chain;
-    /// 12. a half-dead page right behind a flagged one.
+    /// 12. a half-dead page right behind a flagged one;
+    /// 13. on a unique index alone: a page on a chain that has a whole entry as its high key or as one of its
+    ///    bounds, or an entry whose key is the one before it.
     #[error("damage {number} block {block}")]
     Damage {
         number: u8,

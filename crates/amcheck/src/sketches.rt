@@ -6,6 +6,7 @@ ghost use Rattle.tree_shape.specs.Nodes.{node_of};
 ghost use Rattle.amcheck.specs.Reports.{entry_count};
 ghost use Rattle.amcheck.specs.Sketches.{IsSketch, second_bound, least_bound};
 
+use crate::unique_pages::is_unique;
 use index_model::{Bound, Entry};
 use page_codec::{Downlink, Page, PageState};
 use tree_shape::{entries_on, links_on};
@@ -21,6 +22,8 @@ pub(crate) struct Sketch {
     pub(crate) high: Option<Bound>,
     /// What is to lie beyond the page's low before all others: its first entry, or the bound of its second downlink.
     pub(crate) least: Option<Bound>,
+    /// Whether its bounds are places before all rows of a key, and no entry has the key of the one before it.
+    pub(crate) unique: bool,
     /// How many entries it has, if it is a live leaf: 50 at most.
     pub(crate) entries: u32,
     /// Where the page itself is kept, if it has downlinks.
@@ -75,6 +78,7 @@ pub(crate) fn sketch_of(page: &Page, place: Option<u32>) -> Sketch
         right: page.right,
         high: page.high,
         least: least_bound(entries_on(page), links_on(page)),
+        unique: is_unique(page),
         entries: count_entries(page),
         place,
     }

@@ -1,6 +1,6 @@
 //! A place of a chain as a walk comes to it, and what is judged of the page there.
 
-ghost use Rattle.std.specs.Prelude.{◌≡◌, ◌≢◌, ◌↔◌, ◌<◌, ◌≤◌, true, IsTrue, length, slice_get, Some};
+ghost use Rattle.std.specs.Prelude.{◌≡◌, ◌≢◌, ◌↔◌, ◌<◌, ◌≤◌, true, false, IsTrue, length, slice_get, Some};
 ghost use Rattle.page_codec.specs.declared.page.PageState.TheVariants.{Live, HalfDead, Deleted};
 ghost use Rattle.tree_shape.specs.Nodes.{nodes_of};
 ghost use Rattle.tree_shape.specs.Chains.{past, Rises};
@@ -112,14 +112,22 @@ fn is_half_dead_behind(sketch: &Sketch, behind: bool) -> bool
     }
 }
 
+/// Whether keys are seen, and the page isn't one of a unique index.
+fn has_wrong_keys(sketch: &Sketch, keys: bool) -> bool
+    ensures { IsTrue result ↔ (keys ≡ true) × (sketch.now.unique ≡ false) }
+{
+    keys && !sketch.unique
+}
+
 /// The least number of what is wrong with a page at a stop, as its sketch tells.
 pub(crate) fn find_number(
     sketch: &Sketch,
+    keys: bool,
     root: Option<u32>,
     low: &Option<Bound>,
     stop: &Stop,
 ) -> Option<u8>
-    ensures least { IsLeastNumber (IsWrongSketch sketch.now root
+    ensures least { IsLeastNumber (IsWrongSketch keys sketch.now root
         (record { low = low.now; left = stop.now.left; behind = stop.now.behind })
         stop.now.block) result }
 {
@@ -140,6 +148,9 @@ pub(crate) fn find_number(
     }
     if is_half_dead_behind(sketch, stop.behind) {
         return Some(12);
+    }
+    if has_wrong_keys(sketch, keys) {
+        return Some(13);
     }
     None
 }

@@ -1,17 +1,21 @@
 -- The pages of an empty index are a tree with no entry on it.
-use Rattle.std.specs.Prelude.{◌≡◌, false, ◌||◌, List, [], ◌∷◌}
+use Rattle.std.specs.Prelude.{◌≡◌, ℕ, zero, suc, true, false, ◌||◌, Option, Some, None, IfSome, IsNone, List, [], ◌∷◌}
+use Rattle.std.specs.List.{AllByRecursion}
 use Rattle.std.proofs.Common.{refl, sym, ap, subst, ◌∙◌}
 use Rattle.index_model.specs.Order.{is_among}
+use Rattle.index_model.specs.declared.bound.Bound.{Bound}
 use Rattle.index_model.specs.declared.entry.Entry.{Entry}
 use Rattle.page_action.specs.Contents.{live_entries, is_on, entry_on_live_leaf}
 use Rattle.page_codec.specs.Edits.{entries_of, HasEntries}
-use Rattle.page_codec.specs.Grammar.{IsOfKind}
+use Rattle.page_codec.specs.Grammar.{IsMeta, IsOfKind}
+use Rattle.page_codec.specs.declared.page.Downlink.{Downlink}
 use Rattle.page_codec.specs.declared.page.Items.{Items}
 use Rattle.page_codec.specs.declared.page.Items.TheVariants.{Meta, Entries, Downlinks}
 use Rattle.page_codec.specs.declared.page.Page.{Page}
 use Rattle.page_codec.specs.declared.page.PageState.{PageState}
 use Rattle.page_codec.specs.declared.page.PageState.TheVariants.{Live, HalfDead, Deleted}
 use Rattle.recovery.specs.Fresh.{IsFirstMeta, IsFirstLeaf}
+use Rattle.tree_acts.specs.TheoremKeys.{AreKeyed}
 use Rattle.tree_acts.specs.TheoremTree.{IsTree}
 use Rattle.tree_shape.specs.Chains.{IsTreeOf}
 use Rattle.tree_shape.specs.Nodes.{links_of, node_of, no_node, nodes_of}
@@ -65,3 +69,29 @@ fresh_empty meta leaf m l e =
     let on_meta : is_on meta e ≡ false = ap (λ (items : Items). is_among (live_entries meta.state items) e) m.kind ∙ none_on_meta meta.state e in
     let on_leaf : is_on leaf e ≡ false = none_on_empty leaf.state leaf.items e l.empty in
     ap (λ b. b || (is_on leaf e || false)) on_meta ∙ ap (λ b. b || false) on_leaf
+
+-- where there is no bound, none has a row
+no_bound : (o : Option Bound) → IsNone o → IfSome o (λ s. s.row ≡ None)
+no_bound None none = tt
+no_bound (Some bound) none = absurd (let clash : true ≡ false = none in cc)
+
+fresh_high : (meta leaf : Page) → IsFirstMeta meta → IsFirstLeaf leaf → (b : ℕ) → IfSome (nodes_of (meta ∷ leaf ∷ []) b).high (λ s. s.row ≡ None)
+fresh_high meta leaf m l zero =
+    let is_meta : IsMeta meta = subst (λ (items : Items). IsOfKind meta items) m.kind m.page.kind in
+    no_bound meta.high is_meta.high
+fresh_high meta leaf m l (suc zero) = subst (λ (o : Option Bound). IfSome o (λ s. s.row ≡ None)) (sym l.high) tt
+fresh_high meta leaf m l (suc (suc b)) = tt
+
+fresh_bounds : (meta leaf : Page) → IsFirstMeta meta → IsFirstLeaf leaf → (b : ℕ)
+    → AllByRecursion (λ d. IfSome d.bound (λ (s : Bound). s.row ≡ None)) (nodes_of (meta ∷ leaf ∷ []) b).links
+fresh_bounds meta leaf m l zero = subst (λ (items : Items). AllByRecursion (λ d. IfSome d.bound (λ (s : Bound). s.row ≡ None)) (links_of items)) (sym m.kind) tt
+fresh_bounds meta leaf m l (suc zero) = subst (λ (links : List Downlink). AllByRecursion (λ d. IfSome d.bound (λ (s : Bound). s.row ≡ None)) links) (sym (no_links leaf.items l.kind)) tt
+fresh_bounds meta leaf m l (suc (suc b)) = tt
+
+-- so the pages of an empty index are keyed
+pub fresh_keyed : (meta leaf : Page) → IsFirstMeta meta → IsFirstLeaf leaf → AreKeyed (meta ∷ leaf ∷ [])
+fresh_keyed meta leaf m l = record {
+  high = fresh_high meta leaf m l;
+  bounds = fresh_bounds meta leaf m l;
+  keys = λ x y on_x on_y same. absurd (let none : false ≡ true = sym (fresh_empty meta leaf m l x) ∙ on_x in cc);
+}

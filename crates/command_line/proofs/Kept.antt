@@ -8,6 +8,7 @@ use Rattle.device.specs.declared.device.Device.{Ghosts as DeviceGhosts}
 use Rattle.index_model.specs.declared.dead_rows.DeadRows.{Ghosts as SetGhosts}
 use Rattle.index_model.specs.declared.limits.Limits.{Limits}
 use Rattle.page_action.specs.declared.page_store.PageStore.{Ghosts}
+use Rattle.page_action.specs.States.{State}
 use Rattle.page_codec.specs.declared.page.Page.{Page}
 use Rattle.page_store.specs.declared.store.Store.{Store}
 use Rattle.world.specs.declared.world.World.{World}
@@ -82,8 +83,8 @@ module _ (old mid new : Option (List ℕ)) (kept : Keeps mid new) where
   report_kept : (honest : Bool) (pages : List Page) → TellsReport honest pages old mid → TellsReport honest pages old new
   report_kept honest pages told = record { report = told.report; printed = appends_kept _ _ _ _ kept told.printed; is = told.is }
 
-  damage_kept : (honest parents : Bool) (pages : List Page) → TellsDamage honest parents pages old mid → TellsDamage honest parents pages old new
-  damage_kept honest parents pages told = record {
+  damage_kept : (honest parents : Bool) (st : State) → TellsDamage honest parents st old mid → TellsDamage honest parents st old new
+  damage_kept honest parents st told = record {
     number = told.number;
     block = told.block;
     printed = appends_kept _ _ _ _ kept told.printed;

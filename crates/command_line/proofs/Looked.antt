@@ -15,8 +15,8 @@ module _ (now was : State) (same : now ≡ was) (honest : Bool) (old new : Optio
   pub report_stays : TellsReport honest was.pages old new → TellsReport honest now.pages old new
   report_stays told = subst (λ (st : State). TellsReport honest st.pages old new) (sym same) told
 
-  pub damage_stays : (parents : Bool) → TellsDamage honest parents was.pages old new → TellsDamage honest parents now.pages old new
-  damage_stays parents told = subst (λ (st : State). TellsDamage honest parents st.pages old new) (sym same) told
+  pub damage_stays : (parents : Bool) → TellsDamage honest parents was old new → TellsDamage honest parents now old new
+  damage_stays parents told = subst (λ (st : State). TellsDamage honest parents st old new) (sym same) told
 
   pub list_stays : Lists honest was.pages old new → Lists honest now.pages old new
   list_stays told = subst (λ (st : State). Lists honest st.pages old new) (sym same) told

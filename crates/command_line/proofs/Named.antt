@@ -81,7 +81,7 @@ module _ (f : Found) where
   flag_said name on said = subst (λ (t : Option (List ℕ)). HasFlag t on) (one_text-rows f name) said
 
   pub limits_said : (l : Limits) → HasLimits (one_text f) l → HasLimits (said_in (rows_of f)) l
-  limits_said l said = record { items = number_said _ _ said.items; pages = number_said _ _ said.pages; log = number_said _ _ said.log }
+  limits_said l said = record { items = number_said _ _ said.items; pages = number_said _ _ said.pages; log = number_said _ _ said.log; unique = flag_said _ _ said.unique }
 
   pub setting_said : (s : Setting) → HasSetting (one_text f) s → HasSetting (said_in (rows_of f)) s
   setting_said s said = record {

@@ -27,11 +27,12 @@ pub record HasNumber (said : Option (List ℕ)) (number : ℕ) : Type 0 where
   pub other : (text : List ℕ) → said ≡ Some text → ((spelled : ℕ) → SpellsNumber text spelled → ⊥) → number ≡ 0
   pub absent : said ≡ None → number ≡ 0
 
--- the sizes of an index, by the texts of their names
+-- the sizes of an index, and whether it is unique, by the texts of their names
 pub record HasLimits (said : List ℕ → Option (List ℕ)) (limits : Limits) : Type 0 where
   pub items : HasNumber (said (codes "items")) limits.items
   pub pages : HasNumber (said (codes "pages")) limits.pages
   pub log : HasNumber (said (codes "log")) limits.log_bytes
+  pub unique : HasFlag (said (codes "unique")) limits.unique
 
 -- ... and what a script is run with
 pub record HasSetting (said : List ℕ → Option (List ℕ)) (setting : Setting) : Type 0 where

@@ -53,9 +53,9 @@ pub record PrintsCheck {D : Type 0} (d : DeviceGhosts D) (g : Ghosts (Store D d)
   pub report : looked.end ≡ Ok Done → IsSomeAnd looked.store (λ store.
       TellsReport (g.backing store).honest (g.state store).pages old new)
   pub sound : looked.end ≡ Ok Done → IsSomeAnd looked.store (λ store.
-      (g.backing store).honest ≡ true → AreSound parents (g.state store).pages)
+      (g.backing store).honest ≡ true → AreSound parents (g.state store))
   pub damage : looked.end ≡ Ok Damaged → IsSomeAnd looked.store (λ store.
-      TellsDamage (g.backing store).honest parents (g.state store).pages old new)
+      TellsDamage (g.backing store).honest parents (g.state store) old new)
   pub refused : (fault : Fault) → looked.end ≡ Ok (Refused fault)
       → MatchOption looked.store (IsOpenFault fault) (IsCheckRefused d g bytes fault)
   pub silent : (fault : Fault) → looked.end ≡ Ok (Refused fault) → Keeps old new

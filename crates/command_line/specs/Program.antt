@@ -32,9 +32,12 @@ size_rule name value = record (number_rule name) { defaults = value ∷ [] }
 abbrev pub with_size : Text → Text → App → App
 with_size name value app = with_rule app (size_rule name value)
 
--- the sizes of an index
+abbrev pub with_flag : Text → App → App
+with_flag name app = with_rule app (flag_rule name)
+
+-- the sizes of an index, and whether it is unique
 abbrev pub with_index_sizes : App → App
-with_index_sizes app = with_size (codes "log") (codes "1048576") (with_size (codes "pages") (codes "64") (with_size (codes "items") (codes "4") app))
+with_index_sizes app = with_flag (codes "unique") (with_size (codes "log") (codes "1048576") (with_size (codes "pages") (codes "64") (with_size (codes "items") (codes "4") app)))
 
 abbrev pub play_app : App
 play_app = with_size (codes "sessions") (codes "8") (with_size (codes "frames") (codes "16") (with_index_sizes (new_app (codes "play"))))
@@ -50,11 +53,15 @@ with_run_sizes app = with_size (codes "frames") (codes "64") (with_size (codes "
 abbrev pub run_app : App
 run_app = with_run_sizes (with_rule (file_app (codes "run")) (word_rule (codes "jobs")))
 
+-- the sizes of a new index, which are needed, and whether it is unique
+abbrev pub with_needed_sizes : App → App
+with_needed_sizes app = with_flag (codes "unique") (with_rule (with_rule (with_rule app (needed_rule (codes "items"))) (needed_rule (codes "pages"))) (needed_rule (codes "log")))
+
 abbrev pub create_app : App
-create_app = with_rule (with_rule (with_rule (file_app (codes "create")) (needed_rule (codes "items"))) (needed_rule (codes "pages"))) (needed_rule (codes "log"))
+create_app = with_needed_sizes (file_app (codes "create"))
 
 abbrev pub check_app : App
-check_app = with_rule (with_rule (file_app (codes "check")) (flag_rule (codes "parents"))) (flag_rule (codes "one-thread"))
+check_app = with_flag (codes "one-thread") (with_flag (codes "parents") (file_app (codes "check")))
 
 abbrev pub dump_app : App
 dump_app = file_app (codes "dump")

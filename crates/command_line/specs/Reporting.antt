@@ -2,16 +2,17 @@
 use Rattle.std.specs.Prelude.{◌≡◌, true, false, Bool, ℕ, Option, Result, Ok, Err, List, [], ◌∷◌, ◌++◌, codes, ⊤}
 use Rattle.std.specs.Io.KnownBytes.{Appends}
 use Rattle.damages.specs.Damages.{IsFirstDamage}
-use Rattle.damages.specs.Levels.{HasLevels}
 use Rattle.amcheck.specs.Reports.{IsReport}
 use Rattle.amcheck.specs.declared.report.CheckFault.{CheckFault}
 use Rattle.amcheck.specs.declared.report.CheckFault.TheVariants.{Damage, Refused as NotChecked}
+use Rattle.amcheck.specs.Sound.{HasLevelsFor}
 use Rattle.amcheck.specs.declared.report.Report.{Report}
 use Rattle.text_forms.specs.Printing.{numbered}
 use Rattle.command_line.specs.declared.end.End.{End}
 use Rattle.command_line.specs.declared.end.End.TheVariants.{Done, Damaged, Said, Refused}
+use Rattle.page_action.specs.States.{State}
 use Rattle.page_codec.specs.declared.page.Page.{Page}
-use Rattle.tree_acts.specs.TheoremTree.{IsTree}
+use Rattle.tree_acts.specs.TheoremKeys.{IsTreeFor}
 
 abbrev pub report_text : Report → List ℕ
 report_text report =
@@ -28,19 +29,19 @@ pub record TellsReport (honest : Bool) (pages : List Page) (old new : Option (Li
   pub printed : Appends old new (report_text report ++ 10 ∷ [])
   pub is : honest ≡ true → IsReport pages report
 
--- what was printed is the first damage that these pages have, with parents and children or without; pages that are a B-link
--- tree have none
-pub record TellsDamage (honest parents : Bool) (pages : List Page) (old new : Option (List ℕ)) : Type 0 where
+-- what was printed is the first damage that the pages have, with parents and children or without; pages that are a B-link
+-- tree, and on a unique index those of one, have none
+pub record TellsDamage (honest parents : Bool) (st : State) (old new : Option (List ℕ)) : Type 0 where
   pub number : ℕ
   pub block : ℕ
   pub printed : Appends old new (damage_text number block ++ 10 ∷ [])
-  pub first : honest ≡ true → IsFirstDamage parents pages number block
-  pub unsound : honest ≡ true → IsTree pages → ⊥
+  pub first : honest ≡ true → IsFirstDamage parents st.limits.unique st.pages number block
+  pub unsound : honest ≡ true → IsTreeFor st.limits st.pages → ⊥
 
--- pages are sound: with parents and children a B-link tree, without them an index of levels
-abbrev pub AreSound : Bool → List Page → Type 0
-AreSound true pages = IsTree pages
-AreSound false pages = HasLevels pages
+-- the pages are sound: with parents and children a B-link tree, without them an index of levels; and on a unique index those of one
+abbrev pub AreSound : Bool → State → Type 0
+AreSound true st = IsTreeFor st.limits st.pages
+AreSound false st = HasLevelsFor st.limits st.pages
 
 -- what was printed of an answer, and how it ended: the report, the damage, or nothing
 abbrev pub IsTold : Result Report CheckFault → Option (List ℕ) → Option (List ℕ) → End → Type 0

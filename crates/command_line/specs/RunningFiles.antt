@@ -10,7 +10,7 @@ use Rattle.page_store.specs.declared.store.Store.{Store}
 use Rattle.recovery.specs.Index.{HasIndex}
 use Rattle.recovery.specs.Opening.{IsFreshlyOpened}
 use Rattle.sessions.specs.declared.job.Job.{Job}
-use Rattle.tree_acts.specs.TheoremTree.{IsTree}
+use Rattle.tree_acts.specs.TheoremKeys.{IsTreeFor}
 use Rattle.world.specs.Reopening.{BeginsWith}
 use Rattle.world.specs.declared.world.World.{World}
 use Rattle.access_method.specs.Files.{bytes_before}
@@ -27,7 +27,7 @@ pub record IsWorldOfFile {D T : Type 0} (d : DeviceGhosts D) (g : Ghosts (Store 
   pub sessions_are : length world.calls.slots.items ≡ sessions
   pub sets_are : world.sets.items ≡ sets
   pub begins : IsTrue (d.is_honest (device_of d world.store)) → (limits : Format) (pages : List Page)
-      → HasIndex limits pages (bytes_before bytes (d.trace (device_of d world.store))) → IsTree pages
+      → HasIndex limits pages (bytes_before bytes (d.trace (device_of d world.store))) → IsTreeFor limits pages
       → BeginsWith d g rows limits pages world
 
 -- what was printed is a run of these jobs on such a world, with a session for each worker, which left this one

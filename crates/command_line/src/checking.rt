@@ -33,9 +33,9 @@ pub fn check_pages<R: Threads + Sync, S: PageStore, W: Write>(
     ensures report { result ≡ Ok End.Done → TellsReport (S.backing store.new).honest
         (S.state store.old).pages (W.contents out.old) (W.contents out.new) }
     ensures sound { result ≡ Ok End.Done → (S.backing store.new).honest ≡ true
-        → AreSound parents (S.state store.old).pages }
+        → AreSound parents (S.state store.old) }
     ensures damage { result ≡ Ok End.Damaged → TellsDamage (S.backing store.new).honest parents
-        (S.state store.old).pages (W.contents out.old) (W.contents out.new) }
+        (S.state store.old) (W.contents out.old) (W.contents out.new) }
     ensures refused { (fault : Fault) → result ≡ Ok (End.Refused fault)
         → HasCause (where_checked (S.state store.old) (S.backing store.old)
         (S.backing store.new)) fault }
@@ -63,9 +63,9 @@ pub fn check_pages_one<S: PageStore, W: Write>(
     ensures report { result ≡ Ok End.Done → TellsReport (S.backing store.new).honest
         (S.state store.old).pages (W.contents out.old) (W.contents out.new) }
     ensures sound { result ≡ Ok End.Done → (S.backing store.new).honest ≡ true
-        → AreSound parents (S.state store.old).pages }
+        → AreSound parents (S.state store.old) }
     ensures damage { result ≡ Ok End.Damaged → TellsDamage (S.backing store.new).honest parents
-        (S.state store.old).pages (W.contents out.old) (W.contents out.new) }
+        (S.state store.old) (W.contents out.old) (W.contents out.new) }
     ensures refused { (fault : Fault) → result ≡ Ok (End.Refused fault)
         → HasCause (where_checked (S.state store.old) (S.backing store.old)
         (S.backing store.new)) fault }

@@ -4,7 +4,7 @@ ghost use Rattle.std.specs.Prelude.{◌≡◌, [], false, IfOk, codes, unwrap_or
 ghost use Rattle.clap.specs.Words.{app_of, found_of, first_value, one_text, rule_of};
 ghost use Rattle.clap.specs.declared.builder.command.Command.TheViews.{out-Command as fields_of};
 ghost use Rattle.command_line.specs.CommandLine.{HasFlag, HasLimits, HasNumber, HasRunSizes, HasSetting};
-ghost use Rattle.command_line.specs.Program.{check_app, create_app, dump_app, flag_rule, needed_rule, play_app, program_line, run_app, size_rule, start_app, with_file_apps, with_index_sizes, with_run_sizes, word_rule};
+ghost use Rattle.command_line.specs.Program.{check_app, create_app, dump_app, flag_rule, needed_rule, play_app, program_line, run_app, size_rule, start_app, with_file_apps, with_index_sizes, with_needed_sizes, with_run_sizes, word_rule};
 
 use crate::engine::Setting;
 use crate::help::{FAULTS, JOBS, REPORT, SCRIPT};
@@ -13,12 +13,15 @@ use clap::{Arg, ArgAction, ArgMatches, Command, value_parser};
 use index_model::Limits;
 use std::alloc::{AllocError, Global};
 
-// What the sizes of an index are.
+// What the sizes of an index are, and what a unique one is.
 const ITEMS: &str = "Items that a page holds at most: 4 to 50";
 
 const PAGES: &str = "Blocks of the index: 8 to 65536";
 
 const LOG: &str = "Bytes of the log: 65536 to 16777216, a multiple of 4096";
+
+const UNIQUE: &str =
+    "No two entries share a key: an insert of a key that is there is refused with 21";
 
 const FRAMES: &str = "Pages that are held in memory: 16 to 1024";
 
@@ -66,7 +69,7 @@ fn play<'a>(alloc: Global) -> Result<Command<'a>, AllocError>
         .arg(size(alloc, "sessions", "8", "Sessions: 1 to 64"))
 }
 
-// The sizes of an index, each with what it is if none is given.
+// The sizes of an index, each with what it is if none is given, and whether it is unique.
 fn with_limits<'a>(alloc: Global, command: Command<'a>) -> Result<Command<'a>, AllocError>
     ensures app { IfOk result (λ whole. app_of whole ≡ with_index_sizes (app_of command.entry)) }
     ensures local { (fields_of command.entry).has_globals ≡ false
@@ -75,19 +78,31 @@ fn with_limits<'a>(alloc: Global, command: Command<'a>) -> Result<Command<'a>, A
     command
         .arg(size(alloc, "items", "4", ITEMS))?
         .arg(size(alloc, "pages", "64", PAGES))?
-        .arg(size(alloc, "log", "1048576", LOG))
+        .arg(size(alloc, "log", "1048576", LOG))?
+        .arg(flag(alloc, "unique", UNIQUE))
 }
 
 fn create<'a>(alloc: Global) -> Result<Command<'a>, AllocError>
     ensures app { IfOk result (λ command. app_of command ≡ create_app) }
     ensures local { IfOk result (λ command. (fields_of command).has_globals ≡ false) }
 {
-    Command::new(alloc, "create")
+    let command = Command::new(alloc, "create")
         .about("Make an empty index in a new file")
-        .arg(file(alloc))?
+        .arg(file(alloc))?;
+    with_needed_limits(alloc, command)
+}
+
+// The sizes of a new index, each of which is needed, and whether it is unique.
+fn with_needed_limits<'a>(alloc: Global, command: Command<'a>) -> Result<Command<'a>, AllocError>
+    ensures app { IfOk result (λ whole. app_of whole ≡ with_needed_sizes (app_of command.entry)) }
+    ensures local { (fields_of command.entry).has_globals ≡ false
+        → IfOk result (λ whole. (fields_of whole).has_globals ≡ false) }
+{
+    command
         .arg(needed_size(alloc, "items", ITEMS))?
         .arg(needed_size(alloc, "pages", PAGES))?
-        .arg(needed_size(alloc, "log", LOG))
+        .arg(needed_size(alloc, "log", LOG))?
+        .arg(flag(alloc, "unique", UNIQUE))
 }
 
 fn check<'a>(alloc: Global) -> Result<Command<'a>, AllocError>
@@ -204,7 +219,7 @@ pub fn setting(matches: &ArgMatches<'_>) -> Setting
     }
 }
 
-/// The sizes of an index on a command line of `create` or `play`.
+/// The sizes of an index on a command line of `create` or `play`, and whether it is unique.
 pub fn limits(matches: &ArgMatches<'_>) -> Limits
     ensures { HasLimits (one_text (found_of matches.now)) result }
 {
@@ -212,6 +227,7 @@ pub fn limits(matches: &ArgMatches<'_>) -> Limits
         items: number(matches, "items"),
         pages: number(matches, "pages"),
         log_bytes: number(matches, "log"),
+        unique: matches.get_flag("unique"),
     }
 }
 

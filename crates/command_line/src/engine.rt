@@ -12,7 +12,7 @@ ghost use Rattle.page_codec.specs.declared.page.Page.{Page};
 ghost use Rattle.page_store.specs.Logged.{backing_of};
 ghost use Rattle.page_store.specs.Stores.{state_of, held_by, device_of};
 ghost use Rattle.recovery.specs.Index.{HasIndex};
-ghost use Rattle.tree_acts.specs.TheoremTree.{IsTree};
+ghost use Rattle.tree_acts.specs.TheoremKeys.{IsTreeFor};
 ghost use Rattle.world.specs.Reopening.{BeginsWith, BeginsEmpty, BeginsAfterFirstPart};
 ghost use Rattle.world.specs.Worlds.{WorldFits, WorldKeeps, WorldCarries, WorldGoes};
 ghost use Rattle.command_line.specs.Settings.{IsSetting};
@@ -211,7 +211,7 @@ impl Engine {
         // What is opened is the index that this image of the device holds.
         ensures image { OnOk result ((limits : Format) (pages : List Page)
             → HasIndex limits pages
-            (left_by image (device_of ⟦<MemDevice as Device>⟧ self.old.world.store)) → IsTree pages
+            (left_by image (device_of ⟦<MemDevice as Device>⟧ self.old.world.store)) → IsTreeFor limits pages
             → BeginsWith ⟦<MemDevice as Device>⟧ ⟦<Store<MemDevice> as PageStore>⟧
             ⟦<DeadList as DeadRows>⟧ limits pages self.new.world) }
         ensures reopened { OnOk result ((start : IndexEntry → Bool) (history : List Action)
@@ -247,7 +247,7 @@ fn opened(
         length world.calls.slots.items ≡ setting.now.sessions) }
     ensures sets { IfOk result (λ world. world.sets ≡ sets) }
     ensures begins { IsSetting setting.now → (limits : Format) (pages : List Page)
-        → HasIndex limits pages (trace_of device).now.seen → IsTree pages
+        → HasIndex limits pages (trace_of device).now.seen → IsTreeFor limits pages
         → IfOk result
         (BeginsWith ⟦<MemDevice as Device>⟧ ⟦<Store<MemDevice> as PageStore>⟧
         ⟦<DeadList as DeadRows>⟧ limits pages) }

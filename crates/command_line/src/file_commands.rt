@@ -107,10 +107,10 @@ pub fn check<R: Files<File = File> + Threads + Sync, S: Start, W: Write>(
         (W.contents out.old) (W.contents out.new)) }
     ensures sound { result.end ≡ Ok End.Done → IsSomeAnd result.store (λ store.
         let g = ⟦<Store<FileDevice<S>> as PageStore>⟧ in
-        (g.backing store).honest ≡ true → AreSound parents (g.state store).pages) }
+        (g.backing store).honest ≡ true → AreSound parents (g.state store)) }
     ensures damage { result.end ≡ Ok End.Damaged → IsSomeAnd result.store (λ store.
         let g = ⟦<Store<FileDevice<S>> as PageStore>⟧ in
-        TellsDamage (g.backing store).honest parents (g.state store).pages
+        TellsDamage (g.backing store).honest parents (g.state store)
         (W.contents out.old) (W.contents out.new)) }
     ensures refused { (fault : Fault) → result.end ≡ Ok (End.Refused fault)
         → MatchOption result.store (IsOpenFault fault)
@@ -152,10 +152,10 @@ pub fn check_one<R: Files<File = File>, S: Start, W: Write>(
         (W.contents out.old) (W.contents out.new)) }
     ensures sound { result.end ≡ Ok End.Done → IsSomeAnd result.store (λ store.
         let g = ⟦<Store<FileDevice<S>> as PageStore>⟧ in
-        (g.backing store).honest ≡ true → AreSound parents (g.state store).pages) }
+        (g.backing store).honest ≡ true → AreSound parents (g.state store)) }
     ensures damage { result.end ≡ Ok End.Damaged → IsSomeAnd result.store (λ store.
         let g = ⟦<Store<FileDevice<S>> as PageStore>⟧ in
-        TellsDamage (g.backing store).honest parents (g.state store).pages
+        TellsDamage (g.backing store).honest parents (g.state store)
         (W.contents out.old) (W.contents out.new)) }
     ensures refused { (fault : Fault) → result.end ≡ Ok (End.Refused fault)
         → MatchOption result.store (IsOpenFault fault)

@@ -23,7 +23,8 @@ pub const FAULTS: &str = "Faults, as `refused N` and `btidx: refused N NAME` nam
   18  BadLimits       a size is out of its range
   19  TooTall         the root would be split on level 31
   20  DeviceTooSmall  the device is too short for an index of these sizes
-Faults 4 and 17 name the block of the page too.
+  21  KeyExists       an entry with this key and that other row is there
+Faults 4 and 17 name the block of the page too, and 21, which a unique index alone has, the row.
 
 Status: 0 where all was done, 1 where a check found damage, 2 where something was refused.
 A refused line of a script is an answer, and doesn't change the status.";
@@ -78,6 +79,7 @@ Answers:                What they mean:
   opened                the index is open again, with what the crash left; actions are counted anew
   refused N             fault N, which `btidx --help` explains
   refused N B           fault N, 4 or 17, at the page of block B
+  refused 21 ROW        an entry with this key and that other row is there
 
 Example: `btidx play < FILE` prints what stands behind each line of this file:
   put 0 61 (0,1)        added 1

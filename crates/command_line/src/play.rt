@@ -259,15 +259,15 @@ fn play_crash<W: Write>(
         Ok(sets) => engine.crash(image, sets),
         Err(_) => Err(Fault::NoMemory),
     };
-    match reopened {
+    match &reopened {
         Ok(()) => {
             *set = 0;
             writeln!(out, "opened")?;
             Ok(Played::Answered)
         }
         Err(fault) => {
-            print_refused(out, fault)?;
-            Ok(Played::NotOpened(fault))
+            print_refused(out, *fault)?;
+            Ok(Played::NotOpened(*fault))
         }
     }
 }

@@ -5,14 +5,14 @@ ghost use Rattle.command_line.specs.Refusals.{no_event_text, no_job_text};
 
 use index_model::Fault;
 use std::io::{self, Write};
+use text_forms::ShownNamed;
 
-/// Prints `btidx: refused N NAME`, for a damaged page with its block behind it.
+/// Prints `btidx: refused N NAME`, with the block or the row that the fault names behind it.
 pub fn print_refusal<W: Write>(err: &mut W, fault: Fault) -> io::Result<()> {
-    let number = fault.number();
-    match fault {
-        Fault::PageDamaged(block) => writeln!(err, "btidx: refused {number} {fault} {block}"),
-        _ => writeln!(err, "btidx: refused {number} {fault}"),
-    }
+    let named = ShownNamed { fault };
+    let number = named.fault.number();
+    let name = named.fault;
+    writeln!(err, "btidx: refused {number} {name}{named}")
 }
 
 /// Prints that this line of a script, counted from 1, is no event.

@@ -1,5 +1,5 @@
 -- A page of the format at its place on a level, where nothing is damaged.
-use Rattle.std.proofs.Common.{◌≡◌, ◌≢◌, ℕ, zero, suc, ◌+◌, ◌<◌, inl, inr, true, Option, Some, None, is_some, List, [], ◌∷◌, length, slice_get, refl, sym, ap, subst, arith}
+use Rattle.std.proofs.Common.{◌≡◌, ◌≢◌, ℕ, zero, suc, ◌+◌, ◌<◌, inl, inr, true, false, Option, Some, None, is_some, List, [], ◌∷◌, length, slice_get, refl, sym, ap, subst, arith}
 use Rattle.std.specs.List.{Contains}
 use Rattle.index_model.specs.Order.{bound_of}
 use Rattle.index_model.specs.declared.bound.Bound.{Bound}
@@ -77,7 +77,7 @@ pub record IsRight (pages : List Page) (depth level : ℕ) (s : Spot) (block : �
   pub placed : IsPlaced (nodes_of pages block) level s (nodes_of pages block).right
 
 pub right_here : (pages : List Page) (h : Here (index_of pages)) (level : ℕ) → StandAtTheirBlocks pages → level + h.depth ≡ (index_of pages).top
-    → ((n : ℕ) → IsOfChain h n → ⊥)
+    → ((n : ℕ) → IsOfChain false h n → ⊥)
     → IsRight pages h.depth level (spot h) h.block
 right_here pages h level stand sum none' =
     let on = on_level_so (index_of pages) h.depth h.block (λ fails. none' 1 (inl (refl, fails))) in
@@ -98,6 +98,6 @@ right_here pages h level stand sum none' =
             (fits_here p.0 own.0 after_meta (spot h) (subst (λ (n : Node). n.state ≢ Deleted) here stands)
             (subst (λ (n : Node). n.state ≡ Live → (Rises (spot h).low n.high → ⊥) → ⊥) here (λ live fails. none' 5 (inr (inr (inr (inr (inl (refl, live, fails))))))))
             (subst (λ (n : Node). HasNotBeyond (spot h).low n → ⊥) here (λ has. none' 6 (inr (inr (inr (inr (inr (inl (refl, has)))))))))
-            (subst (λ (n : Node). n.state ≡ HalfDead → (spot h).behind ≡ true → ⊥) here (λ dead behind. none' 12 (inr (inr (inr (inr (inr (inr (inr (refl, dead, behind))))))))))));
+            (subst (λ (n : Node). n.state ≡ HalfDead → (spot h).behind ≡ true → ⊥) here (λ dead behind. none' 12 (inr (inr (inr (inr (inr (inr (inr (inl (refl, dead, behind)))))))))))));
       };
     }

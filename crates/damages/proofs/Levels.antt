@@ -60,7 +60,7 @@ pub record HasMeta (pages : List Page) : Type 0 where
   pub names_root : IsMetaOf meta (index_of pages).root meta.level
   pub top_is : (index_of pages).top ≡ meta.level
 
-module _ (parents : Bool) (pages : List Page) (stand : StandAtTheirBlocks pages) (sound : IsSound parents pages) where
+module _ (parents : Bool) (pages : List Page) (stand : StandAtTheirBlocks pages) (sound : IsSound parents false pages) where
   abbrev ix : Index
   ix = index_of pages
 
@@ -92,7 +92,7 @@ module _ (parents : Bool) (pages : List Page) (stand : StandAtTheirBlocks pages)
 
   module _ (depth level : ℕ) (deep : depth ≤ ix.top) (sum : level + depth ≡ ix.top) where
     no_damage : (k b : ℕ) → (is : (place_at ix depth k).block ≡ Some b) → (n : ℕ)
-        → IsOfChain {ix = ix} (record { depth = depth; place = k; block = b; deep = deep; is = is }) n → ⊥
+        → IsOfChain {ix = ix} false (record { depth = depth; place = k; block = b; deep = deep; is = is }) n → ⊥
     no_damage k b is n damage = sound (on_chain (record { depth = depth; place = k; block = b; deep = deep; is = is })) n damage
 
     pub right_at : (k b : ℕ) → (place_at ix depth k).block ≡ Some b → IsRight pages depth level (place_at ix depth k).spot b

@@ -1,6 +1,7 @@
 pub mod Ranks
 pub mod Decided
 pub mod Items
+pub mod KeysJudged
 pub mod Fitting
 pub mod Walks
 pub mod Places

@@ -21,7 +21,7 @@ live_so Live level s n f stands = refl
 live_so HalfDead level s n f stands = absurd (stands refl)
 live_so Deleted level s n f stands = absurd f
 
-module _ (pages : List Page) (stand : StandAtTheirBlocks pages) (sound : IsSound true pages) where
+module _ (pages : List Page) (stand : StandAtTheirBlocks pages) (sound : IsSound true false pages) where
   abbrev ix : Index
   ix = index_of pages
 

@@ -54,60 +54,60 @@ same_child {ix} h k i j d p t =
     ap (λ (l : Downlink). l.child) (some_link _ _ i.link j.link (λ s. slice_get (from_low (place_at ix (d s) (p s)).spot.low (ix.at (b s)).links) (t s)) i.is j.is)
 
 -- two damages of which neither comes first have one number, and one block
-one : (parents : Bool) (ix : Index) (s t : Site ix) (n m : ℕ) → IsDamage parents s n → IsDamage parents t m → Level (rank s n) (rank t m)
+one : (parents keys : Bool) (ix : Index) (s t : Site ix) (n m : ℕ) → IsDamage parents keys s n → IsDamage parents keys t m → Level (rank s n) (rank t m)
     → (n ≡ m) × (block_of s ≡ block_of t)
-one parents ix (on_way d k e) (on_way d' k' e') n m a b l =
+one parents keys ix (on_way d k e) (on_way d' k' e') n m a b l =
     let xs = rank {ix = ix} (on_way d k e) n in
     let ys = rank {ix = ix} (on_way d' k' e') m in
     let p = same xs ys refl l in
     let deep : d ≡ d' = number_at 1 xs ys p in
     let far : k ≡ k' = number_at 3 xs ys p in
     (number_at 4 xs ys p, λ i. way_left ix (deep i) (far i))
-one parents ix (on_way d k e) (on_chain h) n m a b l =
+one parents keys ix (on_way d k e) (on_chain h) n m a b l =
     absurd (let q : 0 ≡ 1 = number_at 2 _ _ (same (rank {ix = ix} (on_way d k e) n) (rank (on_chain h) m) refl l) in omega arith)
-one parents ix (on_chain h) (on_way d k e) n m a b l =
+one parents keys ix (on_chain h) (on_way d k e) n m a b l =
     absurd (let q : 1 ≡ 0 = number_at 2 _ _ (same (rank (on_chain h) n) (rank {ix = ix} (on_way d k e) m) refl l) in omega arith)
-one parents ix (on_chain h) (on_chain k) n m a b l =
+one parents keys ix (on_chain h) (on_chain k) n m a b l =
     let p = same (rank (on_chain h) n) (rank (on_chain k) m) refl l in
     (number_at 4 _ _ p, same_block h k (number_at 1 _ _ p) (number_at 3 _ _ p))
-one parents ix (at_child h i) (at_child k j) n m a b l =
+one parents keys ix (at_child h i) (at_child k j) n m a b l =
     let p = same (rank (at_child h i) n) (rank (at_child k j) m) refl l in
     (number_at 3 _ _ p, same_child h k i j (number_at 1 _ _ p) (number_at 2 _ _ p) (number_at 4 _ _ p))
-one parents ix (at_child h i) (at_page k) n m a b l =
+one parents keys ix (at_child h i) (at_page k) n m a b l =
     let p = same (rank (at_child h i) n) (rank (at_page k) m) refl l in
     let r : n ≡ m = number_at 3 _ _ p in
     absurd (numbered k m b.1 (sym r ∙ a.1))
-one parents ix (at_page h) (at_child k j) n m a b l =
+one parents keys ix (at_page h) (at_child k j) n m a b l =
     let p = same (rank (at_page h) n) (rank (at_child k j) m) refl l in
     let r : n ≡ m = number_at 3 _ _ p in
     absurd (numbered h n a.1 (r ∙ b.1))
-one parents ix (at_page h) (at_page k) n m a b l =
+one parents keys ix (at_page h) (at_page k) n m a b l =
     let p = same (rank (at_page h) n) (rank (at_page k) m) refl l in
     (number_at 3 _ _ p, same_block h k (number_at 1 _ _ p) (number_at 2 _ _ p))
-one parents ix (nowhere x) (nowhere y) n m a b l =
+one parents keys ix (nowhere x) (nowhere y) n m a b l =
     let p = same (2 ∷ x ∷ []) (2 ∷ y ∷ []) refl l in
     (a.1 ∙ sym b.1, number_at 1 _ _ p)
-one parents ix (on_way d k e) (at_child h i) n m a b l = absurd (l.0 (inl (omega arith)))
-one parents ix (on_way d k e) (at_page h) n m a b l = absurd (l.0 (inl (omega arith)))
-one parents ix (on_way d k e) (nowhere x) n m a b l = absurd (l.0 (inl (omega arith)))
-one parents ix (on_chain h) (at_child k i) n m a b l = absurd (l.0 (inl (omega arith)))
-one parents ix (on_chain h) (at_page k) n m a b l = absurd (l.0 (inl (omega arith)))
-one parents ix (on_chain h) (nowhere x) n m a b l = absurd (l.0 (inl (omega arith)))
-one parents ix (at_child h i) (on_way d k e) n m a b l = absurd (l.1 (inl (omega arith)))
-one parents ix (at_child h i) (on_chain k) n m a b l = absurd (l.1 (inl (omega arith)))
-one parents ix (at_child h i) (nowhere x) n m a b l = absurd (l.0 (inl (omega arith)))
-one parents ix (at_page h) (on_way d k e) n m a b l = absurd (l.1 (inl (omega arith)))
-one parents ix (at_page h) (on_chain k) n m a b l = absurd (l.1 (inl (omega arith)))
-one parents ix (at_page h) (nowhere x) n m a b l = absurd (l.0 (inl (omega arith)))
-one parents ix (nowhere x) (on_way d k e) n m a b l = absurd (l.1 (inl (omega arith)))
-one parents ix (nowhere x) (on_chain k) n m a b l = absurd (l.1 (inl (omega arith)))
-one parents ix (nowhere x) (at_child k i) n m a b l = absurd (l.1 (inl (omega arith)))
-one parents ix (nowhere x) (at_page k) n m a b l = absurd (l.1 (inl (omega arith)))
+one parents keys ix (on_way d k e) (at_child h i) n m a b l = absurd (l.0 (inl (omega arith)))
+one parents keys ix (on_way d k e) (at_page h) n m a b l = absurd (l.0 (inl (omega arith)))
+one parents keys ix (on_way d k e) (nowhere x) n m a b l = absurd (l.0 (inl (omega arith)))
+one parents keys ix (on_chain h) (at_child k i) n m a b l = absurd (l.0 (inl (omega arith)))
+one parents keys ix (on_chain h) (at_page k) n m a b l = absurd (l.0 (inl (omega arith)))
+one parents keys ix (on_chain h) (nowhere x) n m a b l = absurd (l.0 (inl (omega arith)))
+one parents keys ix (at_child h i) (on_way d k e) n m a b l = absurd (l.1 (inl (omega arith)))
+one parents keys ix (at_child h i) (on_chain k) n m a b l = absurd (l.1 (inl (omega arith)))
+one parents keys ix (at_child h i) (nowhere x) n m a b l = absurd (l.0 (inl (omega arith)))
+one parents keys ix (at_page h) (on_way d k e) n m a b l = absurd (l.1 (inl (omega arith)))
+one parents keys ix (at_page h) (on_chain k) n m a b l = absurd (l.1 (inl (omega arith)))
+one parents keys ix (at_page h) (nowhere x) n m a b l = absurd (l.0 (inl (omega arith)))
+one parents keys ix (nowhere x) (on_way d k e) n m a b l = absurd (l.1 (inl (omega arith)))
+one parents keys ix (nowhere x) (on_chain k) n m a b l = absurd (l.1 (inl (omega arith)))
+one parents keys ix (nowhere x) (at_child k i) n m a b l = absurd (l.1 (inl (omega arith)))
+one parents keys ix (nowhere x) (at_page k) n m a b l = absurd (l.1 (inl (omega arith)))
 
-pub first_is_one : (parents : Bool) (pages : List Page) (n b m c : ℕ) → IsFirstDamage parents pages n b → IsFirstDamage parents pages m c → (n ≡ m) × (b ≡ c)
-first_is_one parents pages n b m c f g =
-    let r = one parents (index_of pages) f.site g.site n m f.is g.is (g.first f.site n f.is, f.first g.site m g.is) in
+pub first_is_one : (parents keys : Bool) (pages : List Page) (n b m c : ℕ) → IsFirstDamage parents keys pages n b → IsFirstDamage parents keys pages m c → (n ≡ m) × (b ≡ c)
+first_is_one parents keys pages n b m c f g =
+    let r = one parents keys (index_of pages) f.site g.site n m f.is g.is (g.first f.site n f.is, f.first g.site m g.is) in
     (r.0, f.block_is ∙ r.1 ∙ sym g.block_is)
 
-pub first_is_none : (parents : Bool) (pages : List Page) (n b : ℕ) → IsSound parents pages → IsFirstDamage parents pages n b → ⊥
-first_is_none parents pages n b sound f = sound f.site n f.is
+pub first_is_none : (parents keys : Bool) (pages : List Page) (n b : ℕ) → IsSound parents keys pages → IsFirstDamage parents keys pages n b → ⊥
+first_is_none parents keys pages n b sound f = sound f.site n f.is

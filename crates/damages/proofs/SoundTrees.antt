@@ -1,5 +1,5 @@
 -- Pages without a damage, parents and children seen, are a B-link tree.
-use Rattle.std.proofs.Common.{◌≡◌, ◌≢◌, ◌⊎◌, ℕ, suc, ◌-◌, ◌<◌, ◌≤◌, inl, inr, true, List, length, sym, ap, subst, ◌∙◌, refl, arith}
+use Rattle.std.proofs.Common.{◌≡◌, ◌≢◌, ◌⊎◌, ℕ, suc, ◌-◌, ◌<◌, ◌≤◌, inl, inr, true, false, List, length, sym, ap, subst, ◌∙◌, refl, arith}
 use Rattle.page_codec.specs.declared.page.Page.{Page}
 use Rattle.page_codec.specs.declared.page.PageState.TheVariants.{Deleted}
 use Rattle.tree_shape.specs.Nodes.{Node, nodes_of}
@@ -11,7 +11,7 @@ use Rattle.damages.proofs.Levels.{chain_at, chain_of, right_at, place_told, run_
 use Rattle.damages.proofs.Parents.{chain_or, parents_are}
 use Rattle.damages.proofs.Places.{in_from}
 
-module _ (pages : List Page) (stand : StandAtTheirBlocks pages) (sound : IsSound true pages) where
+module _ (pages : List Page) (stand : StandAtTheirBlocks pages) (sound : IsSound true false pages) where
   abbrev ix : Index
   ix = index_of pages
 

@@ -9,6 +9,7 @@ use Rattle.page_codec.specs.declared.page.Downlink.{Downlink}
 use Rattle.page_codec.specs.declared.page.Page.{Page}
 use Rattle.page_codec.specs.declared.page.PageState.{PageState}
 use Rattle.page_codec.specs.declared.page.PageState.TheVariants.{Live, HalfDead, Deleted}
+use Rattle.tree_shape.specs.KeyPages.{AreUnique}
 use Rattle.tree_shape.specs.Nodes.{Node, node_of, node_from, nodes_of}
 use Rattle.tree_shape.specs.Chains.{Spot, spot_after, first_spot, IsBeyond, Rises, AscendWithin, LinksWithin, FitsState, IsRootLevel, IsTreeOf, from_low, downlinks}
 use Rattle.damages.specs.Damages.{Index, index_of, or_block, ComesBefore, Place, Here, Item, Site, node, spot, IsOnLevel, IsOnChain, IsMetBefore, HasNotBeyond, IsBehindRoot, IsUnlinked, IsOfWay, IsOfChain, IsOfParents, IsDamage, IsSound}
@@ -19,6 +20,7 @@ use Rattle.damages.proofs.Decided.{no_link, some_is, bool_so}
 use Rattle.damages.proofs.Fitting.{page_there}
 use Rattle.damages.specs.Lows.{IsBoundBeyond}
 use Rattle.damages.proofs.Items.{leaf_links, upper_entries}
+use Rattle.damages.proofs.KeysJudged.{unique_at}
 use Rattle.damages.proofs.Linking.{among_at, had, has, IsHad, due, IsDue, is_due, ascend_items, ascend_places}
 use Rattle.damages.proofs.Places.{at_from, one_place}
 use Rattle.damages.proofs.TreePlaces.{place_told, way_on, way_not_back, there, spot_is, placed, on_level, on_level_from, same_spot}
@@ -155,15 +157,16 @@ module _ (pages : List Page) (stand : StandAtTheirBlocks pages) (chain : ℕ →
     not_false : true ≡ false → ⊥
     not_false e = cc
 
-    chain_sound : (number : ℕ) → IsOfChain h number → ⊥
-    chain_sound number (inl a) = a.1 (on_level pages chain t h)
-    chain_sound number (inr (inl a)) = a.1 (placed pages chain t h).left_is
-    chain_sound number (inr (inr (inl a))) = not_met a.1
-    chain_sound number (inr (inr (inr (inl a)))) = not_deleted (node h).state (ix.top - h.depth) (spot h) (node h) place_fits a.1
-    chain_sound number (inr (inr (inr (inr (inl a))))) = a.2 (live_rises (node h).state (ix.top - h.depth) (spot h) (node h) place_fits a.1)
-    chain_sound number (inr (inr (inr (inr (inr (inl a)))))) = within a.1
-    chain_sound number (inr (inr (inr (inr (inr (inr (inl a))))))) = not_more a.1 a.2 a.3
-    chain_sound number (inr (inr (inr (inr (inr (inr (inr a))))))) = not_false (sym a.2 ∙ dead_clear (node h).state (ix.top - h.depth) (spot h) (node h) place_fits a.1)
+    chain_sound : (keys : Bool) → (keys ≡ true → AreUnique pages) → (number : ℕ) → IsOfChain keys h number → ⊥
+    chain_sound keys unique number (inl a) = a.1 (on_level pages chain t h)
+    chain_sound keys unique number (inr (inl a)) = a.1 (placed pages chain t h).left_is
+    chain_sound keys unique number (inr (inr (inl a))) = not_met a.1
+    chain_sound keys unique number (inr (inr (inr (inl a)))) = not_deleted (node h).state (ix.top - h.depth) (spot h) (node h) place_fits a.1
+    chain_sound keys unique number (inr (inr (inr (inr (inl a))))) = a.2 (live_rises (node h).state (ix.top - h.depth) (spot h) (node h) place_fits a.1)
+    chain_sound keys unique number (inr (inr (inr (inr (inr (inl a)))))) = within a.1
+    chain_sound keys unique number (inr (inr (inr (inr (inr (inr (inl a))))))) = not_more a.1 a.2 a.3
+    chain_sound keys unique number (inr (inr (inr (inr (inr (inr (inr (inl a)))))))) = not_false (sym a.2 ∙ dead_clear (node h).state (ix.top - h.depth) (spot h) (node h) place_fits a.1)
+    chain_sound keys unique number (inr (inr (inr (inr (inr (inr (inr (inr a)))))))) = a.2 (unique_at pages h.block (unique a.1))
 
     -- items stand above the leaves, and each is due on the level below
     below : Item h → h.depth < ix.top
@@ -316,17 +319,17 @@ module _ (pages : List Page) (stand : StandAtTheirBlocks pages) (chain : ℕ →
             ∙ subst (λ (l : ℕ). slice_get (chain l) a.place ≡ Some b) level a.is;
       }
 
-  pub all_sound : (parents : Bool) (site : Site ix) (number : ℕ) → IsDamage parents site number → ⊥
-  all_sound parents (on_way depth step deep) number damage = way_sound depth step number deep damage
-  all_sound parents (on_chain h) number damage = chain_sound h number damage
-  all_sound parents (at_child h i) number damage = damage.2 (child_on h i)
-  all_sound parents (at_page h) number damage = parents_sound h number damage.1
-  all_sound parents (nowhere b) number damage = damage.2.3 (on_its_chain b damage.2.0 damage.2.1 damage.2.2)
+  pub all_sound : (parents keys : Bool) → (keys ≡ true → AreUnique pages) → (site : Site ix) (number : ℕ) → IsDamage parents keys site number → ⊥
+  all_sound parents keys unique (on_way depth step deep) number damage = way_sound depth step number deep damage
+  all_sound parents keys unique (on_chain h) number damage = chain_sound h keys unique number damage
+  all_sound parents keys unique (at_child h i) number damage = damage.2 (child_on h i)
+  all_sound parents keys unique (at_page h) number damage = parents_sound h number damage.1
+  all_sound parents keys unique (nowhere b) number damage = damage.2.3 (on_its_chain b damage.2.0 damage.2.1 damage.2.2)
 
-pub tree_is_sound : (parents : Bool) (pages : List Page) → StandAtTheirBlocks pages → HasTree pages → IsSound parents pages
-tree_is_sound parents pages stand t = all_sound pages stand t.chain
+pub tree_is_sound : (parents keys : Bool) (pages : List Page) → StandAtTheirBlocks pages → HasTree pages → (keys ≡ true → AreUnique pages) → IsSound parents keys pages
+tree_is_sound parents keys pages stand t unique = all_sound pages stand t.chain
     (subst (λ (n : ℕ). IsTreeOf (nodes_of pages) (length pages) n (index_of pages).top t.chain) root_is
-    (subst (λ (n : ℕ). IsTreeOf (nodes_of pages) (length pages) t.root n t.chain) top_is t.is)) parents
+    (subst (λ (n : ℕ). IsTreeOf (nodes_of pages) (length pages) t.root n t.chain) top_is t.is)) parents keys unique
   where
     here : nodes_of pages 0 ≡ node_of t.meta
     here = ap node_from t.meta_at

@@ -7,6 +7,7 @@ use Rattle.index_model.specs.declared.entry.Entry.{Entry}
 use Rattle.page_codec.specs.declared.page.Downlink.{Downlink}
 use Rattle.page_codec.specs.declared.page.Page.{Page}
 use Rattle.page_codec.specs.declared.page.PageState.TheVariants.{Live, HalfDead, Deleted}
+use Rattle.tree_shape.specs.KeyPages.{IsUniqueNode}
 use Rattle.tree_shape.specs.Nodes.{Node, nodes_of}
 use Rattle.tree_shape.specs.Chains.{Spot, first_spot, past, from_low, IsBeyond, Rises}
 
@@ -183,9 +184,10 @@ IsOfWay ix depth step number =
     ((number ≡ 1) × (IsOnLevel ix depth (way_left ix depth step) → ⊥))
     ⊎ ((number ≡ 3) × IsBack ix depth step)
 
--- ... of a page at its place in a chain,
-abbrev pub IsOfChain : {ix : Index} → Here ix → ℕ → Type 0
-IsOfChain {ix} h number =
+-- ... of a page at its place in a chain; the last is seen where keys are: a whole entry as its high key or as one of its
+-- bounds, or, as the format has entries ascend, an entry with the key of the one before it,
+abbrev pub IsOfChain : {ix : Index} → Bool → Here ix → ℕ → Type 0
+IsOfChain {ix} keys h number =
     ((number ≡ 1) × (IsOnLevel ix h.depth h.block → ⊥))
     ⊎ ((number ≡ 2) × ((node h).left ≢ (spot h).left))
     ⊎ ((number ≡ 3) × IsMetBefore h)
@@ -194,6 +196,7 @@ IsOfChain {ix} h number =
     ⊎ ((number ≡ 6) × HasNotBeyond (spot h).low (node h))
     ⊎ ((number ≡ 10) × (h.depth ≡ 0) × (h.block ≢ ix.root) × (IsBehindRoot ix.root (spot h) → ⊥))
     ⊎ ((number ≡ 12) × ((node h).state ≡ HalfDead) × ((spot h).behind ≡ true))
+    ⊎ ((number ≡ 13) × (keys ≡ true) × (IsUniqueNode (node h) → ⊥))
 
 -- ... of a page among its parents and children,
 abbrev pub IsOfParents : {ix : Index} → Here ix → ℕ → Type 0
@@ -209,23 +212,24 @@ IsOfParents {ix} h number =
 abbrev pub IsStray : Index → ℕ → Type 0
 IsStray ix block = (0 < block) × (block < ix.used) × ((ix.at block).state ≢ Deleted) × (IsOnChain ix block → ⊥)
 
--- There is this damage at this site. Parents and children, and pages on no chain, are seen by `check_parents` alone.
-abbrev pub IsDamage : {ix : Index} → Bool → Site ix → ℕ → Type 0
-IsDamage {ix} parents (on_way depth step deep) number = IsOfWay ix depth step number
-IsDamage parents (on_chain h) number = IsOfChain h number
-IsDamage {ix} parents (at_child h i) number = (parents ≡ true) × (number ≡ 1)
+-- There is this damage at this site. Parents and children, and pages on no chain, are seen by `check_parents` alone; what a
+-- unique index asks of bounds and keys on such an index alone.
+abbrev pub IsDamage : {ix : Index} → (parents keys : Bool) → Site ix → ℕ → Type 0
+IsDamage {ix} parents keys (on_way depth step deep) number = IsOfWay ix depth step number
+IsDamage parents keys (on_chain h) number = IsOfChain keys h number
+IsDamage {ix} parents keys (at_child h i) number = (parents ≡ true) × (number ≡ 1)
     × (IsOnLevel ix (suc h.depth) i.link.child → ⊥)
-IsDamage parents (at_page h) number = (parents ≡ true) × IsOfParents h number
-IsDamage {ix} parents (nowhere block) number = (parents ≡ true) × (number ≡ 11) × IsStray ix block
+IsDamage parents keys (at_page h) number = (parents ≡ true) × IsOfParents h number
+IsDamage {ix} parents keys (nowhere block) number = (parents ≡ true) × (number ≡ 11) × IsStray ix block
 
 -- There is no damage.
-abbrev pub IsSound : Bool → List Page → Type 0
-IsSound parents pages = (site : Site (index_of pages)) (number : ℕ) → IsDamage parents site number → ⊥
+abbrev pub IsSound : (parents keys : Bool) → List Page → Type 0
+IsSound parents keys pages = (site : Site (index_of pages)) (number : ℕ) → IsDamage parents keys site number → ⊥
 
 -- The damage that is answered: its number and block. None of those that there are comes before it.
-pub record IsFirstDamage (parents : Bool) (pages : List Page) (number block : ℕ) : Type 0 where
+pub record IsFirstDamage (parents keys : Bool) (pages : List Page) (number block : ℕ) : Type 0 where
   pub site : Site (index_of pages)
-  pub is : IsDamage parents site number
+  pub is : IsDamage parents keys site number
   pub block_is : block ≡ block_of site
-  pub first : (other : Site (index_of pages)) (n : ℕ) → IsDamage parents other n
+  pub first : (other : Site (index_of pages)) (n : ℕ) → IsDamage parents keys other n
       → ComesBefore (rank other n) (rank site number) → ⊥

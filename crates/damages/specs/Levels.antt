@@ -3,10 +3,11 @@ use Rattle.std.specs.Prelude.{◌≡◌, ◌≢◌, ℕ, suc, ◌<◌, ◌≤◌
 use Rattle.page_codec.specs.Grammar.{IsPage}
 use Rattle.page_codec.specs.declared.page.Downlink.{Downlink}
 use Rattle.page_codec.specs.declared.page.Page.{Page}
+use Rattle.tree_shape.specs.KeyPages.{IsUniqueNode}
 use Rattle.tree_shape.specs.Nodes.{Node, nodes_of}
 use Rattle.tree_shape.specs.Chains.{IsRunOf, IsRootLevel, IsIn, IsTreeOf, AreDistinct, first_spot, first_or}
 use Rattle.tree_shape.specs.Tree.{IsMetaOf}
-use Rattle.damages.specs.Damages.{gone_left}
+use Rattle.damages.specs.Damages.{index_of, gone_left, IsOnChain}
 
 -- each page is one of the format, and stands at its block
 abbrev pub StandAtTheirBlocks : List Page → Type 0
@@ -51,6 +52,11 @@ pub record HasLevels (pages : List Page) : Type 0 where
   pub names_root : IsMetaOf meta root meta.level
   pub chain : ℕ → List ℕ
   pub are : AreLevels pages root meta.level chain
+
+-- each page on the chain of a level is one of a unique index: its bounds are places before all rows of a key, and no two of
+-- its entries share a key
+abbrev pub HasUniqueLevels : List Page → Type 0
+HasUniqueLevels pages = (block : ℕ) → IsOnChain (index_of pages) block → IsUniqueNode (nodes_of pages block)
 
 -- the pages are a B-link tree, under the metapage
 pub record HasTree (pages : List Page) : Type 0 where

@@ -112,7 +112,7 @@ raised_else old new table level None h = tt
 raised_else old new table level (Some b) h = h
 
 tree_held_else : (st : State) (table : Table) → HasTree st → HasTree (with_table st table)
-tree_held_else st table tree = record { tree = tree.tree; stored = tree.stored; counted = tree.counted; within = tree.within; lead = tree.lead }
+tree_held_else st table tree = record { tree = tree.tree; stored = tree.stored; counted = tree.counted; within = tree.within; lead = tree.lead; unique = tree.unique }
 
 -- an act that puts an entry which wasn't there, by a session that may let go what it held
 pub does_add : (st : State) (session : ℕ) (e : Entry) (changed : List Page) (table : Table) → IsInOrder st → MayAct st changed → TreeLasts st (after_act changed st)

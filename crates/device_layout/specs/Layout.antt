@@ -1,5 +1,5 @@
 -- Where the parts of an index lie on a device: the superblock, the log, and behind it the pages.
-use Rattle.std.specs.Prelude.{ℕ, ◌+◌, ◌*◌, List, [], ◌∷◌, ◌++◌, replicate}
+use Rattle.std.specs.Prelude.{ℕ, ◌+◌, ◌*◌, Bool, true, false, List, [], ◌∷◌, ◌++◌, replicate}
 use Rattle.std.specs.Int.{w32, to_le_bytes}
 use Rattle.index_model.specs.declared.format.Format.{Format}
 use Rattle.index_model.specs.declared.layout.Layout.{Layout}
@@ -14,12 +14,17 @@ abbrev pub layout_number : Layout → ℕ
 layout_number One = 1
 layout_number Two = 2
 
--- the first 4,096 bytes: `BLINKIDX`, the layout, the sizes, zeros
+-- the number of an index that is unique, and of one that isn't
+abbrev pub unique_number : Bool → ℕ
+unique_number true = 1
+unique_number false = 0
+
+-- the first 4,096 bytes: `BLINKIDX`, the layout, the sizes, whether the index is unique, zeros
 unfoldable pub superblock : Format → List ℕ
 superblock limits =
     magic
     ++ to_le_bytes w32 (layout_number limits.layout) ++ to_le_bytes w32 limits.items ++ to_le_bytes w32 limits.pages
-    ++ to_le_bytes w32 limits.log_bytes ++ replicate 4072 0
+    ++ to_le_bytes w32 limits.log_bytes ++ to_le_bytes w32 (unique_number limits.unique) ++ replicate 4068 0
 
 -- where the log begins: behind the superblock
 abbrev pub log_start : ℕ

@@ -3,23 +3,25 @@ use Rattle.std.proofs.Common.{◌≡◌, ◌≢◌, ℕ, zero, suc, ◌<◌, ◌
 use Rattle.std.proofs.lemmas.Bool.{le-leb, cases_Bool, eq-eqb, lt-leb}
 use Rattle.index_model.specs.Actions.{Add}
 use Rattle.index_model.specs.Faults.{HasCause}
-use Rattle.index_model.specs.Order.{is_among}
+use Rattle.index_model.specs.Order.{is_among, same_entry}
+use Rattle.index_model.specs.Row.{Row}
 use Rattle.index_model.specs.declared.entry.Entry.{Entry}
 use Rattle.index_model.specs.declared.fault.Fault.{Fault}
-use Rattle.index_model.specs.declared.fault.Fault.TheVariants.{Exists}
+use Rattle.index_model.specs.declared.fault.Fault.TheVariants.{Exists, KeyExists}
 use Rattle.latch_table.specs.Holdings.{Holding, Table, HasRoom, has_pin, holding_of, nothing_held, latches_exclude}
 use Rattle.latch_table.specs.declared.mode.Mode.TheVariants.{Shared, Exclusive}
+use Rattle.index_model.proofs.Ascending.{same_entry-is}
 use Rattle.page_codec.specs.Edits.{entries_of}
 use Rattle.page_codec.specs.Grammar.{IsPage}
 use Rattle.page_codec.specs.declared.page.Page.{Page}
 use Rattle.page_codec.specs.declared.page.PageState.TheVariants.{Live}
-use Rattle.page_action.specs.Causes.{pinned_blocks, where_read}
+use Rattle.page_action.specs.Causes.{pinned_blocks, where_read, with_row}
 use Rattle.page_action.specs.Contents.{entry_on_live_leaf}
 use Rattle.page_action.specs.States.{State, Backing, Continues, after_act}
 use Rattle.page_action.specs.Stored.{AreActable}
 use Rattle.page_action.specs.declared.page_store.PageStore.{Ghosts}
 use Rattle.tree_shape.specs.Walks.{entry_aim, is_within}
-use Rattle.tree_acts.specs.Acts.{EntryIsPut}
+use Rattle.tree_acts.specs.Acts.{EntryIsPut, KeyMayEnter}
 use Rattle.tree_acts.specs.Flags.{FlagsMove}
 use Rattle.tree_acts.specs.Trees.{HasTree, HasPlace, HasCover}
 use Rattle.tree_acts.proofs.Entering.{putting_lasts}
@@ -27,6 +29,7 @@ use Rattle.tree_acts.proofs.Leaving.{putting_leaves}
 use Rattle.tree_acts.proofs.Flagging.{putting_flags}
 use Rattle.tree_acts.proofs.Weighed.{putting_weighs}
 use Rattle.tree_acts.proofs.Telling.{live_tells, leaf_tells}
+use Rattle.tree_acts.proofs.Uniques.{key_tells}
 use Rattle.descent.specs.Shared.{IsInOrder, Does, is_flagged, where_working}
 use Rattle.descent.specs.Steps.{HoldsAlone}
 use Rattle.descent.proofs.Acting.{does_add, one_act}
@@ -149,12 +152,12 @@ pub puts : {S : Type 0} (g : Ghosts S) (op : InsertOp) (old mid new : S) (block 
     → Continues g.follows old new → g.state mid ≡ g.state old → (g.backing old).stopped ≡ false → op.at ≡ Coming (Holds block) → page.block ≡ block
     → ((g.backing new).honest ≡ true → slice_get (g.state old).pages block ≡ Some page)
     → (g.backing old).failures ≤ (g.backing mid).failures → ((g.backing mid).stopped ≡ true → (g.backing old).stopped ≡ true) → (g.backing mid).promised ≡ (g.backing old).promised
-    → is_among (entries_of page.items) op.entry ≡ false → length (entries_of page.items) < (g.state old).limits.items
+    → is_among (entries_of page.items) op.entry ≡ false → KeyMayEnter (g.state old) page op.entry → length (entries_of page.items) < (g.state old).limits.items
     → IfOk result (PutsEntry page op.entry (g.state mid) (g.state new)) → OnErr result (g.state new ≡ g.state mid)
     → (has_pin (pinned_blocks (g.state mid).table) page.block ≡ true → IfErr result (HasCause (where_working (g.state mid) (g.backing mid) (g.backing new) op.session (page.block ∷ []) 0 false false)))
     → InsertSteps g op op old new result
-puts g op old mid new block page (Ok Going) steps same alive at_is block_is found le later promised absent room told refused cause = absurd told
-puts g op old mid new block page (Ok (Added action unfinished)) steps same alive at_is block_is found le later promised absent room told refused cause = record {
+puts g op old mid new block page (Ok Going) steps same alive at_is block_is found le later promised absent alone room told refused cause = absurd told
+puts g op old mid new block page (Ok (Added action unfinished)) steps same alive at_is block_is found le later promised absent alone room told refused cause = record {
   steps = steps;
   session = refl;
   entry = refl;
@@ -178,6 +181,7 @@ puts g op old mid new block page (Ok (Added action unfinished)) steps same alive
         after_is = put.node_is;
         block_is = put.block_is;
         cycle_is = put.cycle_is;
+        alone = alone;
         may = subst (λ (s : State). AreActable s.limits (length s.pages) (put.after ∷ [])) same put.may;
       } in
       let lasts = putting_lasts st fits.start op.entry page put.after order.tree is_put in
@@ -213,7 +217,7 @@ puts g op old mid new block page (Ok (Added action unfinished)) steps same alive
           | inl flagged ↦ absurd (no_targets op block st at_is only b flagged)
           | inr clear ↦ ap (λ (s : State). is_flagged s b) now ∙ moves b ∙ clear
         ]
-puts g op old mid new block page (Err fault) steps same alive at_is block_is found le later promised absent room told refused cause =
+puts g op old mid new block page (Err fault) steps same alive at_is block_is found le later promised absent alone room told refused cause =
     refuses g op old new fault steps (refused ∙ same) alive
     (λ honest order fits.
     let there = leaf_there st op block at_is fits in
@@ -236,9 +240,16 @@ reads_leaf st old new op block fault honest order at_is fits h =
     holding_cause st old new op block (images_at st (Coming (Holds block))) (frames_at st (Coming (Holds block))) (takes_block_at st (Coming (Holds block))) fault at_is (refl, refl, refl)
     (read_pinned_cause st old new op.session (images_at st (Coming (Holds block))) (frames_at st (Coming (Holds block))) (takes_block_at st (Coming (Holds block))) false block fault honest used.1 (pinned_leaf st.table op.session block there.0) h)
 
--- why the leaf gives no place: the entry is there
+-- the entry of another row of its key is another entry
+apart_rows : (e : Entry) (r : Row) → r ≢ e.row → same_entry (with_row e r) e ≡ false
+apart_rows e r differ = elim (cases_Bool (same_entry (with_row e r) e)) [
+  | inl is ↦ absurd (differ (ap (λ (x : Entry). x.row) (same_entry-is (with_row e r) e is)))
+  | inr is ↦ is
+]
+
+-- why the leaf gives no place: the entry is there, or on a unique index one of its key
 pub no_place : (st : State) (old new : Backing) (op : InsertOp) (block : ℕ) (page : Page) (fault : Fault) → IsInOrder st → op.at ≡ Coming (Holds block) → InsertFits st op
-    → slice_get st.pages block ≡ Some page → page.block ≡ block → IsPage page → PlaceRefused page op.entry fault → HasCause (where_inserting st old new op.session op.entry op.at) fault
+    → slice_get st.pages block ≡ Some page → page.block ≡ block → IsPage page → PlaceRefused page op.entry st.limits.unique fault → HasCause (where_inserting st old new op.session op.entry op.at) fault
 no_place st old new op block page fault order at_is fits found block_is admitted (inl damaged) =
     let there = leaf_there st op block at_is fits in
     let leaf = there.1 in
@@ -250,9 +261,18 @@ no_place st old new op block page fault order at_is fits found block_is admitted
       whole = subst (λ (p : Page). p.split ≡ false) same_page leaf.whole;
       within = up_to_within page.high op.entry (subst (λ (p : Page). is_within (entry_aim op.entry) p.high ≡ true) same_page leaf.within);
     }))
-no_place st old new op block page fault order at_is fits found block_is admitted (inr exists) =
+no_place st old new op block page fault order at_is fits found block_is admitted (inr (inl exists)) =
     let there = leaf_there st op block at_is fits in
     let at_page : slice_get st.pages page.block ≡ Some page = subst (λ (b : ℕ). slice_get st.pages b ≡ Some page) (sym block_is) found in
     let is_there : entry_on_live_leaf st.pages op.entry ≡ true = leaf_tells st op.entry page order.tree at_page (covers_there st fits.start op.entry block page order.tree block_is found there.1) ∙ exists.1 in
     subst (HasCause (where_inserting st old new op.session op.entry op.at)) (sym exists.0)
     (subst (λ (a : InsertAt). HasCause (where_inserting st old new op.session op.entry a) Exists) (sym at_is) is_there)
+no_place st old new op block page fault order at_is fits found block_is admitted (inr (inr key)) =
+    let there = leaf_there st op block at_is fits in
+    let at_page : slice_get st.pages page.block ≡ Some page = subst (λ (b : ℕ). slice_get st.pages b ≡ Some page) (sym block_is) found in
+    let x : Entry = record { key = op.entry.key; row = key.row } in
+    let is_there : entry_on_live_leaf st.pages x ≡ true =
+    key_tells st op.entry x page order.tree key.asked at_page (covers_there st fits.start op.entry block page order.tree block_is found there.1) refl ∙ key.there in
+    subst (HasCause (where_inserting st old new op.session op.entry op.at)) (sym key.is)
+    (subst (λ (a : InsertAt). HasCause (where_inserting st old new op.session op.entry a) (KeyExists key.row)) (sym at_is)
+    (rw key.asked (rw (apart_rows op.entry key.row (key.other admitted)) is_there)))

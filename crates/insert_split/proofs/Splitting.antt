@@ -21,7 +21,7 @@ use Rattle.page_action.specs.Stored.{IsStored, IsApartFrom, AreActable}
 use Rattle.page_action.specs.declared.page_store.PageStore.{Ghosts}
 use Rattle.tree_shape.specs.Nodes.{Node}
 use Rattle.tree_shape.specs.Walks.{entry_aim, is_within}
-use Rattle.tree_acts.specs.Acts.{LeafIsSplit}
+use Rattle.tree_acts.specs.Acts.{LeafIsSplit, KeyMayEnter}
 use Rattle.tree_acts.specs.Flags.{FlagsMove, flag_after}
 use Rattle.tree_acts.specs.Trees.{HasTree, HasPlace}
 use Rattle.tree_acts.proofs.Entering.{leaf_split_lasts}
@@ -113,13 +113,13 @@ pub splits : {S : Type 0} (g : Ghosts S) (before after : InsertOp) (old mid new 
     → Continues g.follows old new → g.state mid ≡ g.state old → (g.backing old).stopped ≡ false → before.at ≡ Coming (Holds block) → page.block ≡ block
     → ((g.backing new).honest ≡ true → slice_get (g.state old).pages block ≡ Some page) → IsStored (g.state old).limits page.block page → length (g.state old).pages ≤ (g.state old).limits.pages
     → (g.backing old).failures ≤ (g.backing mid).failures → ((g.backing mid).stopped ≡ true → (g.backing old).stopped ≡ true) → (g.backing mid).promised ≡ (g.backing old).promised
-    → is_among (entries_of page.items) before.entry ≡ false → (g.state old).limits.items ≤ length (entries_of page.items)
+    → is_among (entries_of page.items) before.entry ≡ false → KeyMayEnter (g.state old) page before.entry → (g.state old).limits.items ≤ length (entries_of page.items)
     → IfOk result (λ step. step ≡ Going) → OnOk result (SplitsLeaf (g.backing new).honest page before after (g.state mid) (g.state new))
     → OnErr result (g.state new ≡ g.state mid) → OnErr result (after ≡ before)
     → ((g.backing new).honest ≡ true → HasRoom (g.state mid).table before.session → IsSplittable (g.state mid) page → has_pin (pinned_blocks (g.state mid).table) page.block ≡ true
     → IfErr result (HasCause (where_working (g.state mid) (g.backing mid) (g.backing new) before.session (page.block ∷ blocks_halved (g.state mid) page.right) (length (blocks_halved (g.state mid) page.right)) true false)))
     → InsertSteps g before after old new result
-splits g before after old mid new block page (Ok Going) steps same alive at_is block_is found stored few le later promised absent full going told refused kept cause = record {
+splits g before after old mid new block page (Ok Going) steps same alive at_is block_is found stored few le later promised absent alone full going told refused kept cause = record {
   steps = steps;
   session = ap (λ (o : InsertOp). o.session) h.finishes.after_is;
   entry = ap (λ (o : InsertOp). o.entry) h.finishes.after_is;
@@ -142,6 +142,8 @@ splits g before after old mid new block page (Ok Going) steps same alive at_is b
         place = subst (HasPlace st fits.start 0 (entry_aim before.entry) true) (sym block_is) leaf.place;
         within = subst (λ (p : Page). is_within (entry_aim before.entry) p.high ≡ true) same_page leaf.within;
         halves = h.halves;
+        cut = λ asked. h.cut;
+        alone = alone;
         left_block = h.left_block;
         left_cycle = h.left_cycle ∙ ap (λ (s : State). s.cycle) same;
         right_cycle = h.half_cycle ∙ ap (λ (s : State). s.cycle) same;
@@ -184,7 +186,7 @@ splits g before after old mid new block page (Ok Going) steps same alive at_is b
           stands = (
             h.finishes.session,
             one_target_fits gone fits.start before.session (entry_aim before.entry) (record { block = page.block; level = 0; moves = 0 }) h.left h.target h.finishes.op
-                (record { tree = lasts.0.has.tree; stored = lasts.0.has.stored; counted = lasts.0.has.counted; within = lasts.0.has.within; lead = lasts.0.has.lead }) fits.session free fits.running
+                (record { tree = lasts.0.has.tree; stored = lasts.0.has.stored; counted = lasts.0.has.counted; within = lasts.0.has.within; lead = lasts.0.has.lead; unique = lasts.0.has.unique }) fits.session free fits.running
                 left_there h.left_block (record { tree = place.tree; in_tree = place.in_tree; place = place.place }) left_live h.block_is (h.level_is ∙ left_ground) h.high_is
                 h.finishes.session h.finishes.target_is h.finishes.below h.finishes.at,
           );
@@ -241,8 +243,8 @@ splits g before after old mid new block page (Ok Going) steps same alive at_is b
 
     only_target : (b : ℕ) → b ≡ page.block → is_among_targets (targets_of h.finishes.op) b ≡ true
     only_target b is = one_among h.finishes.op h.target b h.finishes.below h.finishes.target_is (h.block_is ∙ sym is)
-splits g before after old mid new block page (Ok (Added action unfinished)) steps same alive at_is block_is found stored few le later promised absent full going told refused kept cause = absurd cc
-splits g before after old mid new block page (Err fault) steps same alive at_is block_is found stored few le later promised absent full going told refused kept cause =
+splits g before after old mid new block page (Ok (Added action unfinished)) steps same alive at_is block_is found stored few le later promised absent alone full going told refused kept cause = absurd cc
+splits g before after old mid new block page (Err fault) steps same alive at_is block_is found stored few le later promised absent alone full going told refused kept cause =
     subst (λ (o : InsertOp). InsertSteps g before o old new (Err fault)) (sym kept)
     (refuses g before old new fault steps (refused ∙ same) alive
     (λ honest order fits.

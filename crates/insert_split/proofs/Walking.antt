@@ -5,7 +5,7 @@ use Rattle.index_model.specs.Order.{IsUpTo, bound_of}
 use Rattle.index_model.specs.declared.bound.Bound.{Bound}
 use Rattle.index_model.specs.declared.entry.Entry.{Entry}
 use Rattle.index_model.specs.declared.fault.Fault.{Fault}
-use Rattle.index_model.specs.declared.fault.Fault.TheVariants.{Blocked, PageDamaged, Exists, Io, Stopped, IndexFull, LogFull, NoFrame, TooTall}
+use Rattle.index_model.specs.declared.fault.Fault.TheVariants.{Blocked, PageDamaged, Exists, KeyExists, Io, Stopped, IndexFull, LogFull, NoFrame, TooTall}
 use Rattle.latch_table.specs.Holdings.{Holding, HasRoom, holding_of, nothing_held}
 use Rattle.page_codec.specs.Edits.{HasEntries}
 use Rattle.std.specs.Prelude.{IsSome}
@@ -47,13 +47,20 @@ room_free st session free = subst (λ (h : Holding). length h.latches < 8) (sym 
 
 -- the causes of a step that only reads are those of an insert there
 pub as_inserting : (st : State) (old new : Backing) (session : ℕ) (e : Entry) (at : InsertAt) (images : List ℕ) (frames : ℕ) (takes splits : Bool) (fault : Fault)
-    → where_inserting st old new session e at ≡ record (where_working st old new session images frames takes splits) { entry_was_there = (where_inserting st old new session e at).entry_was_there }
+    → where_inserting st old new session e at ≡ record (where_working st old new session images frames takes splits) {
+      entry_was_there = (where_inserting st old new session e at).entry_was_there;
+      key_was_there = (where_inserting st old new session e at).key_was_there;
+    }
     → HasCause (where_working st old new session images frames takes splits) fault → HasCause (where_inserting st old new session e at) fault
 as_inserting st old new session e at images frames takes splits fault same h = rw same (by fault h)
   where
     by : (f : Fault) → HasCause (where_working st old new session images frames takes splits) f
-        → HasCause (record (where_working st old new session images frames takes splits) { entry_was_there = (where_inserting st old new session e at).entry_was_there }) f
+        → HasCause (record (where_working st old new session images frames takes splits) {
+          entry_was_there = (where_inserting st old new session e at).entry_was_there;
+          key_was_there = (where_inserting st old new session e at).key_was_there;
+        }) f
     by Exists h = absurd cc
+    by (KeyExists r) h = absurd cc
     by Io h = h
     by Stopped h = h
     by (Blocked b) h = h

@@ -11,6 +11,7 @@ use Rattle.page_codec.specs.Edits.{entries_of}
 use Rattle.page_codec.specs.declared.page.Page.{Page}
 use Rattle.page_codec.specs.declared.page.PageState.TheVariants.{Live}
 use Rattle.page_action.specs.Contents.{entry_on_live_leaf}
+use Rattle.page_action.specs.Causes.{other_row_is_there}
 use Rattle.page_action.specs.States.{State, Backing, Continues}
 use Rattle.page_action.specs.declared.page_store.PageStore.{Ghosts}
 use Rattle.tree_shape.specs.Walks.{entry_aim, is_within}
@@ -129,19 +130,24 @@ where_inserting st old new session e at =
     record (where_working st old new session (images_at st at) (frames_at st at)
     (takes_block_at st at) (splits_root_at st at)) {
       entry_was_there = entry_on_live_leaf st.pages e;
+      key_was_there = other_row_is_there st e;
     }
 
--- ... and why it leaves splits unfinished, once its entry is logged: never that its entry was there, nor that another session
+-- ... and why it leaves splits unfinished, once its entry is logged: never that its entry or its key was there, nor that another session
 -- holds a page
 abbrev pub where_left : State → Backing → Backing → ℕ → Entry → InsertAt → Circumstances
 where_left st old new session e at = record (where_inserting st old new session e at) {
   is_held_by_another = λ b. false;
   entry_was_there = false;
+  key_was_there = λ r. false;
 }
 
 -- what may be so where a step of an insert is refused, whatever the pages are
 abbrev pub where_inserting_any : Circumstances
-where_inserting_any = record where_splitting_any { entry_was_there = true }
+where_inserting_any = record where_splitting_any {
+  entry_was_there = true;
+  key_was_there = λ r. true;
+}
 
 -- ... and where it leaves splits unfinished
 abbrev pub where_left_any : Circumstances

@@ -1,9 +1,10 @@
 -- What the parts of a step of an insert do.
 use Rattle.std.specs.Prelude.{◌≡◌, ◌≢◌, ◌⊎◌, ◌≤◌, ◌+◌, ℕ, suc, Bool, true, false, Option, Some, None, Result, Ok, Err, List, [], ◌∷◌, IfSome, length, slice_get}
 use Rattle.index_model.specs.Order.{is_among}
+use Rattle.index_model.specs.Row.{Row}
 use Rattle.index_model.specs.declared.entry.Entry.{Entry}
 use Rattle.index_model.specs.declared.fault.Fault.{Fault}
-use Rattle.index_model.specs.declared.fault.Fault.TheVariants.{Blocked, Exists, PageDamaged}
+use Rattle.index_model.specs.declared.fault.Fault.TheVariants.{Blocked, Exists, KeyExists, PageDamaged}
 use Rattle.index_model.specs.declared.layout.Layout.TheVariants.{Two}
 use Rattle.latch_table.specs.Holdings.{latched, pinned, released, unpinned, is_held_by_another}
 use Rattle.latch_table.specs.declared.mode.Mode.TheVariants.{Exclusive}
@@ -78,11 +79,20 @@ Takes block before after old new (Ok (Added action unfinished)) = ⊥
 Takes block before after old new (Err fault) =
     (new ≡ old) × (after ≡ before) × IsNotTaken block before old fault
 
+-- on a unique index an entry of this one's key is on the page, with the row that the fault names, which is another
+pub record IsOfAnotherRow (page : Page) (e : Entry) (unique : Bool) (fault : Fault) : Type 0 where
+  pub row : Row
+  pub is : fault ≡ KeyExists row
+  pub asked : unique ≡ true
+  pub there : is_among (entries_of page.items) (record { key = e.key; row = row }) ≡ true
+  pub other : IsPage page → row ≢ e.row
+
 -- why a page gives no place for an entry
-abbrev pub PlaceRefused : Page → Entry → Fault → Type 0
-PlaceRefused page e fault =
+abbrev pub PlaceRefused : Page → Entry → Bool → Fault → Type 0
+PlaceRefused page e unique fault =
     ((fault ≡ PageDamaged page.block) × (MayHold page e → ⊥))
-    ⊎ ((fault ≡ Exists) × (is_among (entries_of page.items) e ≡ true))
+    ⊎ (((fault ≡ Exists) × (is_among (entries_of page.items) e ≡ true))
+    ⊎ IsOfAnotherRow page e unique fault)
 
 -- the page stands at its block, with no more entries than the limits allow, and the page to its right may be mended
 pub record IsSplittable (st : State) (page : Page) : Type 0 where
@@ -124,6 +134,7 @@ pub record SplitsLeaf (honest : Bool) (page : Page) (before after : InsertOp) (o
   pub right : Option Page
   pub halves : LeafHalves (node_of page) page.block half.block before.entry
       (node_of left) (node_of half)
+  pub cut : IfSome left.high (IsCutOf (entries_of left.items) (entries_of half.items))
   pub left_block : left.block ≡ page.block
   pub left_cycle : left.cycle ≡ old.cycle
   pub half_cycle : half.cycle ≡ old.cycle

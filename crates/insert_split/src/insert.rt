@@ -94,6 +94,7 @@ impl InsertOp {
     /// Makes one step. After `Added` and after each fault but `Blocked` the call is over, and its store's `end` is due.
     ///
     /// Refused with `Blocked` (4), and the same step may be made again; with `Exists` (5) where the entry is there; with
+    /// `KeyExists` (21) on a unique index where an entry of its key is there, whose row the fault names; with
     /// `IndexFull` (8) where a page would be split and no block is free; with `Io` (2), `Stopped` (3), `LogFull` (9),
     /// `NoFrame` (10); with `TooTall` (19) where a split that it meets would be one of a root on level 31; with `PageDamaged`
     /// (17) on pages that are no tree. A refused step changes nothing. Once the entry is logged, each of these but `Blocked`
@@ -248,8 +249,9 @@ impl InsertOp {
             Ok(()) => {}
             Err(fault) => return Err(fault),
         }
+        let unique = store.format().unique;
         let found = store.view(block);
-        let at = match place_in(found, &self.entry) {
+        let at = match place_in(found, &self.entry, unique) {
             Ok(at) => at,
             Err(fault) => return Err(fault),
         };

@@ -10,6 +10,7 @@ ghost use Rattle.page_codec.specs.Spelling.{count_of};
 ghost use Rattle.page_action.specs.Causes.{pinned_blocks};
 ghost use Rattle.page_action.specs.States.{Continues, after_act};
 ghost use Rattle.page_action.specs.Stored.{AreActable, IsStored};
+ghost use Rattle.tree_shape.specs.KeyPages.{IsKeyFree};
 ghost use Rattle.tree_shape.specs.Leaf.{IsPlaceOf, MayHold};
 ghost use Rattle.descent.specs.Shared.{where_acting, where_working};
 ghost use Rattle.descent.specs.Splitting.{if_read, mended_to};
@@ -25,25 +26,35 @@ use page_action::PageStore;
 use page_codec::Page;
 use split_finish::{FinishOp, half_to_finish};
 use std::slice;
-use tree_shape::{entries_on, find, may_hold, mend_left, put, split_leaf};
+use tree_shape::{entries_on, find, find_key, may_hold, mend_left, put, split_leaf};
 
-// The place of the entry on the page, which is to be its leaf.
-pub fn place_in(page: &Page, entry: &Entry) -> Result<usize, Fault>
+// The place of the entry on the page, which is to be its leaf. On a unique index no entry there may have its key.
+pub fn place_in(page: &Page, entry: &Entry, unique: bool) -> Result<usize, Fault>
     ensures may { OnOk result (MayHold page.now entry.now) }
     ensures absent { IsPage page.now → OnOk result
         (is_among (entries_of page.now.items) entry.now ≡ false) }
     ensures place { IsPage page.now → IfOk result
         (IsPlaceOf entry.now (entries_of page.now.items)) }
     ensures within { IfOk result (λ at. at ≤ length (entries_of page.now.items)) }
+    ensures alone { unique ≡ true → IsPage page.now → OnOk result
+        (IsKeyFree entry.now.key (entries_of page.now.items)) }
     ensures faults { IfErr result (HasCause where_inserting_any) }
-    ensures cause { IfErr result (PlaceRefused page.now entry.now) }
+    ensures cause { IfErr result (PlaceRefused page.now entry.now unique) }
 {
     if !may_hold(page, entry) {
         return Err(Fault::PageDamaged(page.block));
     }
-    match find(entries_on(page), entry) {
-        Ok(_) => Err(Fault::Exists),
-        Err(at) => Ok(at),
+    let entries = entries_on(page);
+    let at = match find(entries, entry) {
+        Ok(_) => return Err(Fault::Exists),
+        Err(at) => at,
+    };
+    if !unique {
+        return Ok(at);
+    }
+    match find_key(entries, at, entry) {
+        Some(row) => Err(Fault::KeyExists(row)),
+        None => Ok(at),
     }
 }
 

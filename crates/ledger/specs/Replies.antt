@@ -1,14 +1,15 @@
 -- What the replies of a ledger say, and how they are printed.
 use Rattle.std.specs.Prelude.{◌≡◌, ℕ, List, ◌∷◌, ◌++◌, codes, ⊤}
 use Rattle.access_method.specs.declared.index.Index.{Index}
-use Rattle.index_model.specs.Faults.{number_of, block_of}
+use Rattle.index_model.specs.Faults.{number_of}
 use Rattle.index_model.specs.declared.fault.Fault.{Fault}
-use Rattle.index_model.specs.declared.fault.Fault.TheVariants.{NoMemory, Io, Stopped, Blocked, Exists, KeyTooLong, BadRow, IndexFull, LogFull, NoFrame, VacuumRunning, NoSession, SessionBusy, BadSuper, BadVersion, LogDamaged, PageDamaged, BadLimits, TooTall, DeviceTooSmall}
+use Rattle.index_model.specs.declared.fault.Fault.TheVariants.{NoMemory, Io, Stopped, Blocked, Exists, KeyTooLong, BadRow, IndexFull, LogFull, NoFrame, VacuumRunning, NoSession, SessionBusy, BadSuper, BadVersion, LogDamaged, PageDamaged, BadLimits, TooTall, DeviceTooSmall, KeyExists}
 use Rattle.ledger.specs.declared.reply.Reply.{Reply}
 use Rattle.ledger.specs.declared.reply.Reply.TheVariants.{Added, Deleted, Listed, CleanedUp, Checkpointed, Committed, Refused, NotALine}
 use Rattle.page_action.specs.declared.page_store.PageStore.{Ghosts}
 use Rattle.session_calls.specs.declared.answer.Answer.TheVariants.{Added as AnAdded, Finished, Checkpointed as ACheckpointed}
-use Rattle.text_forms.specs.Printing.{answer_text, block_behind, numbered}
+use Rattle.text_forms.specs.Printing.{answer_text, numbered}
+use Rattle.text_forms.specs.Spelling.{named_text}
 
 -- the name of a fault
 abbrev pub fault_name : Fault → List ℕ
@@ -32,10 +33,11 @@ fault_name (PageDamaged block) = codes "PageDamaged"
 fault_name BadLimits = codes "BadLimits"
 fault_name TooTall = codes "TooTall"
 fault_name DeviceTooSmall = codes "DeviceTooSmall"
+fault_name (KeyExists row) = codes "KeyExists"
 
--- a refusal: its number, its name, and the block that the fault names
+-- a refusal: its number, its name, and the block or the row that the fault names
 abbrev pub refusal_text : Fault → List ℕ
-refusal_text fault = numbered (codes "refused ") (number_of fault) ++ (32 ∷ (fault_name fault ++ block_behind (block_of fault)))
+refusal_text fault = numbered (codes "refused ") (number_of fault) ++ (32 ∷ (fault_name fault ++ named_text fault))
 
 -- the line of a reply
 abbrev pub reply_text : Reply → List ℕ

@@ -17,7 +17,7 @@ use Rattle.page_store.specs.Stores.{state_of, device_of}
 use Rattle.page_store.specs.declared.store.Store.{Store}
 use Rattle.recovery.specs.Index.{HasIndex}
 use Rattle.text_forms.specs.Spelling.{lines_of, words_of}
-use Rattle.tree_acts.specs.TheoremTree.{IsTree}
+use Rattle.tree_acts.specs.TheoremKeys.{IsTreeFor}
 use Rattle.ledger.specs.Calls.{Replies}
 use Rattle.ledger.specs.Files.{IsOnDisk}
 use Rattle.ledger.specs.Lines.{AreRefused, HasValues, line_words}
@@ -79,7 +79,7 @@ abbrev pub BeginsFrom : {D : Type 0} (d : DeviceGhosts D) → Ghosts (Store D d)
 BeginsFrom d g bytes index =
     IsTrue (d.is_honest (device_of d index.store)) → (format : Format) (pages : List Page)
     → HasIndex format pages (bytes_before bytes (d.trace (device_of d index.store)))
-    → IsTree pages → IndexBegins d g format pages index
+    → IsTreeFor format pages → IndexBegins d g format pages index
 
 -- The device of an index that was closed: whatever a crash leaves of it has all of the actions, and none of them waits in the log.
 pub record IsClosed {D : Type 0} (d : DeviceGhosts D) (g : Ghosts (Store D d)) (last : Index (Store D d)) (device : D) : Type 0 where

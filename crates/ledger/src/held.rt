@@ -7,7 +7,7 @@ ghost use Rattle.index_model.specs.declared.format.Format.{Format};
 ghost use Rattle.page_codec.specs.declared.page.Page.{Page};
 ghost use Rattle.page_store.specs.Stores.{device_of};
 ghost use Rattle.recovery.specs.Index.{HasIndex};
-ghost use Rattle.tree_acts.specs.TheoremTree.{IsTree};
+ghost use Rattle.tree_acts.specs.TheoremKeys.{IsTreeFor};
 
 use access_method::in_file::{self, InFile};
 use device::{Device, FileDevice, Start};
@@ -23,6 +23,7 @@ const LIMITS: Limits = Limits {
     items: 50,
     pages: 4_096,
     log_bytes: 1_048_576,
+    unique: false,
 };
 
 /// Pages that are held in memory.
@@ -41,7 +42,7 @@ pub fn open<F: Files<File = File>, S: Start>(
         IsTrue (d.is_honest (device_of d index.store))
         → (limits : Format) (pages : List Page)
         → HasIndex limits pages (bytes_before S.Start.bytes (d.trace (device_of d index.store)))
-        → IsTree pages
+        → IsTreeFor limits pages
         → IndexBegins d ⟦<Store<FileDevice<S>> as PageStore>⟧ limits pages index) }
 {
     match fs::exists(rt, path) {

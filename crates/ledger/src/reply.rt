@@ -8,7 +8,7 @@ use access_method::Inserted;
 use index_model::{Fault, VacuumStats};
 use session_calls::Answer;
 use std::io::{self, Write};
-use text_forms::print_answer;
+use text_forms::{ShownNamed, print_answer};
 
 /// The reply to a line; a list's entries stand before it.
 #[derive(Clone, Copy)]
@@ -53,16 +53,14 @@ fn added(inserted: &Inserted) -> Answer
     }
 }
 
-/// Prints `refused N NAME`, with the block that the fault names behind it.
+/// Prints `refused N NAME`, with the block or the row that the fault names behind it.
 pub fn print_refused<W: Write>(out: &mut W, fault: Fault) -> io::Result<()>
     ensures { PrintsLine (W.contents out.old) (W.contents out.new) result (refusal_text fault) }
 {
-    let number = fault.number();
-    let name = name_of(fault);
-    match fault.block() {
-        None => writeln!(out, "refused {number} {name}"),
-        Some(block) => writeln!(out, "refused {number} {name} {block}"),
-    }
+    let named = ShownNamed { fault };
+    let number = named.fault.number();
+    let name = name_of(named.fault);
+    writeln!(out, "refused {number} {name}{named}")
 }
 
 // The name of a fault.
@@ -90,5 +88,6 @@ fn name_of(fault: Fault) -> &'static str
         Fault::BadLimits => "BadLimits",
         Fault::TooTall => "TooTall",
         Fault::DeviceTooSmall => "DeviceTooSmall",
+        Fault::KeyExists(_) => "KeyExists",
     }
 }

@@ -18,6 +18,7 @@ const LIMITS: Limits = Limits {
     items: 4,
     pages: 8,
     log_bytes: 65_536,
+    unique: false,
 };
 
 /// An index in memory.

@@ -16,7 +16,7 @@ use Rattle.page_store.specs.Stores.{device_of}
 use Rattle.page_store.specs.declared.store.Store.{Store}
 use Rattle.recovery.specs.Index.{HasIndex}
 use Rattle.recovery.specs.Opening.{IsSameIndex}
-use Rattle.tree_acts.specs.TheoremTree.{IsTree}
+use Rattle.tree_acts.specs.TheoremKeys.{IsTreeFor}
 use Rattle.nardsill.specs.Telling.{page_of}
 use Rattle.nardsill.specs.declared.checking.Checked.{Checked}
 
@@ -61,8 +61,8 @@ pub record IsJudged {D : Type 0} (d : DeviceGhosts D) (g : Ghosts (Store D d)) (
   pub state_is : g.state last ≡ g.state store
   pub outcome : Result Report CheckFault
   pub told : TellsCheck outcome checked
-  pub answer : (g.backing last).honest ≡ true → IsAnswer true (g.state store).pages outcome
-  pub tree : (g.backing last).honest ≡ true → OnOk outcome (IsTree (g.state store).pages)
+  pub answer : (g.backing last).honest ≡ true → IsAnswer true (g.state store).limits.unique (g.state store).pages outcome
+  pub tree : (g.backing last).honest ≡ true → OnOk outcome (IsTreeFor (g.state store).limits (g.state store).pages)
 
 -- where it isn't refused, it was judged
 abbrev pub IsChecked : {D : Type 0} (d : DeviceGhosts D) → Ghosts (Store D d) → (ℕ → List ℕ) → Checked → Type 0

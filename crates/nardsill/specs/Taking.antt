@@ -10,15 +10,15 @@ use Rattle.page_codec.specs.declared.page.Page.{Page}
 use Rattle.page_store.specs.Stores.{device_of}
 use Rattle.page_store.specs.declared.store.Store.{Store}
 use Rattle.recovery.specs.Index.{HasIndex}
-use Rattle.tree_acts.specs.TheoremTree.{IsTree}
+use Rattle.tree_acts.specs.TheoremKeys.{IsTreeFor}
 use Rattle.nardsill.specs.declared.answer.Answer.{Answer}
 use Rattle.nardsill.specs.declared.dead.Dead.{Dead}
 
--- where a file, which held these bytes for each length that it might have, held an index whose pages are a B-link tree, it is opened
+-- where a file, which held these bytes for each length that it might have, held an index whose pages are a B-link tree, of a unique one keyed, it is opened
 -- with them
 abbrev pub BeginsWithFile : {D : Type 0} (d : DeviceGhosts D) → Ghosts (Store D d) → (ℕ → List ℕ) → Index (Store D d) → Type 0
 BeginsWithFile d g held index = IsTrue (d.is_honest (device_of d index.store)) → (limits : Format) (pages : List Page)
-    → HasIndex limits pages (bytes_before held (d.trace (device_of d index.store))) → IsTree pages → IndexBegins d g limits pages index
+    → HasIndex limits pages (bytes_before held (d.trace (device_of d index.store))) → IsTreeFor limits pages → IndexBegins d g limits pages index
 
 -- Where 0 is answered there is an index, which is the file's; where a fault is, the handle is as it was. The rows that were named stay.
 pub record IsTaken {D : Type 0} (d : DeviceGhosts D) (g : Ghosts (Store D d)) (held : ℕ → List ℕ) (answer : Answer) (old new : Option (Index (Store D d))) (dead left : Dead) : Type 0 where

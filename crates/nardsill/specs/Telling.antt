@@ -1,6 +1,7 @@
 -- How an answer tells what a call came to.
 use Rattle.std.specs.Prelude.{◌≡◌, ℕ, true, false, Option, Some, None, Result, Ok, Err, take, unwrap_or}
-use Rattle.index_model.specs.Faults.{number_of, block_of}
+use Rattle.index_model.specs.Faults.{number_of, block_of, row_of}
+use Rattle.index_model.specs.Row.{Row}
 use Rattle.index_model.specs.declared.entry.Entry.{Entry}
 use Rattle.index_model.specs.declared.fault.Fault.{Fault}
 use Rattle.index_model.specs.declared.stats.VacuumStats.{VacuumStats}
@@ -13,10 +14,16 @@ use Rattle.whole_calls.specs.declared.inserted.Inserted.{Inserted}
 abbrev pub page_of : Fault → ℕ
 page_of fault = unwrap_or (block_of fault) 0
 
+-- the row that a fault names, or zeros
+abbrev pub row_named : Fault → Row
+row_named fault = unwrap_or (row_of fault) (record { block = 0; offset = 0 })
+
 -- the call was refused with this fault
 pub record IsRefusal (fault : Fault) (answer : Answer) : Type 0 where
   pub status : answer.status ≡ number_of fault
   pub page : answer.page ≡ page_of fault
+  pub block : answer.block ≡ (row_named fault).block
+  pub offset : answer.offset ≡ (row_named fault).offset
   pub quiet : answer.is_durable ≡ false
 
 -- what a call came to is told: 0 and what it tells, or the refusal

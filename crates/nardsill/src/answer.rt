@@ -1,12 +1,12 @@
 //! What C is answered.
 
 ghost use Rattle.std.specs.Prelude.{◌≡◌, false};
-ghost use Rattle.nardsill.specs.Telling.{GivesNone, IsRefusal, TellsStats, page_of, unfinished_number};
+ghost use Rattle.nardsill.specs.Telling.{GivesNone, IsRefusal, TellsStats, page_of, row_named, unfinished_number};
 
 use index_model::{Fault, VacuumStats};
 
-/// An answer: 0, or the number of a fault with the page that it names, and what the call tells. A field that a call doesn't tell
-/// is 0.
+/// An answer: 0, or the number of a fault with the page or the row that it names, and what the call tells. A field that a call
+/// doesn't tell is 0.
 #[repr(C)]
 #[derive(Clone, Copy)]
 pub struct Answer {
@@ -25,6 +25,9 @@ pub struct Answer {
     pub pages_newly_deleted: u32,
     pub pages_deleted: u32,
     pub pages_free: u32,
+    /// The row that a fault names.
+    pub block: u32,
+    pub offset: u16,
 }
 
 /// What a scan gives: an entry, or none where it has given all; or the number of a fault with the page that it names.
@@ -52,11 +55,13 @@ pub const DONE: Answer = Answer {
     pages_newly_deleted: 0,
     pages_deleted: 0,
     pages_free: 0,
+    block: 0,
+    offset: 0,
 };
 
 /// The page that a fault names, or 0.
-pub fn page_of(fault: Fault) -> u32
-    ensures { result ≡ page_of fault }
+pub fn page_of(fault: &Fault) -> u32
+    ensures { result ≡ page_of fault.now }
 {
     match fault.block() {
         Some(block) => block,
@@ -64,13 +69,28 @@ pub fn page_of(fault: Fault) -> u32
     }
 }
 
+// The block and the offset of the row that a fault names, or zeros.
+fn row_of(fault: &Fault) -> (u32, u16)
+    ensures block { result.0 ≡ (row_named fault.now).block }
+    ensures offset { result.1 ≡ (row_named fault.now).offset }
+{
+    match fault.row() {
+        Some(row) => (row.block(), row.offset()),
+        None => (0, 0),
+    }
+}
+
 /// The answer to a call that was refused.
 pub fn refused(fault: Fault) -> Answer
     ensures { IsRefusal fault result }
 {
+    let page = page_of(&fault);
+    let (block, offset) = row_of(&fault);
     Answer {
         status: fault.number() as u32,
-        page: page_of(fault),
+        page,
+        block,
+        offset,
         ..DONE
     }
 }
@@ -106,9 +126,10 @@ pub fn counted(stats: &VacuumStats) -> Answer
 pub fn none_given(fault: Fault) -> Given
     ensures { GivesNone fault result }
 {
+    let page = page_of(&fault);
     Given {
         status: fault.number() as u32,
-        page: page_of(fault),
+        page,
         block: 0,
         offset: 0,
         len: 0,

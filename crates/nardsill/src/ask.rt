@@ -36,7 +36,7 @@ pub struct Token {
     pub session: u32,
 }
 
-/// An opening: which file, how many pages are held in memory; and where it makes a new index, of which sizes.
+/// An opening: which file, how many pages are held in memory; and where it makes a new index, of which sizes, and whether unique.
 #[repr(C)]
 #[derive(Drop)]
 pub struct OpenAsk {
@@ -47,6 +47,8 @@ pub struct OpenAsk {
     pub items: u32,
     pub pages: u32,
     pub log_bytes: u32,
+    /// 0 where entries may share a key.
+    pub unique: u32,
 }
 
 impl Ask {
@@ -90,12 +92,13 @@ impl Ask {
 }
 
 impl OpenAsk {
-    /// The sizes of a new index.
+    /// The sizes of a new index, and whether it is unique.
     pub fn limits(&self) -> Limits {
         Limits {
             items: self.items,
             pages: self.pages,
             log_bytes: self.log_bytes,
+            unique: self.unique != 0,
         }
     }
 }

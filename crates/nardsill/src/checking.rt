@@ -117,9 +117,10 @@ fn told(outcome: Result<Report, CheckFault>) -> Checked
 fn refused(fault: Fault) -> Checked
     ensures { IsCheckRefusal fault result }
 {
+    let page = page_of(&fault);
     Checked {
         status: fault.number() as u32,
-        page: page_of(fault),
+        page,
         ..NOTHING
     }
 }

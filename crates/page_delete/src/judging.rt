@@ -144,11 +144,14 @@ fn siblings_allow<S: PageStore>(
         Ok(is_whole) => is_whole,
         Err(fault) => return Err(fault),
     };
-    match right_is_live(store, session, leaf, right) {
-        Ok(is_live) if is_whole && is_live => Ok(Some(right)),
-        Ok(_) => Ok(None),
-        Err(fault) => Err(fault),
+    let is_live = match right_is_live(store, session, leaf, right) {
+        Ok(is_live) => is_live,
+        Err(fault) => return Err(fault),
+    };
+    if !is_whole {
+        return Ok(None);
     }
+    if is_live { Ok(Some(right)) } else { Ok(None) }
 }
 
 // Whether the downlink behind this place leads to the page.

@@ -1,5 +1,5 @@
 -- The superblock of an index.
-use Rattle.std.specs.Prelude.{◌≡◌, ◌≢◌, ◌⊎◌, ◌==◌, ℕ, if◌then◌else◌, List, take, drop}
+use Rattle.std.specs.Prelude.{◌≡◌, ◌≢◌, ◌⊎◌, ◌==◌, ℕ, if◌then◌else◌, Bool, false, List, take, drop}
 use Rattle.std.specs.Int.{w32, from_le_bytes}
 use Rattle.index_model.specs.Limits.{AreLimits}
 use Rattle.index_model.specs.declared.fault.Fault.{Fault}
@@ -21,17 +21,23 @@ IsLayout number = (number ≡ 1) ⊎ (number ≡ 2)
 abbrev pub layout_of : ℕ → Layout
 layout_of number = if number == 1 then One else Two
 
--- the layout and the sizes that stand there
+-- whether an index of this layout is unique by the number at 24: the first layout has no unique indexes
+abbrev pub is_unique : Layout → ℕ → Bool
+is_unique One number = false
+is_unique Two number = number == 1
+
+-- the layout and the sizes that stand there, and whether the index is unique
 abbrev pub sizes_in : List ℕ → Format
 sizes_in bytes = record {
   layout = layout_of (number_at 8 bytes);
+  unique = is_unique (layout_of (number_at 8 bytes)) (number_at 24 bytes);
   items = number_at 12 bytes;
   pages = number_at 16 bytes;
   log_bytes = number_at 20 bytes;
 }
 
 -- the bytes are no superblock: they begin otherwise; or else their layout is none; or else the sizes are out of their
--- ranges; or else other bytes than zeros stand behind them
+-- ranges; or else other bytes stand behind them than a superblock has
 abbrev pub IsNoSuperblock : List ℕ → Fault → Type 0
 IsNoSuperblock bytes fault =
     ((fault ≡ BadSuper) × (take 8 bytes ≢ magic))

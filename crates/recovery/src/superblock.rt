@@ -4,8 +4,8 @@ ghost use Rattle.std.specs.Prelude.{◌≡◌, ◌+◌, ◌-◌, ◌≤◌, ◌+
 ghost use Rattle.std.specs.Int.{w32, to_le_bytes};
 ghost use Rattle.index_model.specs.Limits.{AreLimits};
 ghost use Rattle.index_model.specs.declared.format.Format.{Format};
-ghost use Rattle.recovery.specs.Superblock.{number_at, layout_of, IsLayout, IsNoSuperblock};
-ghost use Rattle.device_layout.specs.Layout.{layout_number, superblock};
+ghost use Rattle.recovery.specs.Superblock.{number_at, layout_of, is_unique, IsLayout, IsNoSuperblock};
+ghost use Rattle.device_layout.specs.Layout.{layout_number, unique_number, superblock};
 
 use index_model::{Fault, Format, Layout};
 
@@ -50,6 +50,13 @@ fn number_of(layout: Layout) -> u32
     }
 }
 
+/// The number of an index that is unique, or of one that isn't.
+fn number_if(unique: bool) -> u32
+    ensures { result ≡ unique_number unique }
+{
+    if unique { 1 } else { 0 }
+}
+
 /// The layout with this number, if there is one.
 fn layout_of(number: u32) -> Option<Layout>
     ensures found { IfSome result (λ layout. IsLayout number × (layout ≡ layout_of number)) }
@@ -62,6 +69,13 @@ fn layout_of(number: u32) -> Option<Layout>
     }
 }
 
+/// Whether an index of this layout is unique by this number: one of the first layout never is.
+fn is_unique(layout: Layout, number: u32) -> bool
+    ensures { result ≡ is_unique layout number }
+{
+    matches!(layout, Layout::Two) && number == 1
+}
+
 /// Writes the bytes of the superblock over all 4,096 bytes.
 pub(crate) fn spell_superblock(limits: &Format, out: &mut [u8; 4096])
     ensures { out.new ≡ superblock limits.now }
@@ -71,6 +85,7 @@ pub(crate) fn spell_superblock(limits: &Format, out: &mut [u8; 4096])
     let at = put_number(out, at, limits.items);
     let at = put_number(out, at, limits.pages);
     let at = put_number(out, at, limits.log_bytes);
+    let at = put_number(out, at, number_if(limits.unique));
     clear_from(out, at);
 }
 
@@ -84,9 +99,9 @@ fn number_at(bytes: &[u8; 4096], at: usize) -> u32
     u32::from_le_bytes(number)
 }
 
-/// The layout and the sizes of the index whose superblock these bytes are. Other bytes are refused, in this order: another beginning
-/// than `BLINKIDX` (`BadSuper`), another layout than 1 or 2 (`BadVersion`), sizes out of their ranges (`BadLimits`),
-/// anything but zeros behind them (`BadSuper`).
+/// The layout and the sizes of the index whose superblock these bytes are, and whether it is unique. Other bytes are refused, in
+/// this order: another beginning than `BLINKIDX` (`BadSuper`), another layout than 1 or 2 (`BadVersion`), sizes out of their ranges
+/// (`BadLimits`), behind them another number than 0 or, in the second layout, 1, or anything but zeros behind that (`BadSuper`).
 pub(crate) fn read_superblock(bytes: &[u8; 4096]) -> Result<Format, Fault>
     ensures allowed { IfOk result AreLimits }
     ensures found { IfOk result (λ limits. bytes.now ≡ superblock limits) }
@@ -102,6 +117,7 @@ pub(crate) fn read_superblock(bytes: &[u8; 4096]) -> Result<Format, Fault>
     };
     let limits = Format {
         layout,
+        unique: is_unique(layout, number_at(bytes, 24)),
         items: number_at(bytes, 12),
         pages: number_at(bytes, 16),
         log_bytes: number_at(bytes, 20),

@@ -2,9 +2,10 @@
 use Rattle.std.proofs.Common.{◌≡◌, ◌≢◌, ℕ, ◌<◌, Bool, Option, Some, None, List, [], ◌∷◌, length, refl, sym, subst, ap, arith, inl, inr, ◌∙◌}
 use Rattle.index_model.specs.Actions.{Action}
 use Rattle.index_model.specs.Calls.{Ask, AskInsert, AskScan, AskBulkDelete, AskCleanup, Running, Failed, Call, Meets, IsOwned}
+use Rattle.index_model.specs.Row.{Row}
 use Rattle.index_model.specs.declared.entry.Entry.{Entry}
 use Rattle.index_model.specs.declared.fault.Fault.{Fault}
-use Rattle.index_model.specs.declared.fault.Fault.TheVariants.{Exists}
+use Rattle.index_model.specs.declared.fault.Fault.TheVariants.{Exists, KeyExists}
 use Rattle.page_action.specs.declared.page_store.PageStore.{Ghosts}
 use Rattle.session_calls.specs.declared.op.Op.{Op}
 use Rattle.schedule.specs.CallLists.{with_call, refused_call, OneCallRuns, RefusedCallsFit}
@@ -20,9 +21,9 @@ one_call_runs g start now session number other call another fits is again =
     one.only other another again ∙ sym (one.only number call is)
 
 -- a refused call meets its definition: it added and gave nothing
-module _ (start : Entry → Bool) (history : List Action) (number session : ℕ) (fault : Fault) (apart : fault ≢ Exists) where
+module _ (start : Entry → Bool) (history : List Action) (number session : ℕ) (fault : Fault) (apart : fault ≢ Exists) (unlike : (row : Row) → fault ≢ KeyExists row) where
   pub refused_meets : (ask : Ask) → Meets start history number (refused_call session ask fault (length history))
-  refused_meets (AskInsert e) = record { began = omega arith; until = omega arith; right = record { add = tt; end = (refl, λ is. absurd (apart is)) } }
+  refused_meets (AskInsert e) = record { began = omega arith; until = omega arith; right = record { add = tt; end = (refl, ((λ is. absurd (apart is)), λ row is. absurd (unlike row is))) } }
   refused_meets (AskScan range) = record {
     began = omega arith;
     until = omega arith;
@@ -32,7 +33,7 @@ module _ (start : Entry → Bool) (history : List Action) (number session : ℕ)
   refused_meets AskCleanup = record { began = omega arith; until = omega arith; right = tt }
 
 -- a moment that fits, with a call more that was refused as it began
-module _ {S : Type 0} (g : Ghosts S) (start : Entry → Bool) (now : Snapshot S) (session : ℕ) (ask : Ask) (fault : Fault) (fits : Fits g start now) (within : session < length now.slots) (apart : fault ≢ Exists) where
+module _ {S : Type 0} (g : Ghosts S) (start : Entry → Bool) (now : Snapshot S) (session : ℕ) (ask : Ask) (fault : Fault) (fits : Fits g start now) (within : session < length now.slots) (apart : fault ≢ Exists) (unlike : (row : Row) → fault ≢ KeyExists row) where
   abbrev more : Call
   more = refused_call session ask fault (length now.history)
 
@@ -61,6 +62,7 @@ module _ {S : Type 0} (g : Ghosts S) (start : Entry → Bool) (now : Snapshot S)
   pub refused_fits : Fits g start then
   refused_fits = fits_from (record {
     matches = matches_of fits;
+    unique = fits.explains.unique;
     running = λ u slot at. runs_on u slot (running_of fits u slot at);
     vacuums = fits.invariant.vacuums;
     beyond = λ u far. beyond_of fits u far;
@@ -70,7 +72,7 @@ module _ {S : Type 0} (g : Ghosts S) (start : Entry → Bool) (now : Snapshot S)
     ];
     meets = λ number call at. elim (get_append_cases now.calls more number call at) [
       | inl before ↦ fits.explains.meets number call before
-      | inr new ↦ subst (λ (c : Call). Meets start now.history number c) (sym new.1) (refused_meets start now.history number session fault apart ask)
+      | inr new ↦ subst (λ (c : Call). Meets start now.history number c) (sym new.1) (refused_meets start now.history number session fault apart unlike ask)
     ];
     owned = λ before action at. (
         let was : IsOwned start now.history now.calls before action = fits.explains.owned before action at in
@@ -78,4 +80,4 @@ module _ {S : Type 0} (g : Ghosts S) (start : Entry → Bool) (now : Snapshot S)
   })
 
 pub refused_calls_fit : {S : Type 0} (g : Ghosts S) → RefusedCallsFit g
-refused_calls_fit g start now session ask fault fits within apart = refused_fits g start now session ask fault fits within apart
+refused_calls_fit g start now session ask fault fits within apart unlike = refused_fits g start now session ask fault fits within apart unlike

@@ -5,8 +5,9 @@ use Rattle.std.specs.List.{list_any}
 use Rattle.std.proofs.lemmas.Bool.{true≢false, false≢true, and_parts, or_cases, or_parts, eqb-true, eq-eqb, ltb-true, leb-true, leb-false, cases_eq}
 use Rattle.index_model.specs.Calls.{Ask, AskInsert, AskScan, AskBulkDelete, AskCleanup}
 use Rattle.index_model.specs.Faults.{Circumstances, HasCause}
+use Rattle.index_model.specs.Row.{Row}
 use Rattle.index_model.specs.declared.fault.Fault.{Fault}
-use Rattle.index_model.specs.declared.fault.Fault.TheVariants.{NoMemory, Io, Stopped, Blocked, Exists, KeyTooLong, BadRow, IndexFull, LogFull, NoFrame, VacuumRunning, NoSession, SessionBusy, BadSuper, BadVersion, LogDamaged, PageDamaged, BadLimits, TooTall, DeviceTooSmall}
+use Rattle.index_model.specs.declared.fault.Fault.TheVariants.{NoMemory, Io, Stopped, Blocked, Exists, KeyTooLong, BadRow, IndexFull, LogFull, NoFrame, VacuumRunning, NoSession, SessionBusy, BadSuper, BadVersion, LogDamaged, PageDamaged, BadLimits, TooTall, DeviceTooSmall, KeyExists}
 use Rattle.latch_table.specs.Holdings.{Holding, Table, excludes, latches_exclude, has_pin, pins_exclude, holding_excludes, others_exclude, is_held_by_another, pinned_blocks}
 use Rattle.latch_table.specs.declared.mode.Latch.{Latch}
 use Rattle.latch_table.specs.declared.mode.Mode.{Mode}
@@ -43,6 +44,7 @@ use Rattle.session_calls.specs.TheoremCalls.{DeadSets}
 use Rattle.session_calls.specs.Ops.{set_at, asked_of, session_of, where_stepped}
 use Rattle.session_calls.specs.declared.op.Op.{Op}
 use Rattle.session_calls.specs.declared.op.Op.TheVariants.{Insert, Scan, Bulk, Cleanup}
+use Rattle.session_calls.proofs.Meeting.{other_row_is}
 use Rattle.schedule.specs.TheoremMoments.{Snapshot}
 use Rattle.schedule.specs.TheoremKinds.{Steps}
 use Rattle.schedule.proofs.Lists.{get_within}
@@ -81,6 +83,7 @@ one_of_few d s v n b Fails r (PageDamaged k) h = absurd (false≢true h)
 one_of_few d s v n b Fails r BadLimits h = absurd h
 one_of_few d s v n b Fails r TooTall h = absurd (false≢true h)
 one_of_few d s v n b Fails r DeviceTooSmall h = absurd h
+one_of_few d s v n b Fails r (KeyExists k) h = absurd (false≢true h)
 
 -- a latch that stands in the way is one of the block
 latch_in : (latches : List Latch) (block : ℕ) (asked : Mode) → latches_exclude latches block asked ≡ true → IsIn block (map (λ (latch : Latch). latch.block) latches)
@@ -304,6 +307,7 @@ module _ {S : Type 0} (g : Ghosts S) (old : Snapshot S) (new : S) where
     pub stopped : at.is_stopped ≡ true → MoveFails g Steps session ask op old new Stopped
     pub held : (block : ℕ) → at.is_held_by_another block ≡ true → MoveFails g Steps session ask op old new (Blocked block)
     pub entry : at.entry_was_there ≡ true → MoveFails g Steps session ask op old new Exists
+    pub key : (row : Row) → at.key_was_there row ≡ true → MoveFails g Steps session ask op old new (KeyExists row)
     pub block : at.no_block_is_free ≡ true → MoveFails g Steps session ask op old new IndexFull
     pub log : at.log_is_full ≡ true → MoveFails g Steps session ask op old new LogFull
     pub frames : at.frames_are_pinned ≡ true → MoveFails g Steps session ask op old new NoFrame
@@ -334,6 +338,7 @@ module _ {S : Type 0} (g : Ghosts S) (old : Snapshot S) (new : S) where
   fails_by at session ask op r BadLimits h = absurd h
   fails_by at session ask op r TooTall h = r.root h
   fails_by at session ask op r DeviceTooSmall h = absurd h
+  fails_by at session ask op r (KeyExists row) h = r.key row h
 
   st : State
   st = g.state old.store
@@ -372,6 +377,7 @@ module _ {S : Type 0} (g : Ghosts S) (old : Snapshot S) (new : S) where
       | inr e ↦ held_exclusive (g.state old.store).table op.session b (AskInsert op.entry) (λ holding i. i) e
     ];
     entry = λ k. k;
+    key = λ row k. other_row_is (g.state old.store) op.entry row k;
     block = λ k. no_block (g.state old.store) (and_parts (takes_block_at (g.state old.store) op.at) (is_out_of_blocks (g.state old.store)) k).1;
     log = λ k. few_images (images_at (g.state old.store) op.at) (insert_images_few (g.state old.store) op.at) k;
     frames = λ k. few_frames (frames_at (g.state old.store) op.at) (insert_frames_few (g.state old.store) op.at) k;
@@ -387,6 +393,7 @@ module _ {S : Type 0} (g : Ghosts S) (old : Snapshot S) (new : S) where
     stopped = λ k. inl k;
     held = λ b k. held_shared (g.state old.store).table op.session b (AskScan op.range) (λ holding i. i) k;
     entry = λ k. absurd (false≢true k);
+    key = λ row k. absurd (false≢true k);
     block = λ k. absurd (false≢true k);
     log = λ k. absurd (false≢true k);
     frames = λ k. few_frames 1 (omega arith) k;
@@ -408,6 +415,7 @@ module _ {S : Type 0} (g : Ghosts S) (old : Snapshot S) (new : S) where
     ];
     held = λ b k. held_for_cleanup (g.state old.store).table op.session b _ k;
     entry = λ k. absurd (false≢true k);
+    key = λ row k. absurd (false≢true k);
     block = λ k. absurd (false≢true k);
     log = λ k. (let one = block_few (has_dead (set_at sets set) (g.state old.store) op) (next_block op.cursor op.back) in
         few_images (block_if (has_dead (set_at sets set) (g.state old.store) op) (next_block op.cursor op.back)) (omega (arith, one)) k);
@@ -436,6 +444,7 @@ module _ {S : Type 0} (g : Ghosts S) (old : Snapshot S) (new : S) where
       | inr e ↦ held_exclusive (g.state old.store).table op.session b AskCleanup (λ holding i. i) e
     ];
     entry = λ k. absurd (false≢true k);
+    key = λ row k. absurd (false≢true k);
     block = λ k. absurd (false≢true k);
     log = λ k. (let few = written_few op.at op.cursor (g.state old.store) in few_images (blocks_written op.at op.cursor (g.state old.store)) (omega (arith, few)) k);
     frames = λ k. (let frames = frames_for_few 3 (blocks_written op.at op.cursor (g.state old.store)) (omega arith) (written_few op.at op.cursor (g.state old.store)) in few_frames (frames_for (blocks_written op.at op.cursor (g.state old.store))) (omega (arith, frames)) k);

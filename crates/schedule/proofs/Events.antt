@@ -7,6 +7,7 @@ use Rattle.index_model.specs.Actions.{Effect, Action}
 use Rattle.index_model.specs.Calls.{Call, Meets, IsOwned}
 use Rattle.index_model.specs.Faults.{Circumstances, HasCause}
 use Rattle.index_model.specs.declared.entry.Entry.{Entry}
+use Rattle.index_model.specs.declared.format.Format.{Format}
 use Rattle.index_model.specs.declared.fault.Fault.{Fault}
 use Rattle.index_model.specs.declared.fault.Fault.TheVariants.{Stopped, NoSession, SessionBusy}
 use Rattle.page_action.specs.Causes.{where_forced}
@@ -92,6 +93,7 @@ pub fits_still : {S : Type 0} (g : Ghosts S) (start : Entry → Bool) (old : Sna
     → Fits g start (record { store = store; slots = old.slots; sets = old.sets; history = old.history; calls = old.calls })
 fits_still {S} g start old store same fits = fits_from (record {
   matches = subst (λ (st : State). Matches st start old.history) (sym same) (matches_of fits);
+  unique = λ asked. fits.explains.unique (ap (λ (st : State). st.limits.unique) (sym same) ∙ asked);
   running = λ u o h. slot_still u o (running_of fits u o h);
   vacuums = subst (λ (st : State). OneVacuums st old.slots) (sym same) fits.invariant.vacuums;
   beyond = λ u far. subst (λ (st : State). IsIdle st u) (sym same) (beyond_of fits u far);
@@ -140,7 +142,7 @@ module _ {S : Type 0} (g : Ghosts S) (start : Entry → Bool) (old : Snapshot S)
   unfolding new
   new_fits = goes_fits g start old store session one.after one.effect op slot fits found runs
       (told_same (old.history ++ acts_of runs.number one.effect) (length old.history) one.effect runs.call one.after runs.is.running (grown old.history runs.number one.effect) answer one.told)
-      one.asked others pinned one.world one.meets one.holds one.cycle one.leaves one.sweeps
+      one.asked others pinned one.limits one.world one.meets one.holds one.cycle one.leaves one.sweeps
 
   no_effect : (effect : Option Effect) → old.history ++ acts_of runs.number effect ≡ old.history → effect ≡ None
   no_effect None same = refl
@@ -348,6 +350,9 @@ module _ {S : Type 0} (g : Ghosts S) (start : Entry → Bool) (old : Snapshot S)
   same_pages : (g.state store).pages ≡ (g.state old.store).pages
   same_pages = ap (λ (st : State). st.pages) state ∙ request_pages (asks_sweep request) session (g.state old.store)
 
+  same_limits : (g.state store).limits ≡ (g.state old.store).limits
+  same_limits = ap (λ (st : State). st.limits) state ∙ request_limits (asks_sweep request) session (g.state old.store)
+
   -- it is a bulk delete or a cleanup exactly where one was asked for
   vacuum_is : is_vacuum op ≡ asks_vacuum request
   vacuum_is = ap is_vacuum fresh ∙ before_vacuum session request
@@ -414,6 +419,7 @@ module _ {S : Type 0} (g : Ghosts S) (start : Entry → Bool) (old : Snapshot S)
       let within : session < length old.slots = get_within old.slots session None free in
       fits_from (record {
         matches = begins.world;
+        unique = λ asked. fits.explains.unique (ap (λ (f : Format). f.unique) (sym same_limits) ∙ asked);
         running = λ u o h. elim (cases_eq u session) [
           | inl e ↦ (
               let k : o ≡ Some op = same_some (slice_get (slice_set old.slots session (Some op)) session) o (Some op)
@@ -461,7 +467,7 @@ module _ {S : Type 0} (g : Ghosts S) (start : Entry → Bool) (old : Snapshot S)
       followed = λ told. subst (λ (x : Option Op). HasSteps (g.state old.store) (g.state store) request x) (sym (set_is old.slots session (Some op) (get_within old.slots session None free))) counts;
       leaves = λ other block page apart there pinned. leaf_same (g.state old.store) (g.state store) same_pages block page there;
       lows = lows_still (g.state old.store) (g.state store) same_pages;
-      quiet = leaves_be g (BeginsCall session request) old begun (ap (λ (st : State). st.limits) state ∙ request_limits (asks_sweep request) session (g.state old.store)) (ap (λ (st : State). st.frames) state ∙ request_frames (asks_sweep request) session (g.state old.store))
+      quiet = leaves_be g (BeginsCall session request) old begun same_limits (ap (λ (st : State). st.frames) state ∙ request_frames (asks_sweep request) session (g.state old.store))
           (λ same. same_pages) (others_stay_set old.slots session (Some op));
       durable = tt;
       follows = follows;

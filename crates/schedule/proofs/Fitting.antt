@@ -1,5 +1,6 @@
 -- The parts of a moment that fits, session by session, and a moment that fits from such parts.
-use Rattle.std.proofs.Common.{◌≡◌, ℕ, zero, suc, ◌<◌, ◌≤◌, Bool, Option, Some, None, List, [], ◌∷◌, length, slice_get, refl, sym, subst, arith}
+use Rattle.std.proofs.Common.{◌≡◌, ℕ, zero, suc, ◌<◌, ◌≤◌, Bool, true, Option, Some, None, List, [], ◌∷◌, length, slice_get, refl, sym, subst, arith}
+use Rattle.index_model.specs.Actions.{KeysDiffer, is_there_after}
 use Rattle.index_model.specs.Calls.{Call, Meets, ActionsAreOwned}
 use Rattle.index_model.specs.declared.entry.Entry.{Entry}
 use Rattle.page_action.specs.declared.page_store.PageStore.{Ghosts}
@@ -13,6 +14,7 @@ use Rattle.schedule.specs.TheoremKinds.{Kind, kind_of}
 use Rattle.schedule.specs.TheoremRuns.{Fits, EventGoes}
 use Rattle.schedule.specs.Making.{EventDoes}
 use Rattle.schedule.specs.declared.event.Event.{Event}
+use Rattle.schedule.proofs.Keys.{keyed_now}
 use Rattle.schedule.proofs.Lists.{get_within, same_some}
 
 -- where a list has nothing at a place, it is no longer than that
@@ -24,6 +26,7 @@ none_beyond (x ∷ xs) (suc i) h = let le : length xs ≤ i = none_beyond xs i h
 -- the parts of a moment that fits, session by session
 pub record Parts {S : Type 0} (g : Ghosts S) (start : Entry → Bool) (now : Snapshot S) : Type 0 where
   pub matches : Matches (g.state now.store) start now.history
+  pub unique : (g.state now.store).limits.unique ≡ true → (k : ℕ) → KeysDiffer (is_there_after start now.history k)
   pub running : (session : ℕ) (slot : Option Op) → slice_get now.slots session ≡ Some slot → SlotMatches g start now session slot
   pub vacuums : OneVacuums (g.state now.store) now.slots
   pub beyond : (session : ℕ) → length now.slots ≤ session → IsIdle (g.state now.store) session
@@ -99,6 +102,8 @@ fits_from {S} {g} {start} {now} parts = record {
     contents = parts.matches.contents;
     count = parts.matches.count;
     tree = parts.matches.order.tree.tree;
+    keyed = keyed_now (g.state now.store) start now.history parts.matches;
+    unique = parts.unique;
     running = one_call g start now parts.running parts.beyond parts.known;
     run = runs_one g start now parts.running parts.beyond parts.known;
     known = parts.known;

@@ -5,6 +5,7 @@ use Rattle.std.proofs.lemmas.Bool.{cases_eq, cases_lt}
 use Rattle.index_model.specs.Actions.{Effect, Add, Remove, Shape, Action, contents_after, is_there_after}
 use Rattle.index_model.specs.Calls.{Ask, AskInsert, AskScan, AskBulkDelete, AskCleanup, Ending, Running, Added, Finished, Vacuumed, GivenUp, Failed, Call, Meets, MayAct, IsOwned, end_of}
 use Rattle.index_model.specs.declared.entry.Entry.{Entry}
+use Rattle.index_model.specs.declared.format.Format.{Format}
 use Rattle.index_model.proofs.Histories.{there_before, meets_later}
 use Rattle.page_action.specs.declared.page_store.PageStore.{Ghosts}
 use Rattle.descent.specs.Shared.{OthersRely}
@@ -25,7 +26,8 @@ use Rattle.session_calls.specs.Slots.{slot_of, slot_vacuums}
 use Rattle.schedule.specs.Snapshots.{SlotRuns, SlotMatches}
 use Rattle.schedule.proofs.Leaves.{leaves_last}
 use Rattle.schedule.proofs.Lists.{get_set_same, get_set_other, length_set, get_within, get_append, get_append_right, same_some}
-use Rattle.schedule.proofs.Owners.{add_stays, own_action}
+use Rattle.schedule.proofs.Keys.{keys_go_on}
+use Rattle.schedule.proofs.Owners.{acts_few, add_stays, own_action}
 use Rattle.schedule.proofs.Vacuums.{vacuums_go, cycle_kept, calm_sweep, calm_cleanup}
 use Rattle.schedule.proofs.Fitting.{fits_from, beyond_of, running_of}
 
@@ -85,7 +87,7 @@ module _ {S : Type 0} (g : Ghosts S) (start : Entry → Bool) (old : Snapshot S)
     (fits : Fits g start old) (at : slice_get old.slots session ≡ Some (Some op)) (runs : SlotRuns g start old session op)
     (same : IsSameCall (old.history ++ acts_of runs.number effect) (length old.history) effect runs.call after)
     (asked : IsAsked (contents_after start old.history) runs.call.ask runs.call.added effect)
-    (others : OthersRely session (g.state old.store) (g.state store)) (pinned : PinnedLeavesStay session (g.state old.store) (g.state store)) (world : Matches (g.state store) start (old.history ++ acts_of runs.number effect)) (meets : Meets start (old.history ++ acts_of runs.number effect) runs.number after)
+    (others : OthersRely session (g.state old.store) (g.state store)) (pinned : PinnedLeavesStay session (g.state old.store) (g.state store)) (limits : (g.state store).limits ≡ (g.state old.store).limits) (world : Matches (g.state store) start (old.history ++ acts_of runs.number effect)) (meets : Meets start (old.history ++ acts_of runs.number effect) runs.number after)
     (holds : SlotIs (g.state store) old.sets start (old.history ++ acts_of runs.number effect) after slot)
     (cycle : (g.state store).cycle ≡ cycle_behind runs.call.ask slot (g.state old.store).cycle) (leaves : asks_cleanup runs.call.ask ≡ false → (g.state store).cycle ≡ (g.state old.store).cycle → LeavesStay effect (g.state old.store) (g.state store))
     (sweeps : SlotSweeps (g.state store) old.sets start (old.history ++ acts_of runs.number effect) runs.number after.began slot) where
@@ -225,6 +227,8 @@ module _ {S : Type 0} (g : Ghosts S) (start : Entry → Bool) (old : Snapshot S)
   pub goes_fits : Fits g start (record { store = store; slots = slice_set old.slots session slot; sets = old.sets; history = old.history ++ acts; calls = slice_set old.calls runs.number after })
   goes_fits = fits_from (record {
     matches = world;
+    unique = λ asked. keys_go_on (g.state store) start old.history acts (acts_few runs.number effect) world asked
+        (fits.explains.unique (ap (λ (f : Format). f.unique) (sym limits) ∙ asked));
     running = λ u o h. elim (cases_eq u session) [
       | inl e ↦ (
           let k : o ≡ slot = same_some (slice_get (slice_set old.slots session slot) session) o slot (subst (λ (i : ℕ). slice_get (slice_set old.slots session slot) i ≡ Some o) e h)

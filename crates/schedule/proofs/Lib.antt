@@ -1,13 +1,14 @@
 pub mod Lists
+pub mod Keys
 pub mod Fitting
 pub mod Causes
 pub mod Meaning
+pub mod Keeping
 pub mod Unused
 pub mod Owners
 pub mod Vacuums
 pub mod Leaves
 pub mod Frames
-pub mod Keeping
 pub mod Events
 pub mod Making
 pub mod Idling
@@ -17,6 +18,7 @@ pub mod Joining
 pub mod Bounds
 pub mod Standing
 pub mod CallLists
+pub mod AddedKeys
 pub mod Ready
 pub mod Spans
 pub mod Flags

@@ -5,9 +5,10 @@ use Rattle.std.proofs.lemmas.Bool.{true≢false, false≢true, and_parts, or_cas
 use Rattle.index_model.specs.Actions.{Effect, Add, Remove, Shape, Action}
 use Rattle.index_model.specs.Calls.{Ask, AskInsert, AskScan, AskBulkDelete, AskCleanup, Added as EndsAdded, Failed, Call}
 use Rattle.index_model.specs.Faults.{Circumstances, HasCause}
+use Rattle.index_model.specs.Row.{Row}
 use Rattle.index_model.specs.declared.entry.Entry.{Entry}
 use Rattle.index_model.specs.declared.fault.Fault.{Fault}
-use Rattle.index_model.specs.declared.fault.Fault.TheVariants.{NoMemory, Io, Stopped, Blocked, Exists, KeyTooLong, BadRow, IndexFull, LogFull, NoFrame, VacuumRunning, NoSession, SessionBusy, BadSuper, BadVersion, LogDamaged, PageDamaged, BadLimits, TooTall, DeviceTooSmall}
+use Rattle.index_model.specs.declared.fault.Fault.TheVariants.{NoMemory, Io, Stopped, Blocked, Exists, KeyTooLong, BadRow, IndexFull, LogFull, NoFrame, VacuumRunning, NoSession, SessionBusy, BadSuper, BadVersion, LogDamaged, PageDamaged, BadLimits, TooTall, DeviceTooSmall, KeyExists}
 use Rattle.page_action.specs.Causes.{nothing_wrong, is_at_end, has_failed, where_forced}
 use Rattle.page_action.specs.States.{State}
 use Rattle.page_action.specs.declared.page_store.PageStore.{Ghosts}
@@ -63,6 +64,7 @@ refused_becomes (PageDamaged b) count call = refl
 refused_becomes BadLimits count call = refl
 refused_becomes TooTall count call = refl
 refused_becomes DeviceTooSmall count call = refl
+refused_becomes (KeyExists r) count call = refl
 
 -- no action is appended: so many there are then as before
 same_count : (effect : Option Effect) (count n : ℕ) → effect ≡ None → n ≡ act_count effect + count → count ≡ n
@@ -179,34 +181,35 @@ no_session : (s : Bool) (Fails : Fault → Type 0) → (s ≡ true → Fails Sto
 no_session s Fails stopped session fault h =
     one_of_few false s false true false Fails (record { device = λ k. absurd (false≢true k); stopped = stopped; vacuum = λ k. absurd (false≢true k); session = λ k. session; busy = λ k. absurd (false≢true k) }) fault h
 
--- what an insert leaves unfinished is never because its entry was there, nor because another session stands in the way
-not_there : (at : Circumstances) (fault : Fault) → HasCause (once_added at) fault → HasCause at fault × (fault ≢ Exists) × ((block : ℕ) → fault ≢ Blocked block)
-not_there at NoMemory h = (h, (λ e. cc), λ b e. cc)
-not_there at Io h = (h, (λ e. cc), λ b e. cc)
-not_there at Stopped h = (h, (λ e. cc), λ b e. cc)
+-- what an insert leaves unfinished is never because its entry or its key was there, nor because another session stands in the way
+not_there : (at : Circumstances) (fault : Fault) → HasCause (once_added at) fault → HasCause at fault × (fault ≢ Exists) × ((row : Row) → fault ≢ KeyExists row) × ((block : ℕ) → fault ≢ Blocked block)
+not_there at NoMemory h = (h, (λ e. cc), (λ r e. cc), λ b e. cc)
+not_there at Io h = (h, (λ e. cc), (λ r e. cc), λ b e. cc)
+not_there at Stopped h = (h, (λ e. cc), (λ r e. cc), λ b e. cc)
 not_there at (Blocked b) h = absurd (false≢true h)
 not_there at Exists h = absurd (false≢true h)
 not_there at KeyTooLong h = absurd h
 not_there at BadRow h = absurd h
-not_there at IndexFull h = (h, (λ e. cc), λ b e. cc)
-not_there at LogFull h = (h, (λ e. cc), λ b e. cc)
-not_there at NoFrame h = (h, (λ e. cc), λ b e. cc)
-not_there at VacuumRunning h = (h, (λ e. cc), λ b e. cc)
-not_there at NoSession h = (h, (λ e. cc), λ b e. cc)
-not_there at SessionBusy h = (h, (λ e. cc), λ b e. cc)
+not_there at IndexFull h = (h, (λ e. cc), (λ r e. cc), λ b e. cc)
+not_there at LogFull h = (h, (λ e. cc), (λ r e. cc), λ b e. cc)
+not_there at NoFrame h = (h, (λ e. cc), (λ r e. cc), λ b e. cc)
+not_there at VacuumRunning h = (h, (λ e. cc), (λ r e. cc), λ b e. cc)
+not_there at NoSession h = (h, (λ e. cc), (λ r e. cc), λ b e. cc)
+not_there at SessionBusy h = (h, (λ e. cc), (λ r e. cc), λ b e. cc)
 not_there at BadSuper h = absurd h
 not_there at BadVersion h = absurd h
 not_there at LogDamaged h = absurd h
-not_there at (PageDamaged b) h = (h, (λ e. cc), λ b e. cc)
+not_there at (PageDamaged b) h = (h, (λ e. cc), (λ r e. cc), λ b e. cc)
 not_there at BadLimits h = absurd h
-not_there at TooTall h = (h, (λ e. cc), λ b e. cc)
+not_there at TooTall h = (h, (λ e. cc), (λ r e. cc), λ b e. cc)
 not_there at DeviceTooSmall h = absurd h
+not_there at (KeyExists r) h = absurd (false≢true h)
 
 refused_for : (at : Circumstances) (Fails : Fault → Type 0) → ((fault : Fault) → HasCause at fault → Fails fault) → (answer : Answer) → IsCaused at answer → IsRefusedFor Fails answer
 refused_for at Fails fails Begun h = tt
 refused_for at Fails fails Going h = tt
 refused_for at Fails fails (Added action None) h = tt
-refused_for at Fails fails (Added action (Some fault)) h = let why = not_there at fault h in (fails fault why.0, why.1, why.2)
+refused_for at Fails fails (Added action (Some fault)) h = let why = not_there at fault h in (fails fault why.0, why.1, why.2, why.3)
 refused_for at Fails fails (Ready ready) h = tt
 refused_for at Fails fails Done h = tt
 refused_for at Fails fails (Finished stats) h = tt

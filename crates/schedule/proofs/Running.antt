@@ -58,7 +58,7 @@ pub event_goes : {S : Type 0} (g : Ghosts S) (laws : Laws g) (start : Entry → 
 event_goes g laws start event answer old new fits does = record {
   means = does.means;
   also = does.also;
-  crash = λ keeps. safe g laws start old new does.also.follows keeps.own (matches_of (fits_behind does)) (keeps_on g laws start old new does.also.follows does.also.grows fits.explains.count (matches_of (fits_behind does)) keeps);
+  crash = λ keeps. safe g laws start old new does.also.follows keeps.own (matches_of (fits_behind does)) (keeps_on g laws start old new does.also.follows does.also.quiet.limits does.also.grows fits.explains.count (matches_of (fits_behind does)) keeps);
 }
 
 -- one event is a run

@@ -14,6 +14,10 @@ use Rattle.schedule.specs.TheoremMoments.{Snapshot, snapshot_of}
 use Rattle.schedule.specs.TheoremRuns.{Fits}
 use Rattle.session_calls.specs.Slots.{slot_of, slot_vacuums}
 use Rattle.schedule.specs.Snapshots.{SlotRuns, SlotMatches, IsUnused, here_with, one_sweeps}
+use Rattle.schedule.specs.TheoremCrashes.{KeepsHistory}
+use Rattle.session_calls.specs.Sessions.{Matches}
+use Rattle.schedule.proofs.Keeping.{Laws, kept_at_start}
+use Rattle.schedule.proofs.Keys.{keys_at_end}
 use Rattle.schedule.proofs.Fitting.{fits_from, beyond_of, matches_of, running_of}
 
 -- what stands in a list of one thing
@@ -38,11 +42,22 @@ none_sweeps (suc n) = none_sweeps n
 no_starts : (st : State) → IsUnused st → StartsAreBelow st
 no_starts st unused start is = absurd (let none : Some start ≡ None = sym (ap (λ (o : Option (Option ℕ)). unwrap_or o None) is.is) ∙ (unused.idle is.session).number in cc)
 
+-- the pages of an unused store match no history
+unused_matches : (st : State) → IsUnused st → Matches st (entry_on_live_leaf st.pages) []
+unused_matches st unused = record { contents = λ e. refl; count = unused.acts; order = unused.order; starts = no_starts st unused }
+
+-- it keeps no history
+pub unused_keeps : {S : Type 0} (g : Ghosts S) (laws : Laws g) (store : S) (slots : List (Option Op)) (sets : DeadSets) → IsUnused (g.state store) → g.own store
+    → KeepsHistory g (entry_on_live_leaf (g.state store).pages) (snapshot_of (here_with store slots sets) [] [])
+unused_keeps g laws store slots sets unused own =
+    kept_at_start g laws (entry_on_live_leaf (g.state store).pages) (snapshot_of (here_with store slots sets) [] []) refl own (unused_matches (g.state store) unused)
+
 -- an unused store with empty slots is fitted by the contents of its pages
 pub unused_fits : {S : Type 0} (g : Ghosts S) (store : S) (slots : List (Option Op)) (sets : DeadSets) (n : ℕ) → slots ≡ replicate n None → IsUnused (g.state store)
     → Fits g (entry_on_live_leaf (g.state store).pages) (snapshot_of (here_with store slots sets) [] [])
 unused_fits {S} g store slots sets n is unused = fits_from (record {
-  matches = record { contents = λ e. refl; count = unused.acts; order = unused.order; starts = no_starts (g.state store) unused };
+  matches = unused_matches (g.state store) unused;
+  unique = λ asked k. keys_at_end (g.state store) (entry_on_live_leaf (g.state store).pages) [] (unused_matches (g.state store) unused) asked k (omega arith);
   running = λ session slot h. of session slot (in_replicate n None slot session (ap (λ (l : List (Option Op)). slice_get l session) (sym is) ∙ h));
   vacuums = record {
     alone = λ session other h k. absurd (let none : slot_vacuums (slot_of slots session) ≡ false = ap slot_vacuums (empty_at n session slots is) in cc);
@@ -76,6 +91,7 @@ module _ {S : Type 0} (g : Ghosts S) (start : Entry → Bool) (now : Snapshot S)
   pub fits_with : ((session set : ℕ) (op : BulkDeleteOp) → slice_get now.slots session ≡ Some (Some (Bulk set op)) → ⊥) → Fits g start now → Fits g start then
   fits_with without fits = fits_from (record {
     matches = (matches_of fits);
+    unique = fits.explains.unique;
     running = λ session slot h. same_slot session slot (λ set op is. without session set op (h ∙ ap Some is)) (running_of fits session slot h);
     vacuums = fits.invariant.vacuums;
     beyond = beyond_of fits;

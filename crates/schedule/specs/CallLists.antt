@@ -1,9 +1,10 @@
 -- Laws of the list of calls that tells of a moment: one running call a session, and calls that were refused as they began.
 use Rattle.std.specs.Prelude.{◌≡◌, ◌≢◌, ℕ, ◌<◌, Bool, [], ◌∷◌, ◌++◌, length}
 use Rattle.index_model.specs.Calls.{Ask, Failed, Call}
+use Rattle.index_model.specs.Row.{Row}
 use Rattle.index_model.specs.declared.entry.Entry.{Entry}
 use Rattle.index_model.specs.declared.fault.Fault.{Fault}
-use Rattle.index_model.specs.declared.fault.Fault.TheVariants.{Exists}
+use Rattle.index_model.specs.declared.fault.Fault.TheVariants.{Exists, KeyExists}
 use Rattle.page_action.specs.declared.page_store.PageStore.{Ghosts}
 use Rattle.session_calls.specs.Sessions.{ended}
 use Rattle.session_calls.specs.TheoremCalls.{begun_call}
@@ -25,8 +26,8 @@ OneCallRuns {S} g =
     → IsRunningCall now.calls session other another → other ≡ number
 
 -- What fits a moment fits with a call more that was refused as it began, in a session that is there. That isn't said of
--- `Exists`, with which no beginning is refused.
+-- `Exists` and of `KeyExists`, with which no beginning is refused.
 abbrev pub RefusedCallsFit : {S : Type 0} → Ghosts S → Type 0
 RefusedCallsFit {S} g =
     (start : Entry → Bool) (now : Snapshot S) (session : ℕ) (ask : Ask) (fault : Fault) → Fits g start now → session < length now.slots → fault ≢ Exists
-    → Fits g start (with_call now (refused_call session ask fault (length now.history)))
+    → ((row : Row) → fault ≢ KeyExists row) → Fits g start (with_call now (refused_call session ask fault (length now.history)))

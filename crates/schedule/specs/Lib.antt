@@ -14,3 +14,4 @@ pub mod CallLists
 pub mod Ready
 pub mod Spans
 pub mod Numbers
+pub mod Keys

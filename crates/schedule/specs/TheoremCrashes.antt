@@ -1,23 +1,25 @@
 -- The theorem's words: what a crash at any moment leaves of a history.
-use Rattle.std.specs.Prelude.{◌≡◌, ℕ, ◌≤◌, Bool, List, length, take}
+use Rattle.std.specs.Prelude.{◌≡◌, ℕ, ◌≤◌, Bool, true, List, length, take}
 use Rattle.index_model.specs.Actions.{Action, contents_after}
 use Rattle.index_model.specs.declared.entry.Entry.{Entry}
 use Rattle.page_codec.specs.declared.page.Page.{Page}
 use Rattle.page_action.specs.Contents.{entry_on_live_leaf}
 use Rattle.page_action.specs.declared.page_store.PageStore.{Ghosts}
+use Rattle.tree_acts.specs.TheoremKeys.{AreKeyed}
 use Rattle.tree_acts.specs.TheoremTree.{IsTree}
 use Rattle.schedule.specs.TheoremMoments.{Snapshot}
 
--- the pages are a B-link tree whose contents are those after this history
-pub record ArePagesAfter (start : Entry → Bool) (history : List Action) (pages : List Page) : Type 0 where
+-- the pages are a B-link tree whose contents are those after this history; those of a unique index are keyed
+pub record ArePagesAfter (unique : Bool) (start : Entry → Bool) (history : List Action) (pages : List Page) : Type 0 where
   pub contents : (e : Entry) → entry_on_live_leaf pages e ≡ contents_after start history e
   pub tree : IsTree pages
+  pub keyed : unique ≡ true → AreKeyed pages
 
 -- nobody else wrote to the store's device; the pages after each first part of its acts are those after that part of the
 -- history; and no more acts are durable than the history has actions
 pub record KeepsHistory {S : Type 0} (g : Ghosts S) (start : Entry → Bool) (now : Snapshot S) : Type 0 where
   pub own : g.own now.store
-  pub parts : (part : ℕ) → part ≤ length now.history → ArePagesAfter start (take part now.history) (g.past now.store part)
+  pub parts : (part : ℕ) → part ≤ length now.history → ArePagesAfter (g.state now.store).limits.unique start (take part now.history) (g.past now.store part)
   pub durable : (g.backing now.store).durable ≤ length now.history
 
 -- these bytes restart to pages whose contents are those after a first part of the history, of at least so many actions
@@ -27,7 +29,7 @@ pub record RestartsToFirstPart {S : Type 0} (g : Ghosts S) (start : Entry → Bo
   pub to : part ≤ length now.history
   pub pages : List Page
   pub restarts : g.restarts now.store image pages
-  pub are : ArePagesAfter start (take part now.history) pages
+  pub are : ArePagesAfter (g.state now.store).limits.unique start (take part now.history) pages
 
 -- the history is kept still; and whatever a crash at some moment in between left restarts to a first part of it, with all
 -- the actions that were durable at the beginning

@@ -2,9 +2,10 @@
 use Rattle.std.specs.Prelude.{◌≡◌, ◌≢◌, ◌⊎◌, ℕ, suc, ◌≤◌, Bool, true, false, Option, Some, None, [], ◌∷◌, ◌++◌, length, slice_get, slice_set}
 use Rattle.index_model.specs.Actions.{Effect, Shape}
 use Rattle.index_model.specs.Calls.{Ask, AskInsert, AskCleanup, Call}
+use Rattle.index_model.specs.Row.{Row}
 use Rattle.index_model.specs.declared.entry.Entry.{Entry}
 use Rattle.index_model.specs.declared.fault.Fault.{Fault}
-use Rattle.index_model.specs.declared.fault.Fault.TheVariants.{Blocked, Exists}
+use Rattle.index_model.specs.declared.fault.Fault.TheVariants.{Blocked, Exists, KeyExists}
 use Rattle.page_action.specs.declared.page_store.PageStore.{Ghosts}
 use Rattle.page_codec.specs.declared.page.PageState.TheVariants.{Live, HalfDead, Deleted}
 use Rattle.tree_shape.specs.Nodes.{Node, nodes_of}
@@ -51,11 +52,11 @@ ShapeMoves (AskInsert e) (Some Shape) old new = ClearsOneSplit old new
 ShapeMoves AskCleanup (Some Shape) old new = DeletesOneLeaf old new
 ShapeMoves ask effect old new = Unit {0}
 
--- a refusal has this cause, and so has the fault of a split that an insert leaves unfinished, which is neither that its entry was there
--- nor that another session stands in the way
+-- a refusal has this cause, and so has the fault of a split that an insert leaves unfinished, which is neither that its entry or its key was
+-- there nor that another session stands in the way
 abbrev pub IsRefusedFor : (Fault → Type 0) → Answer → Type 0
 IsRefusedFor Fails (Refused fault) = Fails fault
-IsRefusedFor Fails (Added action (Some fault)) = Fails fault × (fault ≢ Exists) × ((block : ℕ) → fault ≢ Blocked block)
+IsRefusedFor Fails (Added action (Some fault)) = Fails fault × (fault ≢ Exists) × ((row : Row) → fault ≢ KeyExists row) × ((block : ℕ) → fault ≢ Blocked block)
 IsRefusedFor Fails answer = Unit {0}
 
 -- The session's running call goes on: one action at most is appended, which is its own, and the call is what the answer makes of it,

@@ -1,10 +1,11 @@
 -- The theorem's words: one moment of a store with its sessions, and when a history and a list of calls explain it.
-use Rattle.std.specs.Prelude.{◌≡◌, ℕ, ◌<◌, Bool, Option, Some, List, length, slice_get}
-use Rattle.index_model.specs.Actions.{Action, contents_after}
+use Rattle.std.specs.Prelude.{◌≡◌, ℕ, ◌<◌, Bool, true, Option, Some, List, length, slice_get}
+use Rattle.index_model.specs.Actions.{Action, contents_after, is_there_after, KeysDiffer}
 use Rattle.index_model.specs.Calls.{Running, Call, Meets, ActionsAreOwned}
 use Rattle.index_model.specs.declared.entry.Entry.{Entry}
 use Rattle.page_action.specs.Contents.{entry_on_live_leaf}
 use Rattle.page_action.specs.declared.page_store.PageStore.{Ghosts}
+use Rattle.tree_acts.specs.TheoremKeys.{AreKeyed}
 use Rattle.tree_acts.specs.TheoremTree.{IsTree}
 use Rattle.session_calls.specs.TheoremCalls.{DeadSets}
 use Rattle.session_calls.specs.declared.op.Op.{Op}
@@ -52,6 +53,9 @@ pub record Explains {S : Type 0} (g : Ghosts S) (start : Entry → Bool) (now : 
   pub count : (g.state now.store).acts ≡ length now.history
   -- the pages are a B-link tree
   pub tree : IsTree (g.state now.store).pages
+  -- on a unique index the pages are keyed, and no two entries that were there at one moment share a key
+  pub keyed : (g.state now.store).limits.unique ≡ true → AreKeyed (g.state now.store).pages
+  pub unique : (g.state now.store).limits.unique ≡ true → (k : ℕ) → KeysDiffer (is_there_after start now.history k)
   -- the calls without an end are those that the sessions run, one each
   pub running : (session : ℕ) → RunsOne now.slots session → HasOneCall now.calls session
   pub run : (session number : ℕ) (call : Call) → IsRunningCall now.calls session number call → RunsOne now.slots session

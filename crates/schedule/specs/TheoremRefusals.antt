@@ -1,8 +1,9 @@
 -- The theorem's words: why an event is refused.
 use Rattle.std.specs.Prelude.{◌≡◌, ◌≢◌, ◌⊎◌, ℕ, ◌+◌, ◌<◌, ◌≤◌, true, Some, length, map, slice_get, slice_index}
 use Rattle.index_model.specs.Calls.{Ask, AskInsert, AskScan, AskBulkDelete, AskCleanup, Call}
+use Rattle.index_model.specs.Row.{Row}
 use Rattle.index_model.specs.declared.fault.Fault.{Fault}
-use Rattle.index_model.specs.declared.fault.Fault.TheVariants.{Io, Stopped, Blocked, Exists, IndexFull, LogFull, NoFrame, VacuumRunning, NoSession, SessionBusy, TooTall}
+use Rattle.index_model.specs.declared.fault.Fault.TheVariants.{Io, Stopped, Blocked, Exists, IndexFull, LogFull, NoFrame, VacuumRunning, NoSession, SessionBusy, TooTall, KeyExists}
 use Rattle.latch_table.specs.Holdings.{Holding, Table, pinned_blocks}
 use Rattle.page_action.specs.Contents.{entry_on_live_leaf}
 use Rattle.page_action.specs.States.{State}
@@ -44,15 +45,18 @@ HasFullCount (Bulk set op) = (18446744073709551565 < op.left) ⊎ (1844674407370
 HasFullCount (Cleanup op) = (18446744073709551565 < op.left) ⊎ (op.cursor ≡ 4294967295) ⊎ (op.deleted ≡ 4294967295)
 
 -- Why a call that was asked this is refused at a move, or leaves a split unfinished. At a step: a device call failed in it; the log
--- failed before, or a count is at its end; another session stands in the way; the entry is there; no block can be had; no more than
--- four images, the most that a step writes, are promised, and the log has no room for four; four pages, the most that it looks at,
--- may be more than the frames that are not pinned; the root is on level 31. Asking for the next entry: the call is no scan.
+-- failed before, or a count is at its end; another session stands in the way; the entry is there, or on a unique index another of
+-- its key, whose row the fault names; no block can be had; no more than four images, the most that a step writes, are promised, and
+-- the log has no room for four; four pages, the most that it looks at, may be more than the frames that are not pinned; the root is
+-- on level 31. Asking for the next entry: the call is no scan.
 abbrev pub MoveFails : {S : Type 0} → Ghosts S → Move → ℕ → Ask → Op → Snapshot S → S → Fault → Type 0
 MoveFails g Steps session ask op old new Io = (g.backing old.store).failures < (g.backing new).failures
 MoveFails g Steps session ask op old new Stopped =
     ((g.backing old.store).stopped ≡ true) ⊎ ((g.state old.store).acts ≡ 18446744073709551615) ⊎ HasFullCount op
 MoveFails g Steps session ask op old new (Blocked block) = IsHeldByAnother (g.state old.store).table session ask block
 MoveFails g Steps session (AskInsert e) op old new Exists = entry_on_live_leaf (g.state old.store).pages e ≡ true
+MoveFails g Steps session (AskInsert e) op old new (KeyExists r) =
+    ((g.state old.store).limits.unique ≡ true) × (r ≢ e.row) × (entry_on_live_leaf (g.state old.store).pages (record { key = e.key; row = r }) ≡ true)
 MoveFails g Steps session (AskInsert e) op old new IndexFull = HasNoBlock (g.state old.store)
 MoveFails g Steps session (AskInsert e) op old new TooTall = 31 ≤ (nodes_of (g.state old.store).pages 0).level
 MoveFails g Steps session (AskScan range) op old new LogFull = ⊥

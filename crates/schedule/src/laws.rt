@@ -2,6 +2,7 @@
 
 ghost use Rattle.schedule.specs.Bounds.{WorkIsBounded};
 ghost use Rattle.schedule.specs.CallLists.{OneCallRuns, RefusedCallsFit};
+ghost use Rattle.schedule.specs.Keys.{AddedKeysAreNew};
 ghost use Rattle.schedule.specs.Numbers.{NumbersLeadOn};
 ghost use Rattle.schedule.specs.Ready.{ReadyMayComeNext};
 ghost use Rattle.schedule.specs.Spans.{LowsStay, CallsComeInTime, SplitsAreFinished, WorkIsSpent};
@@ -70,4 +71,10 @@ pub fn splits_are_finished<S: PageStore>()
 /// left to do for it.
 pub fn work_is_spent<S: PageStore>()
     ensures { WorkIsSpent S.PageStore }
+{}
+
+/// Does nothing: its clause says that where an insert added its entry to a unique index, no entry of its key was there just
+/// before. That two entries never share a key is said of each moment that fits.
+pub fn added_keys_are_new<S: PageStore>()
+    ensures { AddedKeysAreNew S.PageStore }
 {}

@@ -69,7 +69,7 @@ begun_others st session other differ = record {
 -- a cycle number is of the store alone
 cycled_order : (st : State) → IsInOrder st → IsInOrder (after_start_cycle st)
 cycled_order st order = record {
-  tree = record { tree = order.tree.tree; stored = order.tree.stored; counted = order.tree.counted; within = order.tree.within; lead = order.tree.lead };
+  tree = record { tree = order.tree.tree; stored = order.tree.stored; counted = order.tree.counted; within = order.tree.within; lead = order.tree.lead; unique = order.tree.unique };
   apart = order.apart;
   holdings = order.holdings;
   calls = order.calls;
@@ -217,7 +217,7 @@ few_from most pages session ToCleanup low few = cleanup_few most (length pages) 
 -- a request that its leaf can serve is due after so many steps
 due_from : (old : State) (session : ℕ) (request : Request) → NoneIsFlagged old.pages → IsServable old request
     → IsDueIn old (Some (op_before session request)) (root_level old.pages + steps_for request)
-due_from old session (ToInsert e) whole servable = record { steps_are = refl; whole = whole; way = tt; absent = servable.0; room = servable.1 }
+due_from old session (ToInsert e) whole servable = record { steps_are = refl; whole = whole; way = tt; absent = servable.0; key_absent = servable.1; room = servable.2 }
 due_from old session (ToScan range) whole servable = record { steps_are = refl; whole = whole; way = tt; none = refl }
 due_from old session (ToBulk set) whole servable = absurd servable
 due_from old session ToCleanup whole servable = absurd servable

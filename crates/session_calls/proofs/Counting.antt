@@ -7,6 +7,7 @@ use Rattle.index_model.specs.declared.format.Format.{Format}
 use Rattle.page_codec.specs.Edits.{entries_of}
 use Rattle.page_codec.specs.declared.page.Page.{Page}
 use Rattle.tree_shape.specs.Walks.{entry_aim, frontier_aim}
+use Rattle.page_action.specs.Causes.{with_row}
 use Rattle.page_action.specs.Contents.{entry_on_live_leaf}
 use Rattle.page_action.specs.States.{State}
 use Rattle.tree_shape.specs.Nodes.{nodes_of, node_from}
@@ -25,9 +26,9 @@ use Rattle.scan.specs.Straight.{straight_steps as scan_steps, IsStraight as IsOn
 use Rattle.scan.specs.declared.steps.ScanAt.{ScanAt}
 use Rattle.scan.specs.declared.steps.ScanAt.TheVariants.{Start as ScanStart, At as ScanReads, Last}
 use Rattle.scan.specs.declared.steps.ScanOp.{ScanOp}
-use Rattle.session_calls.specs.Due.{InsertIsDue, ScanIsDue, IsDueIn, IsHindered, CountsDown}
+use Rattle.session_calls.specs.Due.{IsKeyAbsent, InsertIsDue, ScanIsDue, IsDueIn, IsHindered, CountsDown}
 use Rattle.index_model.specs.declared.fault.Fault.{Fault}
-use Rattle.index_model.specs.declared.fault.Fault.TheVariants.{NoMemory, Io, Stopped, Blocked, Exists, KeyTooLong, BadRow, IndexFull, LogFull, NoFrame, VacuumRunning, NoSession, SessionBusy, BadSuper, BadVersion, LogDamaged, PageDamaged, BadLimits, TooTall, DeviceTooSmall}
+use Rattle.index_model.specs.declared.fault.Fault.TheVariants.{NoMemory, Io, Stopped, Blocked, Exists, KeyTooLong, BadRow, IndexFull, LogFull, NoFrame, VacuumRunning, NoSession, SessionBusy, BadSuper, BadVersion, LogDamaged, PageDamaged, BadLimits, TooTall, DeviceTooSmall, KeyExists}
 use Rattle.session_calls.specs.Sessions.{OnlyOwnAreFlagged, LeavesOwnFlagged}
 use Rattle.session_calls.specs.declared.answer.Answer.{Answer}
 use Rattle.session_calls.specs.declared.answer.Answer.TheVariants.{Begun, Going, Added, Ready, Done, Finished, Gave, Ended, Forced, Flushed, Checkpointed, Refused}
@@ -60,6 +61,11 @@ scan_way_still old new frontier ScanStart same h = tt
 scan_way_still old new frontier (ScanReads way) same h = cover_still old new way.level (frontier_aim frontier) way.block same h
 scan_way_still old new frontier Last same h = absurd h
 
+-- a key that isn't there is so still
+key_still : (old new : State) (e : Entry) → new.limits ≡ old.limits → new.pages ≡ old.pages → IsKeyAbsent old e → IsKeyAbsent new e
+key_still old new e limits same absent =
+    λ unique r. ap (λ (ps : List Page). entry_on_live_leaf ps (with_row e r)) same ∙ absent (ap (λ (f : Format). f.unique) (sym limits) ∙ unique) r
+
 -- a call that is due stays so while pages and limits are as they were
 pub due_still : (old new : State) (slot : Option Op) (steps : ℕ) → new.limits ≡ old.limits → new.pages ≡ old.pages → IsDueIn old slot steps → IsDueIn new slot steps
 due_still old new None steps limits same due = absurd due
@@ -70,6 +76,7 @@ due_still old new (Some (Insert op)) steps limits same due = record {
   whole = subst NoneIsFlagged (sym same) due.whole;
   way = insert_way_still old new op.entry op.at same due.way;
   absent = ap (λ (ps : List Page). entry_on_live_leaf ps op.entry) same ∙ due.absent;
+  key_absent = key_still old new op.entry limits same due.key_absent;
   room = room_still old new op.entry limits same due.room;
 }
 due_still old new (Some (Scan op)) steps limits same due = record {
@@ -127,6 +134,7 @@ insert_counts old new before after left due same step way fewer =
           whole = subst NoneIsFlagged (sym pages) due.whole;
           way = way;
           absent = ap (λ (ps : List Page). entry_on_live_leaf ps after.entry) pages ∙ ap (entry_on_live_leaf old.pages) same ∙ due.absent;
+          key_absent = key_still old new after.entry step.does.limits pages (subst (IsKeyAbsent old) (sym same) due.key_absent);
           room = room_still old new after.entry step.does.limits pages (subst (λ (e : Entry). HasRoomFor old e) (sym same) due.room);
         };
       },
@@ -196,6 +204,7 @@ hindered_over old mid new steps (PageDamaged b) h = h
 hindered_over old mid new steps BadLimits h = h
 hindered_over old mid new steps TooTall h = h
 hindered_over old mid new steps DeviceTooSmall h = h
+hindered_over old mid new steps (KeyExists r) h = h
 
 pub counts_over : (old mid new : State) (before : Option Op) (left : ℕ) (answer : Answer) → CountsDown old mid before None left answer → CountsDown old new before None left answer
 counts_over old mid new before left Going h = absurd h.1.due

@@ -263,4 +263,4 @@ module _ {sets : DeadSets} (old new : State) (first second : Backing) (start : E
       → OpGoes at_op old new sets start history number call (Bulk set after) (Refused fault)
   bulk_is_refused fault stays cause =
       step_is_refused at_op old new start history number call (Bulk set before) (Bulk set after) fits session refl fault stays.state
-      (ap (λ (op : BulkDeleteOp). Bulk set op) stays.op) cause (λ ends. refl) (λ e asks there. absurd cc)
+      (ap (λ (op : BulkDeleteOp). Bulk set op) stays.op) cause (λ ends. refl) (λ e asks there. absurd cc) (λ e asks r there. absurd cc)

@@ -201,7 +201,7 @@ ended_idle session st low order =
 -- that no bulk delete runs any more, is of the cycle number alone
 stopped_order : (st : State) → IsInOrder st → IsInOrder (after_stop_cycle st)
 stopped_order st order = record {
-  tree = record { tree = order.tree.tree; stored = order.tree.stored; counted = order.tree.counted; within = order.tree.within; lead = order.tree.lead };
+  tree = record { tree = order.tree.tree; stored = order.tree.stored; counted = order.tree.counted; within = order.tree.within; lead = order.tree.lead; unique = order.tree.unique };
   apart = order.apart;
   holdings = order.holdings;
   calls = order.calls;

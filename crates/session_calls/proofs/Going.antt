@@ -2,10 +2,13 @@
 use Rattle.std.proofs.Common.{◌≡◌, ◌≢◌, ℕ, suc, ◌+◌, ◌<◌, Bool, true, false, if◌then◌else◌, Option, Some, None, List, [], ◌++◌, length, refl, sym, ap, subst, ◌∙◌}
 use Rattle.std.proofs.lemmas.List.{append-nil}
 use Rattle.index_model.specs.Actions.{Effect, Action, contents_after}
-use Rattle.index_model.specs.Calls.{Ask, AskInsert, Running, Added as EndsAdded, GivenUp, Failed, Call, InsertMayFail, Meets}
+use Rattle.index_model.specs.Calls.{Ask, AskInsert, AskScan, Running, Added as EndsAdded, GivenUp, Failed, Call, InsertMayFail, Meets}
 use Rattle.index_model.specs.Faults.{Circumstances, HasCause}
+use Rattle.index_model.specs.Row.{Row}
 use Rattle.index_model.specs.declared.entry.Entry.{Entry}
 use Rattle.index_model.specs.declared.fault.Fault.{Fault}
+use Rattle.index_model.specs.declared.range.Range.{Range}
+use Rattle.page_action.specs.Causes.{with_row, other_row_is_there}
 use Rattle.page_action.specs.Contents.{entry_on_live_leaf}
 use Rattle.page_action.specs.States.{State}
 use Rattle.descent.proofs.Acting.{nothing_else}
@@ -21,7 +24,11 @@ use Rattle.session_calls.specs.declared.op.Op.TheVariants.{Insert, Scan, Bulk, C
 use Rattle.page_action.specs.Causes.{nothing_wrong}
 use Rattle.session_calls.proofs.Telling.{told_same}
 use Rattle.session_calls.proofs.Effects.{works_nothing, matches_after, started_after, pages_stay, go_shape, go_pinned, go_matches, go_others, go_idle, go_limits, go_frames, go_pages, go_leaves, go_cycle, cycle_stays}
-use Rattle.session_calls.proofs.Meeting.{grown, began_before, meets_noted, meets_failed, meets_given_up, meets_ended_added, there_at_present}
+use Rattle.session_calls.proofs.Meeting.{grown, began_before, meets_noted, meets_failed, meets_given_up, meets_ended_added, there_at_present, other_row_is}
+
+-- a scan was asked for no insert
+pub scans_insert_none : (range : Range) (e : Entry) → AskScan range ≡ AskInsert e → ⊥
+scans_insert_none range e asks = cc
 
 -- a step of an operation is an event of its session; where its answer is the last, what the session held is let go
 module _ {sets : DeadSets} (at : Circumstances) (old mid new : State) (start : Entry → Bool) (history : List Action) (number : ℕ) (call : Call) (before op : Op) (answer : Answer)
@@ -235,14 +242,20 @@ module _ {sets : DeadSets} (at : Circumstances) (old new : State) (start : Entry
   -- one that is refused
   pub step_is_refused : (fault : Fault) → new ≡ old → after ≡ before → HasCause at fault → (ends_call fault ≡ true → add_of before ≡ None)
       → ((e : Entry) → asked_of sets before ≡ AskInsert e → at.entry_was_there ≡ true → entry_on_live_leaf old.pages e ≡ true)
+      → ((e : Entry) → asked_of sets before ≡ AskInsert e → (r : Row) → at.key_was_there r ≡ true → other_row_is_there old e r ≡ true)
       → OpGoes at old new sets start history number call after (Refused fault)
-  step_is_refused fault same same_op cause none there = by_end (ends_call fault) refl
+  step_is_refused fault same same_op cause none there other = by_end (ends_call fault) refl
     where
       may : ends_call fault ≡ true → (e : Entry) → call.ask ≡ AskInsert e → (call.added ≡ None) × InsertMayFail start history call.began (length history) e fault
       may ends e asked = (
         fits.runs.added ∙ none ends,
-        λ is. there_at_present old start history call.began e fits.world (began_before start history number call fits.meets fits.running)
-            (there e (sym fits.runs.ask ∙ asked) (subst (λ (f : Fault). HasCause at f) is cause)),
+        (
+          λ is. there_at_present old start history call.began e fits.world (began_before start history number call fits.meets fits.running)
+              (there e (sym fits.runs.ask ∙ asked) (subst (λ (f : Fault). HasCause at f) is cause)),
+          λ r is.
+              let key = other_row_is old e r (other e (sym fits.runs.ask ∙ asked) r (subst (λ (f : Fault). HasCause at f) is cause)) in
+              (key.1, there_at_present old start history call.began (with_row e r) fits.world (began_before start history number call fits.meets fits.running) key.2),
+        ),
       )
 
       works : Works call.session call.ask None old new

@@ -3,7 +3,7 @@ use Rattle.std.proofs.Common.{◌≡◌, ℕ, suc, Bool, true, false, nat_le, sy
 use Rattle.std.proofs.lemmas.Bool.{and_parts}
 use Rattle.index_model.specs.Faults.{HasCause}
 use Rattle.index_model.specs.declared.fault.Fault.{Fault}
-use Rattle.index_model.specs.declared.fault.Fault.TheVariants.{NoMemory, Io, Stopped, Blocked, Exists, KeyTooLong, BadRow, IndexFull, LogFull, NoFrame, VacuumRunning, NoSession, SessionBusy, BadSuper, BadVersion, LogDamaged, PageDamaged, BadLimits, TooTall, DeviceTooSmall}
+use Rattle.index_model.specs.declared.fault.Fault.TheVariants.{NoMemory, Io, Stopped, Blocked, Exists, KeyTooLong, BadRow, IndexFull, LogFull, NoFrame, VacuumRunning, NoSession, SessionBusy, BadSuper, BadVersion, LogDamaged, PageDamaged, BadLimits, TooTall, DeviceTooSmall, KeyExists}
 use Rattle.page_action.specs.States.{State, Backing}
 use Rattle.descent.specs.Shared.{IsInOrder, is_out_of_blocks}
 use Rattle.descent.specs.Ways.{root_level}
@@ -14,6 +14,7 @@ use Rattle.session_calls.specs.Due.{InsertIsDue, IsHindered}
 use Rattle.session_calls.specs.Sessions.{slot_after}
 use Rattle.session_calls.specs.declared.answer.Answer.TheVariants.{Refused}
 use Rattle.session_calls.specs.declared.op.Op.TheVariants.{Insert}
+use Rattle.session_calls.proofs.Meeting.{other_row_is}
 
 -- what isn't so can't be so
 not_so : {b : Bool} → b ≡ false → b ≡ true → ⊥
@@ -41,6 +42,7 @@ insert_hindered old new first second before after left fault order fits due stay
     by IndexFull h = absurd (not_so none.0 (and_parts (takes_block_at old before.at) (is_out_of_blocks old) h).0)
     by TooTall h = absurd (not_so none.1 (and_parts (splits_root_at old before.at) (nat_le 31 (root_level old.pages)) h).0)
     by Exists h = absurd (not_so due.absent h)
+    by (KeyExists r) h = absurd (let other = other_row_is old before.entry r h in not_so (due.key_absent other.0 r) other.2)
     by NoMemory h = absurd cc
     by VacuumRunning h = absurd cc
     by NoSession h = absurd cc

@@ -5,7 +5,8 @@ use Rattle.index_model.specs.Calls.{Ask, AskInsert, Call}
 use Rattle.index_model.specs.Faults.{Circumstances, HasCause}
 use Rattle.index_model.specs.declared.entry.Entry.{Entry}
 use Rattle.index_model.specs.declared.fault.Fault.{Fault}
-use Rattle.index_model.specs.declared.fault.Fault.TheVariants.{NoMemory, Io, Stopped, Blocked, Exists, KeyTooLong, BadRow, IndexFull, LogFull, NoFrame, VacuumRunning, NoSession, SessionBusy, BadSuper, BadVersion, LogDamaged, PageDamaged, BadLimits, TooTall, DeviceTooSmall}
+use Rattle.index_model.specs.declared.fault.Fault.TheVariants.{NoMemory, Io, Stopped, Blocked, Exists, KeyTooLong, BadRow, IndexFull, LogFull, NoFrame, VacuumRunning, NoSession, SessionBusy, BadSuper, BadVersion, LogDamaged, PageDamaged, BadLimits, TooTall, DeviceTooSmall, KeyExists}
+use Rattle.page_action.specs.Causes.{other_row_is_there}
 use Rattle.page_action.specs.Contents.{entry_on_live_leaf}
 use Rattle.page_action.specs.States.{State, Backing}
 use Rattle.descent.specs.Steps.{Changes}
@@ -43,6 +44,7 @@ blocked_goes_on (PageDamaged b) h ends = cc
 blocked_goes_on BadLimits h ends = cc
 blocked_goes_on TooTall h ends = cc
 blocked_goes_on DeviceTooSmall h ends = cc
+blocked_goes_on (KeyExists r) h ends = cc
 
 -- an insert whose entry is logged isn't ended by a refusal
 pub none_logged : (added : Option ℕ) (fault : Fault) → IsRefusedRightly added (Err fault) → ends_call fault ≡ true → added ≡ None
@@ -100,3 +102,4 @@ module _ {sets : DeadSets} (old new : State) (first second : Backing) (start : E
       step_is_refused at_op old new start history number call (Insert before) (Insert after) fits session (ap AskInsert entry) fault stays.state
       (ap Insert stays.op) cause (none_logged before.added fault rightly)
       (λ e asks there. (let same : before.entry ≡ e = cc in subst (λ (x : Entry). entry_on_live_leaf old.pages x ≡ true) same there))
+      (λ e asks r there. (let same : before.entry ≡ e = cc in subst (λ (x : Entry). other_row_is_there old x r ≡ true) same there))

@@ -1,10 +1,15 @@
 -- What a running call means still holds behind an event of its own, and what it means when it ends.
-use Rattle.std.proofs.Common.{◌≡◌, ℕ, suc, ◌+◌, ◌≤◌, Bool, true, false, Option, Some, None, List, [], ◌∷◌, ◌++◌, length, refl, sym, ap, subst, ◌∙◌, arith, length-append}
+use Rattle.std.proofs.Common.{◌≡◌, ◌≢◌, ℕ, suc, ◌+◌, ◌≤◌, Bool, true, false, not, ◌&&◌, Option, Some, None, List, [], ◌∷◌, ◌++◌, length, inl, inr, refl, sym, ap, subst, ◌∙◌, arith, length-append}
+use Rattle.std.proofs.lemmas.Bool.{and_parts, cases_Bool}
 use Rattle.index_model.specs.Actions.{Effect, Add, Remove, Shape, Action, contents_after, ThereAtSomeMoment}
 use Rattle.index_model.specs.Calls.{Ask, AskInsert, AskScan, AskBulkDelete, AskCleanup, Ending, Running, Added as EndsAdded, GivenUp, Failed, Call, AnswersRight, InsertMayFail, IsAdded, IsInsertAnswer, end_of, Meets}
+use Rattle.index_model.specs.Order.{same_entry}
+use Rattle.index_model.specs.Row.{Row}
 use Rattle.index_model.specs.declared.entry.Entry.{Entry}
 use Rattle.index_model.specs.declared.fault.Fault.{Fault}
+use Rattle.index_model.proofs.Ascending.{same_entry-is, same_entry-self}
 use Rattle.index_model.proofs.Histories.{meets_later, there_before, there_now}
+use Rattle.page_action.specs.Causes.{with_row, other_row_is_there}
 use Rattle.page_action.specs.Contents.{entry_on_live_leaf}
 use Rattle.page_action.specs.States.{State}
 use Rattle.session_calls.specs.TheoremCalls.{acts_of}
@@ -97,6 +102,30 @@ module _ (start : Entry → Bool) (history : List Action) (number : ℕ) (call :
         until = omega arith;
         right = subst (λ (a : Ask). AnswersRight start history number call.began (length history) a call.given call.added (EndsAdded action unfinished)) (sym ask) answer;
       }
+
+-- where another row of a key is there, the index is unique, the row is another, and its entry is there
+pub other_row_is : (st : State) (e : Entry) (r : Row) → other_row_is_there st e r ≡ true
+    → (st.limits.unique ≡ true) × (r ≢ e.row) × (entry_on_live_leaf st.pages (with_row e r) ≡ true)
+other_row_is st e r h =
+    let both = and_parts st.limits.unique (not (same_entry (with_row e r) e) && entry_on_live_leaf st.pages (with_row e r)) h in
+    let parts = and_parts (not (same_entry (with_row e r) e)) (entry_on_live_leaf st.pages (with_row e r)) both.1 in
+    (both.0, (λ same. itself same parts.0), parts.1)
+  where
+    itself : r ≡ e.row → not (same_entry (with_row e r) e) ≡ true → ⊥
+    itself same apart =
+        let is : same_entry (with_row e r) e ≡ true = subst (λ (w : Row). same_entry (with_row e w) e ≡ true) (sym same) (same_entry-self e) in
+        let none : not true ≡ true = subst (λ (b : Bool). not b ≡ true) is apart in cc
+
+-- the entry of another row of its key is another entry
+apart_rows : (e : Entry) (r : Row) → r ≢ e.row → same_entry (with_row e r) e ≡ false
+apart_rows e r differ = elim (cases_Bool (same_entry (with_row e r) e)) [
+  | inl is ↦ absurd (differ (ap (λ (x : Entry). x.row) (same_entry-is (with_row e r) e is)))
+  | inr is ↦ is
+]
+
+-- ... and the other way round
+pub other_row_so : (st : State) (e : Entry) (r : Row) → st.limits.unique ≡ true → r ≢ e.row → entry_on_live_leaf st.pages (with_row e r) ≡ true → other_row_is_there st e r ≡ true
+other_row_so st e r unique differ there = rw unique (rw (apart_rows e r differ) there)
 
 -- an entry that the pages hold now was there at some moment
 pub there_at_present : (st : State) (start : Entry → Bool) (history : List Action) (began : ℕ) (e : Entry) → Matches st start history → began ≤ length history → entry_on_live_leaf st.pages e ≡ true → ThereAtSomeMoment start history began (length history) e

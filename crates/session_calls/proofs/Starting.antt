@@ -53,6 +53,7 @@ tree_begun st session within has = record {
         ))
     | inr n ↦ has.lead start (record { session = is.session; is = sym (get_set_other {A = Option ℕ} st.running session is.session (Some st.begun) n) ∙ is.is })
   ];
+  unique = has.unique;
 }
 
 -- ... and when one ends
@@ -70,4 +71,5 @@ tree_ended st session within has = record {
         absurd cc)
     | inr n ↦ has.lead start (record { session = is.session; is = sym (get_set_other {A = Option ℕ} st.running session is.session None n) ∙ is.is })
   ];
+  unique = has.unique;
 }

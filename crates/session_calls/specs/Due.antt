@@ -1,7 +1,10 @@
 -- How many more steps a call makes until it answers, while the pages stay as they are.
-use Rattle.std.specs.Prelude.{◌≡◌, ℕ, suc, ◌+◌, ◌<◌, false, Option, Some, None, []}
+use Rattle.std.specs.Prelude.{◌≡◌, ℕ, suc, ◌+◌, ◌<◌, true, false, Option, Some, None, []}
+use Rattle.index_model.specs.Row.{Row}
+use Rattle.index_model.specs.declared.entry.Entry.{Entry}
 use Rattle.index_model.specs.declared.fault.Fault.{Fault}
 use Rattle.index_model.specs.declared.fault.Fault.TheVariants.{Io, Stopped, Blocked, LogFull, NoFrame}
+use Rattle.page_action.specs.Causes.{with_row}
 use Rattle.page_action.specs.Contents.{entry_on_live_leaf}
 use Rattle.page_action.specs.States.{State}
 use Rattle.descent.specs.Ways.{root_level, NoneIsFlagged}
@@ -18,12 +21,19 @@ use Rattle.session_calls.specs.declared.request.Request.{Request}
 use Rattle.session_calls.specs.declared.request.Request.TheVariants.{Insert as ToInsert, Scan as ToScan, Bulk as ToBulk, Cleanup as ToCleanup}
 use Rattle.session_calls.specs.Sessions.{work_in}
 
--- no page is flagged, the entry isn't there, its leaf has room, the insert is on its way: after so many steps it is added
+-- on a unique index: no entry of this one's key is there
+abbrev pub IsKeyAbsent : State → Entry → Type 0
+IsKeyAbsent st e =
+    st.limits.unique ≡ true → (r : Row) → entry_on_live_leaf st.pages (with_row e r) ≡ false
+
+-- no page is flagged, neither the entry nor, on a unique index, its key is there, its leaf has room, the insert is on its
+-- way: after so many steps it is added
 pub record InsertIsDue (st : State) (op : InsertOp) (steps : ℕ) : Type 0 where
   pub steps_are : steps ≡ insert_steps st.pages op.at
   pub whole : NoneIsFlagged st.pages
   pub way : IsOnEntryWay st op.entry op.at
   pub absent : entry_on_live_leaf st.pages op.entry ≡ false
+  pub key_absent : IsKeyAbsent st op.entry
   pub room : HasRoomFor st op.entry
 
 -- no page is flagged, nothing waits, the scan is on its way: after so many steps entries are ready
@@ -78,9 +88,10 @@ steps_for (ToScan range) = 2
 steps_for (ToBulk set) = 0
 steps_for ToCleanup = 0
 
--- a request that its leaf can serve at once: of an insert, the entry isn't there, and its leaf has room
+-- a request that its leaf can serve at once: of an insert, neither the entry nor, on a unique index, its key is there, and
+-- its leaf has room
 abbrev pub IsServable : State → Request → Type 0
-IsServable st (ToInsert e) = (entry_on_live_leaf st.pages e ≡ false) × HasRoomFor st e
+IsServable st (ToInsert e) = (entry_on_live_leaf st.pages e ≡ false) × IsKeyAbsent st e × HasRoomFor st e
 IsServable st (ToScan range) = Unit {0}
 IsServable st (ToBulk set) = ⊥
 IsServable st ToCleanup = ⊥

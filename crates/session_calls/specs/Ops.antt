@@ -192,10 +192,14 @@ abbrev pub IsFaultCaused : Circumstances → Option Fault → Type 0
 IsFaultCaused at None = Unit {0}
 IsFaultCaused at (Some fault) = HasCause at fault
 
--- the circumstances of an insert whose entry is logged: none of them is that the entry was there, or that another session
+-- the circumstances of an insert whose entry is logged: none of them is that the entry or its key was there, or that another session
 -- holds a page
 abbrev pub once_added : Circumstances → Circumstances
-once_added at = record at { is_held_by_another = λ b. false; entry_was_there = false }
+once_added at = record at {
+  is_held_by_another = λ b. false;
+  entry_was_there = false;
+  key_was_there = λ r. false;
+}
 
 -- a refusal has its cause, and so has the fault of a split that an insert leaves unfinished
 abbrev pub IsCaused : Circumstances → Answer → Type 0

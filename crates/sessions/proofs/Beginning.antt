@@ -139,7 +139,7 @@ module _ {S : Type 0} (g : Ghosts S) (laws : Laws g) (jobs : List Job) (stood ke
           (keeps_refused g jobs contents acts calls (kept_then contents acts calls) w v sets start pending records k later.durable s p job a.request f.0 idle is a.asks (from ∙ k.fit.explains.count) seen given
           (begins_settled g w.store (one_vacuums w.slots) w.sets a.request (slice_get w.slots s) f.0
           (subst (λ (x : Answer). IsCaused (where_begun_at g w.store (one_vacuums w.slots) w.sets a.request (slice_get w.slots s)) x) f.1 (subst (λ (kd : Kind). EventAlways g kd answer w v) a.kind always).causes))
-          (law contents (snapshot_of v k.history k.calls) s (asked_by w.sets a.request) f.0 fits within t.not_exists)
+          (law contents (snapshot_of v k.history k.calls) s (asked_by w.sets a.request) f.0 fits within t.not_exists t.not_key_exists)
           (λ h. (let kept = keeps h in record { own = kept.own; parts = kept.parts; durable = kept.durable })))
       by (inr a) =
           let k = all (later.honest honest) contents acts calls so in

@@ -4,7 +4,7 @@ use Rattle.std.proofs.lemmas.Bool.{ltb-true, lt-ltb}
 use Rattle.std.specs.Prelude.{OnErr}
 use Rattle.index_model.specs.Faults.{HasCause}
 use Rattle.index_model.specs.declared.fault.Fault.{Fault}
-use Rattle.index_model.specs.declared.fault.Fault.TheVariants.{NoMemory, Io, Stopped, Blocked, Exists, KeyTooLong, BadRow, IndexFull, LogFull, NoFrame, VacuumRunning, NoSession, SessionBusy, BadSuper, BadVersion, LogDamaged, PageDamaged, BadLimits, TooTall, DeviceTooSmall}
+use Rattle.index_model.specs.declared.fault.Fault.TheVariants.{NoMemory, Io, Stopped, Blocked, Exists, KeyTooLong, BadRow, IndexFull, LogFull, NoFrame, VacuumRunning, NoSession, SessionBusy, BadSuper, BadVersion, LogDamaged, PageDamaged, BadLimits, TooTall, DeviceTooSmall, KeyExists}
 use Rattle.page_action.specs.Causes.{is_at_end}
 use Rattle.page_action.specs.States.{State, Backing, Continues}
 use Rattle.page_action.specs.declared.page_store.PageStore.{Ghosts}
@@ -64,6 +64,7 @@ turn_cause st first third session target at LogDamaged h = h
 turn_cause st first third session target at (PageDamaged b) h = h
 turn_cause st first third session target at BadLimits h = h
 turn_cause st first third session target at DeviceTooSmall h = h
+turn_cause st first third session target at (KeyExists r) h = h
 
 going_done : Going ≡ Done → ⊥
 going_done e = cc
@@ -150,6 +151,7 @@ earlier_cause st first second third session target at BadVersion le alive promis
 earlier_cause st first second third session target at LogDamaged le alive promised h = h
 earlier_cause st first second third session target at BadLimits le alive promised h = h
 earlier_cause st first second third session target at DeviceTooSmall le alive promised h = h
+earlier_cause st first second third session target at (KeyExists r) le alive promised h = h
 
 -- what a step did behind its readings, it did from the start
 earlier_stepped : (old new : State) (first second third : Backing) (before after : FinishOp) (result : Result FinishStep Fault)

@@ -127,11 +127,16 @@ impl FinishOp {
         }
         let aim = Aim::Below(self.target.separator);
         match lead(page, &way, &aim, self.target.level + 1, most) {
-            Some(Onward::Going(on)) => self.at = FinishAt::Down(on),
-            Some(Onward::Here) => self.at = FinishAt::Link(way),
-            None => return Err(Fault::PageDamaged(way.block)),
+            Some(Onward::Going(on)) => {
+                self.at = FinishAt::Down(on);
+                Ok(FinishStep::Going)
+            }
+            Some(Onward::Here) => {
+                self.at = FinishAt::Link(way);
+                Ok(FinishStep::Going)
+            }
+            None => Err(Fault::PageDamaged(way.block)),
         }
-        Ok(FinishStep::Going)
     }
 
     // A flagged page on the way becomes a target.

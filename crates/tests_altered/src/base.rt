@@ -35,7 +35,7 @@ pub fn entry(i: u32) -> Entry {
 }
 
 /// An empty index of so many pages of four items, with the smallest log.
-fn empty(alloc: Global, pages: u32) -> Result<InMemory, Fault> {
+fn empty(alloc: Global, pages: u32, unique: bool) -> Result<InMemory, Fault> {
     let mut device = device(alloc, 69_632 + 4_096 * u64::from(pages))?;
     create(
         &mut device,
@@ -43,6 +43,7 @@ fn empty(alloc: Global, pages: u32) -> Result<InMemory, Fault> {
             items: 4,
             pages,
             log_bytes: 65_536,
+            unique,
         },
     )?;
     match open(alloc, device, FRAMES) {
@@ -73,17 +74,17 @@ fn fill_all(index: &mut InMemory) -> Result<(), Fault> {
     Ok(())
 }
 
-/// What a crash keeps of an index of three levels, behind a checkpoint and a commit: the last inserts stand in the log
-/// alone.
-pub fn sound(alloc: Global) -> Result<MemDevice, Fault> {
-    let mut index = empty(alloc, 32)?;
+/// What a crash keeps of an index of three levels, unique or not, behind a checkpoint and a commit: the last inserts stand in
+/// the log alone.
+pub fn sound(alloc: Global, unique: bool) -> Result<MemDevice, Fault> {
+    let mut index = empty(alloc, 32, unique)?;
     fill_all(&mut index)?;
     left(alloc, index)
 }
 
 /// An index of five entries, behind a checkpoint: the leaves 1 and 2 under the root 3.
 pub fn five(alloc: Global) -> Result<MemDevice, Fault> {
-    let mut index = empty(alloc, 16)?;
+    let mut index = empty(alloc, 16, false)?;
     for number in 1..6u8 {
         insert(
             &mut index,

@@ -56,7 +56,7 @@ fn run<R: Abort + Eprint + Files<File = File>>(
 
 #[test]
 fn three_levels(rt: HostRuntime) -> Result<(), Fail> {
-    let base = sound(rt.alloc())?;
+    let base = sound(rt.alloc(), false)?;
     let table = Table::new(61, 18);
     run(
         &rt,
@@ -84,7 +84,7 @@ fn five_entries(rt: HostRuntime) -> Result<(), Fail> {
 
 #[test]
 fn worse_edits(rt: HostRuntime) -> Result<(), Fail> {
-    let base = sound(rt.alloc())?;
+    let base = sound(rt.alloc(), false)?;
     let table = Table::new(63, 18);
     run(
         &rt,

@@ -18,7 +18,7 @@ fn of_three_levels<R: Abort + Eprint>(rt: &R, alloc: Global, from: u64) -> Resul
         from,
         to: from.saturating_add(5),
     };
-    run(rt, alloc, &sound(alloc)?, parts, 250)
+    run(rt, alloc, &sound(alloc, false)?, parts, 250)
 }
 
 /// Runs five parts of the table for the index of five entries, whose pages are of four blocks, and two behind them.
@@ -45,7 +45,7 @@ fn report_of(alloc: Global, base: MemDevice) -> Option<Report> {
 
 #[test]
 fn bases_are_sound(rt: HostRuntime) -> Result<(), Fail> {
-    let base = sound(rt.alloc())?;
+    let base = sound(rt.alloc(), false)?;
     assert!(rt; base.len() == LEN);
     assert!(rt;
         matches!(

@@ -1,7 +1,7 @@
-//! Whether pages are a B-link tree, by the definition and as plainly as it is said: no mark is kept, and each chain is looked
-//! through again for each of its pages.
+//! Whether pages are a B-link tree, and whether they are of a unique index, by the definition and as plainly as it is said: no
+//! mark is kept, and each chain is looked through again for each of its pages.
 
-use index_model::{Bound, Entry};
+use index_model::{Bound, Entry, Key};
 use page_codec::{Downlink, Items, Page, PageState};
 use std::alloc::{AllocError, Global};
 
@@ -270,6 +270,35 @@ fn are_levels(
 /// Whether no page but a deleted one is of a level above the root's.
 fn are_low(pages: &[Page], top: u32) -> bool {
     pages.iter().all(|page| page.state == PageState::Deleted || u32::from(page.level) <= top)
+}
+
+/// Whether the bound names a row.
+fn is_whole(bound: &Option<Bound>) -> bool {
+    match bound {
+        Some(bound) => bound.row.is_some(),
+        None => false,
+    }
+}
+
+/// Whether no entry has the key of the one before it.
+fn do_keys_differ(entries: &[Entry]) -> bool {
+    let mut before: Option<Key> = None;
+    for entry in entries {
+        if before == Some(entry.key) {
+            return false;
+        }
+        before = Some(entry.key);
+    }
+    true
+}
+
+/// Whether no bound of these pages names a row, and no two entries of one page have one key.
+pub fn are_unique(pages: &[Page]) -> bool {
+    pages.iter().all(|page| {
+        !is_whole(&page.high)
+            && !links_on(page).iter().any(|link| is_whole(&link.bound))
+            && do_keys_differ(entries_on(page))
+    })
 }
 
 /// Whether the pages are a B-link tree.

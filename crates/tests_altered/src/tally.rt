@@ -6,7 +6,7 @@ use crate::trial::Outcome;
 #[derive(Clone, Copy, Debug)]
 pub struct Tally {
     not_opened: u32,
-    damaged: [u32; 13],
+    damaged: [u32; 14],
     sound: u32,
 }
 
@@ -15,7 +15,7 @@ impl Tally {
     pub fn new() -> Tally {
         Tally {
             not_opened: 0,
-            damaged: [0; 13],
+            damaged: [0; 14],
             sound: 0,
         }
     }
@@ -25,7 +25,7 @@ impl Tally {
         match outcome {
             Outcome::NotOpened => self.not_opened = self.not_opened.saturating_add(1),
             Outcome::Damaged(number) => {
-                let number = usize::from(number % 13);
+                let number = usize::from(number % 14);
                 self.damaged[number] = self.damaged[number].saturating_add(1);
             }
             Outcome::Sound => self.sound = self.sound.saturating_add(1),

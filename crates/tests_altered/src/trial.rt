@@ -6,7 +6,7 @@ use crate::plain::{
     begin_scan, bulk_delete, checkpoint, clean_up, end_scan, index_over, insert, into_device,
     levels, next, open, page, parents,
 };
-use crate::plain_tree::is_tree;
+use crate::plain_tree::{are_unique, is_tree};
 use access_method::{Index, Inserted, ScanToken};
 use amcheck::{CheckFault, Report};
 use device::Device;
@@ -118,7 +118,7 @@ impl<S: PageStore> Trial<S> {
     /// Whether an insert may be refused with this.
     fn may_refuse(&self, fault: Fault) -> bool {
         match fault {
-            Fault::IndexFull | Fault::Exists => true,
+            Fault::IndexFull | Fault::Exists | Fault::KeyExists(_) => true,
             Fault::PageDamaged(_) | Fault::TooTall => self.entries.is_none(),
             _ => false,
         }
@@ -198,8 +198,8 @@ fn is_open_fault(fault: Fault) -> bool {
     )
 }
 
-/// Whether the pages of a store are a B-link tree by the definition.
-fn is_tree_in<S: PageStore>(alloc: Global, store: &mut S) -> Result<bool, Fault> {
+/// Whether the pages of a store are a B-link tree by the definition, and, if the index is unique, of such an index.
+fn is_sound_in<S: PageStore>(alloc: Global, store: &mut S) -> Result<bool, Fault> {
     let mut pages = Vec::new(alloc);
     for block in 0..store.used() {
         let found = page(store, block)?;
@@ -207,36 +207,54 @@ fn is_tree_in<S: PageStore>(alloc: Global, store: &mut S) -> Result<bool, Fault>
             return Err(Fault::NoMemory);
         }
     }
+    let fits = !store.format().unique || are_unique(pages.as_slice());
     match is_tree(alloc, pages.as_slice()) {
-        Ok(answer) => Ok(answer),
+        Ok(is_tree) => Ok(is_tree && fits),
         Err(_) => Err(Fault::NoMemory),
+    }
+}
+
+/// The report that a check answered.
+fn report_of(checked: &Result<Report, CheckFault>) -> Option<Report> {
+    match checked {
+        Ok(report) => Some(*report),
+        Err(_) => None,
+    }
+}
+
+/// The number and the block of the damage that a check answered.
+fn damage_of(checked: &Result<Report, CheckFault>) -> Option<(u8, u32)> {
+    match checked {
+        Err(CheckFault::Damage { number, block }) => Some((*number, *block)),
+        _ => None,
     }
 }
 
 /// What both checks answer: a report of the pages, or the number of a damage; None where one was refused, or where the check
 /// of levels alone answers another damage.
 fn checked<S: PageStore>(alloc: Global, store: &mut S) -> Option<Result<Report, u8>> {
-    match (levels(alloc, store), parents(alloc, store)) {
-        (Ok(first), Ok(second)) if first == second => Some(Ok(second)),
-        (Ok(_), Err(CheckFault::Damage { number, .. })) => Some(Err(number)),
-        (
-            Err(CheckFault::Damage { number, block }),
-            Err(
-                CheckFault::Damage {
-                    number: second,
-                    block: at,
-                },
-            ),
-        ) if number == second && block == at => Some(Err(number)),
-        _ => None,
+    let first = levels(alloc, store);
+    let second = parents(alloc, store);
+    if let Some(report) = report_of(&second) {
+        return if report_of(&first) == Some(report) {
+            Some(Ok(report))
+        } else {
+            None
+        };
+    }
+    let damage = damage_of(&second)?;
+    if report_of(&first).is_some() || damage_of(&first) == Some(damage) {
+        Some(Err(damage.0))
+    } else {
+        None
     }
 }
 
 /// What both checks answer, where the definition says the same of the pages: None where something went wrong.
 fn verified<S: PageStore>(alloc: Global, store: &mut S) -> Option<Result<Report, u8>> {
     let found = checked(alloc, store)?;
-    match is_tree_in(alloc, store) {
-        Ok(is_tree) if is_tree == found.is_ok() => Some(found),
+    match is_sound_in(alloc, store) {
+        Ok(is_sound) if is_sound == found.is_ok() => Some(found),
         _ => None,
     }
 }
@@ -303,7 +321,13 @@ fn tried_in<D: Device + Drop>(alloc: Global, store: Store<D>) -> Outcome {
 pub fn tried<D: Device + Drop>(alloc: Global, device: D) -> Outcome {
     match open(alloc, device, FRAMES) {
         Ok(store) => tried_in(alloc, store),
-        Err(refused) if is_open_fault(refused.fault) => Outcome::NotOpened,
-        Err(_) => Outcome::Wrong("an open"),
+        Err(refused) => {
+            let fault = refused.fault;
+            if is_open_fault(fault) {
+                Outcome::NotOpened
+            } else {
+                Outcome::Wrong("an open")
+            }
+        }
     }
 }

@@ -19,6 +19,9 @@ const PAGES: [u32; 4] = [7, 8, 16, 65_536];
 
 const LOG_BYTES: [u32; 4] = [61_440, 65_537, 69_632, 131_072];
 
+/// Whether an index is unique, and numbers that don't say so.
+const UNIQUE: [u32; 4] = [0, 1, 2, 256];
+
 /// One of these numbers.
 fn one_of(table: &mut Table, numbers: &[u32]) -> u32 {
     let place = table.number((numbers.len() as u64).max(1));
@@ -117,12 +120,13 @@ fn cuts_log(table: &mut Table) -> Edit {
     }
 }
 
-/// The superblock has another limit.
+/// The superblock has another limit, or says otherwise whether the index is unique.
 fn lies(table: &mut Table) -> Edit {
-    match table.number(3) {
+    match table.number(4) {
         0 => Edit::Sets(12, one_of(table, &ITEMS).to_le_bytes()),
         1 => Edit::Sets(16, one_of(table, &PAGES).to_le_bytes()),
-        _ => Edit::Sets(20, one_of(table, &LOG_BYTES).to_le_bytes()),
+        2 => Edit::Sets(20, one_of(table, &LOG_BYTES).to_le_bytes()),
+        _ => Edit::Sets(24, one_of(table, &UNIQUE).to_le_bytes()),
     }
 }
 

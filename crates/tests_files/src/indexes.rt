@@ -14,6 +14,7 @@ const LIMITS: Limits = Limits {
     items: 4,
     pages: 64,
     log_bytes: 65_536,
+    unique: false,
 };
 
 /// The bytes of its device: a superblock, the log, 64 pages.

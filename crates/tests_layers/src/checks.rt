@@ -1,11 +1,13 @@
 //! The verifier: each damage that it finds, and what it answers where there is none, in many threads and in one.
 
 use crate::plain::add;
-use crate::trees::{bound, emptied, flagged, leaf_of, meta, parent, stored};
+use crate::trees::{
+    before, bound, emptied, entry, flagged, leaf, leaf_of, meta, parent, stored, stored_unique,
+};
 use amcheck::{CheckFault, Report, check, check_one, check_parents, check_parents_one};
 use index_model::Fault;
 use page_action::MapStore;
-use page_codec::{Page, PageState};
+use page_codec::{Items, Page, PageState};
 use std::alloc::Global;
 use std::process::Abort;
 use std::test::{Fail, *};
@@ -291,6 +293,94 @@ fn wrong_roots_and_strays(rt: HostRuntime) -> Result<(), Fail> {
     // A half-dead page right behind a flagged one.
     let pages = [flagged(first_leaf()), half_dead(), root(), last_leaf()];
     is_found(&rt, alloc, &pages, 12, 2)?;
+    Ok(())
+}
+
+// The pages from block 1 on of a unique index, behind a metapage that names block 3.
+fn unique_store(alloc: Global, pages: &[Page]) -> Result<MapStore, Fault> {
+    let mut store = stored_unique(alloc, 8, &[meta(3, 1)])?;
+    for page in pages {
+        add(&mut store, page.copy())?;
+    }
+    Ok(store)
+}
+
+// The page, whose bounds and high key, entries of these keys, are the places before all rows of those.
+fn short(page: Page, keys: &[(u8, u8)]) -> Page {
+    let mut page = page;
+    for (key, other) in keys {
+        if page.high == Some(bound(*key)) {
+            page.high = Some(before(*other));
+        }
+        if let Items::Downlinks(links) = &mut page.items {
+            for link in links.iter_mut() {
+                if link.bound == Some(bound(*key)) {
+                    link.bound = Some(before(*other));
+                }
+            }
+        }
+    }
+    page
+}
+
+// The sound index above, of which no bound is an entry.
+fn unique_pages() -> [Page; 4] {
+    let keys = [(0x63, 0x64), (0x66, 0x67)];
+    [
+        short(first_leaf(), &keys),
+        short(second_leaf(), &keys),
+        short(root(), &keys),
+        last_leaf(),
+    ]
+}
+
+// Both checks of these pages find 13 at this block, if the index is unique, and else none.
+fn is_found_of_keys<R: Abort + Threads + Sync>(
+    rt: &R,
+    alloc: Global,
+    pages: &[Page],
+    block: u32,
+) -> Result<(), Fault> {
+    let mut unique = unique_store(alloc, pages)?;
+    assert!(rt; levels(rt, alloc, &mut unique) == damage(13, block));
+    assert!(rt; parents(rt, alloc, &mut unique) == damage(13, block));
+    let mut other = store(alloc, pages)?;
+    assert!(rt; matches!(levels(rt, alloc, &mut other), Some(Ok(_))));
+    assert!(rt; matches!(parents(rt, alloc, &mut other), Some(Ok(_))));
+    Ok(())
+}
+
+#[test]
+fn wrong_keys_of_a_unique_index(rt: HostRuntime) -> Result<(), Fail> {
+    let alloc = rt.alloc();
+    let mut sound = unique_store(alloc, &unique_pages())?;
+    assert!(rt; matches!(levels(&rt, alloc, &mut sound), Some(Ok(_))));
+    assert!(rt; matches!(parents(&rt, alloc, &mut sound), Some(Ok(_))));
+    // An entry as a bound of the root, and of the leaf below it: the root is judged first.
+    let mut pages = unique_pages();
+    pages[2] = root();
+    let mut whole = unique_store(alloc, &pages)?;
+    assert!(rt; levels(&rt, alloc, &mut whole) == damage(13, 3));
+    assert!(rt; parents(&rt, alloc, &mut whole) == damage(13, 3));
+    // Two entries of one key, on the last leaf.
+    let mut pages = unique_pages();
+    let twice = [entry(0x67, 0, 1), entry(0x68, 0, 1), entry(0x68, 0, 2)];
+    pages[3] = leaf(4, Some(2), None, &twice, None);
+    is_found_of_keys(&rt, alloc, &pages, 4)?;
+    Ok(())
+}
+
+#[test]
+fn entries_as_bounds_of_a_unique_index(rt: HostRuntime) -> Result<(), Fail> {
+    let alloc = rt.alloc();
+    // All bounds are entries.
+    let pages = [first_leaf(), second_leaf(), root(), last_leaf()];
+    is_found_of_keys(&rt, alloc, &pages, 3)?;
+    // The high key of a half-dead leaf alone: no downlink has it.
+    let keys = [(0x63, 0x64)];
+    let two = short(parent(3, &[(None, 1), (Some(0x63), 4)]), &keys);
+    let pages = [short(first_leaf(), &keys), half_dead(), two, last_leaf()];
+    is_found_of_keys(&rt, alloc, &pages, 2)?;
     Ok(())
 }
 

@@ -1,12 +1,15 @@
-//! Random pages: each check, in many threads and in one, answers the damage that a plain program computes by the definition.
+//! Random pages, of a unique index or another: each check, in many threads and in one, answers the damage that a plain program computes by the definition.
 
 ghost use Rattle.std.specs.Prelude.{◌<◌};
 
 use crate::checks::{levels, parents};
 use crate::plain::add;
 use crate::plain_damages::first_damage;
-use crate::trees::{bound, emptied, flagged, leaf_of, meta, nth, parent, stored};
+use crate::trees::{
+    before, bound, emptied, flagged, keyed, leaf_of, meta, parent, stored, stored_unique,
+};
 use amcheck::{CheckFault, Report};
+use index_model::{Bound, Entry};
 use page_action::MapStore;
 use page_codec::{Items, Page, PageState};
 use std::alloc::Global;
@@ -52,6 +55,26 @@ impl Dice {
     fn key(&mut self) -> u8 {
         u8::try_from(self.roll(104)).unwrap_or(0)
     }
+
+    /// An entry, or one more of its key.
+    fn entry(&mut self) -> Entry {
+        let key = self.key();
+        keyed(
+            &[key],
+            u32::from(key),
+            if self.roll(2) == 0 { 1 } else { 2 },
+        )
+    }
+
+    /// A bound: an entry, or, mostly where the index is unique, the place before all rows of a key.
+    fn bound(&mut self, unique: bool) -> Bound {
+        let is_whole = self.roll(8) == 0;
+        if unique && !is_whole {
+            before(self.key())
+        } else {
+            bound(self.key())
+        }
+    }
 }
 
 /// A leaf that has two entries, up to the second.
@@ -94,8 +117,26 @@ fn sound() -> [Page; 11] {
     ]
 }
 
+/// The bound behind which the same of these entries stand, without a row.
+fn shortened(bound: Option<Bound>) -> Option<Bound> {
+    let key = bound?.key.bytes().first().copied()?;
+    Some(before(key.saturating_add(1)))
+}
+
+/// The page with bounds as those of a unique index.
+fn with_short_bounds(page: Page) -> Page {
+    let mut page = page;
+    page.high = shortened(page.high);
+    if let Items::Downlinks(links) = &mut page.items {
+        for link in links.iter_mut() {
+            link.bound = shortened(link.bound);
+        }
+    }
+    page
+}
+
 /// Alters an item; in the metapage the root is the first page of the level below.
-fn alter_item(dice: &mut Dice, page: &mut Page) {
+fn alter_item(dice: &mut Dice, unique: bool, page: &mut Page) {
     let place = dice.roll(2) as usize;
     match &mut page.items {
         Items::Meta => {
@@ -104,14 +145,14 @@ fn alter_item(dice: &mut Dice, page: &mut Page) {
         }
         Items::Entries(entries) => {
             if let Some(entry) = entries.get_mut(place) {
-                *entry = nth(dice.key());
+                *entry = dice.entry();
             }
         }
         Items::Downlinks(links) => {
             if let Some(link) = links.get_mut(place) {
                 match dice.roll(2) {
                     0 => link.child = dice.block().unwrap_or(1),
-                    _ => link.bound = Some(bound(dice.key())),
+                    _ => link.bound = Some(dice.bound(unique)),
                 }
             }
         }
@@ -127,6 +168,18 @@ fn shorten(page: &mut Page) {
         }
         Items::Downlinks(links) => {
             let _ = links.pop();
+        }
+    }
+}
+
+/// Gives the second entry the key of the first, and a row behind that.
+fn repeat_key(page: &mut Page) {
+    if let Items::Entries(entries) = &mut page.items {
+        let Some(first) = entries.first().copied() else {
+            return;
+        };
+        if let Some(second) = entries.get_mut(1) {
+            *second = keyed(first.key.bytes(), u32::from(u16::MAX), 1);
         }
     }
 }
@@ -150,15 +203,16 @@ fn end_chain(dice: &mut Dice, page: &mut Page) {
 }
 
 /// Alters a page at one place.
-fn alter(dice: &mut Dice, page: &mut Page) {
-    match dice.roll(8) {
+fn alter(dice: &mut Dice, unique: bool, page: &mut Page) {
+    match dice.roll(9) {
         0 => page.left = dice.block(),
         1 => page.right = dice.block(),
         2 => page.split = !page.split,
-        3 => page.high = Some(bound(dice.key())),
+        3 => page.high = Some(dice.bound(unique)),
         4 => end_chain(dice, page),
         5 => shorten(page),
-        _ => alter_item(dice, page),
+        6 => repeat_key(page),
+        _ => alter_item(dice, unique, page),
     }
 }
 
@@ -171,19 +225,37 @@ fn told(answer: Option<Result<Report, CheckFault>>) -> Option<Option<(u8, u32)>>
     }
 }
 
-/// Altered pages in a store; none where they aren't of the format.
-fn made(alloc: Global, dice: &mut Dice) -> Result<Option<(MapStore, Vec<Page>)>, Fail> {
+/// A sound index, of which each bound is as this one wants them.
+fn begun(alloc: Global, unique: bool) -> Result<Vec<Page>, Fail> {
     let mut pages = Vec::new(alloc);
     for page in sound() {
-        pages.push(page)?;
+        pages.push(if unique {
+            with_short_bounds(page)
+        } else {
+            page
+        })?;
     }
+    Ok(pages)
+}
+
+/// Altered pages in a store; none where they aren't of the format.
+fn made(
+    alloc: Global,
+    dice: &mut Dice,
+    unique: bool,
+) -> Result<Option<(MapStore, Vec<Page>)>, Fail> {
+    let mut pages = begun(alloc, unique)?;
     for _ in 0..1 + dice.roll(3) {
         let block = dice.roll(COUNT) as usize;
         if let Some(page) = pages.get_mut(block) {
-            alter(dice, page);
+            alter(dice, unique, page);
         }
     }
-    let mut store = stored(alloc, COUNT + 1, &[])?;
+    let mut store = if unique {
+        stored_unique(alloc, COUNT + 1, &[])?
+    } else {
+        stored(alloc, COUNT + 1, &[])?
+    };
     for page in &pages {
         if add(&mut store, page.copy()).is_err() {
             return Ok(None);
@@ -197,11 +269,12 @@ fn judged<R: Abort + AllocGlobal + Threads + Sync>(
     rt: &R,
     store: &mut MapStore,
     pages: &[Page],
+    unique: bool,
 ) -> Result<Option<(u8, u32)>, Fail> {
     let alloc = rt.alloc();
-    let chains = first_damage(alloc, pages, false)?;
+    let chains = first_damage(alloc, pages, false, unique)?;
     assert!(rt; told(levels(rt, alloc, store)) == Some(chains));
-    let all = first_damage(alloc, pages, true)?;
+    let all = first_damage(alloc, pages, true, unique)?;
     assert!(rt; told(parents(rt, alloc, store)) == Some(all));
     Ok(all)
 }
@@ -209,12 +282,13 @@ fn judged<R: Abort + AllocGlobal + Threads + Sync>(
 #[test]
 fn damages_of_random_pages(rt: HostRuntime) -> Result<(), Fail> {
     let mut dice = Dice { state: 1 };
-    let mut found = [0u32; 13];
-    for _ in 0..SETS {
-        let Some((mut store, pages)) = made(rt.alloc(), &mut dice)? else {
+    let mut found = [0u32; 14];
+    for round in 0..SETS {
+        let unique = round % 2 == 1;
+        let Some((mut store, pages)) = made(rt.alloc(), &mut dice, unique)? else {
             continue;
         };
-        let number = match judged(&rt, &mut store, &pages)? {
+        let number = match judged(&rt, &mut store, &pages, unique)? {
             Some((number, _)) => usize::from(number),
             None => 0,
         };

@@ -18,6 +18,7 @@ const LIMITS: Limits = Limits {
     items: 50,
     pages: 8_192,
     log_bytes: 65_536,
+    unique: false,
 };
 
 const LEAVES: u32 = 5_000;

@@ -1,7 +1,7 @@
 //! The first damage of pages by its definition, computed plainly: each site and each number is looked at, and of the damages
 //! that there are the one of the least rank is taken.
 
-use index_model::Bound;
+use index_model::{Bound, Key};
 use page_codec::{Downlink, Page, PageState};
 use std::alloc::{AllocError, Global};
 use tree_shape::{entries_on, links_on};
@@ -208,6 +208,29 @@ fn has_not_beyond(pages: &[Page], here: &Here) -> bool {
     false
 }
 
+/// Whether the bound names a row.
+fn is_whole(bound: Option<Bound>) -> bool {
+    match bound {
+        Some(bound) => bound.row.is_some(),
+        None => false,
+    }
+}
+
+/// Whether the high key or a bound names a row, or an entry has the key of the one before it.
+fn has_wrong_keys(pages: &[Page], block: u32) -> bool {
+    let Some(page) = pages.get(block as usize) else {
+        return false;
+    };
+    let mut before: Option<Key> = None;
+    for entry in entries_on(page) {
+        if before == Some(entry.key) {
+            return true;
+        }
+        before = Some(entry.key);
+    }
+    is_whole(page.high) || links_on(page).iter().any(|link| is_whole(link.bound))
+}
+
 fn rises(low: Option<Bound>, high: Option<Bound>) -> bool {
     match high {
         Some(high) => is_beyond(low, high),
@@ -222,8 +245,8 @@ fn was_met(all: &[Here], here: &Here) -> bool {
     })
 }
 
-/// Whether the page at this place has the damage of this number.
-fn is_of_chain(pages: &[Page], all: &[Here], here: &Here, number: u8) -> bool {
+/// Whether the page at this place has the damage of this number, the last one where keys are seen.
+fn is_of_chain(pages: &[Page], keys: bool, all: &[Here], here: &Here, number: u8) -> bool {
     let state = state(pages, here.block);
     match number {
         1 => !is_on_level(pages, here.depth, here.block),
@@ -237,14 +260,15 @@ fn is_of_chain(pages: &[Page], all: &[Here], here: &Here, number: u8) -> bool {
             here.depth == 0 && here.block != root(pages) && !behind_root
         }
         12 => state == PageState::HalfDead && here.behind,
+        13 => keys && has_wrong_keys(pages, here.block),
         _ => false,
     }
 }
 
-fn judge_chain(pages: &[Page], all: &[Here], least: &mut Least) {
+fn judge_chain(pages: &[Page], keys: bool, all: &[Here], least: &mut Least) {
     for here in all {
-        for number in 1..13 {
-            if is_of_chain(pages, all, here, number) {
+        for number in 1..14 {
+            if is_of_chain(pages, keys, all, here, number) {
                 let rank = [0, here.depth, 1, here.place, u32::from(number)];
                 least.put(rank, number, here.block);
             }
@@ -356,11 +380,13 @@ fn judge_strays(pages: &[Page], all: &[Here], least: &mut Least) {
     }
 }
 
-/// The number and the block of the first damage, if there is one.
+/// The number and the block of the first damage, if there is one: parents and children seen or not, and keys, as those of a
+/// unique index, or not.
 pub fn first_damage(
     alloc: Global,
     pages: &[Page],
     parents: bool,
+    keys: bool,
 ) -> Result<Option<(u8, u32)>, AllocError> {
     let mut least = Least {
         rank: [0; 5],
@@ -371,7 +397,7 @@ pub fn first_damage(
         judge_way(pages, depth, &mut least);
         walk(pages, depth, &mut all)?;
     }
-    judge_chain(pages, &all, &mut least);
+    judge_chain(pages, keys, &all, &mut least);
     if parents {
         judge_parents(pages, &all, &mut least);
         judge_strays(pages, &all, &mut least);

@@ -13,6 +13,7 @@ pub fn limits(pages: u32) -> Limits {
         items: 4,
         pages,
         log_bytes: 65_536,
+        unique: false,
     }
 }
 
@@ -43,6 +44,14 @@ pub fn nth(key: u8) -> Entry {
 /// Its bound.
 pub fn bound(key: u8) -> Bound {
     nth(key).bound()
+}
+
+/// The place before all rows of this byte as a key.
+pub fn before(key: u8) -> Bound {
+    Bound {
+        key: nth(key).key,
+        row: None,
+    }
 }
 
 /// A live page without a high key.
@@ -138,13 +147,25 @@ pub fn parent(block: u32, children: &[(Option<u8>, u32)]) -> Page {
     page(block, 1, None, None, Items::Downlinks(links))
 }
 
-/// These pages in memory, of so many at most.
-pub fn stored(alloc: Global, most: u32, pages: &[Page]) -> Result<MapStore, Fault> {
-    let mut store = empty(alloc, limits(most))?;
+/// These pages in memory, of an index that is made with this.
+pub fn stored_in(alloc: Global, limits: Limits, pages: &[Page]) -> Result<MapStore, Fault> {
+    let mut store = empty(alloc, limits)?;
     for page in pages {
         add(&mut store, page.copy())?;
     }
     Ok(store)
+}
+
+/// These pages in memory, of so many at most.
+pub fn stored(alloc: Global, most: u32, pages: &[Page]) -> Result<MapStore, Fault> {
+    stored_in(alloc, limits(most), pages)
+}
+
+/// These pages in memory, of so many at most, of a unique index.
+pub fn stored_unique(alloc: Global, most: u32, pages: &[Page]) -> Result<MapStore, Fault> {
+    let mut limits = limits(most);
+    limits.unique = true;
+    stored_in(alloc, limits, pages)
 }
 
 /// The metapage, and a leaf with these entries as the root, of so many pages at most.

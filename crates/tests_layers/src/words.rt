@@ -103,6 +103,7 @@ fn limits(rt: HostRuntime) {
             items,
             pages,
             log_bytes,
+            unique: false,
         };
         assert!(rt; limits.are_valid() == are_valid);
     }

@@ -21,6 +21,7 @@ mod old_files;
 mod plain;
 mod rows;
 mod scans;
+mod unique;
 mod upkeep;
 
 use command_line::execute;
@@ -88,6 +89,15 @@ fn plays(
     rt: &(impl Abort + AllocGlobal + Print + Eprint + Files<File = File> + Threads + Wait + Sync),
     parts: &[&str],
 ) -> Result<(), Fail> {
+    plays_with(rt, ["btidx", "play"].as_slice(), parts)
+}
+
+/// The same with these words.
+fn plays_with(
+    rt: &(impl Abort + AllocGlobal + Print + Eprint + Files<File = File> + Threads + Wait + Sync),
+    words: &[&str],
+    parts: &[&str],
+) -> Result<(), Fail> {
     let mut script = String::new(rt.alloc());
     let mut printed = String::new(rt.alloc());
     for part in parts {
@@ -103,13 +113,5 @@ fn plays(
             to.push_str("\n")?;
         }
     }
-    let words = ["btidx", "play"];
-    runs(
-        rt,
-        words.as_slice(),
-        script.as_str(),
-        printed.as_str(),
-        "",
-        0,
-    )
+    runs(rt, words, script.as_str(), printed.as_str(), "", 0)
 }

@@ -5,7 +5,7 @@ use crate::dead::sets_of;
 use crate::dice::Dice;
 use crate::judge::Judge;
 use crate::plain::{left, left_by, open_world, world as world_over};
-use crate::runs::{Run, judge_of, one, runs_alone};
+use crate::runs::{Run, is_right, judge_of, runs_alone};
 use amcheck::check_parents_one;
 use device::{CrashImage, MemDevice};
 use index_model::{Fault, Range};
@@ -67,14 +67,20 @@ fn works_on(
         below: None,
     };
     let insert = Event::Insert(0, dice.entry(run.space));
-    Ok(
-        runs_alone(run, world, judge, insert)?
-            && runs_alone(run, world, judge, Event::Bulk(0, 1))?
-            && runs_alone(run, world, judge, Event::Cleanup(0))?
-            && runs_alone(run, world, judge, Event::Scan(0, all))?
-            && judge.are_contents(judge.last_given(), judge.actions())
-            && one(run, world, judge, Event::Force)?.is_some(),
-    )
+    for event in [
+        insert,
+        Event::Bulk(0, 1),
+        Event::Cleanup(0),
+        Event::Scan(0, all),
+    ] {
+        if !runs_alone(run, world, judge, event)? {
+            return Ok(false);
+        }
+    }
+    if !judge.has_given_all() {
+        return Ok(false);
+    }
+    is_right(run, world, judge, Event::Force)
 }
 
 /// Whether the index in a store works on, up to another crash, which leaves all that was done.

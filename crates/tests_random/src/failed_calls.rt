@@ -7,7 +7,7 @@ use crate::gates::stops_right;
 use crate::runs::Run;
 use crate::scripts::{
     ROWS, Script, behind_the_frontier, delayed_reuse, forces, full, going_back, incomplete_split,
-    interlock, saved_link,
+    interlock, one_entry_a_key, saved_link,
 };
 use index_model::Limits;
 use std::alloc::Global;
@@ -16,12 +16,18 @@ use std::test::{Fail, *};
 
 /// A run of a script, with so many items a page and so many pages.
 fn scripted(alloc: Global, items: u32, pages: u32) -> Run {
+    scripted_on(alloc, items, pages, false)
+}
+
+/// ... on a unique index, or on one that isn't.
+fn scripted_on(alloc: Global, items: u32, pages: u32, unique: bool) -> Run {
     Run {
         alloc,
         limits: Limits {
             items,
             pages,
             log_bytes: 65_536,
+            unique,
         },
         space: Space {
             sessions: 3,
@@ -73,6 +79,16 @@ fn bulk_deletes(rt: HostRuntime) -> Result<(), Fail> {
 fn reuse(rt: HostRuntime) -> Result<(), Fail> {
     let alloc = rt.alloc();
     each_fails(&rt, scripted(alloc, 4, 16), &delayed_reuse(alloc)?)
+}
+
+#[test]
+fn unique_keys(rt: HostRuntime) -> Result<(), Fail> {
+    let alloc = rt.alloc();
+    each_fails(
+        &rt,
+        scripted_on(alloc, 4, 16, true),
+        &one_entry_a_key(alloc)?,
+    )
 }
 
 #[test]

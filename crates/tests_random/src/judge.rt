@@ -23,6 +23,8 @@ use tests_reference::{
 #[derive(Drop)]
 pub struct Judge {
     alloc: Global,
+    /// Whether no two entries may share a key.
+    unique: bool,
     space: Space,
     /// What was there when the run began.
     start: Vec<Entry>,
@@ -58,6 +60,7 @@ impl Judge {
     /// Of a run that begins with these pages and the entries on them, and its sessions without a call.
     pub fn new(
         alloc: Global,
+        unique: bool,
         space: Space,
         pages: Vec<Page>,
         start: Vec<Entry>,
@@ -68,6 +71,7 @@ impl Judge {
         }
         Ok(Judge {
             alloc,
+            unique,
             space,
             start,
             history: Vec::new(alloc),
@@ -228,7 +232,12 @@ impl Judge {
         self.pages = pages;
         self.history.push(PlainAction { by, effect })?;
         let is_known = self.counts(by, adds, removes, cleans);
-        Ok(is_known && self.are_contents(entries, self.history.len()))
+        Ok(is_known && self.are_contents(entries, self.history.len()) && self.may_be(entries))
+    }
+
+    /// Whether these may be the contents: on a unique index no two of them share a key.
+    fn may_be(&self, entries: &[Entry]) -> bool {
+        !self.unique || entries.iter().all(|entry| has_key_once(entries, entry))
     }
 
     /// Counts the last action, of the call of this number, by what it has done; false where there is no such call.
@@ -348,7 +357,7 @@ impl Judge {
             }
             Answer::Refused(fault) => {
                 self.is_to_add(session).is_some()
-                    && matches!(fault, Fault::Exists | Fault::IndexFull | Fault::LogFull)
+                    && self.may_refuse(*fault)
                     && self.ends(session, PlainEnding::HasFailed(*fault))
             }
             _ => false,
@@ -364,6 +373,15 @@ impl Judge {
                 let calls = self.running.iter().filter(|call| call.is_some()).count();
                 calls.saturating_mul(2).saturating_add(4) > frames as usize
             }
+            _ => false,
+        }
+    }
+
+    /// Whether an insert may be refused with this, if nothing fails.
+    fn may_refuse(&self, fault: Fault) -> bool {
+        match fault {
+            Fault::Exists | Fault::IndexFull | Fault::LogFull => true,
+            Fault::KeyExists(_) => self.unique,
             _ => false,
         }
     }
@@ -570,11 +588,11 @@ impl Judge {
         }
     }
 
-    /// What the last call has given.
-    pub fn last_given(&self) -> &[Entry] {
+    /// Whether the last call has given exactly the contents.
+    pub fn has_given_all(&self) -> bool {
         match self.calls.last() {
-            Some(call) => call.given.as_slice(),
-            None => &[],
+            Some(call) => self.are_contents(&call.given, self.history.len()),
+            None => false,
         }
     }
 
@@ -603,6 +621,15 @@ impl Judge {
     fn has_if_there(&self, entries: &[Entry], k: usize, entry: &Entry) -> bool {
         is_among(entries, entry) || !is_there_after(&self.start, &self.history, k, entry)
     }
+}
+
+/// Whether one of these has the entry's key.
+fn has_key_once(entries: &[Entry], entry: &Entry) -> bool {
+    entries
+        .iter()
+        .filter(|other| other.key == entry.key)
+        .count()
+        == 1
 }
 
 /// Whether the answer says that this kept it from more.

@@ -32,7 +32,7 @@ pub struct Outcome {
 pub fn judge_of<S: PageStore>(run: Run, world: &mut World<S, Blocks>) -> Result<Judge, AllocError> {
     let pages = copies(run.alloc, world)?;
     let start = contents(run.alloc, &pages)?;
-    Judge::new(run.alloc, run.space, pages, start)
+    Judge::new(run.alloc, run.limits.unique, run.space, pages, start)
 }
 
 /// The session that an event names.
@@ -107,6 +107,16 @@ pub fn one<S: PageStore>(
     };
     let is_right = is_kept && judge.hears(&event, &answer)? && agree(run, world, judge, &answer);
     Ok(if is_right { Some(answer) } else { None })
+}
+
+/// Does one event: whether its answer is right, and what it has done.
+pub fn is_right<S: PageStore>(
+    run: Run,
+    world: &mut World<S, Blocks>,
+    judge: &mut Judge,
+    event: Event,
+) -> Result<bool, AllocError> {
+    Ok(one(run, world, judge, event)?.is_some())
 }
 
 /// So many random events: whether all are right.
@@ -206,6 +216,6 @@ pub fn ends_right<S: PageStore>(
         runs_alone(run, world, judge, Event::Bulk(0, 0))?
             && judge.tells_all()
             && runs_alone(run, world, judge, Event::Scan(0, all))?
-            && judge.are_contents(judge.last_given(), judge.actions()),
+            && judge.has_given_all(),
     )
 }

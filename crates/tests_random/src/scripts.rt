@@ -238,6 +238,27 @@ pub fn going_back(alloc: Global) -> Result<Script, AllocError> {
     Ok(script)
 }
 
+/// Entries of keys that are there, of keys whose entries were deleted, and of one key by two sessions.
+pub fn one_entry_a_key(alloc: Global) -> Result<Script, AllocError> {
+    let mut script = Script::new(alloc);
+    script.fill(6)?;
+    script.put(0x61, 9)?;
+    script.put(0x64, 9)?;
+    script.bulk(FROM_4)?;
+    script.put(0x64, 9)?;
+    script.put(0x61, 9)?;
+    script.one(Line::Force)?;
+    script.one(Line::Insert(1, entry(0x70, 1)))?;
+    script.one(Line::Insert(2, entry(0x70, 2)))?;
+    script.steps(1, 2)?;
+    script.steps(2, 2)?;
+    script.run(1)?;
+    script.run(2)?;
+    script.one(Line::Checkpoint)?;
+    script.put(0x70, 2)?;
+    Ok(script)
+}
+
 /// Forces and a checkpoint between inserts.
 pub fn forces(alloc: Global) -> Result<Script, AllocError> {
     let mut script = Script::new(alloc);

@@ -21,6 +21,7 @@ const LIMITS: Limits = Limits {
     items: 4,
     pages: 64,
     log_bytes: 131_072,
+    unique: false,
 };
 
 const IMAGES: [CrashImage; 3] = [CrashImage::Drop, CrashImage::Keep, CrashImage::Tear];

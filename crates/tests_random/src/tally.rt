@@ -34,6 +34,8 @@ pub struct Tally {
     pub blocked: u32,
     /// Refusals with `Exists`.
     pub exists: u32,
+    /// Refusals with `KeyExists`.
+    pub key_exists: u32,
     /// Refusals with `IndexFull`.
     pub index_full: u32,
     /// Refusals with `LogFull`.
@@ -83,6 +85,7 @@ impl Tally {
         match fault {
             Fault::Blocked(_) => count(&mut self.blocked),
             Fault::Exists => count(&mut self.exists),
+            Fault::KeyExists(_) => count(&mut self.key_exists),
             Fault::IndexFull => count(&mut self.index_full),
             Fault::LogFull => count(&mut self.log_full),
             Fault::NoFrame => count(&mut self.no_frame),
@@ -162,6 +165,7 @@ impl Tally {
         self.given_up = self.given_up.saturating_add(other.given_up);
         self.blocked = self.blocked.saturating_add(other.blocked);
         self.exists = self.exists.saturating_add(other.exists);
+        self.key_exists = self.key_exists.saturating_add(other.key_exists);
         self.index_full = self.index_full.saturating_add(other.index_full);
         self.log_full = self.log_full.saturating_add(other.log_full);
         self.no_frame = self.no_frame.saturating_add(other.no_frame);

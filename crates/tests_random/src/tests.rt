@@ -48,18 +48,29 @@ fn ran(run: Run, seed: u64, events: u32) -> Result<Outcome, Fail> {
     Ok(run_over(run, &mut world, seed, events)?)
 }
 
+/// Every third round is one of a unique index.
+fn is_unique(round: u64) -> bool {
+    round % 3 == 2
+}
+
+/// How many keys there are: in a unique index a key has one entry.
+fn keys(unique: bool) -> u32 {
+    if unique { 96 } else { 24 }
+}
+
 /// A run of so many sessions that has room for all its entries, on pages of so many items.
-fn roomy(alloc: Global, sessions: u32, items: u32) -> Run {
+fn roomy(alloc: Global, sessions: u32, items: u32, unique: bool) -> Run {
     Run {
         alloc,
         limits: Limits {
             items,
             pages: 128,
             log_bytes: 1_048_576,
+            unique,
         },
         space: Space {
             sessions,
-            keys: 24,
+            keys: keys(unique),
             rows: 4,
             forces: 1,
             deletes: true,
@@ -76,6 +87,7 @@ fn high(alloc: Global, sessions: u32) -> Run {
             items: 4,
             pages: 512,
             log_bytes: 1_048_576,
+            unique: false,
         },
         space: Space {
             sessions,
@@ -89,17 +101,18 @@ fn high(alloc: Global, sessions: u32) -> Run {
 }
 
 /// A run of so many sessions over few pages and the smallest log.
-fn narrow(alloc: Global, sessions: u32, pages: u32) -> Run {
+fn narrow(alloc: Global, sessions: u32, pages: u32, unique: bool) -> Run {
     Run {
         alloc,
         limits: Limits {
             items: 4,
             pages,
             log_bytes: 65_536,
+            unique,
         },
         space: Space {
             sessions,
-            keys: 24,
+            keys: keys(unique),
             rows: 4,
             forces: 9,
             deletes: true,
@@ -126,7 +139,7 @@ fn trees_in_memory(rt: HostRuntime) -> Result<(), Fail> {
         let mut highest = 0;
         for round in 0..12u64 {
             let outcome = ran(
-                roomy(alloc, sessions, items),
+                roomy(alloc, sessions, items, is_unique(round)),
                 round.wrapping_add(seed),
                 events,
             )?;
@@ -140,6 +153,7 @@ fn trees_in_memory(rt: HostRuntime) -> Result<(), Fail> {
     assert!(rt;
         total.met >= 100
             && total.exists >= 300
+            && total.key_exists >= 200
             && total.blocked >= 3_000
             && total.deletes >= 100
             && total.removes >= 150
@@ -172,7 +186,7 @@ fn trees_crash(rt: HostRuntime) -> Result<(), Fail> {
     let mut total = Tally::default();
     for (seed, sessions, crashes) in [(1_100, 3, 6), (1_200, 8, 6), (1_300, 64, 6)] {
         for round in 0..20u64 {
-            let run = roomy(alloc, sessions, 4);
+            let run = roomy(alloc, sessions, 4, is_unique(round));
             let outcome = crashed(run, round.wrapping_add(seed), crashes, 400)?;
             assert!(rt; outcome.is_right, "{seed} + {round}: {outcome:?}");
             assert!(rt; outcome.tally.level >= 1, "{seed} + {round}: {outcome:?}");
@@ -203,7 +217,7 @@ fn narrow_trees(rt: HostRuntime) -> Result<(), Fail> {
         (2_800, 8, 64),
     ] {
         for round in 0..8u64 {
-            let run = narrow(alloc, sessions, pages);
+            let run = narrow(alloc, sessions, pages, is_unique(round));
             let outcome = ran(run, round.wrapping_add(seed), 2_000)?;
             assert!(rt; outcome.is_right, "{seed} + {round}: {outcome:?}");
             total.join(outcome.tally);
@@ -248,13 +262,14 @@ fn stores_crash(rt: HostRuntime) -> Result<(), Fail> {
 }
 
 /// A run of so many sessions over more pages than frames.
-fn wide(alloc: Global, sessions: u32) -> Run {
+fn wide(alloc: Global, sessions: u32, unique: bool) -> Run {
     Run {
         alloc,
         limits: Limits {
             items: 4,
             pages: 256,
             log_bytes: 131_072,
+            unique,
         },
         space: Space {
             sessions,
@@ -276,7 +291,7 @@ fn few_frames_crash(rt: HostRuntime) -> Result<(), Fail> {
     let mut total = Tally::default();
     for (seed, sessions, crashes) in [(3_100, 3, 4), (3_200, 8, 4), (3_300, 64, 4)] {
         for round in 0..3u64 {
-            let run = wide(alloc, sessions);
+            let run = wide(alloc, sessions, is_unique(round));
             let outcome = crashed_with_few(run, round.wrapping_add(seed), crashes, 600)?;
             assert!(rt; outcome.is_right, "{seed} + {round}: {outcome:?}");
             total.join(outcome.tally);

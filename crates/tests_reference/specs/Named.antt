@@ -4,7 +4,7 @@ use Rattle.index_model.specs.Row.{Row}
 use Rattle.index_model.specs.Order.{is_among}
 use Rattle.index_model.specs.Range.{matches}
 use Rattle.index_model.specs.Actions.{Effect, Add, Remove, Shape, Action, is_there_after, ThereAtSomeMoment, ThereThroughout}
-use Rattle.index_model.specs.Calls.{IsAnyEntry, IsUpToLast, IsAddedIn, actions_between, Call, end_of, MayAct, IsOwned}
+use Rattle.index_model.specs.Calls.{IsUpToLast, IsAddedIn, actions_between, Call, end_of, MayAct, IsOwned}
 use Rattle.index_model.specs.declared.entry.Entry.{Entry}
 use Rattle.index_model.specs.declared.range.Range.{Range}
 
@@ -27,7 +27,7 @@ pub record MayBeGiven (start : Entry → Bool) (history : List Action) (range : 
 
 -- how far a scan that has finished, or hasn't, owes entries: all, or up to the last one given
 abbrev pub Reach : Bool → List Entry → Entry → Type 0
-Reach true given e = IsAnyEntry e
+Reach true given e = Unit {0}
 Reach false given e = IsUpToLast given e
 
 -- the entry is given, if it is within reach, matches and was there throughout

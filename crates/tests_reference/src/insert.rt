@@ -98,6 +98,13 @@ fn insert_may_fail(
 {
     match fault {
         Fault::Exists => is_there_at_some_moment(start, history, began, ended, entry),
+        Fault::KeyExists(row) => {
+            let other = Entry {
+                key: entry.key,
+                row,
+            };
+            row != entry.row && is_there_at_some_moment(start, history, began, ended, &other)
+        }
         _ => true,
     }
 }

@@ -3,7 +3,7 @@
 ghost use Rattle.std.specs.Prelude.{◌≡◌, ◌↔◌, ◌<◌, ◌≤◌, ◌^◌, IsTrue};
 ghost use Rattle.std.specs.List.{AllByRecursion};
 ghost use Rattle.index_model.specs.Order.{is_among as spec_is_among, last_or, IsAscending, AscendsPast, bound_of, IsPast};
-ghost use Rattle.index_model.specs.Calls.{IsAnyEntry, IsReached, IsUpToLast, GivesOnly, GivesAll, IsScanAnswer, IsScanAnswerSoFar};
+ghost use Rattle.index_model.specs.Calls.{IsReached, IsUpToLast, GivesOnly, GivesAll, IsScanAnswer, IsScanAnswerSoFar};
 ghost use Rattle.tests_reference.specs.Plain.{history_of};
 ghost use Rattle.tests_reference.specs.Named.{added_by, MayBeGiven, Reach, IsGivenIfOwed};
 

@@ -255,7 +255,8 @@ fn flushes_go_on_behind_a_failed_checkpoint(rt: HostRuntime) -> Result<(), Fail>
             (Call::Checkpoint, Err(Fault::Io)),
         ];
         assert_eq!(rt; wrong(&mut store, &rows), 0);
-        assert_eq!(rt; wrong(&mut store, &FLUSHED[written..]), 0);
+        let flushed = &FLUSHED[..];
+        assert_eq!(rt; wrong(&mut store, &flushed[written..]), 0);
     }
     Ok(())
 }

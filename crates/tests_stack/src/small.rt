@@ -14,6 +14,7 @@ pub fn limits(pages: u32) -> Limits {
         items: 4,
         pages,
         log_bytes: 65_536,
+        unique: false,
     }
 }
 
@@ -21,6 +22,7 @@ pub const LIMITS: Limits = Limits {
     items: 4,
     pages: 8,
     log_bytes: 65_536,
+    unique: false,
 };
 
 /// The bytes of its device: a superblock, the log, 8 pages.

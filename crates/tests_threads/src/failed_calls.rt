@@ -19,6 +19,7 @@ const LIMITS: Limits = Limits {
     items: 4,
     pages: 128,
     log_bytes: 65_536,
+    unique: false,
 };
 
 /// A scan, and so many inserts, with a commit behind each third, and a checkpoint behind half of them.

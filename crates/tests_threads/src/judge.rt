@@ -265,6 +265,13 @@ fn is_answer(run: &Run<'_>, at: &Placed<'_>, job: &Job) -> bool {
         (Job::Insert(entry), Answer::Refused(Fault::Exists)) => {
             is_added(run.added, entry, record.to)
         }
+        (Job::Insert(entry), Answer::Refused(Fault::KeyExists(row))) => {
+            let other = Entry {
+                key: entry.key,
+                row: *row,
+            };
+            *row != entry.row && is_added(run.added, &other, record.to)
+        }
         (_, Answer::Refused(fault)) => has_cause(run, at, job, fault),
         (Job::Insert(_), Answer::Added { action, unfinished }) => {
             record.from < *action

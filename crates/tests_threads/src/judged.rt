@@ -66,6 +66,7 @@ pub const LIMITS: Limits = Limits {
     items: 4,
     pages: 4_096,
     log_bytes: 1_048_576,
+    unique: false,
 };
 
 /// Four thousand jobs of eight workers: inserts, scans, two bulk deletes and a cleanup.
@@ -92,6 +93,7 @@ fn one_leaf(rt: HostRuntime) -> Result<(), Fail> {
         items: 50,
         pages: 8,
         log_bytes: 65_536,
+        unique: false,
     };
     for seed in 0..8u32 {
         let numbers = shuffled(rt.alloc(), 48, seed)?;
@@ -108,6 +110,40 @@ fn one_leaf(rt: HostRuntime) -> Result<(), Fail> {
     Ok(())
 }
 
+/// How many records tell that another entry of the key was there.
+fn refused_keys(done: &Done) -> usize {
+    done.history
+        .iter()
+        .filter(|record| matches!(&record.answer, Answer::Refused(Fault::KeyExists(_))))
+        .count()
+}
+
+/// Eight workers insert four rows of each of 500 keys into a unique index: one of each four is added, and the others are refused
+/// with its row.
+#[test]
+fn one_entry_a_key(rt: HostRuntime) -> Result<(), Fail> {
+    let limits = Limits {
+        items: 50,
+        pages: 64,
+        log_bytes: 1_048_576,
+        unique: true,
+    };
+    let numbers = shuffled(rt.alloc(), 500, 7)?;
+    let mut jobs = Vec::new(rt.alloc());
+    for number in numbers.as_slice() {
+        for block in 0..4 {
+            jobs.push(Job::Insert(entry(*number, block)))?;
+        }
+    }
+    let world = made(rt.alloc(), &limits, 8)?;
+    let (done, added) = ran(&rt, world, jobs.as_slice(), 8, 64, false)?;
+    assert_eq!(rt; count(added.as_slice()), 500);
+    assert_eq!(rt; refused_keys(&done), 1_500);
+    let mut store = done.world.into_store();
+    assert!(rt; check_parents_one(rt.alloc(), &mut store).is_ok());
+    Ok(())
+}
+
 /// Four workers fill an index of eight pages: inserts are refused once it is full, and the verifier finds no damage.
 #[test]
 fn full_index(rt: HostRuntime) -> Result<(), Fail> {
@@ -115,6 +151,7 @@ fn full_index(rt: HostRuntime) -> Result<(), Fail> {
         items: 4,
         pages: 8,
         log_bytes: 65_536,
+        unique: false,
     };
     let mut jobs = Vec::new(rt.alloc());
     for number in 0..60 {

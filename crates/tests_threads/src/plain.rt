@@ -43,6 +43,7 @@ pub fn pages(alloc: Global) -> Result<MapStore, Fault> {
         items: 4,
         pages: 4_096,
         log_bytes: 1_048_576,
+        unique: false,
     };
     let mut store = MapStore::new(alloc, limits)?;
     store.add(page(0, Some(1), Items::Meta))?;

@@ -2,11 +2,11 @@
 use Rattle.std.specs.Prelude.{ℕ, Option, Some, None, List, [], ◌∷◌, ◌++◌, codes, Result, OnOk}
 use Rattle.std.specs.Fmt.{decimal}
 use Rattle.std.specs.Io.KnownBytes.{Appends}
-use Rattle.index_model.specs.Faults.{number_of, block_of}
+use Rattle.index_model.specs.Faults.{number_of}
 use Rattle.index_model.specs.declared.entry.Entry.{Entry}
 use Rattle.index_model.specs.declared.fault.Fault.{Fault}
 use Rattle.index_model.specs.declared.stats.VacuumStats.{VacuumStats}
-use Rattle.text_forms.specs.Spelling.{entry_text}
+use Rattle.text_forms.specs.Spelling.{entry_text, named_text}
 use Rattle.session_calls.specs.declared.answer.Answer.{Answer}
 use Rattle.session_calls.specs.declared.answer.Answer.TheVariants.{Begun, Going, Added, Ready, Done, Finished, Gave, Ended, Forced, Flushed, Checkpointed, Refused}
 
@@ -18,12 +18,8 @@ PrintsLine old new result line = OnOk result (Appends old new (line ++ 10 ∷ []
 abbrev pub numbered : List ℕ → ℕ → List ℕ
 numbered word number = word ++ decimal number
 
-abbrev pub block_behind : Option ℕ → List ℕ
-block_behind None = []
-block_behind (Some block) = 32 ∷ decimal block
-
 abbrev pub refused_text : Fault → List ℕ
-refused_text fault = numbered (codes "refused ") (number_of fault) ++ block_behind (block_of fault)
+refused_text fault = numbered (codes "refused ") (number_of fault) ++ named_text fault
 
 abbrev pub unfinished_text : Option Fault → List ℕ
 unfinished_text None = []

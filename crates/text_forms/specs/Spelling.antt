@@ -4,6 +4,7 @@ use Rattle.std.specs.List.{list_all}
 use Rattle.std.specs.Fmt.{decimal}
 use Rattle.std.specs.Str.{bytes_eq}
 use Rattle.hex.specs.Hex.{encode_lower, IsBytes}
+use Rattle.index_model.specs.Faults.{block_of, row_of}
 use Rattle.index_model.specs.Row.{Row, IsRow}
 use Rattle.index_model.specs.declared.fault.Fault.{Fault}
 use Rattle.index_model.specs.declared.fault.Fault.TheVariants.{BadRow}
@@ -80,3 +81,17 @@ bound_text bound = key_text bound.key ++ (32 ∷ place_text bound.row)
 abbrev pub link_text : Option ℕ → List ℕ
 link_text None = 45 ∷ []
 link_text (Some block) = decimal block
+
+-- what a fault names, each with a space in front: the block of a page
+abbrev pub block_behind : Option ℕ → List ℕ
+block_behind None = []
+block_behind (Some block) = 32 ∷ decimal block
+
+-- ... a row
+abbrev pub row_behind : Option Row → List ℕ
+row_behind None = []
+row_behind (Some row) = 32 ∷ row_text row
+
+-- ... or nothing
+abbrev pub named_text : Fault → List ℕ
+named_text fault = block_behind (block_of fault) ++ row_behind (row_of fault)

@@ -3,7 +3,7 @@
 ghost use Rattle.std.specs.Prelude.{Some};
 ghost use Rattle.text_forms.specs.Printing.{PrintsLine, answer_text, given_text, refused_text, stats_text};
 
-use crate::show::ShownEntry;
+use crate::show::{ShownEntry, ShownNamed};
 use index_model::{Entry, Fault, VacuumStats};
 use session_calls::Answer;
 use std::io::{self, Write};
@@ -39,15 +39,13 @@ pub fn print_entry<W: Write>(out: &mut W, entry: &Entry) -> io::Result<()>
     writeln!(out, "entry {entry}")
 }
 
-/// Prints `refused N`, with the block that the fault names behind it.
+/// Prints `refused N`, with the block or the row that the fault names behind it.
 pub fn print_refused<W: Write>(out: &mut W, fault: Fault) -> io::Result<()>
     ensures { PrintsLine (W.contents out.old) (W.contents out.new) result (refused_text fault) }
 {
-    let number = fault.number();
-    match fault.block() {
-        None => writeln!(out, "refused {number}"),
-        Some(block) => writeln!(out, "refused {number} {block}"),
-    }
+    let named = ShownNamed { fault };
+    let number = named.fault.number();
+    writeln!(out, "refused {number}{named}")
 }
 
 fn print_added<W: Write>(out: &mut W, action: u64, unfinished: Option<Fault>) -> io::Result<()>

@@ -13,6 +13,6 @@ pub use answer::{print_answer, print_entry, print_refused};
 pub use dump::{print_entries, print_page};
 pub use lines::first_line;
 pub use numbers::{key, number, number_u32, row};
-pub use show::{ShownBound, ShownEntry, ShownKey, ShownLink, ShownRow};
+pub use show::{ShownBound, ShownEntry, ShownKey, ShownLink, ShownNamed, ShownRow};
 pub use values::{Rows, all_rows, end, entry, range};
 pub use words::{Words, is_word};

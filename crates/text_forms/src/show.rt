@@ -1,9 +1,9 @@
-//! Keys, rows, entries and bounds as text.
+//! Keys, rows, entries and bounds as text, and what a fault names.
 
 ghost use Rattle.std.specs.Prelude.{◌≡◌, ◌≤◌, ◌*◌, Some, length};
 ghost use Rattle.hex.specs.Hex.{encode_lower};
 
-use index_model::{Bound, Entry, Key, RowAddr};
+use index_model::{Bound, Entry, Fault, Key, RowAddr};
 use std::{fmt, str};
 
 /// A key as text: lower-case hex, `-` for the empty one.
@@ -117,6 +117,32 @@ impl fmt::Display for ShownLink {
         match self.link {
             None => f.write_str("-"),
             Some(block) => write!(f, "{block}"),
+        }
+    }
+}
+
+/// What a fault names, with a space in front: the block of a page, or a row. Nothing, where it names neither.
+#[derive(Clone, Copy)]
+pub struct ShownNamed {
+    pub fault: Fault,
+}
+
+impl fmt::Display for ShownNamed {
+    ghost use Rattle.std.specs.Prelude.{Some};
+    ghost use Rattle.text_forms.specs.Spelling.{named_text};
+
+    ghost output = { λ shown. Some (named_text shown.fault) };
+
+    fn fmt<W: fmt::Write>(&self, f: &mut fmt::Formatter<W>) -> fmt::Result {
+        if let Some(block) = self.fault.block() {
+            write!(f, " {block}")?;
+        }
+        match self.fault.row() {
+            None => Ok(()),
+            Some(row) => {
+                let row = ShownRow { row };
+                write!(f, " {row}")
+            }
         }
     }
 }

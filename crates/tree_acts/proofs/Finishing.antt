@@ -30,6 +30,7 @@ use Rattle.tree_acts.proofs.Gone.{AreInUse, in_use_append, live_in_use}
 use Rattle.tree_acts.proofs.Mending.{mended_apart, mended_first, mended_used, mended_in_use, last_there, apart_last, used_last}
 use Rattle.tree_acts.proofs.Words.{cover_in, contents_same}
 use Rattle.tree_acts.proofs.Lasting.{lasts, fresh_free, fresh_reusable, meta_lives, Stands, stands, right_on_chain, right_in_use, on_level, MetaIs}
+use Rattle.tree_acts.proofs.UniqueActs.{finish_unique, parent_split_unique, root_split_unique}
 
 -- a flagged page is live, by the format
 flagged_lives : (page : Page) → IsPage page → page.split ≡ true → page.state ≡ Live
@@ -144,7 +145,7 @@ module _ (st : State) (start level : ℕ) (s : Bound) (p q p_after q_after : Pag
 
   pub finishing : TreeLasts st (after_act (q_after ∷ p_after ∷ []) st) × ContentsStay st (after_act (q_after ∷ p_after ∷ []) st)
   finishing = (
-    lasts st (q_after ∷ p_after ∷ []) has h.may finish_in_use (λ n. Unit {0}) 0 tt (λ n is. tt) has.tree.root has.tree.meta.level (omega arith) finish_meta (λ least ok. finish_goes least),
+    lasts st (q_after ∷ p_after ∷ []) has h.may (finish_unique st start level s p q p_after q_after new has h) finish_in_use (λ n. Unit {0}) 0 tt (λ n is. tt) has.tree.root has.tree.meta.level (omega arith) finish_meta (λ least ok. finish_goes least),
     λ x. contents_same st.pages (with_pages st.pages (q_after ∷ p_after ∷ [])) x
         (subst (λ (n : ℕ). IsHeld (nodes_of (with_pages st.pages (q_after ∷ p_after ∷ []))) n x ↔ IsHeld (nodes_of st.pages) (length st.pages) x) (sym finish_used)
         (finish_holds (nodes_of st.pages) (nodes_of (with_pages st.pages (q_after ∷ p_after ∷ []))) (length st.pages) p.block q.block finish_edit x)),
@@ -250,7 +251,7 @@ module _ (st : State) (start level : ℕ) (s : Bound) (p q p_after left right : 
 
   pub parent_splitting : TreeLasts st (after_act (left ∷ right ∷ mended ++ p_after ∷ []) st) × ContentsStay st (after_act (left ∷ right ∷ mended ++ p_after ∷ []) st)
   parent_splitting = (
-    lasts st (left ∷ right ∷ mended ++ p_after ∷ []) has h.may parent_in_use (λ n. IsReusable (nodes_of st.pages) (slice_index st.counted) n right.block) (slice_index st.counted right.block) (λ gone. omega arith)
+    lasts st (left ∷ right ∷ mended ++ p_after ∷ []) has h.may (parent_split_unique st start level s p q p_after left right mended new has h) parent_in_use (λ n. IsReusable (nodes_of st.pages) (slice_index st.counted) n right.block) (slice_index st.counted right.block) (λ gone. omega arith)
         (λ n is. fresh_reusable st right.block n h.fresh is) has.tree.root has.tree.meta.level (omega arith) parent_meta parent_goes,
     λ x. contents_same st.pages (with_pages st.pages (left ∷ right ∷ mended ++ p_after ∷ [])) x
         (subst (λ (n : ℕ). IsHeld (nodes_of (with_pages st.pages (left ∷ right ∷ mended ++ p_after ∷ []))) n x ↔ IsHeld (nodes_of st.pages) (length st.pages) x) (sym parent_used)
@@ -341,7 +342,7 @@ module _ (st : State) (start : ℕ) (s : Bound) (meta meta_after p p_after root 
 
   pub root_splitting : TreeLasts st (after_act (root ∷ meta_after ∷ p_after ∷ []) st) × ContentsStay st (after_act (root ∷ meta_after ∷ p_after ∷ []) st)
   root_splitting = (
-    lasts st (root ∷ meta_after ∷ p_after ∷ []) has h.may root_in_use (λ n. IsReusable (nodes_of st.pages) (slice_index st.counted) n root.block) (slice_index st.counted root.block) (λ gone. omega arith)
+    lasts st (root ∷ meta_after ∷ p_after ∷ []) has h.may (root_split_unique st start s meta meta_after p p_after root new has h) root_in_use (λ n. IsReusable (nodes_of st.pages) (slice_index st.counted) n root.block) (slice_index st.counted root.block) (λ gone. omega arith)
         (λ n is. fresh_reusable st root.block n h.fresh is) root.block (suc has.tree.meta.level) (omega arith) root_meta root_goes,
     λ x. contents_same st.pages (with_pages st.pages (root ∷ meta_after ∷ p_after ∷ [])) x
         (subst (λ (n : ℕ). IsHeld (nodes_of (with_pages st.pages (root ∷ meta_after ∷ p_after ∷ []))) n x ↔ IsHeld (nodes_of st.pages) (length st.pages) x) (sym root_used)

@@ -1,6 +1,7 @@
 -- What an act leaves, from what the tree's law says of it.
-use Rattle.std.proofs.Common.{◌≡◌, ◌≢◌, ◌⊎◌, ℕ, zero, suc, ◌<◌, ◌≤◌, ◌&&◌, inl, inr, Bool, true, false, List, [], ◌∷◌, length, slice_get, slice_index, nat_le, Option, Some, None, refl, sym, ap, subst, ◌∙◌, arith}
+use Rattle.std.proofs.Common.{◌≡◌, ◌≢◌, ◌⊎◌, ℕ, zero, suc, ◌<◌, ◌≤◌, ◌&&◌, inl, inr, Bool, true, false, if◌then◌else◌, List, [], ◌∷◌, ◌++◌, length, slice_get, slice_index, nat_le, Option, Some, None, refl, sym, ap, subst, ◌∙◌, arith}
 use Rattle.std.proofs.lemmas.Bool.{cases_lt, lt-leb}
+use Rattle.std.specs.Prelude.{nat_lt, slice_set}
 use Rattle.index_model.specs.declared.bound.Bound.{Bound}
 use Rattle.index_model.specs.declared.format.Format.{Format}
 use Rattle.page_codec.specs.Grammar.{IsOfKind, IsMeta}
@@ -11,6 +12,7 @@ use Rattle.page_action.specs.Reuse.{is_deleted_state, is_deleted_page, is_delete
 use Rattle.page_action.specs.States.{State, after_act, with_page, with_pages}
 use Rattle.page_action.specs.Stored.{AreStored, AreActable}
 use Rattle.page_action.proofs.StoredPages.{stored-with_page, stored_page, length-with_counts}
+use Rattle.tree_shape.specs.KeyPages.{IsUniquePage, AreUnique}
 use Rattle.tree_shape.specs.Tree.{IsMetaOf}
 use Rattle.tree_shape.specs.Nodes.{node_from, nodes_of}
 use Rattle.tree_shape.specs.Chains.{Spot, IsIn, IsRunOf, IsTreeOf, first_spot}
@@ -189,18 +191,40 @@ pub record MetaIs (pages : List Page) (root top : ℕ) : Type 0 where
   pub names : IsMetaOf meta root meta.level
   pub level_is : meta.level ≡ top
 
-pub lasts : (st : State) (changed : List Page) (h : HasTree st) → AreActable st.limits (length st.pages) changed → AreInUse changed → (Ok : ℕ → Type 0) (one : ℕ) → Ok one → ((start : ℕ) → IsStart st.running start → Ok start)
+-- pages that are unique stay so, where those of an act are
+unique_set : (pages : List Page) (page : Page) (b : ℕ) → AreUnique pages → IsUniquePage page → AreUnique (slice_set pages b page)
+unique_set [] page b h one = h
+unique_set (p ∷ pages) page zero h one = (one, h.1)
+unique_set (p ∷ pages) page (suc b) h one = (h.0, unique_set pages page b h.1 one)
+
+unique_add : (pages : List Page) (page : Page) → AreUnique pages → IsUniquePage page → AreUnique (pages ++ page ∷ [])
+unique_add [] page h one = (one, tt)
+unique_add (p ∷ pages) page h one = (h.0, unique_add pages page h.1 one)
+
+unique_with : (pages : List Page) (page : Page) → AreUnique pages → IsUniquePage page → AreUnique (with_page pages page)
+unique_with pages page h one = by (nat_lt page.block (length pages))
+  where
+    by : (w : Bool) → AreUnique (if w then slice_set pages page.block page else pages ++ page ∷ [])
+    by true = unique_set pages page page.block h one
+    by false = unique_add pages page h one
+
+pub unique_after : (pages changed : List Page) → AreUnique pages → AreUnique changed → AreUnique (with_pages pages changed)
+unique_after pages [] h c = h
+unique_after pages (page ∷ changed) h c = unique_after (with_page pages page) changed (unique_with pages page h c.0) c.1
+
+pub lasts : (st : State) (changed : List Page) (h : HasTree st) → AreActable st.limits (length st.pages) changed → (st.limits.unique ≡ true → AreUnique changed) → AreInUse changed → (Ok : ℕ → Type 0) (one : ℕ) → Ok one → ((start : ℕ) → IsStart st.running start → Ok start)
     → (root' top' : ℕ) → h.tree.meta.level ≤ top' → MetaIs (with_pages st.pages changed) root' top'
     → ((least : ℕ) → Ok least → TreeGoesOn (nodes_of st.pages) (nodes_of (with_pages st.pages changed)) (slice_index st.counted) (slice_index (after_act changed st).counted)
     (length (with_pages st.pages changed)) root' h.tree.meta.level top' h.tree.chain least)
     → TreeLasts st (after_act changed st)
-lasts st changed h may live Ok one ok running root' top' taller meta goes = record {
+lasts st changed h may one_a_key live Ok one ok running root' top' taller meta goes = record {
   has = record {
     tree = tree_of one ok;
     stored = stored_after st.limits (length st.pages) st.pages changed may (omega arith) h.stored;
     counted = length-with_counts st.counted st.pages changed h.counted;
     within = counts_within st changed h.counted may (in_use_count st.begun changed live) h.within;
     lead = gone_lead_on st changed h.counted may live h.lead;
+    unique = λ asked. unique_after st.pages changed (h.unique asked) (one_a_key asked);
   };
   lows = lows_of st.pages (with_pages st.pages changed) h.tree (tree_of one ok) (slice_index st.counted) (slice_index (after_act changed st).counted) one (rw (meta.level_is) taller)
       (λ level in_top. (goes one ok).places one (omega arith) level in_top);
@@ -239,7 +263,7 @@ lasts st changed h may live Ok one ok running root' top' taller meta goes = reco
     }
 
 -- ... also where a page of a chain is deleted, later than each running call began; lows are as they are whichever numbers count
-pub lasts_without : (st : State) (changed : List Page) (h : HasTree st) → AreActable st.limits (length st.pages) changed → CountUpTo st.begun changed → GoneLeadOn (after_act changed st)
+pub lasts_without : (st : State) (changed : List Page) (h : HasTree st) → AreActable st.limits (length st.pages) changed → (st.limits.unique ≡ true → AreUnique changed) → CountUpTo st.begun changed → GoneLeadOn (after_act changed st)
     → (late : ℕ) → ((start : ℕ) → IsStart st.running start → start < late)
     → MetaIs (with_pages st.pages changed) h.tree.root h.tree.meta.level
     → TreeGoesOnWithout (nodes_of st.pages) (nodes_of (with_pages st.pages changed)) (slice_index st.counted) (slice_index (after_act changed st).counted)
@@ -247,13 +271,14 @@ pub lasts_without : (st : State) (changed : List Page) (h : HasTree st) → AreA
     → TreeGoesOnWithout (nodes_of st.pages) (nodes_of (with_pages st.pages changed)) (λ c. 1) (λ c. 1)
     (length (with_pages st.pages changed)) h.tree.root h.tree.meta.level h.tree.chain 1
     → TreeLasts st (after_act changed st)
-lasts_without st changed h may few leads late running meta goes lower = record {
+lasts_without st changed h may one_a_key few leads late running meta goes lower = record {
   has = record {
     tree = tree';
     stored = stored_after st.limits (length st.pages) st.pages changed may (omega arith) h.stored;
     counted = length-with_counts st.counted st.pages changed h.counted;
     within = counts_within st changed h.counted may few h.within;
     lead = leads;
+    unique = λ asked. unique_after st.pages changed (h.unique asked) (one_a_key asked);
   };
   lows = lows_of st.pages (with_pages st.pages changed) h.tree (tree_by lower.chain' lower.tree) (λ c. 1) (λ c. 1) 0 (rw (meta.level_is) (omega arith))
       (λ level in_top. lower.places 0 (omega arith) level in_top);

@@ -49,3 +49,8 @@ pub mod Unlink
 pub mod UnlinkTree
 pub mod Staying
 pub mod Shortest
+pub mod KeyBounds
+pub mod KeyCovers
+pub mod KeyPages
+pub mod KeyEdits
+pub mod KeyPlaces

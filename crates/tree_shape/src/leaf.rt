@@ -1,6 +1,6 @@
 //! Entries on a leaf.
 
-ghost use Rattle.std.specs.Prelude.{◌≡◌, ◌<◌, ◌≤◌, ◌+◌, ◌||◌, ◌↔◌, IsTrue, length, true, false, IfOk, IfErr, OnOk, OnErr, IfSome, insert, drop, not, slice_get};
+ghost use Rattle.std.specs.Prelude.{◌≡◌, ◌≢◌, ℕ, suc, ◌<◌, ◌≤◌, ◌+◌, ◌||◌, ◌↔◌, IsTrue, length, true, false, IfOk, IfErr, OnOk, OnErr, Some, IfSome, IfNone, insert, drop, not, slice_get};
 ghost use Rattle.index_model.specs.Order.{is_among, same_entry, is_past, bound_of, IsAscending};
 ghost use Rattle.index_model.specs.Range.{below_admits};
 ghost use Rattle.index_model.specs.declared.entry.Entry.{Entry};
@@ -8,10 +8,11 @@ ghost use Rattle.page_codec.specs.Grammar.{IsPage};
 ghost use Rattle.page_codec.specs.Edits.{entries_of, HasEntries, with_entries, renewed};
 ghost use Rattle.tree_shape.specs.Edits.{IsPutIn, with_leaf};
 ghost use Rattle.tree_shape.specs.Nodes.{node_of};
+ghost use Rattle.tree_shape.specs.KeyPages.{IsKeyFree};
 ghost use Rattle.tree_shape.specs.Leaf.{IsPlaceOf, IsCopiedFrom, AreParts, MayHold};
 
 use arrayvec::ArrayVec;
-use index_model::{Bound, Entry, Key, Layout};
+use index_model::{Bound, Entry, Key, Layout, RowAddr};
 use page_codec::{Items, Page, PageState};
 
 /// How many of the entries stand before the entry.
@@ -60,6 +61,51 @@ pub fn find(entries: &[Entry], entry: &Entry) -> Result<usize, usize>
         Ok(at)
     } else {
         Err(at)
+    }
+}
+
+// The row of the entry at the place, if one stands there and has the key.
+fn row_at(entries: &[Entry], at: usize, key: &Key) -> Option<RowAddr>
+    ensures there { IfSome result (λ row.
+        is_among entries.now (record { key = key.now; row = row }) ≡ true) }
+    ensures other { IfNone result ((x : Entry) → slice_get entries.now at ≡ Some x
+        → x.key ≢ key.now) }
+{
+    let Some(found) = entries.get(at) else {
+        return None;
+    };
+    if found.key == *key {
+        Some(found.row)
+    } else {
+        None
+    }
+}
+
+// The row of the entry before the place, if one stands there and has the key.
+fn row_before(entries: &[Entry], at: usize, key: &Key) -> Option<RowAddr>
+    ensures there { IfSome result (λ row.
+        is_among entries.now (record { key = key.now; row = row }) ≡ true) }
+    ensures other { IfNone result ((x : Entry) → (last : ℕ) → at ≡ suc last
+        → slice_get entries.now last ≡ Some x → x.key ≢ key.now) }
+{
+    if at == 0 {
+        None
+    } else {
+        row_at(entries, at - 1, key)
+    }
+}
+
+/// The row of an entry that has this one's key, where `at` is the place that this one would take: of the entry before the
+/// place, or else of the one at it. None: no entry has the key.
+pub fn find_key(entries: &[Entry], at: usize, entry: &Entry) -> Option<RowAddr>
+    ensures there { IfSome result (λ row.
+        is_among entries.now (record { key = entry.now.key; row = row }) ≡ true) }
+    ensures free { IsAscending entries.now → IsPlaceOf entry.now entries.now at
+        → IfNone result (IsKeyFree entry.now.key entries.now) }
+{
+    match row_before(entries, at, &entry.key) {
+        Some(row) => Some(row),
+        None => row_at(entries, at, &entry.key),
     }
 }
 

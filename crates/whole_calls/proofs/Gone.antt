@@ -128,7 +128,7 @@ module _ {S : Type 0} (number : ℕ) (call : Call) (xs : List Effect) (x y z : S
   pub gone_then : (answer : Answer) → StepTold number mid_call answer y z → StepTold number call answer x z
   gone_then answer t = elim t [
     | inl told ↦ inl (gone_told answer told)
-    | inr held ↦ inr (record { fault = held.fault; refused = held.refused; before = xs ++ held.before; gone = gone_further held.before held.gone; not_exists = held.not_exists })
+    | inr held ↦ inr (record { fault = held.fault; refused = held.refused; before = xs ++ held.before; gone = gone_further held.before held.gone; not_exists = held.not_exists; not_key_exists = held.not_key_exists })
   ]
 
 -- all effects of a call that is told so, with the last

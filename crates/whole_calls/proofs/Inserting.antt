@@ -3,7 +3,8 @@ use Rattle.std.proofs.Common.{◌≡◌, ◌≢◌, ℕ, suc, ◌+◌, ◌⊎◌
 use Rattle.std.proofs.lemmas.Bool.{false≢true}
 use Rattle.std.proofs.lemmas.List.{append-nil}
 use Rattle.index_model.specs.Calls.{Added as EndsAdded}
-use Rattle.index_model.specs.declared.fault.Fault.TheVariants.{Blocked, Exists}
+use Rattle.index_model.specs.Row.{Row}
+use Rattle.index_model.specs.declared.fault.Fault.TheVariants.{Blocked, Exists, KeyExists}
 use Rattle.session_calls.specs.declared.request.Request.TheVariants.{Insert as ToInsert}
 use Rattle.schedule.proofs.Lists.{get_append_new, get_append_cases}
 use Rattle.whole_calls.proofs.Words.{Effect, Add, Remove, Shape, Action, Ask, AskInsert, Ending, Running, GivenUp, Failed, AnswersRight, end_of, Meets, Call, HasCause, Entry, Fault, Ghosts, ends_call, IsCaused, acts_of, act_count, noted, ended, slot_add, once_added, Answer, Going, Added, Refused, Op, StoreAndSlots, Snapshot, snapshot_of, IsRunningCall, Fits, here_at, slot_of}
@@ -110,6 +111,22 @@ insert_comes entry (Refused fault) None answers over may so = so
 insert_comes entry (Refused fault) (Some action) answers over may so = inr (fault, refl, so)
 insert_comes entry answer added answers over may so = absurd (insert_may entry answer over may)
 
+-- a fault of an entry that was there, or of its key
+abbrev IsOfEntry : Fault → Type 0
+IsOfEntry Exists = Unit {0}
+IsOfEntry (KeyExists row) = Unit {0}
+IsOfEntry fault = ⊥
+
+not_of_entry : (fault : Fault) → fault ≢ Exists → ((row : Row) → fault ≢ KeyExists row) → IsOfEntry fault → ⊥
+not_of_entry Exists entry key h = entry refl
+not_of_entry (KeyExists row) entry key h = key row refl
+not_of_entry fault entry key h = h
+
+of_entry_ends : (fault : Fault) → IsOfEntry fault → ends_call fault ≡ true
+of_entry_ends Exists h = refl
+of_entry_ends (KeyExists row) h = refl
+of_entry_ends fault h = absurd h
+
 -- an insert that was refused: where it stands then
 pub record IsLeftSo {S : Type 0} (number : ℕ) (call : Call) (fault : Fault) (x y : Snapshot S) : Type 0 where
   pub effects : List Effect
@@ -118,7 +135,7 @@ pub record IsLeftSo {S : Type 0} (number : ℕ) (call : Call) (fault : Fault) (x
   pub history_is : y.history ≡ x.history ++ acts_by number effects
   pub calls_is : y.calls ≡ slice_set x.calls number after
   pub after_is : (after ≡ noted_behind call (length x.history) effects) ⊎ (after ≡ ended (noted_behind call (length x.history) effects) (Failed fault) (length y.history))
-  pub exists_is : fault ≡ Exists → after ≡ ended (noted_behind call (length x.history) effects) (Failed Exists) (length y.history)
+  pub over_is : IsOfEntry fault → after ≡ ended (noted_behind call (length x.history) effects) (Failed fault) (length y.history)
 
 refused_so : {S : Type 0} (number : ℕ) (call : Call) (fault : Fault) (x y : Snapshot S) → IsTold number call (Refused fault) x y → IsLeftSo number call fault x y
 refused_so number call fault x y t =
@@ -136,7 +153,7 @@ refused_so number call fault x y t =
       history_is = history;
       calls_is = t.calls_is;
       after_is = by (ends_call fault) is;
-      exists_is = λ e. subst (λ (f : Fault). t.after ≡ (if ends_call f then ended (noted_behind call (length x.history) w.effects) (Failed f) (length y.history) else noted_behind call (length x.history) w.effects)) e is;
+      over_is = λ e. subst (λ (b : Bool). t.after ≡ (if b then ended (noted_behind call (length x.history) w.effects) (Failed fault) (length y.history) else noted_behind call (length x.history) w.effects)) (of_entry_ends fault e) is;
     }
   where
     by : {c : Call} {d : Call} {k : Call} (b : Bool) → k ≡ (if b then d else c) → (k ≡ c) ⊎ (k ≡ d)
@@ -155,7 +172,7 @@ left_so number call fault x y (inr h) =
       history_is = h.gone.history_is;
       calls_is = h.gone.calls_is;
       after_is = inl refl;
-      exists_is = λ e. absurd (h.not_exists (same ∙ e));
+      over_is = λ e. absurd (not_of_entry h.fault h.not_exists h.not_key_exists (subst IsOfEntry (sym same) e));
     }
 
 -- an insert that came so far, and then an end
@@ -233,12 +250,18 @@ module _ {S : Type 0} (g : Ghosts S) (start : Entry → Bool) (session : ℕ) (e
       record {
         shaped = length l.effects;
         history_is = end.history_is ∙ l.history_is ∙ ap (λ (h : List Action). x.history ++ h) r.0;
-        exists_is = λ e. (
-            let after : Call = ended request_call (Failed Exists) (length z.history) in
-            let after_is : l.after ≡ after = l.exists_is e ∙ ap (λ (c : Call). ended c (Failed Exists) (length y.history)) r.1 ∙ ap (λ (h : List Action). ended request_call (Failed Exists) (length h)) (sym end.history_is) in
-            let calls : y.calls ≡ x.calls ++ after ∷ [] = last_call fault l ∙ ap (λ (c : Call). x.calls ++ c ∷ []) after_is in
-            end.calls_is (ended_none session x y after free calls (λ k. cc)) ∙ calls);
+        exists_is = λ e. over r.1 Exists tt e;
+        key_exists_is = λ row e. over r.1 (KeyExists row) tt e;
       }
+    where
+      over : noted_behind request_call (length x.history) l.effects ≡ request_call → (of : Fault) → IsOfEntry of → fault ≡ of → z.calls ≡ x.calls ++ ended request_call (Failed of) (length z.history) ∷ []
+      over same of is e =
+          let after : Call = ended request_call (Failed of) (length z.history) in
+          let after_is : l.after ≡ after =
+          l.over_is (subst IsOfEntry (sym e) is) ∙ ap (λ (f : Fault). ended (noted_behind request_call (length x.history) l.effects) (Failed f) (length y.history)) e
+          ∙ ap (λ (c : Call). ended c (Failed of) (length y.history)) same ∙ ap (λ (h : List Action). ended request_call (Failed of) (length h)) (sym end.history_is) in
+          let calls : y.calls ≡ x.calls ++ after ∷ [] = last_call fault l ∙ ap (λ (c : Call). x.calls ++ c ∷ []) after_is in
+          end.calls_is (ended_none session x y after free calls (λ k. cc)) ∙ calls
 
   -- a session whose insert a fault has ended runs nothing
   failed_runs_none : (fault : Fault) (l : IsLeftSo insert_number request_call fault begun y) → l.after ≡ ended (noted_behind request_call (length x.history) l.effects) (Failed fault) (length y.history) → slot_of y.slots session ≡ None
@@ -247,11 +270,11 @@ module _ {S : Type 0} (g : Ghosts S) (start : Entry → Bool) (session : ℕ) (e
       let over : l.after.ending ≡ Running → ⊥ = λ e. (let f : l.after.ending ≡ Failed fault = ap (λ (c : Call). c.ending) is in cc) in
       is_empty g start y fits session (ended_none session x y l.after free calls over)
 
-  -- an insert that has added its entry isn't refused because the entry was there
-  pub not_there : (action : ℕ) → slot_add (slot_of y.slots session) ≡ Some action → NextTold session (ToInsert entry) (Refused Exists) x y → ⊥
-  not_there action some t =
-      let l : IsLeftSo insert_number request_call Exists begun y = left_so insert_number request_call Exists begun y t in
-      let none : slot_add (slot_of y.slots session) ≡ None = ap slot_add (failed_runs_none Exists l (l.exists_is refl)) in
+  -- an insert that has added its entry isn't refused because the entry or its key was there
+  pub not_there : (action : ℕ) → slot_add (slot_of y.slots session) ≡ Some action → (fault : Fault) → IsOfEntry fault → NextTold session (ToInsert entry) (Refused fault) x y → ⊥
+  not_there action some fault of t =
+      let l : IsLeftSo insert_number request_call fault begun y = left_so insert_number request_call fault begun y t in
+      let none : slot_add (slot_of y.slots session) ≡ None = ap slot_add (failed_runs_none fault l (l.over_is of)) in
       cc
 
   -- where it has one, it still runs, and is given up
@@ -290,19 +313,21 @@ not_begun session entry fault x y t = record {
   shaped = 0;
   history_is = t.silent.history_is ∙ sym (append-nil x.history);
   exists_is = λ e. absurd (t.not_exists e);
+  key_exists_is = λ row e. absurd (t.not_key_exists row e);
 }
 
 -- why it leaves a fault behind, or is refused
-left_cause : {S : Type 0} (g : Ghosts S) (session least_room : ℕ) (old : StoreAndSlots S) (new : S) (used_up tall : Bool) (fault : Fault) → fault ≢ Exists → HasCause (where_inserted g session least_room true used_up tall old new) fault
-    → HasCause (where_inserted g session least_room false used_up tall old new) fault
-left_cause g session least_room old new used_up tall Exists apart h = absurd (apart refl)
-left_cause g session least_room old new used_up tall fault apart h = h
+left_cause : {S : Type 0} (g : Ghosts S) (session least_room : ℕ) (old : StoreAndSlots S) (new : S) (key_was : Row → Bool) (used_up tall : Bool) (fault : Fault) → (IsOfEntry fault → ⊥)
+    → HasCause (where_inserted g session least_room true key_was used_up tall old new) fault → HasCause (where_inserted g session least_room false (λ r. false) used_up tall old new) fault
+left_cause g session least_room old new key_was used_up tall Exists apart h = absurd (apart tt)
+left_cause g session least_room old new key_was used_up tall (KeyExists row) apart h = absurd (apart tt)
+left_cause g session least_room old new key_was used_up tall fault apart h = h
 
 -- what it leaves unfinished has its cause
-added_cause : {S : Type 0} (g : Ghosts S) (session least_room : ℕ) (old : StoreAndSlots S) (new : S) (used_up tall : Bool) (fault : Fault) → HasCause (once_added (where_inserted g session least_room true used_up tall old new)) fault
-    → HasCause (where_inserted g session least_room false used_up tall old new) fault
-added_cause g session least_room old new used_up tall (Blocked block) h = absurd (false≢true h)
-added_cause g session least_room old new used_up tall fault h = h
+added_cause : {S : Type 0} (g : Ghosts S) (session least_room : ℕ) (old : StoreAndSlots S) (new : S) (key_was : Row → Bool) (used_up tall : Bool) (fault : Fault) → HasCause (once_added (where_inserted g session least_room true key_was used_up tall old new)) fault
+    → HasCause (where_inserted g session least_room false (λ r. false) used_up tall old new) fault
+added_cause g session least_room old new key_was used_up tall (Blocked block) h = absurd (false≢true h)
+added_cause g session least_room old new key_was used_up tall fault h = h
 
 -- an insert that is run to its end
 module _ {S : Type 0} (g : Ghosts S) (session least_room : ℕ) (entry : Entry) where
@@ -314,13 +339,13 @@ module _ {S : Type 0} (g : Ghosts S) (session least_room : ℕ) (entry : Entry) 
   abbrev no_block : StoreAndSlots S → S → Bool
   no_block old new = has_no_block session (Some (g.state old.store).begun) (g.state new)
 
-  caused : (old : StoreAndSlots S) (new : S) (answer : Answer) (added : Option ℕ) → IsInsertAnswer answer → ((action : ℕ) → added ≡ Some action → answer ≢ Refused Exists)
+  caused : (old : StoreAndSlots S) (new : S) (answer : Answer) (added : Option ℕ) → IsInsertAnswer answer → ((action : ℕ) → added ≡ Some action → (fault : Fault) → IsOfEntry fault → answer ≢ Refused fault)
       → IsCaused (where_asked g session least_room (Some (g.state old.store).begun) false (AskInsert entry) old new) answer → InsertCallIsCaused g session least_room entry old new (outcome_of answer added)
   caused old new (Added action None) added may apart c = tt
-  caused old new (Added action (Some fault)) added may apart c = added_cause g session least_room old new (no_block old new) (is_tall (g.state new)) fault c
-  caused old new (Refused fault) None may apart c = called_wider g session (ToInsert entry) old (where_inserted g session least_room true (no_block old new) (is_tall (g.state new)) old new) refl refl refl fault c
+  caused old new (Added action (Some fault)) added may apart c = added_cause g session least_room old new (λ r. (g.state new).limits.unique) (no_block old new) (is_tall (g.state new)) fault c
+  caused old new (Refused fault) None may apart c = called_wider g session (ToInsert entry) old (where_inserted g session least_room true (λ r. (g.state new).limits.unique) (no_block old new) (is_tall (g.state new)) old new) refl refl refl fault c
   caused old new (Refused fault) (Some action) may apart c =
-      left_cause g session least_room old new (no_block old new) (is_tall (g.state new)) fault (λ e. apart action refl (ap (λ (f : Fault). Refused f) e)) c
+      left_cause g session least_room old new (λ r. (g.state new).limits.unique) (no_block old new) (is_tall (g.state new)) fault (λ of. apart action refl fault of refl) c
   caused old new answer added may apart c = absurd may
 
   may_run : (start : Entry → Bool) (x z : Snapshot S) (answer : Answer) (added : Option ℕ) → answer ≢ Going → RunGoes g session least_room (ToInsert entry) answer added start x z → IsInsertAnswer answer
@@ -330,10 +355,10 @@ module _ {S : Type 0} (g : Ghosts S) (session least_room : ℕ) (entry : Entry) 
   pub insert_caused : (start : Entry → Bool) (x z : Snapshot S) (answer : Answer) (added : Option ℕ) → answer ≢ Going → RunGoes g session least_room (ToInsert entry) answer added start x z
       → InsertCallIsCaused g session least_room entry (here_at x) z.store (outcome_of answer added)
   insert_caused start x z answer added over (inl n) =
-      rw (n.refused, n.none) (begun_called g session (ToInsert entry) (here_at x) (where_inserted g session least_room true (no_block (here_at x) z.store) (is_tall (g.state z.store)) (here_at x) z.store) (λ h. stopped_before g session least_room false (here_at x) z.store h) n.fault n.cause)
+      rw (n.refused, n.none) (begun_called g session (ToInsert entry) (here_at x) (where_inserted g session least_room true (λ r. (g.state z.store).limits.unique) (no_block (here_at x) z.store) (is_tall (g.state z.store)) (here_at x) z.store) (λ h. stopped_before g session least_room false (here_at x) z.store h) n.fault n.cause)
   insert_caused start x z answer added over (inr r) =
       caused (here_at x) z.store answer added (may_run start x z answer added over (inr r))
-      (λ action some e. not_there g start session entry x r.here z r.free r.fits r.end action (r.add_is ∙ some) (subst (λ (a : Answer). NextTold session (ToInsert entry) a x r.here) e r.told)) r.caused
+      (λ action some fault of e. not_there g start session entry x r.here z r.free r.fits r.end action (r.add_is ∙ some) fault of (subst (λ (a : Answer). NextTold session (ToInsert entry) a x r.here) e r.told)) r.caused
 
   as_told : (a c : StoreAndSlots S) (answer : Answer) (added : Option ℕ) → answer ≢ Going → GoesFrom g session (RunGoes g session least_room (ToInsert entry) answer added) (Some answer) a c
       → CallGoes g session (InsertTold session entry (outcome_of answer added)) (Some answer) a c

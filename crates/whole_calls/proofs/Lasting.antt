@@ -88,7 +88,8 @@ held_goes g session least_room fault x y room cause = record {
     refused = refl;
     before = [];
     gone = gone_nowhere session number call x y is room.silent;
-    not_exists = kept_not_exists (g.backing x.store) (g.backing y.store) fault cause;
+    not_exists = (kept_not_exists (g.backing x.store) (g.backing y.store) fault cause).0;
+    not_key_exists = (kept_not_exists (g.backing x.store) (g.backing y.store) fault cause).1;
   });
   caused = λ number call is. forced_cause g session least_room (start_number (g.state x.store) session) (is_full_vacuum (slot_of x.slots session)) call.ask (here_at x) y.store fault cause;
   counts = λ what. tt;

@@ -2,15 +2,16 @@
 use Rattle.std.proofs.Common.{◌≡◌, ◌≢◌, ◌⊎◌, ℕ, zero, suc, ◌+◌, ◌<◌, ◌≤◌, Bool, true, false, not, ◌&&◌, ◌||◌, ◌==◌, nat_lt, nat_le, Option, Some, None, List, [], ◌∷◌, ◌++◌, length, slice_get, slice_set, refl, sym, ap, subst, arith, inl, inr, ◌∙◌, if◌then◌else◌, unwrap_or, is_none}
 use Rattle.std.proofs.lemmas.Bool.{or_cases, and_parts, ne_eqb, ltb-true, lt-ltb, ltb-false, leb-true, le-leb, eqb-true, eq-eqb}
 use Rattle.std.proofs.lemmas.List.{append-nil}
-use Rattle.index_model.specs.declared.fault.Fault.TheVariants.{Io, Stopped, Blocked, Exists, KeyTooLong, BadRow, IndexFull, LogFull, NoFrame, VacuumRunning, NoSession, SessionBusy, BadSuper, BadVersion, LogDamaged, BadLimits, TooTall, DeviceTooSmall}
+use Rattle.index_model.specs.declared.fault.Fault.TheVariants.{Io, Stopped, Blocked, Exists, KeyTooLong, BadRow, IndexFull, LogFull, NoFrame, VacuumRunning, NoSession, SessionBusy, BadSuper, BadVersion, LogDamaged, BadLimits, TooTall, DeviceTooSmall, KeyExists}
 use Rattle.index_model.specs.Row.{Row}
+use Rattle.index_model.specs.declared.format.Format.{Format}
 use Rattle.index_model.specs.declared.range.Range.{Range}
 use Rattle.latch_table.specs.Holdings.{Holding, Table, nothing_held, holding_of, holding_excludes, is_held_by_another}
 use Rattle.latch_table.specs.declared.mode.Mode.{Mode}
 use Rattle.latch_table.specs.declared.mode.Mode.TheVariants.{Shared, Exclusive, Cleanup}
 use Rattle.latch_table.proofs.Tables.{is_held_by_another-by}
 use Rattle.page_action.specs.Contents.{entry_on_live_leaf}
-use Rattle.page_action.specs.Causes.{nothing_wrong, where_forced, has_failed, is_at_end, pinned_blocks, count_apart}
+use Rattle.page_action.specs.Causes.{nothing_wrong, other_row_is_there, where_forced, has_failed, is_at_end, pinned_blocks, count_apart}
 use Rattle.descent.specs.Shared.{is_out_of_blocks, count_new, lacks_room, frames_for}
 use Rattle.descent.specs.Ways.{root_level}
 use Rattle.split_finish.specs.Finishes.{frames_of}
@@ -30,6 +31,7 @@ use Rattle.page_delete.specs.Ops.{is_counted_out as is_cleanup_full}
 use Rattle.page_delete.specs.declared.steps.CleanupOp.{CleanupOp}
 use Rattle.session_calls.specs.Sessions.{start_number, after_call, StepIsRefused, RefusalChangesNothing, UnfinishedChangesNothing}
 use Rattle.session_calls.specs.declared.op.Op.TheVariants.{Insert, Scan, Bulk, Cleanup}
+use Rattle.session_calls.proofs.Meeting.{other_row_is}
 use Rattle.whole_calls.proofs.Words.{Effect, Ask, AskInsert, AskScan, AskBulkDelete, AskCleanup, Call, Circumstances, HasCause, Entry, Fault, State, Backing, IsLater, Ghosts, Page, DeadSets, acts_of, OpFits, IsCaused, once_added, where_stepped, set_at, asked_of, session_of, Told, is_busy, AnswersNext, Answer, Added, Gave, Refused, Op, Request, StoreAndSlots, Snapshot, IsRunningCall, EventDoes, Fits, here_at, slot_of, one_vacuums, MovesCall, Steps, CallMoves, MovesOn, where_moving, where_begun_at, is_of_sets, OthersStay, ends_call}
 use Rattle.whole_calls.specs.Refusing.{others_run, another_runs, is_full_vacuum, where_gone, where_inserted, is_tall, where_asked, where_called, has_no_block}
 use Rattle.whole_calls.proofs.Blocks.{blocks_behind, blocks_same}
@@ -61,6 +63,7 @@ IsNarrower at wide = (fault : Fault) → HasCause at fault → HasCause wide fau
 
 narrower_once : (at wide : Circumstances) → IsNarrower at wide → IsNarrower (once_added at) (once_added wide)
 narrower_once at wide more Exists h = h
+narrower_once at wide more (KeyExists row) h = h
 narrower_once at wide more (Blocked block) h = h
 narrower_once at wide more fault h = more fault h
 
@@ -219,7 +222,7 @@ told_behind op answer st new before after is refused unfinished fault told = abs
 
 -- a step of the session's running call
 module _ {S : Type 0} (g : Ghosts S) (start : Entry → Bool) (session least_room : ℕ) (x y : Snapshot S) (fits : Fits g start x) (room : 5 ≤ least_room → 5 ≤ (g.backing x.store).promised)
-    (frames : (g.state y.store).frames ≡ (g.state x.store).frames) (acts : (g.state x.store).acts ≤ (g.state y.store).acts) where
+    (limits : (g.state y.store).limits ≡ (g.state x.store).limits) (frames : (g.state y.store).frames ≡ (g.state x.store).frames) (acts : (g.state x.store).acts ≤ (g.state y.store).acts) where
   abbrev st : State
   st = g.state x.store
 
@@ -265,24 +268,27 @@ module _ {S : Type 0} (g : Ghosts S) (start : Entry → Bool) (session least_roo
       few : frames_of st op.target op.at + 0 ≤ 4
       few = (let k = frames_few st op.target op.at in omega (arith, k))
 
-  inserting : (was_there used_up tall : Bool) (op : InsertOp) → op.session ≡ session → InsertFits st op → ((takes_block_at st op.at && is_out_of_blocks st) ≡ true → used_up ≡ true) → ((splits_root_at st op.at && nat_le 31 (root_level st.pages)) ≡ true → tall ≡ true)
-      → (fault : Fault) → HasCause (record (where_inserting st (g.backing x.store) (g.backing y.store) op.session op.entry op.at) { entry_was_there = was_there }) fault
-      → HasCause (where_inserted g session least_room was_there used_up tall (here_at x) y.store) fault
-  inserting was_there used_up tall op is f blocks root Stopped h = stopped_cause (g.backing x.store).stopped (has_failed (g.backing x.store) (g.backing y.store)) false h
-  inserting was_there used_up tall op is f blocks root (Blocked b) h = elim (or_cases (is_held_by_another st.table op.session b Shared) (is_held_by_another st.table op.session b Exclusive) h) [
+  inserting : (was_there : Bool) (key_was : Row → Bool) (used_up tall : Bool) (op : InsertOp) → op.session ≡ session → InsertFits st op → ((takes_block_at st op.at && is_out_of_blocks st) ≡ true → used_up ≡ true) → ((splits_root_at st op.at && nat_le 31 (root_level st.pages)) ≡ true → tall ≡ true)
+      → (fault : Fault) → HasCause (record (where_inserting st (g.backing x.store) (g.backing y.store) op.session op.entry op.at) { entry_was_there = was_there; key_was_there = key_was }) fault
+      → HasCause (where_inserted g session least_room was_there key_was used_up tall (here_at x) y.store) fault
+  inserting was_there key_was used_up tall op is f blocks root Stopped h = stopped_cause (g.backing x.store).stopped (has_failed (g.backing x.store) (g.backing y.store)) false h
+  inserting was_there key_was used_up tall op is f blocks root (Blocked b) h = elim (or_cases (is_held_by_another st.table op.session b Shared) (is_held_by_another st.table op.session b Exclusive) h) [
     | inl shared ↦ held_cause b Shared (subst (λ (s : ℕ). is_held_by_another st.table s b Shared ≡ true) is shared)
     | inr alone ↦ held_cause b Exclusive (subst (λ (s : ℕ). is_held_by_another st.table s b Exclusive ≡ true) is alone)
   ]
-  inserting was_there used_up tall op is f blocks root IndexFull h = blocks h
-  inserting was_there used_up tall op is f blocks root LogFull h = enough least_room (g.backing x.store) (g.backing y.store) (images_at st op.at) room (insert_images_few st op.at) h
-  inserting was_there used_up tall op is f blocks root NoFrame h = insert_frames op.session f.start op.entry op.at is f.stands h
-  inserting was_there used_up tall op is f blocks root TooTall h = root h
-  inserting was_there used_up tall op is f blocks root fault h = h
+  inserting was_there key_was used_up tall op is f blocks root IndexFull h = blocks h
+  inserting was_there key_was used_up tall op is f blocks root LogFull h = enough least_room (g.backing x.store) (g.backing y.store) (images_at st op.at) room (insert_images_few st op.at) h
+  inserting was_there key_was used_up tall op is f blocks root NoFrame h = insert_frames op.session f.start op.entry op.at is f.stands h
+  inserting was_there key_was used_up tall op is f blocks root TooTall h = root h
+  inserting was_there key_was used_up tall op is f blocks root fault h = h
 
-  -- where it isn't told whether the entry was there
-  any_was : (was_there used_up tall : Bool) (fault : Fault) → HasCause (where_inserted g session least_room was_there used_up tall (here_at x) y.store) fault → HasCause (where_inserted g session least_room true used_up tall (here_at x) y.store) fault
-  any_was was_there used_up tall Exists h = refl
-  any_was was_there used_up tall fault h = h
+  -- where it isn't told whether the entry was there, and of its key only that the index is unique
+  any_was : (was_there : Bool) (key_was : Row → Bool) (used_up tall : Bool) → ((row : Row) → key_was row ≡ true → (g.state y.store).limits.unique ≡ true)
+      → (fault : Fault) → HasCause (where_inserted g session least_room was_there key_was used_up tall (here_at x) y.store) fault
+      → HasCause (where_inserted g session least_room true (λ r. (g.state y.store).limits.unique) used_up tall (here_at x) y.store) fault
+  any_was was_there key_was used_up tall unique Exists h = refl
+  any_was was_there key_was used_up tall unique (KeyExists row) h = unique row h
+  any_was was_there key_was used_up tall unique fault h = h
 
   scanning : (op : ScanOp) → op.session ≡ session → ScanFits st op → (fault : Fault) → HasCause (where_scanning st (g.backing x.store) (g.backing y.store) op.session) fault → HasCause (where_gone g session least_room false (here_at x) y.store) fault
   scanning op is f Stopped h = or_left (g.backing x.store).stopped (has_failed (g.backing x.store) (g.backing y.store) || (nat_le 18446744073709551615 (g.state y.store).acts || false)) h
@@ -336,17 +342,21 @@ module _ {S : Type 0} (g : Ghosts S) (start : Entry → Bool) (session least_roo
   abbrev TellsNothing : Answer → Op → Type 0
   TellsNothing answer op = (fault : Fault) → fault_of answer ≡ Some fault → ((g.state y.store).pages ≡ st.pages) × ((g.state y.store ≡ after_call op st) ⊎ (g.state y.store ≡ st))
 
+  -- another row of the key is there on a unique index only
+  unique_still : (e : Entry) (row : Row) → other_row_is_there st e row ≡ true → (g.state y.store).limits.unique ≡ true
+  unique_still e row h = ap (λ (f : Format). f.unique) limits ∙ (other_row_is st e row h).0
+
   insert_came : (counts_full : Bool) (e : Entry) (op : InsertOp) → op.session ≡ session → InsertFits st op → (answer : Answer) → TellsNothing answer (Insert op)
       → IsCaused (where_inserting st (g.backing x.store) (g.backing y.store) op.session op.entry op.at) answer
       → IsCaused (where_asked g session least_room (start_number st session) counts_full (AskInsert e) (here_at x) y.store) answer
   insert_came full e op is f (Refused fault) same c =
-      any_was (entry_on_live_leaf st.pages op.entry) no_block (is_tall (g.state y.store)) fault
-      (inserting (entry_on_live_leaf st.pages op.entry) no_block (is_tall (g.state y.store)) op is f (used (takes_block_at st op.at) (blocks_behind session op st (g.state y.store) is (same fault refl).1)) (tall (splits_root_at st op.at) (same fault refl).0) fault c)
+      any_was (entry_on_live_leaf st.pages op.entry) (other_row_is_there st op.entry) no_block (is_tall (g.state y.store)) (unique_still op.entry) fault
+      (inserting (entry_on_live_leaf st.pages op.entry) (other_row_is_there st op.entry) no_block (is_tall (g.state y.store)) op is f (used (takes_block_at st op.at) (blocks_behind session op st (g.state y.store) is (same fault refl).1)) (tall (splits_root_at st op.at) (same fault refl).0) fault c)
   insert_came full e op is f (Added a None) same c = tt
   insert_came full e op is f (Added a (Some fault)) same c =
-      narrower_once (where_inserting st (g.backing x.store) (g.backing y.store) op.session op.entry op.at) (where_inserted g session least_room true no_block (is_tall (g.state y.store)) (here_at x) y.store)
-      (λ k h. any_was (entry_on_live_leaf st.pages op.entry) no_block (is_tall (g.state y.store)) k
-      (inserting (entry_on_live_leaf st.pages op.entry) no_block (is_tall (g.state y.store)) op is f (used (takes_block_at st op.at) (blocks_behind session op st (g.state y.store) is (same fault refl).1)) (tall (splits_root_at st op.at) (same fault refl).0) k h)) fault c
+      narrower_once (where_inserting st (g.backing x.store) (g.backing y.store) op.session op.entry op.at) (where_inserted g session least_room true (λ r. (g.state y.store).limits.unique) no_block (is_tall (g.state y.store)) (here_at x) y.store)
+      (λ k h. any_was (entry_on_live_leaf st.pages op.entry) (other_row_is_there st op.entry) no_block (is_tall (g.state y.store)) (unique_still op.entry) k
+      (inserting (entry_on_live_leaf st.pages op.entry) (other_row_is_there st op.entry) no_block (is_tall (g.state y.store)) op is f (used (takes_block_at st op.at) (blocks_behind session op st (g.state y.store) is (same fault refl).1)) (tall (splits_root_at st op.at) (same fault refl).0) k h)) fault c
   insert_came full e op is f answer same c = tt
 
   op_came : (op : Op) → session_of op ≡ session → OpFits st op → (answer : Answer) → TellsNothing answer op → IsCaused (where_stepped x.sets op st (g.backing x.store) (g.backing y.store)) answer
@@ -385,7 +395,7 @@ module _ {S : Type 0} (g : Ghosts S) (start : Entry → Bool) (session least_roo
       let ask : asked_of x.sets r.0 ≡ call.ask = sym r.2.runs.ask ∙ ap (λ (c : Call). c.ask) same in
       let caused : IsCaused (where_stepped x.sets r.0 (g.state x.store) (g.backing x.store) (g.backing y.store)) answer = subst (λ (o : Option (Option Op)). IsCaused (where_moving g x.sets x.store y.store Steps o) answer) r.1 does.also.caused in
       let left = told_behind r.0 answer (g.state x.store) (g.state y.store) (slot_of x.slots session) (slot_of y.slots session) slot does.also.always.refused does.also.always.tells.unfinished in
-      let came = op_came g start session least_room x y fits room does.also.quiet.frames acts_on r.0 (r.2.runs.session ∙ r.2.is.session_is) r.2.runs.fits answer (λ fault told. (pages_stay fault told, left fault told)) caused in
+      let came = op_came g start session least_room x y fits room does.also.quiet.limits does.also.quiet.frames acts_on r.0 (r.2.runs.session ∙ r.2.is.session_is) r.2.runs.fits answer (λ fault told. (pages_stay fault told, left fault told)) caused in
       let number : Option ℕ = start_number (g.state x.store) session in
       subst (λ (o : Option Op). IsCaused (where_asked g session least_room number (is_full_vacuum o) call.ask (here_at x) y.store) answer) (sym slot)
       (subst (λ (a : Ask). IsCaused (where_asked g session least_room number (is_full_vacuum (Some r.0)) a (here_at x) y.store) answer) ask came)
@@ -425,15 +435,17 @@ module _ {S : Type 0} (g : Ghosts S) (session least_room : ℕ) (old mid : Store
   gone_wider full wide more NoFrame h = or_wider (another_runs mid.slots session) (nat_lt (g.state new).frames 4) (another_runs old.slots session) (nat_lt (g.state new).frames 4) busier (λ k. k) h
   gone_wider full wide more fault h = h
 
-  inserted_wider : (was_there used_up tall : Bool) → IsNarrower (where_inserted g session least_room was_there used_up tall mid new) (where_inserted g session least_room was_there used_up tall old new)
-  inserted_wider was_there used_up tall Exists h = h
-  inserted_wider was_there used_up tall IndexFull h = h
-  inserted_wider was_there used_up tall TooTall h = h
-  inserted_wider was_there used_up tall fault h = gone_wider false false (λ f. f) fault h
+  inserted_wider : (was_there : Bool) (key_was : Row → Bool) (used_up tall : Bool)
+      → IsNarrower (where_inserted g session least_room was_there key_was used_up tall mid new) (where_inserted g session least_room was_there key_was used_up tall old new)
+  inserted_wider was_there key_was used_up tall Exists h = h
+  inserted_wider was_there key_was used_up tall (KeyExists row) h = h
+  inserted_wider was_there key_was used_up tall IndexFull h = h
+  inserted_wider was_there key_was used_up tall TooTall h = h
+  inserted_wider was_there key_was used_up tall fault h = gone_wider false false (λ f. f) fault h
 
   pub asked_wider : (number : Option ℕ) (full wide : Bool) (ask : Ask) → (AsksToCount ask → full ≡ true → wide ≡ true)
       → IsNarrower (where_asked g session least_room number full ask mid new) (where_asked g session least_room number wide ask old new)
-  asked_wider number full wide (AskInsert e) more = inserted_wider true (has_no_block session number (g.state new)) (is_tall (g.state new))
+  asked_wider number full wide (AskInsert e) more = inserted_wider true (λ r. (g.state new).limits.unique) (has_no_block session number (g.state new)) (is_tall (g.state new))
   asked_wider number full wide (AskScan range) more = gone_wider false false (λ f. f)
   asked_wider number full wide ask more = gone_wider full wide (more tt)
 
@@ -488,11 +500,12 @@ pub asked_behind : {S : Type 0} (g : Ghosts S) (session least_room : ℕ) (numbe
     → slice_set (g.state new).running session number ≡ slice_set (g.state mid).running session number
     → where_asked g session least_room number full ask old new ≡ where_asked g session least_room number full ask old mid
 asked_behind g session least_room number full (AskInsert e) old mid new backing acts frames limits pages counted numbers =
-    ap (λ (no_block : Bool). where_inserted g session least_room true no_block (is_tall (g.state new)) old new) (blocks_same session number (g.state mid) (g.state new) limits pages counted numbers)
+    ap (λ (no_block : Bool). where_inserted g session least_room true (λ r. (g.state new).limits.unique) no_block (is_tall (g.state new)) old new) (blocks_same session number (g.state mid) (g.state new) limits pages counted numbers)
     ∙ behind (has_no_block session number (g.state mid))
   where
-    behind : (no_block : Bool) → where_inserted g session least_room true no_block (is_tall (g.state new)) old new ≡ where_inserted g session least_room true no_block (is_tall (g.state mid)) old mid
-    behind no_block = rw (backing, acts, frames, pages) refl
+    behind : (no_block : Bool) → where_inserted g session least_room true (λ r. (g.state new).limits.unique) no_block (is_tall (g.state new)) old new
+        ≡ where_inserted g session least_room true (λ r. (g.state mid).limits.unique) no_block (is_tall (g.state mid)) old mid
+    behind no_block = rw (backing, acts, frames, limits, pages) refl
 asked_behind g session least_room number full (AskScan range) old mid new backing acts frames limits pages counted numbers = gone_behind g session least_room false old mid new backing acts frames
 asked_behind g session least_room number full ask old mid new backing acts frames limits pages counted numbers = gone_behind g session least_room full old mid new backing acts frames
 

@@ -1,7 +1,7 @@
 -- What each event of a session tells of its running call.
 use Rattle.std.proofs.Common.{◌≡◌, ◌≢◌, ℕ, ◌<◌, Bool, true, false, Option, Some, None, List, [], ◌∷◌, ◌++◌, length, slice_get, slice_set, refl, sym, ap, subst, arith, inl, inr, ◌∙◌, unwrap_or}
 use Rattle.std.proofs.lemmas.List.{append-nil}
-use Rattle.index_model.specs.declared.fault.Fault.TheVariants.{Exists}
+use Rattle.index_model.specs.declared.fault.Fault.TheVariants.{Exists, KeyExists}
 use Rattle.page_action.specs.Causes.{where_forced}
 use Rattle.session_calls.specs.declared.op.Op.TheVariants.{Insert as Inserts, Scan as Scans, Bulk as Bulks, Cleanup as Cleanups}
 use Rattle.index_model.specs.Row.{Row}
@@ -170,16 +170,26 @@ moves_tells g start x y session move answer of fits does number call is =
     own_of c None h = tt
     own_of c (Some e) h = h.0
 
--- a beginning is not refused because an entry was there
-begin_not_exists : {S : Type 0} (g : Ghosts S) (store : S) (vacuums : Bool) (sets : DeadSets) (request : Request) (o : Option (Option Op)) (fault : Fault) → HasCause (where_begun_at g store vacuums sets request o) fault → fault ≢ Exists
-begin_not_exists g store vacuums sets request None fault cause e =
-    let c : HasCause (where_begun_at g store vacuums sets request None) Exists = subst (λ (f : Fault). HasCause (where_begun_at g store vacuums sets request None) f) e cause in absurd (true_false (sym c))
-begin_not_exists g store vacuums sets request (Some slot) fault cause e =
-    let c : HasCause (where_begun_at g store vacuums sets request (Some slot)) Exists = subst (λ (f : Fault). HasCause (where_begun_at g store vacuums sets request (Some slot)) f) e cause in absurd (true_false (sym c))
+-- a fault that isn't one of an entry that was there, or of its key
+abbrev pub IsNotOfEntry : Fault → Type 0
+IsNotOfEntry fault = (fault ≢ Exists) × ((row : Row) → fault ≢ KeyExists row)
+
+not_of_entry : (at : Circumstances) → (at.entry_was_there ≡ true → ⊥) → ((row : Row) → at.key_was_there row ≡ true → ⊥) → (fault : Fault) → HasCause at fault → IsNotOfEntry fault
+not_of_entry at entry key fault cause = (
+  (λ is. entry (subst (HasCause at) is cause)),
+  λ row is. key row (subst (HasCause at) is cause),
+)
+
+-- a beginning is not refused because an entry or its key was there
+begin_not_exists : {S : Type 0} (g : Ghosts S) (store : S) (vacuums : Bool) (sets : DeadSets) (request : Request) (o : Option (Option Op)) (fault : Fault) → HasCause (where_begun_at g store vacuums sets request o) fault → IsNotOfEntry fault
+begin_not_exists g store vacuums sets request None fault cause =
+    not_of_entry (where_begun_at g store vacuums sets request None) (λ h. true_false (sym h)) (λ row h. true_false (sym h)) fault cause
+begin_not_exists g store vacuums sets request (Some slot) fault cause =
+    not_of_entry (where_begun_at g store vacuums sets request (Some slot)) (λ h. true_false (sym h)) (λ row h. true_false (sym h)) fault cause
 
 -- nor is a checkpoint
-pub kept_not_exists : (old new : Backing) (fault : Fault) → HasCause (where_forced old new) fault → fault ≢ Exists
-kept_not_exists old new fault cause e = let c : HasCause (where_forced old new) Exists = subst (λ (f : Fault). HasCause (where_forced old new) f) e cause in absurd (true_false (sym c))
+pub kept_not_exists : (old new : Backing) (fault : Fault) → HasCause (where_forced old new) fault → IsNotOfEntry fault
+kept_not_exists old new fault cause = not_of_entry (where_forced old new) (λ h. true_false (sym h)) (λ row h. true_false (sym h)) fault cause
 
 -- the circumstances of a beginning
 abbrev begins_at : {S : Type 0} → Ghosts S → ℕ → Request → Snapshot S → Circumstances
@@ -189,16 +199,17 @@ begins_at g session request x = where_begun_at g x.store (one_vacuums x.slots) x
 pub begins_told : {S : Type 0} (g : Ghosts S) (start : Entry → Bool) (session : ℕ) (request : Request) (answer : Answer) (x y : Snapshot S) → EventDoes g start (BeginsCall session request) answer x y → BeginTold session request (begun_of answer) x y
 begins_told {S} g start session request answer x y does = of (slice_get x.slots session) does.also.happens (begin_not_exists g x.store (one_vacuums x.slots) x.sets request (slice_get x.slots session))
   where
-    stays : ((fault : Fault) → HasCause (begins_at g session request x) fault → fault ≢ Exists) → Stays g answer x y → BeginTold session request (begun_of answer) x y
+    stays : ((fault : Fault) → HasCause (begins_at g session request x) fault → IsNotOfEntry fault) → Stays g answer x y → BeginTold session request (begun_of answer) x y
     stays why s = subst (λ (a : Answer). BeginTold session request (begun_of a) x y) (sym s.refused) (record {
       silent = record { history_is = s.still.history_is; calls_is = s.still.calls_is };
-      not_exists = why s.fault (subst (λ (a : Answer). IsCaused (begins_at g session request x) a) s.refused does.also.caused);
+      not_exists = (why s.fault (subst (λ (a : Answer). IsCaused (begins_at g session request x) a) s.refused does.also.caused)).0;
+      not_key_exists = (why s.fault (subst (λ (a : Answer). IsCaused (begins_at g session request x) a) s.refused does.also.caused)).1;
     })
 
     begun : CallBegins g session request answer x y → BeginTold session request (begun_of answer) x y
     begun b = subst (λ (a : Answer). BeginTold session request (begun_of a) x y) (sym b.told) (record { history_is = b.history_is; calls_is = b.calls_is })
 
-    of : (p : Option (Option Op)) → MayBegin g p session request answer x y → ((fault : Fault) → HasCause (begins_at g session request x) fault → fault ≢ Exists) → BeginTold session request (begun_of answer) x y
+    of : (p : Option (Option Op)) → MayBegin g p session request answer x y → ((fault : Fault) → HasCause (begins_at g session request x) fault → IsNotOfEntry fault) → BeginTold session request (begun_of answer) x y
     of None h why = stays why h
     of (Some None) h why = elim h [ inl b ↦ begun b | inr s ↦ stays why s ]
     of (Some (Some op)) h why = stays why h

@@ -2,6 +2,7 @@
 use Rattle.std.specs.Prelude.{◌≡◌, ℕ, suc, ◌&&◌, ◌||◌, ◌==◌, not, nat_lt, nat_le, Bool, true, false, Option, Some, None, Result, Ok, Err, List, [], ◌∷◌, slice_get, slice_set, is_none, IfErr}
 use Rattle.index_model.specs.Calls.{Ask, AskInsert, AskScan, AskBulkDelete, AskCleanup, Call}
 use Rattle.index_model.specs.Faults.{Circumstances, HasCause}
+use Rattle.index_model.specs.Row.{Row}
 use Rattle.index_model.specs.declared.entry.Entry.{Entry}
 use Rattle.index_model.specs.declared.fault.Fault.{Fault}
 use Rattle.index_model.specs.declared.range.Range.{Range}
@@ -54,10 +55,12 @@ where_gone g session least_room counts_full old new = record nothing_wrong {
   frames_are_pinned = another_runs old.slots session || nat_lt (g.state new).frames 4;
 }
 
--- ... of an insert also that its entry was there, that no block can be had or that the root is on level 31, as far as these say so
-abbrev pub where_inserted : {S : Type 0} → Ghosts S → ℕ → ℕ → Bool → Bool → Bool → StoreAndSlots S → S → Circumstances
-where_inserted g session least_room was_there no_block tall old new = record (where_gone g session least_room false old new) {
+-- ... of an insert also that its entry was there, or another row of its key, that no block can be had or that the root is on level 31,
+-- as far as these say so
+abbrev pub where_inserted : {S : Type 0} → Ghosts S → ℕ → ℕ → Bool → (Row → Bool) → Bool → Bool → StoreAndSlots S → S → Circumstances
+where_inserted g session least_room was_there key_was no_block tall old new = record (where_gone g session least_room false old new) {
   entry_was_there = was_there;
+  key_was_there = key_was;
   no_block_is_free = no_block;
   root_is_at_31 = tall;
 }
@@ -75,10 +78,11 @@ abbrev pub is_tall : State → Bool
 is_tall st = nat_le 31 (root_level st.pages)
 
 -- What may be the cause where a call is refused that was asked this and has this start number, or leaves a split unfinished: of an
--- insert that may also be that no block can be had while it runs, or that the root is on level 31.
+-- insert that may also be that its entry was there, on a unique index that its key was, that no block can be had while it runs, or
+-- that the root is on level 31.
 abbrev pub where_asked : {S : Type 0} → Ghosts S → ℕ → ℕ → Option ℕ → Bool → Ask → StoreAndSlots S → S → Circumstances
 where_asked g session least_room number counts_full (AskInsert e) old new =
-    where_inserted g session least_room true (has_no_block session number (g.state new)) (is_tall (g.state new)) old new
+    where_inserted g session least_room true (λ r. (g.state new).limits.unique) (has_no_block session number (g.state new)) (is_tall (g.state new)) old new
 where_asked g session least_room number counts_full (AskScan range) old new = where_gone g session least_room false old new
 where_asked g session least_room number counts_full (AskBulkDelete dead) old new = where_gone g session least_room counts_full old new
 where_asked g session least_room number counts_full AskCleanup old new = where_gone g session least_room counts_full old new
@@ -103,10 +107,10 @@ where_called g session request old at = record at {
 -- was the count of calls begun before it
 abbrev pub InsertCallIsCaused : {S : Type 0} → Ghosts S → ℕ → ℕ → Entry → StoreAndSlots S → S → Result Inserted Fault → Type 0
 InsertCallIsCaused g session least_room entry old new (Ok inserted) =
-    IsFaultCaused (where_inserted g session least_room false (has_no_block session (Some (g.state old.store).begun) (g.state new)) (is_tall (g.state new)) old new) inserted.unfinished
+    IsFaultCaused (where_inserted g session least_room false (λ r. false) (has_no_block session (Some (g.state old.store).begun) (g.state new)) (is_tall (g.state new)) old new) inserted.unfinished
 InsertCallIsCaused g session least_room entry old new (Err fault) =
     HasCause (where_called g session (ToInsert entry) old
-    (where_inserted g session least_room true (has_no_block session (Some (g.state old.store).begun) (g.state new)) (is_tall (g.state new)) old new)) fault
+    (where_inserted g session least_room true (λ r. (g.state new).limits.unique) (has_no_block session (Some (g.state old.store).begun) (g.state new)) (is_tall (g.state new)) old new)) fault
 
 -- what the session's running scan came to had its cause
 abbrev pub ScanIsCaused : {S : Type 0} → Ghosts S → ℕ → ℕ → Answer → Snapshot S → Snapshot S → Type 0

@@ -2,8 +2,9 @@
 use Rattle.std.specs.Prelude.{◌⊎◌, ◌≤◌, ◌+◌, ◌≡◌, ◌≢◌, ℕ, suc, Option, Some, None, Result, Ok, Err, List, [], ◌∷◌, ◌++◌, length, replicate, slice_set}
 use Rattle.index_model.specs.Actions.{Effect, Add, Shape, Action}
 use Rattle.index_model.specs.Calls.{Ask, AskInsert, AskScan, AskBulkDelete, AskCleanup, Ending, Added as EndsAdded, GivenUp, Failed, Call}
+use Rattle.index_model.specs.Row.{Row}
 use Rattle.index_model.specs.declared.fault.Fault.{Fault}
-use Rattle.index_model.specs.declared.fault.Fault.TheVariants.{NoSession, Exists}
+use Rattle.index_model.specs.declared.fault.Fault.TheVariants.{NoSession, Exists, KeyExists}
 use Rattle.index_model.specs.declared.entry.Entry.{Entry}
 use Rattle.index_model.specs.declared.format.Format.{Format}
 use Rattle.page_action.specs.Room.{HasWholeRoom}
@@ -81,18 +82,21 @@ pub record IsTold {S : Type 0} (number : ℕ) (call : Call) (answer : Answer) (o
   pub history_is : new.history ≡ (old.history ++ acts_by number before) ++ acts_of number last
   pub calls_is : new.calls ≡ slice_set old.calls number after
 
--- nothing is told, and what was refused was not refused because the entry was there
+-- nothing is told, and what was refused was not refused because the entry or its key was there
 pub record NothingTold {S : Type 0} (fault : Fault) (old new : Snapshot S) : Type 0 where
   pub silent : IsSilent old new
   pub not_exists : fault ≢ Exists
+  pub not_key_exists : (row : Row) → fault ≢ KeyExists row
 
--- the call of this number has gone on so far, and still runs; the room for a further step was refused, not because the entry was there
+-- the call of this number has gone on so far, and still runs; the room for a further step was refused, not because the entry or
+-- its key was there
 pub record IsHeldUp {S : Type 0} (number : ℕ) (call : Call) (answer : Answer) (old new : Snapshot S) : Type 0 where
   pub fault : Fault
   pub refused : answer ≡ Refused fault
   pub before : List Effect
   pub gone : HasGoneOn number call before old new
   pub not_exists : fault ≢ Exists
+  pub not_key_exists : (row : Row) → fault ≢ KeyExists row
 
 -- steps were made, the last with this answer; or the room for a further one could not be made
 abbrev pub StepTold : {S : Type 0} → ℕ → Call → Answer → Snapshot S → Snapshot S → Type 0
@@ -181,11 +185,13 @@ pub record IsAddedNow {S : Type 0} (session : ℕ) (entry : Entry) (inserted : I
   pub end_is : IsEndOf inserted ending
   pub calls_is : new.calls ≡ old.calls ++ inserted_call session entry (length old.history) inserted.action ending (length new.history) ∷ []
 
--- the insert has changed the shape of the pages only; where the entry was there, the call has ended with this
+-- the insert has changed the shape of the pages only; where the entry or its key was there, the call has ended with this
 pub record IsNotAdded {S : Type 0} (session : ℕ) (entry : Entry) (fault : Fault) (old new : Snapshot S) : Type 0 where
   pub shaped : ℕ
   pub history_is : new.history ≡ old.history ++ shapes (length old.calls) shaped
   pub exists_is : fault ≡ Exists → new.calls ≡ old.calls ++ ended (begun_call session (AskInsert entry) (length old.history)) (Failed Exists) (length new.history) ∷ []
+  pub key_exists_is : (row : Row) → fault ≡ KeyExists row
+      → new.calls ≡ old.calls ++ ended (begun_call session (AskInsert entry) (length old.history)) (Failed (KeyExists row)) (length new.history) ∷ []
 
 -- the entry is added, or no entry is
 abbrev pub InsertTold : {S : Type 0} → ℕ → Entry → Result Inserted Fault → Snapshot S → Snapshot S → Type 0

@@ -238,9 +238,10 @@ fn refused(added: Option<u64>, fault: Fault) -> Result<Inserted, Fault>
 fn outcome(came: Came) -> Result<Inserted, Fault>
     ensures { result ≡ outcome_of came.answer came.added }
 {
-    match came.answer {
+    let Came { answer, added } = came;
+    match answer {
         Answer::Added { action, unfinished } => Ok(Inserted { action, unfinished }),
-        Answer::Refused(fault) => refused(came.added, fault),
+        Answer::Refused(fault) => refused(added, fault),
         _ => Err(Fault::NoSession),
     }
 }

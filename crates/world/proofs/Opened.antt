@@ -7,7 +7,9 @@ use Rattle.latch_table.specs.Holdings.{Holding, nothing_held, holding_of, latche
 use Rattle.latch_table.specs.declared.mode.Mode.TheVariants.{Exclusive}
 use Rattle.page_codec.specs.declared.page.Page.{Page}
 use Rattle.page_store.specs.Stores.{opened_state}
+use Rattle.tree_acts.specs.TheoremKeys.{IsTreeFor}
 use Rattle.tree_acts.specs.TheoremTree.{IsTree}
+use Rattle.tree_acts.proofs.Keyed.{unique_of}
 use Rattle.tree_acts.specs.Trees.{IsStart}
 use Rattle.page_action.specs.Contents.{entry_on_live_leaf}
 use Rattle.page_action.specs.States.{State}
@@ -38,12 +40,19 @@ none_counts (suc n) (suc block) = none_counts n block
 none_runs : (start : ℕ) → IsStart (replicate 64 None) start → ⊥
 none_runs start is = (let none : Some start ≡ None = sym (ap (λ (o : Option (Option ℕ)). unwrap_or o None) is.is) ∙ all_same 64 is.session None in cc)
 
--- pages that are a tree, each stored and counted, are in order as they are opened
-opened_unused : (limits : Format) (frames : ℕ) (pages : List Page) (counted : List ℕ) (counter : ℕ) → IsTree pages → AreStored limits 0 pages → length counted ≡ length pages
+-- pages that are a tree, of a unique index keyed, each stored and counted, are in order as they are opened
+opened_unused : (limits : Format) (frames : ℕ) (pages : List Page) (counted : List ℕ) (counter : ℕ) → IsTreeFor limits pages → AreStored limits 0 pages → length counted ≡ length pages
     → ((block : ℕ) → slice_index counted block ≡ 0) → IsUnused (opened_state limits frames pages counted counter)
 opened_unused limits frames pages counted counter tree stored count none = record {
   order = record {
-    tree = record { tree = tree; stored = stored; counted = count; within = λ block. (let zero_is = none block in omega arith); lead = λ start is. absurd (none_runs start is) };
+    tree = record {
+      tree = tree.0;
+      stored = stored;
+      counted = count;
+      within = λ block. (let zero_is = none block in omega arith);
+      lead = λ start is. absurd (none_runs start is);
+      unique = λ asked. unique_of limits pages stored (tree.1 asked);
+    };
     apart = λ session other block ne holds. ap (λ (h : Holding). latches_exclude h.latches block Exclusive) (held_by_none other);
     holdings = refl;
     calls = refl;
@@ -54,9 +63,14 @@ opened_unused limits frames pages counted counter tree stored count none = recor
 }
 
 -- a state as it is opened is unused, where its pages are a tree
-pub freshly_unused : (frames : ℕ) (st : State) → IsFreshlyOpened frames st → IsTree st.pages → IsUnused st
+pub freshly_unused : (frames : ℕ) (st : State) → IsFreshlyOpened frames st → IsTreeFor st.limits st.pages → IsUnused st
 freshly_unused frames st opened tree =
     subst IsUnused (sym opened.is) (opened_unused st.limits frames st.pages _ _ tree opened.stored (length-replicate (length st.pages) 0) (none_counts (length st.pages)))
+
+-- what was opened is a tree, where it was one
+pub tree_opened : (limits found : Format) (pages read : List Page) → found ≡ limits → read ≡ pages → IsTreeFor limits pages → IsTreeFor found read
+tree_opened limits found pages read format same tree =
+    subst (λ (f : Format). IsTreeFor f read) (sym format) (subst (λ (ps : List Page). IsTreeFor limits ps) (sym same) tree)
 
 -- a tree has pages
 pub tree_has_pages : (pages : List Page) → IsTree pages → 0 < length pages

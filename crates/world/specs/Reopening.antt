@@ -24,7 +24,7 @@ pub record IsIndexAfterFirstPart (limits : Format) (start : Entry → Bool) (his
   pub to : part ≤ length history
   pub pages : List Page
   pub index : HasIndex limits pages image
-  pub are : ArePagesAfter start (take part history) pages
+  pub are : ArePagesAfter limits.unique start (take part history) pages
 
 -- a world of these limits, fitted by the contents of these pages, no action and no call, which keeps that history
 pub record BeginsWith {D T : Type 0} (d : DeviceGhosts D) (g : Ghosts (Store D d)) (rows : SetGhosts T) (limits : Format) (pages : List Page) (world : World (Store D d) T) : Type 0 where
@@ -44,7 +44,7 @@ pub record BeginsAfterFirstPart {D T : Type 0} (d : DeviceGhosts D) (g : Ghosts 
   pub from : least ≤ part
   pub to : part ≤ length history
   pub pages : List Page
-  pub are : ArePagesAfter start (take part history) pages
+  pub are : ArePagesAfter limits.unique start (take part history) pages
   pub begins : BeginsWith d g rows limits pages world
 
 -- the world begins with the pages of an empty index

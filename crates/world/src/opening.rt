@@ -8,7 +8,7 @@ ghost use Rattle.page_store.specs.Restart.{LeavesPages};
 ghost use Rattle.page_store.specs.Stores.{state_of};
 ghost use Rattle.recovery.specs.Index.{HasIndex};
 ghost use Rattle.recovery.specs.Opening.{AreFrames, IsFreshlyOpened, IsNoMemoryOrIo, IsRefusal};
-ghost use Rattle.tree_acts.specs.TheoremTree.{IsTree};
+ghost use Rattle.tree_acts.specs.TheoremKeys.{IsTreeFor};
 ghost use Rattle.world.specs.Reopening.{BeginsWith, world_device};
 
 use crate::world::{NotMade, World};
@@ -45,11 +45,11 @@ impl<D: Device, T: DeadRows + Drop> World<Store<D>, T> {
         ensures asked { OnOk result (AreFrames frames × (1 ≤ sessions) × (sessions ≤ 64)) }
         ensures sets { IfOk result (λ world. world.sets ≡ sets) }
         ensures sets_back { IfErr result (λ not_opened. not_opened.sets ≡ sets) }
-        // An index whose pages are a B-link tree is opened with them, or refused for want of memory or of the device.
+        // An index whose pages are a B-link tree, of a unique one keyed, is opened with them, or refused for want of memory or of the device.
         ensures begins { IsTrue (D.is_honest (world_device D.Device result))
             → AreFrames frames → 1 ≤ sessions → sessions ≤ 64
             → (limits : Format) (pages : List Page)
-            → HasIndex limits pages (D.trace device).now.seen → IsTree pages
+            → HasIndex limits pages (D.trace device).now.seen → IsTreeFor limits pages
             → MatchResult result
             (BeginsWith D.Device ⟦<Store<D> as PageStore>⟧ T.DeadRows limits pages)
             (λ not_opened. IsNoMemoryOrIo not_opened.fault) }

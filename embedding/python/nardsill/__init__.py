@@ -73,7 +73,7 @@ class _Entry(ctypes.Structure):
 
 
 class _Limits(ctypes.Structure):
-    _fields_ = [(name, ctypes.c_uint32) for name in ("items", "pages", "log_bytes")]
+    _fields_ = [(name, ctypes.c_uint32) for name in ("items", "pages", "log_bytes", "unique")]
 
 
 class _Stats(ctypes.Structure):
@@ -90,15 +90,15 @@ class _Report(ctypes.Structure):
 
 
 class Error(Exception):
-    """A call was refused. `number` is the fault's; `page` the page that `Blocked` and `PageDamaged` name; `errno` why a call of the file
-    failed, for `Io`; `done` how many entries an `insert_many` has added before."""
+    """A call was refused. `number` is the fault's; `page` the page that `Blocked` and `PageDamaged` name; `row` the row that `KeyExists`
+    names; `errno` why a call of the file failed, for `Io`; `done` how many entries an `insert_many` has added before."""
 
     number = 0
 
-    def __init__(self, page: int = 0, errno: int = 0, done: int = 0):
+    def __init__(self, page: int = 0, errno: int = 0, done: int = 0, row: Optional[Row] = None):
         text = _lib.nardsill_strerror(self.number).decode()
         super().__init__(f"{text}: {os.strerror(errno)}" if errno else text)
-        self.page, self.errno, self.done = page, errno, done
+        self.page, self.errno, self.done, self.row = page, errno, done, row
 
 
 def _fault(number: int, name: str) -> type:
@@ -125,6 +125,7 @@ _commit = _declare("commit", _pointer, ctypes.POINTER(ctypes.c_uint64))
 _checkpoint = _declare("checkpoint", _pointer, ctypes.POINTER(ctypes.c_uint64))
 _check_file = _declare("check", ctypes.c_char_p, ctypes.c_uint32, ctypes.POINTER(_Report))
 _fault_page = _declare("fault_page", _pointer, result=ctypes.c_uint32)
+_fault_row = _declare("fault_row", _pointer, result=_Row)
 _declare("strerror", ctypes.c_int, result=ctypes.c_char_p)
 
 NoMemory = _fault(1, "NoMemory")
@@ -147,6 +148,7 @@ PageDamaged = _fault(17, "PageDamaged")
 BadLimits = _fault(18, "BadLimits")
 TooTall = _fault(19, "TooTall")
 DeviceTooSmall = _fault(20, "DeviceTooSmall")
+KeyExists = _fault(21, "KeyExists")
 Misuse = _fault(101, "Misuse")
 Locked = _fault(102, "Locked")
 _FAULTS = {fault.number: fault for fault in Error.__subclasses__()}
@@ -154,14 +156,16 @@ _FAULTS = {fault.number: fault for fault in Error.__subclasses__()}
 
 def _check(status: int, at=None, done: int = 0):
     if status:
+        errno = ctypes.get_errno() if status == 2 else 0
         page = _fault_page(at) if at and status in (4, 17) else 0
-        raise _FAULTS[status](page, ctypes.get_errno() if status == 2 else 0, done)
+        row = _fault_row(at) if at and status == 21 else None
+        raise _FAULTS[status](page, errno, done, Row(row.block, row.offset) if row else None)
 
 
-def create(path, items: int = 50, pages: int = 4096, log_bytes: int = 1 << 20) -> None:
+def create(path, items: int = 50, pages: int = 4096, log_bytes: int = 1 << 20, unique: bool = False) -> None:
     """Makes an empty index in a new file, which is there only once it is whole: items a page (4 to 50), pages (8 to 65,536), and bytes of
-    the log (65,536 to 16,777,216, a multiple of 4,096)."""
-    _check(_create(os.fsencode(path), _Limits(items, pages, log_bytes)))
+    the log (65,536 to 16,777,216, a multiple of 4,096). In a unique one no two entries have the same key."""
+    _check(_create(os.fsencode(path), _Limits(items, pages, log_bytes, unique)))
 
 
 def open(path, frames: int = 64) -> "Index":
@@ -247,7 +251,8 @@ class Index:
         return self._at
 
     def insert(self, key: bytes, row: AnyRow) -> int:
-        """Adds an entry, and answers its number: a commit tells up to which number all are durable. Raises `Exists` where it is there."""
+        """Adds an entry, and answers its number: a commit tells up to which number all are durable. Raises `Exists` where it is there,
+        and in a unique index `KeyExists` where its key is there with another row."""
         at, action = self._handle(), ctypes.c_uint64()
         _check(_insert(at, key, len(key), _Row(*row), action), at)
         return action.value

@@ -12,6 +12,7 @@ const LIMITS: Limits = Limits {
     items: 50,
     pages: 1_024,
     log_bytes: 1_048_576,
+    unique: false,
 };
 
 /// Makes an empty index in a new file, and closes it. Refused with `Io` where the path is there, or a call of the file fails:

@@ -1,6 +1,6 @@
 //! The words of the folder `examples`: `tools/examples` writes them there, and compares them.
 
-use super::plays;
+use super::{plays, plays_with};
 use std::test::*;
 
 const FIRST_INDEX: &str =
@@ -323,6 +323,48 @@ entry 62 (0,2)
 done 2
 ";
 
+const UNIQUE_INDEX: &str = "# A unique index (play --unique): a key has one entry.
+> put 0 616c696365 (7,1)
+added 1
+# Another row of the key alice is refused: fault 21 is KeyExists, with the row that is there.
+> put 0 616c696365 (8,2)
+refused 21 (7,1)
+# The very entry is there: that is told first, as on each index.
+> put 0 616c696365 (7,1)
+refused 5
+# Two sessions insert the key bob, step by step: each reads the metapage.
+> insert 1 626f62 (9,1)
+begun
+> insert 2 626f62 (9,2)
+begun
+> step 1
+going
+> step 2
+going
+# Session 1 latches the leaf. Session 2 is blocked until the entry is added; then the leaf, once it is latched, decides.
+> step 1
+going
+> step 2
+refused 4 1
+> step 1
+added 2
+> step 2
+going
+> step 2
+refused 21 (9,1)
+# The row (7,1) is dead. Its entry keeps the key until a bulk delete takes it.
+> bulk 0 (7,1)
+begun
+> run 0
+finished pages=2 tuples=1 removed=1 new=0 deleted=0 free=0
+> put 0 616c696365 (8,2)
+added 4
+> list 0 * *
+entry 616c696365 (8,2)
+entry 626f62 (9,1)
+done 2
+";
+
 #[test]
 fn examples(rt: HostRuntime) -> Result<(), Fail> {
     for transcript in [
@@ -335,5 +377,9 @@ fn examples(rt: HostRuntime) -> Result<(), Fail> {
     ] {
         plays(&rt, [transcript].as_slice())?;
     }
-    Ok(())
+    plays_with(
+        &rt,
+        ["btidx", "play", "--unique"].as_slice(),
+        [UNIQUE_INDEX].as_slice(),
+    )
 }

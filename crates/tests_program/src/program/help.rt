@@ -141,9 +141,14 @@ fn lines_are_shown(rt: HostRuntime) -> Result<(), Fail> {
 fn stands_for(shown: &str, word: &str) -> bool {
     match (shown.split_once("="), word.split_once("=")) {
         (Some((name, number)), Some((given, _))) => name == given && are_capitals(number),
-        (None, None) => shown == word || are_capitals(shown),
+        (None, None) => shown == word || (are_capitals(shown) && fits(shown, word)),
         _ => false,
     }
+}
+
+/// Whether both are a row, or neither is.
+fn fits(shown: &str, word: &str) -> bool {
+    (shown == "ROW") == word.starts_with("(")
 }
 
 fn are_capitals(word: &str) -> bool {
@@ -195,11 +200,12 @@ const STATS: VacuumStats = VacuumStats {
 };
 
 /// An answer of each kind, and of each form.
-fn answers() -> [Answer; 16] {
+fn answers() -> [Answer; 17] {
     let entry = Entry {
         key: Key::EMPTY,
         row: RowAddr::new(0, 1).unwrap_or_default(),
     };
+    let row = entry.row;
     let (whole, left) = (None, Some(Fault::IndexFull));
     [
         Answer::Begun,
@@ -224,6 +230,7 @@ fn answers() -> [Answer; 16] {
         Answer::Checkpointed(3),
         Answer::Refused(Fault::Exists),
         Answer::Refused(Fault::Blocked(1)),
+        Answer::Refused(Fault::KeyExists(row)),
     ]
 }
 
@@ -387,7 +394,8 @@ fn next(fault: Fault) -> Option<Fault> {
         Fault::PageDamaged(_) => Some(Fault::BadLimits),
         Fault::BadLimits => Some(Fault::TooTall),
         Fault::TooTall => Some(Fault::DeviceTooSmall),
-        Fault::DeviceTooSmall => None,
+        Fault::DeviceTooSmall => Some(Fault::KeyExists(RowAddr::default())),
+        Fault::KeyExists(_) => None,
     }
 }
 
@@ -398,25 +406,37 @@ fn misnamed(alloc: Global, table: &str) -> Result<Option<String>, AllocError> {
         if !shown.starts_with("  ") {
             continue;
         }
-        let head = match expected {
-            Some(fault) => head_of(alloc, fault)?,
-            None => String::new(alloc),
-        };
+        let head = head_of(alloc, &expected)?;
         if head.is_empty() || !shown.starts_with(head.as_str()) {
             return Ok(Some(head));
         }
-        expected = expected.and_then(next);
+        expected = behind(&expected);
     }
-    match expected {
-        Some(fault) => Ok(Some(head_of(alloc, fault)?)),
-        None => Ok(None),
+    let head = head_of(alloc, &expected)?;
+    if head.is_empty() {
+        Ok(None)
+    } else {
+        Ok(Some(head))
     }
 }
 
-/// What the line of a fault begins with.
-fn head_of(alloc: Global, fault: Fault) -> Result<String, AllocError> {
-    let number = fault.number();
-    format!(in alloc; "{number:>4}  {fault} ")
+/// The fault behind this one.
+fn behind(fault: &Option<Fault>) -> Option<Fault> {
+    match fault {
+        Some(fault) => next(*fault),
+        None => None,
+    }
+}
+
+/// What the line of a fault begins with; nothing where there is none.
+fn head_of(alloc: Global, fault: &Option<Fault>) -> Result<String, AllocError> {
+    match fault {
+        Some(fault) => {
+            let number = fault.number();
+            format!(in alloc; "{number:>4}  {fault} ")
+        }
+        None => Ok(String::new(alloc)),
+    }
 }
 
 /// The help of the program has each fault, by its number and its name, and no other.

@@ -21,6 +21,7 @@ const LIMITS: Limits = Limits {
     items: 4,
     pages: 64,
     log_bytes: 65_536,
+    unique: false,
 };
 
 /// More steps than an insert makes.

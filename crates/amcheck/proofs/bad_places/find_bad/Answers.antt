@@ -27,8 +27,8 @@ returns g c =
     let ends = c.into_par_iter.ensures in
     let n = length c.args.stops.now in
     let whole : n - 0 ≡ n = omega arith in
-    let P = λ (k : ℕ). IsBad (nodes_of c.args.pages.now) c.args.root c.args.stops.now k in
+    let P = λ (k : ℕ). IsBad (nodes_of c.args.pages.now) c.args.keys c.args.root c.args.stops.now k in
     let found = rw (c.with_min_len.ensures.base) at c.position_first.ensures in
     let places = found.2 ∙ (λ i. nat_range (ends.0 i) (ends.1 i)) ∙ ap (range_with_len 0) whole in
     let first = first_in P 0 n found.1 (let few = c.requires.searchable.few in omega arith) (subst (λ l. AllZip (λ k b. IsTrue b ↔ P k) l found.1) places found.3) in
-    record { first = subst (IsFirstPlace P) (sym found.4) (first_place P n (first_true found.1) (λ k bad. bad_inside _ _ _ k bad) first) }
+    record { first = subst (IsFirstPlace P) (sym found.4) (first_place P n (first_true found.1) (λ k bad. bad_inside _ _ _ _ k bad) first) }

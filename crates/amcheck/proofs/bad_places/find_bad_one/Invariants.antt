@@ -4,4 +4,4 @@ use Rattle.amcheck.specs.Stops.{IsBad}
 use Rattle.amcheck.proofs.bad_places.find_bad_one.Given as goal
 
 abbrev pub invariant-loop-place : goal.invariant-loop-place
-invariant-loop-place l = (j : ℕ) → j < l.place → IsBad (nodes_of l.pages) l.root l.stops j → ⊥
+invariant-loop-place l = (j : ℕ) → j < l.place → IsBad (nodes_of l.pages) l.keys l.root l.stops j → ⊥

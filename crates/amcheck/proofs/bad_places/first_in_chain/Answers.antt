@@ -22,18 +22,18 @@ searchable pages depth stops stand are few = record {
 }
 
 -- what was found is the first bad one
-first : (g : Over) (c : In-Some g) → IsFirstPlace (IsBad (nodes_of c.args.pages.now) c.args.root c.args.stops.now) (Some c.in-Some.place)
-first g c = c.requires.finds _ _ _ _ (searchable c.args.pages.now c.args.depth c.args.stops.now c.requires.stand c.requires.stops c.requires.few) c.in-Some.ensures
+first : (g : Over) (c : In-Some g) → IsFirstPlace (IsBad (nodes_of c.args.pages.now) c.args.keys c.args.root c.args.stops.now) (Some c.in-Some.place)
+first g c = c.requires.finds _ _ _ _ _ (searchable c.args.pages.now c.args.depth c.args.stops.now c.requires.stand c.requires.stops c.requires.few) c.in-Some.ensures
 
 inside : (g : Over) (c : In-Some g) → c.in-Some.place < length c.args.stops.now
-inside g c = bad_inside _ _ _ _ (first g c).0
+inside g c = bad_inside _ _ _ _ _ (first g c).0
 
 pub find-requires : goal.find-requires
-find-requires g c = c.requires.may _ _ _ (searchable c.args.pages.now c.args.depth c.args.stops.now c.requires.stand c.requires.stops c.requires.few)
+find-requires g c = c.requires.may _ _ _ _ (searchable c.args.pages.now c.args.depth c.args.stops.now c.requires.stand c.requires.stops c.requires.few)
 
 pub damage_at_end-requires-clause-right : goal.damage_at_end-requires-clause-right
 damage_at_end-requires-clause-right g c =
-    c.requires.finds _ _ _ _ (searchable c.args.pages.now c.args.depth c.args.stops.now c.requires.stand c.requires.stops c.requires.few) c.in-None.ensures
+    c.requires.finds _ _ _ _ _ (searchable c.args.pages.now c.args.depth c.args.stops.now c.requires.stand c.requires.stops c.requires.few) c.in-None.ensures
 
 pub number_at-requires-clause-searchable : goal.number_at-requires-clause-searchable
 number_at-requires-clause-searchable g c = searchable c.args.pages.now c.args.depth c.args.stops.now c.requires.stand c.requires.stops c.requires.few
@@ -58,6 +58,6 @@ returns-in-None-number_at-clause-none g c =
 pub returns-in-Some-number_at-clause-some : goal.returns-in-Some-number_at-clause-some
 returns-in-Some-number_at-clause-some g c =
     let found = (goal.at.returns-in-Some-number_at-clause-some g c).In-Some in
-    first_at (index_of c.args.pages.now) c.args.depth c.args.root c.args.stops.now c.requires.deep c.requires.root c.requires.stops
+    first_at (index_of c.args.pages.now) c.args.keys c.args.depth c.args.root c.args.stops.now c.requires.deep c.requires.root c.requires.stops
     c.in-Some.place c.in-Some-number_at.number (get_or c.args.stops.now c.in-Some.place no_stop) (slice_get-get_or c.args.stops.now c.in-Some.place no_stop (inside g found))
     (first g found) c.in-Some-number_at.ensures.least

@@ -53,7 +53,7 @@ keep-requires g c =
 
 pub returns-in-Err-clause-some : goal.returns-in-Err-clause-some
 returns-in-Err-clause-some g c =
-    first_level c.args.pages.now c.loop-depth.depth c.in-Err.damage.number c.in-Err.damage.block (omega (arith, c.loop-depth-test.true, c.requires.top)) c.loop-depth.invariant.clear c.in-Err.ensures.first
+    first_level c.args.keys c.args.pages.now c.loop-depth.depth c.in-Err.damage.number c.in-Err.damage.block (omega (arith, c.loop-depth-test.true, c.requires.top)) c.loop-depth.invariant.clear c.in-Err.ensures.first
 
 pub loop-depth-preserved : goal.loop-depth-preserved
 loop-depth-preserved g c =
@@ -73,7 +73,7 @@ loop-depth-preserved g c =
       upper = subst (λ (d : ℕ). AreOfUpper (index_of c.args.pages.now) d c.judge_level.new.seen c.judge_level.new.met) next c.judge_level.ensures.upper;
       clear = λ d lt. elim (cases_lt d depth) [
         | inl before ↦ c.loop-depth.invariant.clear d before
-        | inr last ↦ subst (IsClearLevel (index_of c.args.pages.now)) (let e : depth ≡ d = omega (arith, lt, last) in e) c.in-Ok.ensures.clear
+        | inr last ↦ subst (IsClearLevel (index_of c.args.pages.now) c.args.keys) (let e : depth ≡ d = omega (arith, lt, last) in e) c.in-Ok.ensures.clear
       ];
       begin = subst (λ (d : ℕ). c.next_begin-begin.result ≡ start (index_of c.args.pages.now) d) next
           (c.next_begin-begin.ensures ∙ ap (λ (b : ℕ). first_child (nodes_of c.args.pages.now b).links) c.in-Ok.ensures.head);
@@ -81,7 +81,7 @@ loop-depth-preserved g c =
 
 pub returns-clause-none : goal.returns-clause-none
 returns-clause-none g c =
-    sound_levels c.args.pages.now (λ d deep. c.loop-depth.invariant.clear d (omega (arith, deep, c.loop-depth-test.false, c.requires.top)))
+    sound_levels c.args.keys c.args.pages.now (λ d deep. c.loop-depth.invariant.clear d (omega (arith, deep, c.loop-depth-test.false, c.requires.top)))
 
 pub returns-clause-chains : goal.returns-clause-chains
 returns-clause-chains g c =

@@ -16,6 +16,6 @@ invariant-loop-depth g l = record {
   far : l.depth ≤ suc l.top;
   chains : AreAllStops (index_of l.pages) l.depth l.chains.items;
   added : l.met.blocks.items ≡ blocks_of l.chains.items;
-  clear : (d : ℕ) → d < l.depth → IsClearLevel (index_of l.pages) d;
+  clear : (d : ℕ) → d < l.depth → IsClearLevel (index_of l.pages) l.keys d;
   begin : l.begin ≡ start (index_of l.pages) l.depth;
 }

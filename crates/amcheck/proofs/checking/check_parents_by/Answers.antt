@@ -1,5 +1,6 @@
-use Rattle.std.proofs.Common.{true, List, length, refl, subst}
+use Rattle.std.proofs.Common.{Bool, ap, true, List, length, refl, subst}
 use Rattle.index_model.specs.declared.fault.Fault.TheVariants.{NoMemory}
+use Rattle.index_model.specs.declared.format.Format.{Format}
 use Rattle.page_codec.specs.declared.page.Page.{Page}
 use Rattle.latch_table.specs.Holdings.{pinned_blocks}
 use Rattle.page_action.proofs.Framing.{takes_none}
@@ -8,6 +9,7 @@ use Rattle.amcheck.specs.Reading.{blocks_below}
 use Rattle.amcheck.proofs.Fetched.{rest_all}
 use Rattle.amcheck.proofs.FirstDamages.{answer_told, same_fault, never_refused}
 use Rattle.amcheck.specs.Places.{StandAtTheirBlocks}
+use Rattle.amcheck.proofs.KeysSeen.{tree_told, fault_told}
 use Rattle.amcheck.proofs.Judged.{they_stand, they_are_few}
 use Rattle.amcheck.proofs.checking.check_parents_by.Given.{Over}
 use Rattle.amcheck.proofs.checking.check_parents_by.Goals.{In-Ok-read_pages}
@@ -24,8 +26,9 @@ judge-requires-clause-few g c = they_are_few c.in-Ok-read_pages.pages (stand g (
 
 pub returns-clause-answer : goal.returns-clause-answer
 returns-clause-answer g c honest =
-    subst (λ (ps : List Page). IsAnswer true ps c.told.result) (c.in-Ok-read_pages.ensures.read.same honest)
-    (answer_told true c.in-Ok-read_pages.pages c.judge.result c.told.result c.judge.ensures.sound c.judge.ensures.report c.judge.ensures.first c.told.ensures.ok c.told.ensures.err)
+    subst (λ (ps : List Page). IsAnswer true (g.S.PageStore.state c.args.store.now).limits.unique ps c.told.result) (c.in-Ok-read_pages.ensures.read.same honest)
+    (subst (λ (keys : Bool). IsAnswer true keys c.in-Ok-read_pages.pages c.told.result) (ap (λ (f : Format). f.unique) c.format-keys.ensures.value)
+    (answer_told true c.format-keys.result.unique c.in-Ok-read_pages.pages c.judge.result c.told.result c.judge.ensures.sound c.judge.ensures.report c.judge.ensures.first c.told.ensures.ok c.told.ensures.err))
 
 pub returns-in-Err-read_pages-clause-unread : goal.returns-in-Err-read_pages-clause-unread
 returns-in-Err-read_pages-clause-unread g c same = absurd (c.in-Err-read_pages.ensures.memory (same_fault _ NoMemory same))
@@ -60,3 +63,13 @@ returns-clause-order g c =
     let st = g.S.PageStore.state c.args.store.now in
     rest_all st.frames (pinned_blocks st.table) (blocks_below (length st.pages)) (g.S.PageStore.memory c.args.store.now) (g.S.PageStore.memory c.read_pages.new.store)
     (g.S.PageStore.backing c.args.store.now) (g.S.PageStore.backing c.read_pages.new.store) c.read_pages.ensures.frames
+
+pub returns-clause-tree : goal.returns-clause-tree
+returns-clause-tree g c honest =
+    tree_told (g.S.PageStore.state c.args.store.now) c.in-Ok-read_pages.pages c.format-keys.result.unique (ap (λ (f : Format). f.unique) c.format-keys.ensures.value) c.in-Ok-read_pages.ensures.read.stored
+    (c.in-Ok-read_pages.ensures.read.same honest) c.judge.result c.told.result c.told.ensures.ok c.told.ensures.err c.judge.ensures.tree c.judge.ensures.unique
+
+pub returns-clause-fault : goal.returns-clause-fault
+returns-clause-fault g c =
+    fault_told (g.S.PageStore.state c.args.store.now) c.in-Ok-read_pages.pages c.format-keys.result.unique (ap (λ (f : Format). f.unique) c.format-keys.ensures.value) c.in-Ok-read_pages.ensures.read.stored
+    (g.S.PageStore.backing c.args.store.now) (g.S.PageStore.backing c.read_pages.new.store) c.in-Ok-read_pages.ensures.read.same c.judge.result c.told.result c.told.ensures.ok c.told.ensures.err c.judge.ensures.damaged

@@ -18,7 +18,7 @@ returns-in-Ok-clause-report g c is = report_stays _ _ c.check_pages-end.ensures.
 
 pub returns-in-Ok-clause-sound : goal.returns-in-Ok-clause-sound
 returns-in-Ok-clause-sound g c is honest =
-    subst (λ (st : State). AreSound c.args.parents st.pages) (sym c.check_pages-end.ensures.state) (c.check_pages-end.ensures.sound is honest)
+    subst (λ (st : State). AreSound c.args.parents st) (sym c.check_pages-end.ensures.state) (c.check_pages-end.ensures.sound is honest)
 
 pub returns-in-Ok-clause-damage : goal.returns-in-Ok-clause-damage
 returns-in-Ok-clause-damage g c is = damage_stays _ _ c.check_pages-end.ensures.state _ _ _ c.args.parents (c.check_pages-end.ensures.damage is)

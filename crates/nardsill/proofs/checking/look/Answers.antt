@@ -1,3 +1,5 @@
+use Rattle.std.proofs.Common.{sym, ◌∙◌}
+use Rattle.nardsill.proofs.Refusals.{never_0}
 use Rattle.nardsill.proofs.checking.look.Goals as goal
 
 -- the store that was opened, and what the verifier answered of its pages
@@ -13,3 +15,6 @@ returns-in-Ok g c = λ done. record {
   answer = c.check_parents_one.ensures.answer;
   tree = c.check_parents_one.ensures.tree;
 }
+
+pub returns-in-Err : goal.returns-in-Err
+returns-in-Err g c = λ done. absurd (never_0 c.in-Err.fault (sym c.refused.ensures.status ∙ done))

@@ -13,22 +13,22 @@ mid_honest g c h =
     let later : IsLater (g.S.PageStore.backing c.left_is_whole.new.store) (g.S.PageStore.backing c.right_is_live.new.store) = g.met.S.PageStore.laws.follows_later _ _ (c.right_is_live.ensures.steps _ (g.met.S.PageStore.laws.follows_same _)) in
     later.honest h
 
-pub returns-in-Ok-right_is_live-clause-answer : goal.returns-in-Ok-right_is_live-clause-answer
-returns-in-Ok-right_is_live-clause-answer g c honest =
-    let at = (goal.at.returns-in-Ok-right_is_live-clause-answer g c).After-right_is_live in
+pub returns-then-is_live-clause-answer : goal.returns-then-is_live-clause-answer
+returns-then-is_live-clause-answer g c honest =
+    let at = (goal.at.returns-then-is_live-clause-answer g c).After-right_is_live in
     let live = subst (λ (st : State). IsLiveAt st.pages c.in-Some.right) c.left_is_whole.ensures.state ((c.in-Ok-right_is_live.ensures.live honest).0 c.if-is_live.true) in
     record {
-      left_whole = (c.in-Ok.ensures.whole (mid_honest g at honest)).0 c.if-is_whole.true;
+      left_whole = (c.in-Ok.ensures.whole (mid_honest g at honest)).0 c.if-not-is_whole.false;
       right_is = c.in-Some.is;
       page = live.page;
       found = live.found;
       alive = live.alive;
     }
 
-pub returns-in-Ok-2-2-clause-answer : goal.returns-in-Ok-2-2-clause-answer
-returns-in-Ok-2-2-clause-answer g c honest right allow =
-    let at = (goal.at.returns-in-Ok-2-2-clause-answer g c).After-right_is_live in
-    clash (sym ((c.in-Ok.ensures.whole (mid_honest g at honest)).1 allow.left_whole) ∙ c.if-is_whole.false)
+pub returns-then-not-is_whole-clause-answer : goal.returns-then-not-is_whole-clause-answer
+returns-then-not-is_whole-clause-answer g c honest right allow =
+    let at = (goal.at.returns-then-not-is_whole-clause-answer g c).After-right_is_live in
+    clash (sym ((c.in-Ok.ensures.whole (mid_honest g at honest)).1 allow.left_whole) ∙ c.if-not-is_whole.true)
   where
     clash : true ≡ false → ⊥
     clash e = cc

@@ -1,10 +1,10 @@
 use Rattle.std.proofs.Common.{rules, ◌≡◌, ◌∙◌, take, sym, ap, subst, Ok}
 use Rattle.index_model.specs.Limits.{AreLimits}
 use Rattle.index_model.specs.declared.format.Format.{Format}
-use Rattle.recovery.specs.Superblock.{number_at, layout_of, IsLayout}
+use Rattle.recovery.specs.Superblock.{number_at, layout_of, is_unique, IsLayout}
 use Rattle.device_layout.specs.Layout.{magic, superblock}
 use Rattle.recovery.proofs.Spelling.{layout_spelled, is_layout, sizes_read, magic_spelled}
-use Rattle.recovery.proofs.superblock.read_superblock.Goals.{After-number_at-4}
+use Rattle.recovery.proofs.superblock.read_superblock.Goals.{After-number_at-5}
 use Rattle.recovery.proofs.superblock.read_superblock.Goals as goal
 
 pub returns-then-ne-clause-only : goal.returns-then-ne-clause-only
@@ -17,18 +17,18 @@ returns-in_default-clause-only c = λ limits are is.
     absurd (c.in_default.ensures.none (subst IsLayout (sym (c.number_at.ensures ∙ (ap (number_at 8) is ∙ layout_spelled limits))) (is_layout limits.layout)))
 
 -- the sizes that were read
-read : (c : After-number_at-4) (limits : Format) → AreLimits limits → c.args.bytes.now ≡ superblock limits → record { layout = c.in-Some.layout; items = c.number_at-2.result; pages = c.number_at-3.result; log_bytes = c.number_at-4.result } ≡ limits
-read c limits are is = sizes_read c.args.bytes.now limits _ _ _ _ are is (c.in-Some.ensures.found.1 ∙ ap layout_of c.number_at.ensures) c.number_at-2.ensures c.number_at-3.ensures c.number_at-4.ensures
+read : (c : After-number_at-5) (limits : Format) → AreLimits limits → c.args.bytes.now ≡ superblock limits → record { layout = c.in-Some.layout; unique = c.is_unique.result; items = c.number_at-3.result; pages = c.number_at-4.result; log_bytes = c.number_at-5.result } ≡ limits
+read c limits are is = sizes_read c.args.bytes.now limits _ _ _ _ _ are is (c.in-Some.ensures.found.1 ∙ ap layout_of c.number_at.ensures) (c.is_unique.ensures ∙ ap (is_unique c.in-Some.layout) c.number_at-2.ensures) c.number_at-3.ensures c.number_at-4.ensures c.number_at-5.ensures
 
 pub returns-then-not-are_valid-clause-only : goal.returns-then-not-are_valid-clause-only
 returns-then-not-are_valid-clause-only c = λ limits are is.
-    let h = c.if-not-are_valid.ensures.1 (subst AreLimits (sym (read (goal.at.returns-then-not-are_valid-clause-only c).After-number_at-4 limits are is)) are) in cc
+    let h = c.if-not-are_valid.ensures.1 (subst AreLimits (sym (read (goal.at.returns-then-not-are_valid-clause-only c).After-number_at-5 limits are is)) are) in cc
 
 pub returns-then-ne-2-clause-only : goal.returns-then-ne-2-clause-only
 returns-then-ne-2-clause-only c = λ limits are is.
-    let same = read (goal.at.returns-then-ne-2-clause-only c).After-number_at-4 limits are is in
+    let same = read (goal.at.returns-then-ne-2-clause-only c).After-number_at-5 limits are is in
     let e : c.spell_superblock.new.out ≡ c.args.bytes.now = c.spell_superblock.ensures ∙ (ap superblock same ∙ sym is) in
     search rules
 
 pub returns-clause-only : goal.returns-clause-only
-returns-clause-only c = λ limits are is. ap Ok (read (goal.at.returns-clause-only c).After-number_at-4 limits are is)
+returns-clause-only c = λ limits are is. ap Ok (read (goal.at.returns-clause-only c).After-number_at-5 limits are is)

@@ -1,9 +1,8 @@
 use Rattle.page_action.specs.States.{State}
 use Rattle.std.proofs.Common.{◌≡◌, inl, inr, sym, ap, subst, ◌∙◌, IsTrue}
 use Rattle.page_store.specs.Stores.{state_of, device_of}
-use Rattle.tree_acts.specs.TheoremTree.{IsTree}
 use Rattle.schedule.specs.Snapshots.{IsUnused}
-use Rattle.world.proofs.Opened.{freshly_unused}
+use Rattle.world.proofs.Opened.{freshly_unused, tree_opened}
 use Rattle.access_method.proofs.Seats.{same_start, same_kept}
 use Rattle.access_method.proofs.index.Index+Store+D.open.Goals as goal
 
@@ -12,7 +11,7 @@ returns-in-Ok-new-clause-begins g c honest frames limits pages index tree =
     let store = c.in-Ok.store in
     let st = state_of g.D.Device store in
     let same = c.in-Ok.ensures.same (subst (λ (d : g.row.D.Denot). IsTrue (g.D.Device.is_honest d)) (ap (device_of g.D.Device) c.in-Ok-new.ensures.store) honest) frames limits pages index in
-    let unused : IsUnused st = freshly_unused c.args.frames st c.in-Ok.ensures.opened (subst IsTree (sym same.pages_are) tree) in
+    let unused : IsUnused st = freshly_unused c.args.frames st c.in-Ok.ensures.opened (tree_opened limits st.limits pages st.pages same.limits_are same.pages_are tree) in
     record {
       limits_are = ap (λ s. (state_of g.D.Device s).limits) c.in-Ok-new.ensures.store ∙ same.limits_are;
       fits = same_start _ c.in-Ok-new.index st.pages pages same.pages_are (c.in-Ok-new.ensures.fits unused);

@@ -1,7 +1,7 @@
 use Rattle.std.proofs.Common.{Option, List, [], length, refl, ap}
 use Rattle.session_calls.specs.Slots.{slot_vacuums}
 use Rattle.session_calls.specs.declared.op.Op.{Op}
-use Rattle.schedule.proofs.Unused.{empty_at, unused_fits}
+use Rattle.schedule.proofs.Unused.{empty_at, unused_fits, unused_keeps}
 use Rattle.access_method.proofs.Seats.{closed_at}
 use Rattle.access_method.proofs.index.Index.new.Goals as goal
 
@@ -19,3 +19,7 @@ returns-in-Ok-clause-fits g c unused = unused_fits g.S.PageStore c.args.store c.
 
 pub returns-in-Ok-clause-closed : goal.returns-in-Ok-clause-closed
 returns-in-Ok-clause-closed g c token = closed_at 63 token.session token.number _ refl
+
+pub returns-in-Ok-clause-keeps : goal.returns-in-Ok-clause-keeps
+returns-in-Ok-clause-keeps g c unused own =
+    unused_keeps g.S.PageStore g.met.S.PageStore.laws c.args.store c.in-Ok.calls.slots.items [] unused own

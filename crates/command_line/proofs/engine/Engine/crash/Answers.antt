@@ -19,5 +19,5 @@ returns-clause-reopened c start history calls fits keeps =
       to = left.to;
       pages = left.pages;
       are = left.are;
-      begins = c.in_ok-self.ensures.begins c.args.self.now.allowed limits left.pages index left.are.tree;
+      begins = c.in_ok-self.ensures.begins c.args.self.now.allowed limits left.pages index (left.are.tree, left.are.keyed);
     }

@@ -1,10 +1,13 @@
-use Rattle.std.proofs.Common.{arith, ◌≡◌, ◌≤◌, ◌<◌, ℕ, true, false, Some, length, slice_get, ap, sym, subst, ◌∙◌}
+use Rattle.std.proofs.Common.{arith, ◌≡◌, ◌≤◌, ◌<◌, ℕ, Bool, true, false, Some, length, slice_get, ap, sym, subst, ◌∙◌}
+use Rattle.index_model.specs.declared.format.Format.{Format}
 use Rattle.index_model.specs.declared.limits.Limits.{Limits}
 use Rattle.index_model.specs.Order.{is_among}
 use Rattle.page_codec.specs.Edits.{entries_of}
 use Rattle.page_codec.specs.declared.page.Page.{Page}
 use Rattle.page_action.specs.States.{State, IsLater}
+use Rattle.tree_shape.specs.KeyPages.{IsKeyFree}
 use Rattle.page_action.specs.Stored.{IsStored}
+use Rattle.insert_split.specs.Turns.{PlaceRefused}
 use Rattle.insert_split.proofs.Adding.{puts, reads_leaf, no_place}
 use Rattle.insert_split.proofs.Splitting.{splits}
 use Rattle.insert_split.proofs.Steps.{refuses}
@@ -36,7 +39,9 @@ returns-in-Err-place_in-clause-all g c =
     refuses g.S.PageStore c.args.self.now c.args.store.now c.fetch.new.self c.in-Err-place_in.fault c.fetch.ensures.steps c.fetch.ensures.state c.requires.alive
     (λ honest order fits.
     no_place (g.S.PageStore.state c.args.store.now) (g.S.PageStore.backing c.args.store.now) (g.S.PageStore.backing c.fetch.new.self) c.args.self.now c.args.block c.view-found.result.now c.in-Err-place_in.fault order c.requires.at fits
-    (found g (goal.at.returns-in-Err-place_in-clause-all g c).After-view-found honest) there.block_is there.storable.admitted c.in-Err-place_in.ensures.cause)
+    (found g (goal.at.returns-in-Err-place_in-clause-all g c).After-view-found honest) there.block_is there.storable.admitted
+    (subst (λ (u : Bool). PlaceRefused c.view-found.result.now c.args.self.now.entry u c.in-Err-place_in.fault)
+    (ap (λ (f : Format). f.unique) c.format-unique.ensures.value ∙ ap (λ (s : State). s.limits.unique) c.fetch.ensures.state) c.in-Err-place_in.ensures.cause))
 
 pub returns-then-entries_on-limits-clause-all : goal.returns-then-entries_on-limits-clause-all
 returns-then-entries_on-limits-clause-all g c =
@@ -48,6 +53,8 @@ returns-then-entries_on-limits-clause-all g c =
     (λ first h. c.put.ensures.steps first (c.fetch.ensures.steps first h)) c.fetch.ensures.state c.requires.alive c.requires.at (copied g (goal.at.returns-then-entries_on-limits-clause-all g c).After-copy_to).block_is
     (λ honest. found g (goal.at.returns-then-entries_on-limits-clause-all g c).After-view-found (after.honest honest) ∙ ap Some is_copy) later.failures c.in-Ok.ensures.alive c.fetch.ensures.room.promised
     (subst (λ (p : Page). is_among (entries_of p.items) c.args.self.now.entry ≡ false) is_copy (c.in-Ok-place_in.ensures.absent there.storable.admitted))
+    (λ asked. subst (λ (p : Page). IsKeyFree c.args.self.now.entry.key (entries_of p.items)) is_copy
+    (c.in-Ok-place_in.ensures.alone (ap (λ (f : Format). f.unique) c.format-unique.ensures.value ∙ ap (λ (s : State). s.limits.unique) c.fetch.ensures.state ∙ asked) there.storable.admitted))
     (let t : length c.entries_on.result.now < c.limits.result.items = c.if-entries_on-limits.true in let n = ap length c.entries_on.ensures in
     let m : c.limits.result.items ≡ (g.S.PageStore.state c.args.store.now).limits.items = ap (λ (l : Limits). l.items) c.limits.ensures.value ∙ ap (λ (s : State). s.limits.items) c.fetch.ensures.state in omega (arith, t, n, m)) c.put.ensures.puts c.put.ensures.refused c.put.ensures.cause
 
@@ -63,5 +70,7 @@ returns-else-entries_on-limits-clause-all g c =
     (λ honest. found g (goal.at.returns-else-entries_on-limits-clause-all g c).After-view-found (after.honest honest) ∙ ap Some is_copy)
     (subst (λ (b : ℕ). IsStored (g.S.PageStore.state c.args.store.now).limits b c.copy_to.new.target) (sym same.block_is) same) c.in-Ok.ensures.inside later.failures c.in-Ok.ensures.alive c.fetch.ensures.room.promised
     (subst (λ (p : Page). is_among (entries_of p.items) c.args.self.now.entry ≡ false) is_copy (c.in-Ok-place_in.ensures.absent there.storable.admitted))
+    (λ asked. subst (λ (p : Page). IsKeyFree c.args.self.now.entry.key (entries_of p.items)) is_copy
+    (c.in-Ok-place_in.ensures.alone (ap (λ (f : Format). f.unique) c.format-unique.ensures.value ∙ ap (λ (s : State). s.limits.unique) c.fetch.ensures.state ∙ asked) there.storable.admitted))
     (let t : c.limits.result.items ≤ length c.entries_on.result.now = c.if-entries_on-limits.false in let n = ap length c.entries_on.ensures in
     let m : c.limits.result.items ≡ (g.S.PageStore.state c.args.store.now).limits.items = ap (λ (l : Limits). l.items) c.limits.ensures.value ∙ ap (λ (s : State). s.limits.items) c.fetch.ensures.state in omega (arith, t, n, m)) c.split.ensures.going c.split.ensures.splits c.split.ensures.state c.split.ensures.op c.split.ensures.cause

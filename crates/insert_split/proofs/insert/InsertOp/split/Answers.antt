@@ -61,6 +61,7 @@ returns-in-Ok-act_on_halves-clause-splits g c =
       half = half;
       right = right;
       halves = subst (λ (b : ℕ). LeafHalves (node_of c.args.page.now) c.args.page.now.block b c.args.self.now.entry (node_of left) (node_of half)) (sym is_new) parted.halves;
+      cut = parted.cut;
       left_block = left_block;
       left_cycle = parted.left_cycle ∙ c.cycle.ensures ∙ ap (λ (s : State). s.cycle) same;
       half_cycle = parted.half_cycle ∙ c.cycle.ensures ∙ ap (λ (s : State). s.cycle) same;

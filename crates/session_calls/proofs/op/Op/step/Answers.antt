@@ -21,7 +21,7 @@ use Rattle.insert_split.specs.declared.insert.InsertOp.{InsertOp}
 use Rattle.vacuum.specs.declared.steps.BulkDeleteOp.{BulkDeleteOp}
 use Rattle.page_delete.specs.declared.steps.CleanupOp.{CleanupOp}
 use Rattle.session_calls.proofs.Refusing.{refused_steps, told_stopped, insert_told_stopped, insert_told_logged, scan_told_waiting, bulk_cause}
-use Rattle.session_calls.proofs.Going.{step_is_refused}
+use Rattle.session_calls.proofs.Going.{step_is_refused, scans_insert_none}
 use Rattle.vacuum.specs.Counts.{IsCounted}
 use Rattle.session_calls.proofs.Deleting.{counted_on, counted_still, set_found, bulk_goes_on, bulk_finishes, bulk_is_refused}
 use Rattle.session_calls.proofs.Cleaning.{cleaned_still, cleanup_goes_on, cleanup_finishes, cleanup_is_refused}
@@ -139,7 +139,7 @@ returns-in-Err-step-clause-goes g c honest start history number call fits =
     let mine = subst (λ (op : Op). CallFits old (map g.T.DeadRows.is_in c.args.sets.now) start history number call op) c.in-Scan.is fits in
     rw c.in-Scan.is (step_is_refused _ old (g.S.PageStore.state c.step-in-Scan.new.store) start history number call (Scan c.in-Scan.op) (Scan c.step-in-Scan.new.self) mine
     c.step-in-Scan.ensures.all.session (ap AskScan c.step-in-Scan.ensures.all.range) c.in-Err-step.fault c.in-Err-step.ensures.all.refused.state
-    (ap (λ (op : ScanOp). Scan op) c.in-Err-step.ensures.all.refused.op) (c.in-Err-step.ensures.all.stepped honest mine.world.order mine.runs.fits) (λ ends. refl) (λ e asks there. absurd cc))
+    (ap (λ (op : ScanOp). Scan op) c.in-Err-step.ensures.all.refused.op) (c.in-Err-step.ensures.all.stepped honest mine.world.order mine.runs.fits) (λ ends. refl) (λ e asks there. absurd (scans_insert_none c.in-Scan.op.range e asks)) (λ e asks r there. absurd (scans_insert_none c.in-Scan.op.range e asks)))
 
 pub returns-in-Ok-Going-step-2-clause-pins : goal.returns-in-Ok-Going-step-2-clause-pins
 returns-in-Ok-Going-step-2-clause-pins g c honest =

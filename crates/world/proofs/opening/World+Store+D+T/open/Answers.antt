@@ -5,9 +5,8 @@ use Rattle.page_store.specs.Restart.{LeavesPages}
 use Rattle.page_action.specs.States.{State}
 use Rattle.page_store.specs.Stores.{state_of, device_of}
 use Rattle.recovery.specs.Opening.{IsFreshlyOpened}
-use Rattle.tree_acts.specs.TheoremTree.{IsTree}
 use Rattle.schedule.specs.Snapshots.{IsUnused}
-use Rattle.world.proofs.Opened.{freshly_unused, same_start, same_kept}
+use Rattle.world.proofs.Opened.{freshly_unused, tree_opened, same_start, same_kept}
 use Rattle.world.proofs.opening.World+Store+D+T.open.Goals as goal
 
 pub returns-in-Err-new-clause-begins : goal.returns-in-Err-new-clause-begins
@@ -25,7 +24,7 @@ returns-in-Ok-new-clause-begins g c honest frames from to limits pages index tre
     let store = c.in-Ok.store in
     let st = state_of g.D.Device store in
     let same = c.in-Ok.ensures.same (subst (λ (d : g.row.D.Denot). IsTrue (g.D.Device.is_honest d)) (ap (device_of g.D.Device) c.in-Ok-new.ensures.store) honest) frames limits pages index in
-    let unused : IsUnused st = freshly_unused c.args.frames st c.in-Ok.ensures.opened (subst IsTree (sym same.pages_are) tree) in
+    let unused : IsUnused st = freshly_unused c.args.frames st c.in-Ok.ensures.opened (tree_opened limits st.limits pages st.pages same.limits_are same.pages_are tree) in
     record {
       limits_are = ap (λ s. (state_of g.D.Device s).limits) c.in-Ok-new.ensures.store ∙ same.limits_are;
       fits = same_start _ _ c.in-Ok-new.world st.pages pages same.pages_are (c.in-Ok-new.ensures.fits unused);

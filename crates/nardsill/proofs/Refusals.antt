@@ -1,0 +1,28 @@
+-- A refusal is told by a number that isn't 0.
+use Rattle.std.proofs.Common.{◌≡◌, ℕ}
+use Rattle.index_model.specs.Faults.{number_of}
+use Rattle.index_model.specs.declared.fault.Fault.{Fault}
+use Rattle.index_model.specs.declared.fault.Fault.TheVariants.{NoMemory, Io, Stopped, Blocked, Exists, KeyTooLong, BadRow, IndexFull, LogFull, NoFrame, VacuumRunning, NoSession, SessionBusy, BadSuper, BadVersion, LogDamaged, PageDamaged, BadLimits, TooTall, DeviceTooSmall, KeyExists}
+
+pub never_0 : (fault : Fault) → number_of fault ≡ 0 → ⊥
+never_0 NoMemory h = cc
+never_0 Io h = cc
+never_0 Stopped h = cc
+never_0 (Blocked b) h = cc
+never_0 Exists h = cc
+never_0 KeyTooLong h = cc
+never_0 BadRow h = cc
+never_0 IndexFull h = cc
+never_0 LogFull h = cc
+never_0 NoFrame h = cc
+never_0 VacuumRunning h = cc
+never_0 NoSession h = cc
+never_0 SessionBusy h = cc
+never_0 BadSuper h = cc
+never_0 BadVersion h = cc
+never_0 LogDamaged h = cc
+never_0 (PageDamaged b) h = cc
+never_0 BadLimits h = cc
+never_0 TooTall h = cc
+never_0 DeviceTooSmall h = cc
+never_0 (KeyExists r) h = cc

@@ -1,0 +1,113 @@
+-- Pages that are each one of a unique index are keyed, and the other way round.
+use Rattle.std.proofs.Common.{◌≡◌, ◌≢◌, ℕ, zero, suc, ◌<◌, Bool, true, false, ◌||◌, ◌↔◌, Option, Some, None, List, [], ◌∷◌, length, slice_get, refl, sym, ap, subst, ◌∙◌, arith}
+use Rattle.std.specs.Prelude.{IfSome}
+use Rattle.std.specs.List.{AllByRecursion}
+use Rattle.index_model.specs.Actions.{KeysDiffer}
+use Rattle.index_model.specs.Order.{AscendsPast, IsAscending, bound_of, is_among, is_past, same_entry}
+use Rattle.index_model.specs.declared.bound.Bound.{Bound}
+use Rattle.index_model.specs.declared.entry.Entry.{Entry}
+use Rattle.index_model.specs.declared.format.Format.{Format}
+use Rattle.index_model.proofs.Ascending.{is_past-self, same_entry-self}
+use Rattle.page_codec.specs.Edits.{entries_of}
+use Rattle.page_codec.specs.Grammar.{Ascends, FollowedBy, IsPage, IsOfKind, IsLeafIn}
+use Rattle.page_codec.specs.declared.page.Items.{Items}
+use Rattle.page_codec.specs.declared.page.Items.TheVariants.{Meta, Entries, Downlinks}
+use Rattle.page_codec.specs.declared.page.Page.{Page}
+use Rattle.page_codec.specs.declared.page.PageState.{PageState}
+use Rattle.page_codec.specs.declared.page.PageState.TheVariants.{Live, HalfDead, Deleted}
+use Rattle.page_action.specs.Contents.{entry_on_live_leaf}
+use Rattle.page_action.specs.Stored.{AreStored}
+use Rattle.page_action.proofs.StoredPages.{stored_page}
+use Rattle.tree_shape.specs.KeyPages.{KeyBefore, IsUniqueNode, IsUniquePage, AreUnique}
+use Rattle.tree_shape.specs.Nodes.{nodes_of, node_from, node_of, entries_alive, holds}
+use Rattle.tree_shape.proofs.KeyEdits.{before_key}
+use Rattle.tree_acts.specs.TheoremKeys.{AreKeyed}
+use Rattle.tree_acts.specs.TheoremTree.{IsTree}
+use Rattle.tree_acts.specs.Uniques.{KeyedTells}
+use Rattle.tree_acts.proofs.Uniques.{unique_at, unique_tells}
+use Rattle.tree_acts.proofs.Words.{contents_held}
+
+-- entries of these are one where they share a key
+abbrev DifferIn : List Entry → Type 0
+DifferIn es = KeysDiffer (is_among es)
+
+first_there : (x : Entry) (xs : List Entry) → is_among (x ∷ xs) x ≡ true
+first_there x xs = rw (same_entry-self x) refl
+
+or_true : (b : Bool) → (b || true) ≡ true
+or_true true = refl
+or_true false = refl
+
+rest_there : (x : Entry) (xs : List Entry) (y : Entry) → is_among xs y ≡ true → is_among (x ∷ xs) y ≡ true
+rest_there x xs y there = rw there (or_true (same_entry x y))
+
+rest_differs : (x : Entry) (xs : List Entry) → DifferIn (x ∷ xs) → DifferIn xs
+rest_differs x xs differ a b in_a in_b same = differ a b (rest_there x xs a in_a) (rest_there x xs b in_b) same
+
+past_itself : (x y : Entry) → is_past (bound_of x) y ≡ true → x ≡ y → ⊥
+past_itself x y past same = (let k : is_past (bound_of x) x ≡ true = subst (λ (z : Entry). is_past (bound_of x) z ≡ true) (sym same) past in let n : is_past (bound_of x) x ≡ false = is_past-self x in cc)
+
+-- the keys of entries ascend that ascend, and of which no two share a key
+follows : (x : Entry) (xs : List Entry) → AscendsPast (Some (bound_of x)) xs → DifferIn (x ∷ xs) → FollowedBy KeyBefore x xs
+follows x [] ascends differ = tt
+follows x (y ∷ ys) ascends differ = (
+  before_key x y ascends.0 (λ same. past_itself x y ascends.0
+      (differ x y (first_there x (y ∷ ys)) (rest_there x (y ∷ ys) y (first_there y ys)) same)),
+  follows y ys ascends.1 (rest_differs x (y ∷ ys) differ),
+)
+
+keys_ascend : (es : List Entry) → IsAscending es → DifferIn es → Ascends KeyBefore es
+keys_ascend [] ascends differ = tt
+keys_ascend (x ∷ xs) ascends differ = follows x xs ascends.1 differ
+
+-- ... of a page, where no two entries share a key that are there
+leaf_keys : (state : PageState) (page : Page) (es : List Entry) → IsLeafIn state page es → DifferIn (entries_alive state es) → Ascends KeyBefore es
+leaf_keys Live page es leaf differ = keys_ascend es leaf.entries.ascends differ
+leaf_keys HalfDead page es leaf differ = subst (λ (l : List Entry). Ascends KeyBefore l) (sym leaf.entries) tt
+leaf_keys Deleted page es leaf differ = subst (λ (l : List Entry). Ascends KeyBefore l) (sym leaf.entries) tt
+
+item_keys : (page : Page) (items : Items) → IsOfKind page items → DifferIn (entries_alive page.state (entries_of items)) → Ascends KeyBefore (entries_of items)
+item_keys page Meta kind differ = tt
+item_keys page (Entries v) kind differ = leaf_keys page.state page v.items kind.rest differ
+item_keys page (Downlinks v) kind differ = tt
+
+-- what is so of the page at each block is so of each page
+all_from : (P : Page → Type 0) (pages : List Page) → ((b : ℕ) (page : Page) → slice_get pages b ≡ Some page → P page) → AllByRecursion P pages
+all_from P [] h = tt
+all_from P (page ∷ pages) h = (h 0 page refl, all_from P pages (λ b other found. h (suc b) other found))
+
+in_use : (pages : List Page) (b : ℕ) (page : Page) → slice_get pages b ≡ Some page → b < length pages
+in_use [] b page found = absurd cc
+in_use (p ∷ pages) zero page found = omega arith
+in_use (p ∷ pages) (suc b) page found = (let k : b < length pages = in_use pages b page found in omega arith)
+
+module _ (limits : Format) (pages : List Page) (stored : AreStored limits 0 pages) (keyed : AreKeyed pages) where
+  unique_page : (b : ℕ) (page : Page) → slice_get pages b ≡ Some page → IsUniquePage page
+  unique_page b page found = record {
+    high = subst (λ (o : Option Page). IfSome (node_from o).high (λ s. s.row ≡ None)) found (keyed.high b);
+    bounds = subst (λ (o : Option Page). AllByRecursion (λ d. IfSome d.bound (λ (s : Bound). s.row ≡ None)) (node_from o).links) found (keyed.bounds b);
+    keys = item_keys page page.items (stored_page limits b pages page stored found).storable.admitted.kind differ;
+  }
+    where
+      on : (x : Entry) → is_among (entries_alive page.state (entries_of page.items)) x ≡ true → entry_on_live_leaf pages x ≡ true
+      on x there = (contents_held pages x).1 (record {
+        block = b;
+        in_use = in_use pages b page found;
+        on = subst (λ (o : Option Page). holds (node_from o) x ≡ true) (sym found) there;
+      })
+
+      differ : DifferIn (entries_alive page.state (entries_of page.items))
+      differ x y in_x in_y same = keyed.keys x y (on x in_x) (on y in_y) same
+
+  pub unique_of : AreUnique pages
+  unique_of = all_from IsUniquePage pages unique_page
+
+pub keyed_of : (limits : Format) (pages : List Page) → IsTree pages → AreStored limits 0 pages → AreUnique pages → AreKeyed pages
+keyed_of limits pages tree stored unique = record {
+  high = λ b. (unique_at pages unique b).high;
+  bounds = λ b. (unique_at pages unique b).bounds;
+  keys = unique_tells limits pages tree stored unique;
+}
+
+pub keyed_tells : KeyedTells
+keyed_tells limits pages tree stored = (keyed_of limits pages tree stored, unique_of limits pages stored)

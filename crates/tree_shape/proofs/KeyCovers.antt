@@ -1,0 +1,39 @@
+-- One leaf covers all entries of a key.
+use Rattle.std.proofs.Common.{◌≡◌, ℕ, not, Option, Some, None, List, [], ◌∷◌, inl, inr, refl, sym, ap, ◌∙◌}
+use Rattle.std.specs.Prelude.{IfSome}
+use Rattle.index_model.specs.declared.bound.Bound.{Bound}
+use Rattle.index_model.specs.declared.entry.Entry.{Entry}
+use Rattle.page_codec.specs.declared.page.PageState.{PageState}
+use Rattle.page_codec.specs.declared.page.PageState.TheVariants.{Live, HalfDead, Deleted}
+use Rattle.tree_shape.specs.Nodes.{Node}
+use Rattle.tree_shape.specs.Chains.{Spot, past, low_past, first_spot}
+use Rattle.tree_shape.specs.Walks.{entry_aim, is_beyond, is_within, IsCoverOn}
+use Rattle.tree_shape.specs.KeyBounds.{IsKeyBound}
+use Rattle.tree_shape.specs.KeyCovers.{HaveKeyBounds, KeyCovers}
+use Rattle.tree_shape.proofs.KeyBounds.{key_bounds_part_keys}
+
+-- what lies beyond a low without a row, and within such a high key, is told by the key
+beyond_same : (low : Option Bound) (x y : Entry) → IfSome low IsKeyBound → x.key ≡ y.key → is_beyond (entry_aim x) low ≡ is_beyond (entry_aim y) low
+beyond_same None x y h same = refl
+beyond_same (Some b) x y h same = key_bounds_part_keys b x y h same
+
+within_same : (high : Option Bound) (x y : Entry) → IfSome high IsKeyBound → x.key ≡ y.key → is_within (entry_aim x) high ≡ is_within (entry_aim y) high
+within_same None x y h same = refl
+within_same (Some b) x y h same = ap not (key_bounds_part_keys b x y h same)
+
+-- a half-dead page leaves the low as it was
+low_stays : (state : PageState) (low high : Option Bound) → IfSome low IsKeyBound → IfSome high IsKeyBound → IfSome (low_past state low high) IsKeyBound
+low_stays Live low high l h = h
+low_stays HalfDead low high l h = l
+low_stays Deleted low high l h = l
+
+covers_from : (at : ℕ → Node) (spot : Spot) (chain : List ℕ) (x y : Entry) (c : ℕ) → IfSome spot.low IsKeyBound → HaveKeyBounds at chain → x.key ≡ y.key
+    → IsCoverOn at spot chain (entry_aim x) c → IsCoverOn at spot chain (entry_aim y) c
+covers_from at spot [] x y c low highs same h = h
+covers_from at spot (b ∷ bs) x y c low highs same (inl h) =
+    inl (h.0, h.1, sym (beyond_same spot.low x y low same) ∙ h.2, sym (within_same (at b).high x y (highs b (inl refl)) same) ∙ h.3)
+covers_from at spot (b ∷ bs) x y c low highs same (inr h) =
+    inr (covers_from at (past b (at b) spot) bs x y c (low_stays (at b).state spot.low (at b).high low (highs b (inl refl))) (λ d i. highs d (inr i)) same h)
+
+pub key_covers : KeyCovers
+key_covers at chain x y c highs same h = covers_from at first_spot chain x y c tt highs same h
