@@ -7,6 +7,7 @@ ghost use Rattle.sessions.specs.Handed.{IsAsHanded};
 ghost use Rattle.sessions.specs.Standing.{Stands};
 
 use crate::crew::Number;
+use crate::door::Door;
 use crate::hire::hire;
 use crate::jobs::Jobs;
 use crate::record::Record;
@@ -16,7 +17,7 @@ use crate::ticket::{JobList, JobTicket};
 use crate::worker::Gate;
 use index_model::DeadRows;
 use page_action::PageStore;
-use std::sync::{Condvar, Mutex, Wait};
+use std::sync::{Mutex, Wait};
 use std::thread;
 use std::thread::{PromisedHandle, Threads};
 use worker_seats::{JobQueue, SeatCell, Worker};
@@ -57,9 +58,9 @@ pub fn run_all<
         J.jobs J.workers r.0 r.1 r.2.items) }
 {
     let slot: Mutex<Slot<S, T, J>> = Mutex::new(Slot::Waiting);
-    let opened = Condvar::new();
+    let shares = Door::new();
     let shared = &slot;
-    let signal = &opened;
+    let door = &shares;
     thread::scope(
         thread::scope_env(),
         rt,
@@ -80,7 +81,7 @@ pub fn run_all<
                 J.handed J.jobs J.workers r.0 r.1 r.2.items) }
         {
             hire(
-                scope, rt, queue, cell, shared, signal, gate, world, room, handles, last,
+                scope, rt, queue, cell, shared, door, gate, world, room, handles, last,
             )
         },
     )

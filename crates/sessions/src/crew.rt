@@ -4,6 +4,7 @@ ghost use Rattle.std.specs.Prelude.{◌≡◌, [], None};
 ghost use Rattle.crossbeam_queue.specs.Passes.{view, IsPassOf};
 ghost use Rattle.worker_seats.specs.Seats.{known_by};
 
+use crate::door::Door;
 use crate::jobs::Jobs;
 use crate::ready::{is_open, is_waiting};
 use crate::slot::Slot;
@@ -11,7 +12,7 @@ use crate::ticket::{JobList, JobTicket};
 use crate::worker::{Gate, work};
 use index_model::DeadRows;
 use page_action::PageStore;
-use std::sync::{Condvar, Mutex, Wait};
+use std::sync::{Mutex, Wait};
 use std::thread::Promise;
 use worker_seats::{JobQueue, QueuePass, Seat, SeatCell, Worker};
 
@@ -31,7 +32,7 @@ pub fn crew<S: PageStore, T: DeadRows + Drop, J: Jobs, K: JobList, G: Gate, R: W
     queue: &JobQueue<JobTicket<K>>,
     cell: &SeatCell,
     slot: &Mutex<Slot<S, T, J>>,
-    opened: &Condvar,
+    door: &Door,
     gate: &G,
     seat: Seat<J>,
     pass: QueuePass<JobTicket<K>>,
@@ -47,11 +48,13 @@ pub fn crew<S: PageStore, T: DeadRows + Drop, J: Jobs, K: JobList, G: Gate, R: W
     ensures { result.seat.worker ≡ seat.worker }
 {
     let open = {
-        let guard = opened.wait_while(rt, slot.lock(rt), |slot| is_waiting(slot));
+        let guard = door
+            .opened
+            .wait_while(rt, slot.lock(rt), |slot| is_waiting(slot));
         is_open(&*guard)
     };
     if open {
-        let (seat, pass) = work(rt, queue, cell, slot, opened, gate, seat, pass);
+        let (seat, pass) = work(rt, queue, cell, slot, door, gate, seat, pass);
         return Worker { seat, pass };
     }
     Worker { seat, pass }

@@ -13,6 +13,7 @@ ghost use Rattle.sessions.specs.Standing.{Stands};
 ghost use Rattle.sessions.specs.declared.record.Pending.{Pending as WaitingJob};
 
 use crate::crew::{Number, crew};
+use crate::door::Door;
 use crate::jobs::Jobs;
 use crate::opening::{ended, first};
 use crate::ready::is_open;
@@ -26,7 +27,7 @@ use index_model::DeadRows;
 use page_action::PageStore;
 use std::mem;
 use std::sync::ledger::Share;
-use std::sync::{Condvar, Mutex, Wait};
+use std::sync::{Mutex, Wait};
 use std::thread::{PromisedHandle, Scope, Threads};
 use worker_seats::{JobQueue, Parts, QueuePass, Seat, SeatCell, SeatPass, Worker, gather, open};
 use world::World;
@@ -35,20 +36,22 @@ use world::World;
 fn put<S: PageStore + Drop, T: DeadRows + Drop, J: Jobs, R: Wait>(
     rt: &R,
     slot: &Mutex<Slot<S, T, J>>,
-    opened: &Condvar,
+    door: &Door,
     value: Slot<S, T, J>,
 ) {
     *slot.lock(rt) = value;
-    opened.notify_all();
+    door.opened.notify_all();
 }
 
 // Takes what lies under the lock out of it.
 fn take_out<S: PageStore + Drop, T: DeadRows + Drop, J: Jobs, R: Wait>(
     rt: &R,
     slot: &Mutex<Slot<S, T, J>>,
-    opened: &Condvar,
+    door: &Door,
 ) -> Shared<S, T, J> {
-    let mut guard = opened.wait_while(rt, slot.lock(rt), |slot| !is_open(slot));
+    let mut guard = door
+        .opened
+        .wait_while(rt, slot.lock(rt), |slot| !is_open(slot));
     let Slot::Open(shared) = mem::replace(&mut *guard, Slot::Closed) else {
         unreachable!()
     };
@@ -71,7 +74,7 @@ fn start_all<
     queue: &'s JobQueue<JobTicket<K>>,
     cell: &'s SeatCell,
     slot: &'s Mutex<Slot<S, T, J>>,
-    opened: &'s Condvar,
+    door: &'s Door,
     gate: &'s G,
     keeper: &mut SeatPass,
     pass: &mut QueuePass<JobTicket<K>>,
@@ -123,7 +126,7 @@ fn start_all<
             requires part { (view mine).parts ≡ 1 }
             requires popped { (view mine).popped ≡ [] }
             ensures { result.seat.worker ≡ seat.worker }
-        { crew(rt, queue, cell, slot, opened, gate, seat, mine) };
+        { crew(rt, queue, cell, slot, door, gate, seat, mine) };
         match scope.spawn_with(Number(w), job) {
             Ok(handle) => handles.push_reserved(handle),
             Err(_) => return false,
@@ -155,7 +158,7 @@ fn work_out<S: PageStore, T: DeadRows + Drop, J: Jobs, K: JobList, G: Gate, R: T
     queue: &JobQueue<JobTicket<K>>,
     cell: &SeatCell,
     slot: &Mutex<Slot<S, T, J>>,
-    opened: &Condvar,
+    door: &Door,
     gate: &G,
     own: Seat<J>,
     pass: QueuePass<JobTicket<K>>,
@@ -186,10 +189,10 @@ fn work_out<S: PageStore, T: DeadRows + Drop, J: Jobs, K: JobList, G: Gate, R: T
     ensures popped { (h : ℕ → ℕ) → weigh h (view result.1).popped
         ≡ sum_over (λ s. weigh h (jobs_in (known_by s.pass).notes)) result.0.items }
 {
-    let (own, mut pass) = work(rt, queue, cell, slot, opened, gate, own, pass);
+    let (own, mut pass) = work(rt, queue, cell, slot, door, gate, own, pass);
     let staff = joined(rt, handles, staff);
     gather(queue, &mut pass, staff, &mut seats);
-    let (own, pass) = work(rt, queue, cell, slot, opened, gate, own, pass);
+    let (own, pass) = work(rt, queue, cell, slot, door, gate, own, pass);
     seats.push_reserved(own);
     (seats, pass)
 }
@@ -211,7 +214,7 @@ pub fn hire<
     queue: &'s JobQueue<JobTicket<K>>,
     cell: &'s SeatCell,
     slot: &'s Mutex<Slot<S, T, J>>,
-    opened: &'s Condvar,
+    door: &'s Door,
     gate: &'s G,
     world: World<S, T>,
     room: Room<J, K>,
@@ -249,7 +252,7 @@ pub fn hire<
         queue,
         cell,
         slot,
-        opened,
+        door,
         gate,
         &mut keeper,
         &mut pass,
@@ -259,17 +262,17 @@ pub fn hire<
         last,
     );
     if !started {
-        put(rt, slot, opened, Slot::Closed);
+        put(rt, slot, door, Slot::Closed);
         return Err(world);
     }
     let share = all.split_off(1, 0);
     let own = open(cell, &mut keeper, share, last);
     pending.push_reserved(None);
     let shared = first(world, history, pending, book, keeper);
-    put(rt, slot, opened, Slot::Open(shared));
+    put(rt, slot, door, Slot::Open(shared));
     let (seats, pass) = work_out(
-        rt, queue, cell, slot, opened, gate, own, pass, handles, staff, seats,
+        rt, queue, cell, slot, door, gate, own, pass, handles, staff, seats,
     );
-    let shared = take_out(rt, slot, opened);
+    let shared = take_out(rt, slot, door);
     Ok(ended(rt, cell, shared, seats, all, &pass))
 }

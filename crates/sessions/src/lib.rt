@@ -3,6 +3,7 @@
 
 mod begun;
 mod crew;
+mod door;
 mod hire;
 mod job;
 mod jobs;
@@ -13,6 +14,7 @@ mod ready;
 mod receipts;
 mod record;
 mod room;
+mod rounds;
 mod run;
 mod shared;
 mod slot;

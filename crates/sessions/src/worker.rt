@@ -7,6 +7,7 @@ ghost use Rattle.worker_seats.specs.Seats.{known_by};
 ghost use Rattle.sessions.specs.Jobs.{IsRoomOf};
 ghost use Rattle.sessions.specs.Turns.{SeatTold, SitsOn};
 
+use crate::door::Door;
 use crate::job::Job;
 use crate::jobs::Jobs;
 use crate::ready::is_ready;
@@ -16,13 +17,18 @@ use crate::ticket::{JobList, JobTicket};
 use index_model::{DeadRows, Entry};
 use page_action::PageStore;
 use session_calls::Answer;
-use std::sync::{Condvar, Mutex, Wait};
+use std::sync::{Mutex, Wait};
 use std::thread;
 use worker_seats::{JobQueue, Pops, QueuePass, Seat, SeatCell};
 
 /// Is told of each job that a worker takes, before it begins.
 pub trait Gate {
     fn taken(&self, worker: u32, job: u32);
+
+    /// Whether `taken` may wait for other workers. Those that are about to commit don't wait for the worker then.
+    fn may_wait(&self) -> bool {
+        true
+    }
 }
 
 /// Does nothing.
@@ -30,6 +36,10 @@ pub struct NoGate;
 
 impl Gate for NoGate {
     fn taken(&self, _worker: u32, _job: u32) {}
+
+    fn may_wait(&self) -> bool {
+        false
+    }
 }
 
 // Begins a job, in a hold of the lock.
@@ -37,7 +47,7 @@ fn begin_in<S: PageStore, T: DeadRows + Drop, J: Jobs, R: Wait>(
     rt: &R,
     cell: &SeatCell,
     slot: &Mutex<Slot<S, T, J>>,
-    opened: &Condvar,
+    door: &Door,
     seat: Seat<J>,
     job: u32,
     asked: &Job,
@@ -51,7 +61,9 @@ fn begin_in<S: PageStore, T: DeadRows + Drop, J: Jobs, R: Wait>(
     ensures worker { result.seat.worker ≡ seat.worker }
     ensures seat { SeatTold job result.place (known_by seat.pass) (known_by result.seat.pass) }
 {
-    let mut guard = opened.wait_while(rt, slot.lock(rt), |slot| !is_ready(slot));
+    let mut guard = door
+        .opened
+        .wait_while(rt, slot.lock(rt), |slot| !is_ready(slot));
     let Slot::Open(shared) = &mut *guard else {
         unreachable!()
     };
@@ -63,7 +75,7 @@ fn step_in<S: PageStore, T: DeadRows + Drop, J: Jobs, R: Wait>(
     rt: &R,
     cell: &SeatCell,
     slot: &Mutex<Slot<S, T, J>>,
-    opened: &Condvar,
+    door: &Door,
     seat: Seat<J>,
     job: u32,
 ) -> Turn<J>
@@ -72,7 +84,9 @@ fn step_in<S: PageStore, T: DeadRows + Drop, J: Jobs, R: Wait>(
     ensures worker { result.seat.worker ≡ seat.worker }
     ensures seat { SeatTold job result.place (known_by seat.pass) (known_by result.seat.pass) }
 {
-    let mut guard = opened.wait_while(rt, slot.lock(rt), |slot| !is_ready(slot));
+    let mut guard = door
+        .opened
+        .wait_while(rt, slot.lock(rt), |slot| !is_ready(slot));
     let Slot::Open(shared) = &mut *guard else {
         unreachable!()
     };
@@ -84,7 +98,7 @@ fn next_in<S: PageStore, T: DeadRows + Drop, J: Jobs, R: Wait>(
     rt: &R,
     cell: &SeatCell,
     slot: &Mutex<Slot<S, T, J>>,
-    opened: &Condvar,
+    door: &Door,
     seat: Seat<J>,
     job: u32,
 ) -> Seat<J>
@@ -93,7 +107,9 @@ fn next_in<S: PageStore, T: DeadRows + Drop, J: Jobs, R: Wait>(
     ensures worker { result.worker ≡ seat.worker }
     ensures seat { SitsOn job (known_by seat.pass) (known_by result.pass) }
 {
-    let mut guard = opened.wait_while(rt, slot.lock(rt), |slot| !is_ready(slot));
+    let mut guard = door
+        .opened
+        .wait_while(rt, slot.lock(rt), |slot| !is_ready(slot));
     let Slot::Open(shared) = &mut *guard else {
         unreachable!()
     };
@@ -106,7 +122,7 @@ fn end_in<S: PageStore, T: DeadRows + Drop, J: Jobs, R: Wait>(
     rt: &R,
     cell: &SeatCell,
     slot: &Mutex<Slot<S, T, J>>,
-    opened: &Condvar,
+    door: &Door,
     seat: Seat<J>,
     job: u32,
     asked: &Job,
@@ -117,7 +133,9 @@ fn end_in<S: PageStore, T: DeadRows + Drop, J: Jobs, R: Wait>(
     ensures worker { result.0.worker ≡ seat.worker }
     ensures seat { SeatTold job result.1 (known_by seat.pass) (known_by result.0.pass) }
 {
-    let mut guard = opened.wait_while(rt, slot.lock(rt), |slot| !is_ready(slot));
+    let mut guard = door
+        .opened
+        .wait_while(rt, slot.lock(rt), |slot| !is_ready(slot));
     let Slot::Open(shared) = &mut *guard else {
         unreachable!()
     };
@@ -129,7 +147,7 @@ fn take_ready<S: PageStore, T: DeadRows + Drop, J: Jobs, R: Wait>(
     rt: &R,
     cell: &SeatCell,
     slot: &Mutex<Slot<S, T, J>>,
-    opened: &Condvar,
+    door: &Door,
     seat: Seat<J>,
     job: u32,
     count: u32,
@@ -141,7 +159,7 @@ fn take_ready<S: PageStore, T: DeadRows + Drop, J: Jobs, R: Wait>(
 {
     let mut mine = seat;
     for _ in 0..count {
-        mine = next_in(rt, cell, slot, opened, mine, job);
+        mine = next_in(rt, cell, slot, door, mine, job);
     }
     mine
 }
@@ -152,7 +170,7 @@ fn turn<S: PageStore, T: DeadRows + Drop, J: Jobs, R: Wait>(
     rt: &R,
     cell: &SeatCell,
     slot: &Mutex<Slot<S, T, J>>,
-    opened: &Condvar,
+    door: &Door,
     seat: Seat<J>,
     job: u32,
     asked: &Job,
@@ -167,21 +185,25 @@ fn turn<S: PageStore, T: DeadRows + Drop, J: Jobs, R: Wait>(
         seat,
         answer,
         place,
-    } = step_in(rt, cell, slot, opened, seat, job);
+    } = step_in(rt, cell, slot, door, seat, job);
     if place.is_some() {
         return (seat, place);
     }
     let Answer::Ready(count) = answer else {
+        if matches!(answer, Answer::Refused(_)) {
+            // Another worker holds what it needs.
+            thread::yield_now();
+        }
         return (seat, None);
     };
     if count == 0 {
         return (seat, None);
     }
-    let (seat, place) = end_in(rt, cell, slot, opened, seat, job, asked);
+    let (seat, place) = end_in(rt, cell, slot, door, seat, job, asked);
     if place.is_some() {
         return (seat, place);
     }
-    let seat = take_ready(rt, cell, slot, opened, seat, job, count);
+    let seat = take_ready(rt, cell, slot, door, seat, job, count);
     (seat, None)
 }
 
@@ -190,7 +212,7 @@ fn one_job<S: PageStore, T: DeadRows + Drop, J: Jobs, K: JobList, R: Wait>(
     rt: &R,
     cell: &SeatCell,
     slot: &Mutex<Slot<S, T, J>>,
-    opened: &Condvar,
+    door: &Door,
     seat: Seat<J>,
     ticket: JobTicket<K>,
 ) -> Seat<J>
@@ -212,19 +234,29 @@ fn one_job<S: PageStore, T: DeadRows + Drop, J: Jobs, K: JobList, R: Wait>(
         seat,
         answer: _,
         place,
-    } = begin_in(rt, cell, slot, opened, seat, job, &asked, room);
+    } = begin_in(rt, cell, slot, door, seat, job, &asked, room);
     let mut mine = seat;
     let mut at = place;
     for _ in rt.forever() {
         if at.is_some() {
             return mine;
         }
-        thread::yield_now();
-        let (next, then) = turn(rt, cell, slot, opened, mine, job, &asked);
+        let (next, then) = turn(rt, cell, slot, door, mine, job, &asked);
         mine = next;
         at = then;
     }
     unreachable!()
+}
+
+// Tells the gate of a job. Where that may wait for others, none that is about to commit waits for this worker meanwhile.
+fn tell<G: Gate, R: Wait>(rt: &R, door: &Door, gate: &G, worker: u32, job: u32) {
+    if gate.may_wait() {
+        door.rounds.end_work(rt);
+        gate.taken(worker, job);
+        door.rounds.begin_work(rt);
+    } else {
+        gate.taken(worker, job);
+    }
 }
 
 /// Does jobs until the queue was empty.
@@ -233,7 +265,7 @@ pub fn work<S: PageStore, T: DeadRows + Drop, J: Jobs, K: JobList, G: Gate, R: W
     queue: &JobQueue<JobTicket<K>>,
     cell: &SeatCell,
     slot: &Mutex<Slot<S, T, J>>,
-    opened: &Condvar,
+    door: &Door,
     gate: &G,
     seat: Seat<J>,
     pass: QueuePass<JobTicket<K>>,
@@ -253,15 +285,22 @@ pub fn work<S: PageStore, T: DeadRows + Drop, J: Jobs, K: JobList, G: Gate, R: W
         × ((view result.1).popped ≡ (view pass).popped ++ jobs_in more) }
     ensures empty { KnowsAll (view result.1) [] }
 {
+    door.rounds.begin_work(rt);
     let mut mine = seat;
     let mut own = pass;
     for _ in rt.forever() {
         match queue.pop_as::<Pops, R>(rt, &mut own) {
             Some(ticket) => {
-                gate.taken(mine.worker, ticket.job);
-                mine = one_job(rt, cell, slot, opened, mine, ticket);
+                tell(rt, door, gate, mine.worker, ticket.job);
+                let asked = ticket.asked;
+                door.rounds.before(rt, &asked);
+                mine = one_job(rt, cell, slot, door, mine, ticket);
+                door.rounds.after(rt, &asked);
             }
-            None => return (mine, own),
+            None => {
+                door.rounds.end_work(rt);
+                return (mine, own);
+            }
         }
     }
     unreachable!()

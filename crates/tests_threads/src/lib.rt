@@ -4,6 +4,8 @@
 #[cfg(test)]
 mod blocked;
 #[cfg(test)]
+mod commits;
+#[cfg(test)]
 mod dead;
 #[cfg(test)]
 mod failed_calls;

@@ -1,0 +1,136 @@
+//! Commits of many workers, which share a force.
+
+use crate::indexes::made;
+use crate::judged::ran;
+use crate::lists::{entry, range};
+use index_model::Limits;
+use session_calls::Answer;
+use sessions::{Gate, Job, run_jobs};
+use std::alloc::{AllocError, Global};
+use std::process::Abort;
+use std::sync::Wait;
+use std::sync::atomic::{AtomicBool, Ordering};
+use std::test::{Fail, *};
+use std::thread::Threads;
+
+/// All pages of the index are in memory.
+const LIMITS: Limits = Limits {
+    items: 50,
+    pages: 64,
+    log_bytes: 1_048_576,
+    unique: false,
+};
+
+/// A scan, and four hundred inserts in no order, with a commit behind each.
+fn committed(alloc: Global) -> Result<Vec<Job>, AllocError> {
+    let mut jobs = Vec::new(alloc);
+    jobs.push(Job::Scan {
+        range: range(0, 100),
+        room: 100,
+    })?;
+    for place in 0..400_u16 {
+        jobs.push(Job::Insert(entry(place.wrapping_mul(149) % 400, 0)))?;
+        jobs.push(Job::Commit)?;
+    }
+    Ok(jobs)
+}
+
+/// How many calls of the device so many workers make for these jobs.
+fn calls_of(
+    rt: &(impl Abort + AllocGlobal + Print + Eprint + Threads + Wait + Sync),
+    jobs: &[Job],
+    workers: u32,
+) -> Result<u64, Fail> {
+    let fresh = made(rt.alloc(), &LIMITS, workers)?
+        .into_store()
+        .into_device()
+        .calls();
+    let world = made(rt.alloc(), &LIMITS, workers)?;
+    let (done, _) = ran(rt, world, jobs, workers, LIMITS.pages, false)?;
+    let calls = done.world.into_store().into_device().calls();
+    Ok(calls.saturating_sub(fresh))
+}
+
+/// Eight workers force the log less than half as often as one does.
+#[test]
+fn eight_workers_share_forces(rt: HostRuntime) -> Result<(), Fail> {
+    let jobs = committed(rt.alloc())?;
+    let alone = calls_of(&rt, jobs.as_slice(), 1)?;
+    let shared = calls_of(&rt, jobs.as_slice(), 8)?;
+    assert!(rt; shared.saturating_mul(2) < alone, "{shared} {alone}");
+    Ok(())
+}
+
+/// More workers than jobs, commits behind nothing, and commits beside a scan, a bulk delete, a cleanup and a checkpoint.
+#[test]
+fn no_commit_is_left_waiting(rt: HostRuntime) -> Result<(), Fail> {
+    let lone = [Job::Insert(entry(1, 0)), Job::Commit];
+    let idle = [Job::Commit; 9];
+    let mixed = [
+        Job::Insert(entry(1, 1)),
+        Job::Commit,
+        Job::Bulk(0),
+        Job::Commit,
+        Job::Cleanup,
+        Job::Insert(entry(2, 0)),
+        Job::Commit,
+        Job::Checkpoint,
+        Job::Commit,
+        Job::Insert(entry(2, 0)),
+        Job::Commit,
+    ];
+    for workers in [1, 2, 3, 8] {
+        for jobs in [&lone[..], &idle[..], &mixed[..]] {
+            let world = made(rt.alloc(), &LIMITS, workers)?;
+            let (done, _) = ran(&rt, world, jobs, workers, LIMITS.pages, false)?;
+            assert_eq!(rt; done.history.len(), jobs.len());
+        }
+    }
+    Ok(())
+}
+
+// The second job's worker waits until the third job is taken.
+#[derive(Drop)]
+struct Waiting {
+    third: AtomicBool,
+    was_seen: AtomicBool,
+}
+
+impl Gate for Waiting {
+    fn taken(&self, _worker: u32, job: u32) {
+        if job == 2 {
+            self.third.store(true, Ordering::SeqCst);
+        }
+        if job != 1 {
+            return;
+        }
+        for _ in 0..100_000_000 {
+            if self.third.load(Ordering::SeqCst) {
+                self.was_seen.store(true, Ordering::SeqCst);
+                return;
+            }
+        }
+    }
+}
+
+/// Of two workers the one that commits doesn't wait for the other, whose gate waits until the first one takes its next job.
+#[test]
+fn commit_waits_for_no_gate(rt: HostRuntime) -> Result<(), Fail> {
+    let jobs = [Job::Commit, Job::Insert(entry(1, 0)), Job::Commit];
+    let gate = Waiting {
+        third: AtomicBool::new(false),
+        was_seen: AtomicBool::new(false),
+    };
+    let world = made(rt.alloc(), &LIMITS, 2)?;
+    let done = match run_jobs(&rt, rt.alloc(), world, &jobs, 2, &gate) {
+        Ok(done) => done,
+        Err(not_run) => return Err(Fail::from(not_run.fault)),
+    };
+    assert!(rt; gate.was_seen.load(Ordering::SeqCst));
+    assert!(rt;
+        done.history
+            .iter()
+            .any(|record| matches!(&record.answer, Answer::Added { .. }))
+    );
+    Ok(())
+}
