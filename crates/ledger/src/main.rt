@@ -1,19 +1,9 @@
-//! A ledger: entries in a file, kept by lines of standard input. It is the example of a program that holds an index.
+//! The program of the ledger, over the real streams.
 #![tactic(auto)]
 
-mod calls;
-mod dead;
-mod held;
-mod line;
-mod program;
-mod reply;
-mod session;
-#[cfg(test)]
-mod tests;
-
-use crate::program::{ledger, refuse};
 use device::Unknown;
 use index_model::Fault;
+use ledger_lines::{ledger, refuse};
 use std::io::{BufReader, BufWriter};
 use std::process::ExitCode;
 use std::{env, io};

@@ -1,6 +1,6 @@
 //! Files that are cut, removed, linked, or aren't to be written. Each test has a file of its own.
 
-use crate::plain::{create, four_at, held, len, made, open, put_at, sync};
+use crate::file_calls::{create, four_at, held, len, made, open, put_at, sync};
 use index_model::Fault;
 use std::fs::{self, File, OpenFile, OpenOptions};
 use std::rt::Files;

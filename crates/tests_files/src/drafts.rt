@@ -1,10 +1,11 @@
 //! Indexes that are made, and the drafts that they are made under. Each test has a path of its own.
 
-use crate::plain::{
-    close, commit, count, create_index, entry, four_at, insert, open, open_index, verify,
-};
+use crate::file_calls::{close, count, create_index, entry, four_at, open, open_index, verify};
+use crate::plain::{commit, insert};
+use access_method::Index;
 use amcheck::Report;
 use index_model::{Fault, Limits};
+use page_action::PageStore;
 use std::alloc::Global;
 use std::fs::{self, File};
 use std::os::unix::fs::symlink;
@@ -27,14 +28,19 @@ fn clear(rt: &impl Files<File = File>, path: &str, draft: &str) {
     let _ = fs::remove_file(rt, draft);
 }
 
+/// Inserts ten entries, with a commit behind them. Answers the number of actions.
+fn fill<S: PageStore>(index: &mut Index<S>) -> Result<u64, Fault> {
+    for number in 0..10 {
+        insert(index, entry(number))?;
+    }
+    commit(index)
+}
+
 /// An index with ten entries at the path, closed.
 fn ten(rt: &impl Files<File = File>, alloc: Global, path: &str) -> Result<(), Fault> {
     create_index(rt, path, &LIMITS)?;
     let mut index = open_index(rt, alloc, path)?;
-    for number in 0..10 {
-        insert(&mut index, entry(number))?;
-    }
-    commit(&mut index)?;
+    fill(&mut index)?;
     close(index)?;
     Ok(())
 }
@@ -58,10 +64,7 @@ fn made(rt: HostRuntime) -> Result<(), Fail> {
     assert!(rt; !fs::exists(&rt, draft)?);
     let mut index = open_index(&rt, rt.alloc(), path)?;
     assert!(rt; count(&mut index) == Ok(0));
-    for number in 0..10 {
-        insert(&mut index, entry(number))?;
-    }
-    let actions = commit(&mut index)?;
+    let actions = fill(&mut index)?;
     assert!(rt; actions >= 10 && close(index) == Ok(actions));
     let mut index = open_index(&rt, rt.alloc(), path)?;
     assert!(rt; count(&mut index) == Ok(10));

@@ -1,10 +1,11 @@
 //! Indexes whose file is too short, too long, cut or removed. Each test has a file of its own.
 
-use crate::plain::{
-    InFile, checkpoint, commit, count, create, entry, insert, make, open_index, verify,
-};
+use crate::file_calls::{InFile, count, create, entry, make, open_index, verify};
+use crate::plain::{checkpoint, commit, insert};
+use access_method::Index;
 use amcheck::{CheckFault, Report};
 use index_model::{Fault, Limits};
+use page_action::PageStore;
 use std::alloc::Global;
 use std::fs::{self, File, OpenFile, OpenOptions};
 use std::rt::Files;
@@ -30,7 +31,7 @@ fn made(rt: &impl Files<File = File>, alloc: Global, path: &str) -> Result<InFil
 }
 
 /// Inserts the entries from there to there.
-fn fill(index: &mut InFile, from: u16, to: u16) -> Result<(), Fault> {
+fn fill<S: PageStore>(index: &mut Index<S>, from: u16, to: u16) -> Result<(), Fault> {
     for number in from..to {
         insert(index, entry(number))?;
     }

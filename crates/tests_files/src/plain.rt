@@ -1,147 +1,120 @@
 //! Calls without their contracts. A test looks at the answers alone, and what a call promises would be carried, call by call, to
 //! the end of the test that makes it.
 
-use access_method::{Index, Inserted, in_file};
-use amcheck::{CheckFault, Report, check_parents_one};
-use device::{Device, FileDevice, Unknown};
-use index_model::{Entry, Fault, Key, Limits, Range, RowAddr};
+use access_method::{Index, Inserted, ScanToken};
+use amcheck::{CheckFault, Report, check_one, check_parents_one};
+use device::{CrashImage, Device, FileDevice, MemDevice, Unknown};
+use index_model::{DeadRows, Entry, Fault, Limits, Range, VacuumStats};
+use page_action::PageStore;
+use page_codec::Page;
 use page_store::Store;
+use recovery::Refused;
 use std::alloc::Global;
 use std::fs::File;
 use std::rt::Files;
 
-/// An index in a file.
-pub type InFile = Index<Store<FileDevice<Unknown>>>;
-
-/// A new file of so many bytes.
-pub fn create(
-    rt: &impl Files<File = File>,
-    path: &str,
-    len: u64,
-) -> Result<FileDevice<Unknown>, Fault> {
-    FileDevice::create(rt, path, len)
+/// A device of so many zeros.
+pub fn device(alloc: Global, len: u64) -> Result<MemDevice, Fault> {
+    MemDevice::new(alloc, len)
 }
 
-/// A file that is there.
-pub fn open(rt: &impl Files<File = File>, path: &str) -> Result<FileDevice<Unknown>, Fault> {
+/// The file that is there.
+pub fn file(rt: &impl Files<File = File>, path: &str) -> Result<FileDevice<Unknown>, Fault> {
     FileDevice::open(rt, path)
 }
 
-/// A device over a file that is open.
-pub fn held(file: File) -> Result<FileDevice<Unknown>, Fault> {
-    FileDevice::held(file)
-}
-
-/// A device over a file that is open, made anew.
-pub fn made(file: File, len: u64, filled: u64) -> Result<FileDevice<Unknown>, Fault> {
-    FileDevice::made(file, len, filled)
-}
-
-/// Makes an empty index in a new file, and closes that.
-pub fn create_index(
-    rt: &impl Files<File = File>,
-    path: &str,
-    limits: &Limits,
-) -> Result<(), Fault> {
-    let _device: FileDevice<Unknown> = in_file::create(rt, path, limits)?;
-    Ok(())
-}
-
-/// Closes an index, and answers how many actions there were.
-pub fn close(index: InFile) -> Result<u64, Fault> {
-    in_file::close(index).written
-}
-
-/// The four bytes from there on. Refused with `DeviceTooSmall` where they lie behind the length that the file had.
-pub fn four_at(device: &mut FileDevice<Unknown>, at: u64) -> Result<[u8; 4], Fault> {
-    let mut bytes = [9; 4];
-    if device.len() < 4 || at > device.len() - 4 {
-        return Err(Fault::DeviceTooSmall);
-    }
-    device.read_at(at, &mut bytes)?;
-    Ok(bytes)
-}
-
-/// Writes four bytes there. Refused as [`four_at`].
-pub fn put_at(device: &mut FileDevice<Unknown>, at: u64, bytes: [u8; 4]) -> Result<(), Fault> {
-    if device.len() < 4 || at > device.len() - 4 {
-        return Err(Fault::DeviceTooSmall);
-    }
-    device.write_at(at, &bytes)
-}
-
-pub fn sync(device: &mut FileDevice<Unknown>) -> Result<(), Fault> {
-    device.sync()
-}
-
-pub fn len(device: &FileDevice<Unknown>) -> u64 {
+pub fn len(device: &MemDevice) -> u64 {
     device.len()
 }
 
-/// Makes an empty index on a file.
-pub fn make(device: &mut FileDevice<Unknown>, limits: &Limits) -> Result<(), Fault> {
+/// A copy of a device.
+pub fn copy(alloc: Global, device: &MemDevice) -> Result<MemDevice, Fault> {
+    device.crash(alloc, CrashImage::Keep)
+}
+
+/// Reads from there on; nothing where that is behind the end.
+pub fn read(device: &mut MemDevice, at: u64, bytes: &mut [u8]) -> Result<(), Fault> {
+    let len = bytes.len() as u64;
+    if device.len() < len || at > device.len() - len {
+        return Err(Fault::DeviceTooSmall);
+    }
+    device.read_at(at, bytes)
+}
+
+/// Writes there; nothing where that is behind the end.
+pub fn write(device: &mut MemDevice, at: u64, bytes: &[u8]) -> Result<(), Fault> {
+    let len = bytes.len() as u64;
+    if device.len() < len || at > device.len() - len {
+        return Err(Fault::DeviceTooSmall);
+    }
+    device.write_at(at, bytes)
+}
+
+pub fn create(device: &mut MemDevice, limits: &Limits) -> Result<(), Fault> {
     recovery::create(device, limits)
 }
 
-/// Opens the index in a file, with 16 frames.
-pub fn open_index(
-    rt: &impl Files<File = File>,
-    alloc: Global,
-    path: &str,
-) -> Result<InFile, Fault> {
-    in_file::open(rt, alloc, path, 16)
+pub fn open<D: Device>(alloc: Global, device: D, frames: u32) -> Result<Store<D>, Refused<D>> {
+    recovery::open(alloc, device, frames)
 }
 
-/// The entry of this number: a key of two bytes, and a row.
-pub fn entry(number: u16) -> Entry {
-    Entry {
-        key: Key::new(&number.to_be_bytes()).unwrap_or(Key::EMPTY),
-        row: RowAddr::new(u32::from(number), 1).unwrap_or_default(),
+pub fn page<S: PageStore>(store: &mut S, block: u32) -> Result<Page, Fault> {
+    store.page(block)
+}
+
+/// What the check of the levels answers.
+pub fn levels<S: PageStore>(alloc: Global, store: &mut S) -> Result<Report, CheckFault> {
+    check_one(alloc, store)
+}
+
+/// What the check of parents answers.
+pub fn parents<S: PageStore>(alloc: Global, store: &mut S) -> Result<Report, CheckFault> {
+    check_parents_one(alloc, store)
+}
+
+/// An index over a store.
+pub fn index_over<S: PageStore + Drop>(alloc: Global, store: S) -> Result<Index<S>, Fault> {
+    match Index::new(alloc, store) {
+        Ok(index) => Ok(index),
+        Err(not_made) => Err(not_made.fault),
     }
 }
 
-pub fn insert(index: &mut InFile, entry: Entry) -> Result<Inserted, Fault> {
+pub fn into_device<D: Device>(index: Index<Store<D>>) -> D {
+    index.into_device()
+}
+
+pub fn insert<S: PageStore>(index: &mut Index<S>, entry: Entry) -> Result<Inserted, Fault> {
     index.aminsert(entry)
 }
 
-pub fn commit(index: &mut InFile) -> Result<u64, Fault> {
+pub fn commit<S: PageStore>(index: &mut Index<S>) -> Result<u64, Fault> {
     index.commit()
 }
 
-pub fn checkpoint(index: &mut InFile) -> Result<u64, Fault> {
+pub fn checkpoint<S: PageStore>(index: &mut Index<S>) -> Result<u64, Fault> {
     index.checkpoint()
 }
 
-/// How many entries a scan of all gives, 1,000 at most.
-pub fn count(index: &mut InFile) -> Result<u32, Fault> {
-    let all = Range {
-        from: None,
-        below: None,
-    };
-    let token = index.ambeginscan(all)?;
-    let mut given = 0u32;
-    for _ in 0..1_000 {
-        if index.amgettuple(token)?.is_none() {
-            break;
-        }
-        given = given.saturating_add(1);
-    }
-    index.amendscan(token)?;
-    Ok(given)
+pub fn begin_scan<S: PageStore>(index: &mut Index<S>, range: Range) -> Result<ScanToken, Fault> {
+    index.ambeginscan(range)
 }
 
-/// What the verifier answers of the index in a file.
-pub fn verify(
-    rt: &impl Files<File = File>,
-    alloc: Global,
-    path: &str,
-) -> Result<Report, CheckFault> {
-    let device = match open(rt, path) {
-        Ok(device) => device,
-        Err(fault) => return Err(CheckFault::Refused(fault)),
-    };
-    match recovery::open(alloc, device, 16) {
-        Ok(mut store) => check_parents_one(alloc, &mut store),
-        Err(refused) => Err(CheckFault::Refused(refused.fault)),
-    }
+pub fn next<S: PageStore>(index: &mut Index<S>, token: ScanToken) -> Result<Option<Entry>, Fault> {
+    index.amgettuple(token)
+}
+
+pub fn end_scan<S: PageStore>(index: &mut Index<S>, token: ScanToken) -> Result<(), Fault> {
+    index.amendscan(token)
+}
+
+pub fn bulk_delete<S: PageStore, T: DeadRows>(
+    index: &mut Index<S>,
+    dead: &T,
+) -> Result<VacuumStats, Fault> {
+    index.ambulkdelete(dead)
+}
+
+pub fn clean_up<S: PageStore>(index: &mut Index<S>) -> Result<VacuumStats, Fault> {
+    index.amvacuumcleanup()
 }

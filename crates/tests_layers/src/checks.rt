@@ -40,21 +40,6 @@ fn deleted(block: u32, right: u32) -> Page {
     page
 }
 
-// An internal page with neighbours, up to this key.
-fn parent_between(
-    block: u32,
-    left: Option<u32>,
-    right: Option<u32>,
-    children: &[(Option<u8>, u32)],
-    high: Option<u8>,
-) -> Page {
-    let mut page = parent(block, children);
-    page.left = left;
-    page.right = right;
-    page.high = high.map(bound);
-    page
-}
-
 // The root over three leaves.
 fn root() -> Page {
     parent(3, &[(None, 1), (Some(0x63), 2), (Some(0x66), 4)])
@@ -72,11 +57,6 @@ fn last_leaf() -> Page {
     leaf_of(4, Some(2), None, &[0x67, 0x68], None)
 }
 
-// A fifth leaf, on no chain.
-fn fifth_leaf() -> Page {
-    leaf_of(5, Some(4), None, &[0x69], None)
-}
-
 // The pages from block 1 on, behind a metapage that names block 3.
 fn store(alloc: Global, pages: &[Page]) -> Result<MapStore, Fault> {
     let mut store = stored(alloc, 8, &[meta(3, 1)])?;
@@ -88,34 +68,6 @@ fn store(alloc: Global, pages: &[Page]) -> Result<MapStore, Fault> {
 
 fn damage(number: u8, block: u32) -> Option<Answer> {
     Some(Err(CheckFault::Damage { number, block }))
-}
-
-// Both checks of these pages find this damage.
-fn is_found<R: Abort + Threads + Sync>(
-    rt: &R,
-    alloc: Global,
-    pages: &[Page],
-    number: u8,
-    block: u32,
-) -> Result<(), Fault> {
-    let mut store = store(alloc, pages)?;
-    assert!(rt; levels(rt, alloc, &mut store) == damage(number, block));
-    assert!(rt; parents(rt, alloc, &mut store) == damage(number, block));
-    Ok(())
-}
-
-// The check of parents finds this damage of these pages, the other none.
-fn is_found_of_parents<R: Abort + Threads + Sync>(
-    rt: &R,
-    alloc: Global,
-    pages: &[Page],
-    number: u8,
-    block: u32,
-) -> Result<(), Fault> {
-    let mut store = store(alloc, pages)?;
-    assert!(rt; matches!(levels(rt, alloc, &mut store), Some(Ok(_))));
-    assert!(rt; parents(rt, alloc, &mut store) == damage(number, block));
-    Ok(())
 }
 
 // Both checks of these pages answer this report.
@@ -161,138 +113,6 @@ fn sound_indexes(rt: HostRuntime) -> Result<(), Fail> {
     let two = parent(3, &[(None, 1), (Some(0x63), 4)]);
     let pages = [first_leaf(), half_dead(), two, last_leaf(), deleted(5, 4)];
     is_sound(&rt, alloc, &pages, report)?;
-    Ok(())
-}
-
-#[test]
-fn page_of_another_block_or_level(rt: HostRuntime) -> Result<(), Fail> {
-    let alloc = rt.alloc();
-    // No page, no metapage.
-    let mut none = stored(alloc, 8, &[])?;
-    assert!(rt; levels(&rt, alloc, &mut none) == damage(1, 0));
-    assert!(rt; parents(&rt, alloc, &mut none) == damage(1, 0));
-    // A right link to a block that is not in use, and one to a page of another level.
-    for right in [7, 3] {
-        let second = leaf_of(2, Some(1), Some(right), &[0x64], Some(0x66));
-        let pages = [first_leaf(), second, root(), last_leaf()];
-        is_found(&rt, alloc, &pages, 1, right)?;
-    }
-    // A downlink to a page of another level.
-    let wrong = parent(3, &[(None, 1), (Some(0x63), 2), (Some(0x66), 3)]);
-    let pages = [first_leaf(), second_leaf(), wrong, last_leaf()];
-    is_found_of_parents(&rt, alloc, &pages, 1, 3)?;
-    Ok(())
-}
-
-#[test]
-fn wrong_links_to_the_left(rt: HostRuntime) -> Result<(), Fail> {
-    let alloc = rt.alloc();
-    let second = leaf_of(2, Some(3), Some(4), &[0x64], Some(0x66));
-    let pages = [first_leaf(), second, root(), last_leaf()];
-    is_found(&rt, alloc, &pages, 2, 2)?;
-    // A chain that comes back: the left link is found first.
-    let last = leaf_of(4, Some(2), Some(2), &[0x67], Some(0x68));
-    let pages = [first_leaf(), second_leaf(), root(), last];
-    is_found(&rt, alloc, &pages, 2, 2)?;
-    Ok(())
-}
-
-#[test]
-fn wrong_first_pages(rt: HostRuntime) -> Result<(), Fail> {
-    let alloc = rt.alloc();
-    let first = leaf_of(1, Some(2), Some(2), &[0x61], Some(0x63));
-    let pages = [first, second_leaf(), root(), last_leaf()];
-    is_found(&rt, alloc, &pages, 3, 1)?;
-    // Left links lead into a round, from leaf 1 to 4 and 2, which is behind 4.
-    let first = leaf_of(1, Some(4), Some(2), &[0x61], Some(0x63));
-    let second = leaf_of(2, Some(4), Some(4), &[0x64], Some(0x66));
-    let pages = [first, second, root(), last_leaf()];
-    is_found(&rt, alloc, &pages, 3, 4)?;
-    // A deleted page to the left.
-    let first = leaf_of(1, Some(5), Some(2), &[0x61], Some(0x63));
-    let pages = [first, second_leaf(), root(), last_leaf(), deleted(5, 1)];
-    is_found(&rt, alloc, &pages, 4, 5)?;
-    Ok(())
-}
-
-#[test]
-fn wrong_bounds(rt: HostRuntime) -> Result<(), Fail> {
-    let alloc = rt.alloc();
-    // A high key that is the page's low.
-    let second = leaf_of(2, Some(1), Some(4), &[], Some(0x63));
-    let pages = [first_leaf(), second, root(), last_leaf()];
-    is_found(&rt, alloc, &pages, 5, 2)?;
-    // An entry that isn't above it.
-    let second = leaf_of(2, Some(1), Some(4), &[0x63, 0x64], Some(0x66));
-    let pages = [first_leaf(), second, root(), last_leaf()];
-    is_found(&rt, alloc, &pages, 6, 2)?;
-    // The second bound of a page right behind the flagged root.
-    let left = flagged(parent_between(3, None, Some(5), &[(None, 1)], Some(0x63)));
-    let right = parent_between(5, Some(3), None, &[(None, 2), (Some(0x63), 4)], None);
-    let pages = [first_leaf(), second_leaf(), left, last_leaf(), right];
-    is_found(&rt, alloc, &pages, 6, 5)?;
-    Ok(())
-}
-
-#[test]
-fn wrong_parents(rt: HostRuntime) -> Result<(), Fail> {
-    let alloc = rt.alloc();
-    // A bound that isn't the child's low, and a child that is missing.
-    let wrong = parent(3, &[(None, 1), (Some(0x62), 2), (Some(0x66), 4)]);
-    let pages = [first_leaf(), second_leaf(), wrong, last_leaf()];
-    is_found_of_parents(&rt, alloc, &pages, 7, 3)?;
-    let wrong = parent(3, &[(None, 1), (Some(0x63), 2)]);
-    let pages = [first_leaf(), second_leaf(), wrong, last_leaf()];
-    is_found_of_parents(&rt, alloc, &pages, 8, 4)?;
-    Ok(())
-}
-
-#[test]
-fn children_that_may_have_no_downlink(rt: HostRuntime) -> Result<(), Fail> {
-    let alloc = rt.alloc();
-    // A half-dead page.
-    let wrong = parent(3, &[(None, 1), (Some(0x63), 2)]);
-    let pages = [first_leaf(), half_dead(), wrong, last_leaf()];
-    is_found_of_parents(&rt, alloc, &pages, 9, 3)?;
-    // ... one right behind a flagged page.
-    let pages = [flagged(first_leaf()), second_leaf(), root(), last_leaf()];
-    is_found_of_parents(&rt, alloc, &pages, 9, 3)?;
-    // ... one on no chain.
-    let wrong = parent(
-        3,
-        &[(None, 1), (Some(0x63), 2), (Some(0x66), 4), (Some(0x68), 5)],
-    );
-    let pages = [
-        first_leaf(),
-        second_leaf(),
-        wrong,
-        last_leaf(),
-        fifth_leaf(),
-    ];
-    is_found_of_parents(&rt, alloc, &pages, 9, 3)?;
-    Ok(())
-}
-
-#[test]
-fn wrong_roots_and_strays(rt: HostRuntime) -> Result<(), Fail> {
-    let alloc = rt.alloc();
-    // Two pages on the root's level, no split between them.
-    let left = parent_between(3, None, Some(5), &[(None, 1)], Some(0x63));
-    let right = parent_between(5, Some(3), None, &[(None, 2), (Some(0x66), 4)], None);
-    let pages = [first_leaf(), second_leaf(), left, last_leaf(), right];
-    is_found(&rt, alloc, &pages, 10, 5)?;
-    // A page on no chain.
-    let pages = [
-        first_leaf(),
-        second_leaf(),
-        root(),
-        last_leaf(),
-        fifth_leaf(),
-    ];
-    is_found_of_parents(&rt, alloc, &pages, 11, 5)?;
-    // A half-dead page right behind a flagged one.
-    let pages = [flagged(first_leaf()), half_dead(), root(), last_leaf()];
-    is_found(&rt, alloc, &pages, 12, 2)?;
     Ok(())
 }
 

@@ -1,9 +1,8 @@
-//! Devices in memory, and over a file.
+//! Devices in memory.
 
-use device::{CrashImage, Device, FileDevice, MemDevice, Unknown};
+use device::{CrashImage, Device, MemDevice};
 use index_model::Fault;
 use std::alloc::Global;
-use std::fs;
 use std::test::{Fail, *};
 
 fn fresh(alloc: Global) -> Result<MemDevice, Fault> {
@@ -96,45 +95,4 @@ fn from_a_call_on_none_runs(rt: HostRuntime) -> Result<(), Fail> {
         assert!(rt; bytes_of(&mut device) == want);
     }
     Ok(())
-}
-
-// The bytes from there on; none where they are behind the end, or can't be read.
-fn four_at(device: &mut FileDevice<Unknown>, at: u64) -> Option<[u8; 4]> {
-    let mut bytes = [9; 4];
-    if device.len() != 8_192 || at > 8_188 {
-        return None;
-    }
-    device.read_at(at, &mut bytes).ok()?;
-    Some(bytes)
-}
-
-// Whether five bytes are written there and synced.
-fn is_kept(device: &mut FileDevice<Unknown>, at: u64, bytes: &[u8; 5]) -> bool {
-    device.len() == 8_192
-        && at <= 8_187
-        && device.write_at(at, bytes).is_ok()
-        && device.sync().is_ok()
-}
-
-#[test]
-fn files(rt: HostRuntime) {
-    let path = "file_device.bin";
-    let _ = fs::remove_file(&rt, path);
-    assert!(rt; FileDevice::<Unknown>::open(&rt, path).is_err());
-    let Ok(mut device) = FileDevice::<Unknown>::create(&rt, path, 8_192) else {
-        assert!(rt; false);
-        return;
-    };
-    assert!(rt; FileDevice::<Unknown>::create(&rt, path, 8_192).is_err());
-    assert!(rt; four_at(&mut device, 8_188) == Some([0; 4]));
-    assert!(rt; is_kept(&mut device, 8_187, &[1, 2, 3, 4, 5]));
-    // Its lock is held as long as the device stands.
-    assert!(rt; FileDevice::<Unknown>::open(&rt, path).is_err());
-    drop(device);
-    let Ok(mut again) = FileDevice::<Unknown>::open(&rt, path) else {
-        assert!(rt; false);
-        return;
-    };
-    assert!(rt; four_at(&mut again, 8_188) == Some([2, 3, 4, 5]));
-    let _ = fs::remove_file(&rt, path);
 }

@@ -33,15 +33,11 @@ mod layouts;
 #[cfg(test)]
 mod logs;
 #[cfg(test)]
-mod long_chains;
-#[cfg(test)]
 mod plain;
 #[cfg(test)]
 mod plain_damages;
 #[cfg(test)]
 mod pools;
-#[cfg(test)]
-mod references;
 #[cfg(test)]
 mod scans;
 #[cfg(test)]

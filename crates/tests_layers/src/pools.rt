@@ -170,20 +170,6 @@ fn frames_are_chosen(rt: HostRuntime) -> Result<(), Fail> {
     Ok(())
 }
 
-// The hand goes on: with three clean pages, one after the other is taken.
-#[test]
-fn hand_goes_round(rt: HostRuntime) -> Result<(), Fail> {
-    let mut pool = pool(rt.alloc(), 3)?;
-    for block in 1..4 {
-        assert!(rt; bring(&mut pool, &[], block));
-    }
-    assert!(rt; choose(&mut pool, &[]) == Choice::Free(0));
-    assert!(rt; choose(&mut pool, &[]) == Choice::Free(1));
-    assert!(rt; choose(&mut pool, &[]) == Choice::Free(2));
-    assert!(rt; choose(&mut pool, &[]) == Choice::Free(0));
-    Ok(())
-}
-
 // What was looked at since the hand passed it keeps its frame, as long as another can be taken: the hand passes it, and takes it the
 // next time. Where all were looked at, the first from the hand on is taken.
 #[test]

@@ -2,7 +2,6 @@
 
 mod both_forms;
 mod caller;
-mod checks;
 mod commands;
 mod crashes;
 mod damaged;

@@ -5,6 +5,8 @@
 #[cfg(test)]
 mod dead;
 #[cfg(test)]
+mod ledger_sessions;
+#[cfg(test)]
 mod logged_stores;
 #[cfg(test)]
 mod many_sessions;

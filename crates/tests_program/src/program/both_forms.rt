@@ -1,11 +1,12 @@
 //! Files of which a check says the same in many threads and in one: those that are refused, and one whose index has a split half
 //! done.
 
-use super::checks::left_split;
-use super::files::{checks, create, patch};
-use super::{plain, runs};
+use super::files::{checks, create, is_refused};
+use super::plain;
 use device::{CrashImage, Device, MemDevice};
-use index_model::Fault;
+use index_model::{Entry, Fault, Key, RowAddr};
+use schedule::Event;
+use std::alloc::Global;
 use std::fs::{self, File, OpenFile, OpenOptions};
 use std::os::unix::fs::FileExt;
 use std::process::Abort;
@@ -13,41 +14,6 @@ use std::rt::Files;
 use std::sync::Wait;
 use std::test::*;
 use std::thread::Threads;
-
-/// A check of the file is refused, and prints this, with parents and children and without, in many threads and in one.
-fn is_refused(
-    rt: &(impl Abort + AllocGlobal + Print + Eprint + Files<File = File> + Threads + Wait + Sync),
-    path: &str,
-    said: &str,
-) -> Result<(), Fail> {
-    let words = ["btidx", "check", path, "--parents"];
-    runs(rt, &words[..3], "", "", said, 2)?;
-    runs(rt, words.as_slice(), "", "", said, 2)?;
-    let words = ["btidx", "check", path, "--one-thread", "--parents"];
-    runs(rt, &words[..4], "", "", said, 2)?;
-    runs(rt, words.as_slice(), "", "", said, 2)
-}
-
-/// A fresh file with some bytes altered.
-#[test]
-fn altered_are_refused(rt: HostRuntime) -> Result<(), Fail> {
-    let path = "btidx_both_altered.idx";
-    let altered: [(u64, &[u8], &str); 6] = [
-        (8, &[3, 0, 0, 0], "btidx: refused 15 BadVersion\n"),
-        (28, &[1], "btidx: refused 14 BadSuper\n"),
-        (12, &[51], "btidx: refused 18 BadLimits\n"),
-        (4_096, &[1, 0, 0, 0, 0], "btidx: refused 16 LogDamaged\n"),
-        (4_096, &[1, 16, 0, 0, 0], "btidx: refused 16 LogDamaged\n"),
-        (69_632, &[0; 4_096], "btidx: refused 17 PageDamaged 0\n"),
-    ];
-    for (at, bytes, said) in altered {
-        create(&rt, path)?;
-        patch(&rt, path, at, bytes)?;
-        is_refused(&rt, path, said)?;
-    }
-    fs::remove_file(&rt, path)?;
-    Ok(())
-}
 
 /// Files that are too short, and one that isn't there.
 #[test]
@@ -63,6 +29,32 @@ fn short_are_refused(rt: HostRuntime) -> Result<(), Fail> {
     }
     fs::remove_file(&rt, path)?;
     is_refused(&rt, path, "btidx: refused 2 Io\n")
+}
+
+fn entry(key: u8) -> Entry {
+    Entry {
+        key: Key::new(&[key]).unwrap_or(Key::EMPTY),
+        row: RowAddr::new(0, u16::from(key % 16)).unwrap_or_default(),
+    }
+}
+
+/// The root is split, and its call given up before a new root is made.
+fn left_split(alloc: Global) -> Result<plain::Memory, Fault> {
+    let mut world = plain::in_memory(alloc, plain::made(alloc)?)?;
+    for key in [0x61, 0x62, 0x63, 0x64] {
+        plain::put(&mut world, entry(key))?;
+    }
+    for event in [
+        Event::Insert(1, entry(0x65)),
+        Event::Step(1),
+        Event::Step(1),
+        Event::Step(1),
+        Event::End(1),
+        Event::Force,
+    ] {
+        plain::one(&mut world, event)?;
+    }
+    Ok(world)
 }
 
 /// Reads a page's length of bytes. Refused with `DeviceTooSmall` where they lie behind the end.

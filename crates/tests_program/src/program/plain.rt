@@ -79,10 +79,6 @@ pub fn crash(world: &Memory, alloc: Global, image: CrashImage) -> Result<MemDevi
     world.crash(alloc, image)
 }
 
-pub fn into_device(world: Memory) -> MemDevice {
-    world.into_device()
-}
-
 pub fn check(
     alloc: Global,
     store: &mut Store<MemDevice>,

@@ -1,0 +1,29 @@
+use Rattle.std.proofs.Common.{◌≡◌, ℕ, ◌+◌, List, [], ◌∷◌, ◌++◌, length, ap, subst, arith, vec_len, Option, IfSome}
+use Rattle.std.specs.Prelude.{◌≢◌}
+use Rattle.std.specs.Io.BufRead.{take_through}
+use Rattle.page_store.specs.contracts.store.StorePageStore.TheImpl as store
+use Rattle.text_forms.specs.Spelling.{lines_of}
+use Rattle.ledger_lines.specs.contracts.dead.DeadDeadRows.TheImpl as dead
+use Rattle.ledger_lines.proofs.Answered.{answered_more}
+use Rattle.ledger_lines.proofs.session.answer_lines.Goals as goal
+
+-- what was read into an empty line
+read_alone : (left : Option (List ℕ)) (cleared line : List ℕ) → cleared ≡ [] → IfSome left (λ bytes. line ≡ cleared ++ take_through 10 bytes) → IfSome left (λ bytes. line ≡ take_through 10 bytes)
+read_alone left cleared line is h = subst (λ (before : List ℕ). IfSome left (λ bytes. line ≡ before ++ take_through 10 bytes)) is h
+
+pub loop-preserved : goal.loop-preserved
+loop-preserved g c =
+    let line = c.read_until.new.buf.items in
+    let text = c.first_line.result.0.now in
+    let rest = c.first_line.result.1.now in
+    let left = g.R.Read.remaining c.loop.input in
+    let grown : vec_len c.read_until.new.buf ≡ vec_len c.clear.new.self + c.in_ok-read_until.field-0 = c.in_ok-read_until.ensures.ok in
+    let some : line ≢ [] = λ none. omega (arith, grown, c.clear.ensures.len, c.if-branch-eq0.false, c.read_until.new.buf.ok.0, ap length none) in
+    let parts : line ≢ [] → lines_of line ≡ text ∷ lines_of rest =
+    subst (λ (t : List ℕ). t ≢ [] → lines_of t ≡ text ∷ lines_of rest) c.as_slice.ensures.value c.first_line.ensures.parts in
+    answered_more g.D.Device (store.ghosts g.row.D g.D.Device g.D.Device-dict) dead.ghosts.is_in
+    text line rest (g.R.Read.remaining c.args.input.now) left (g.R.Read.remaining c.read_until.new.self)
+    c.args.index.now c.loop.index c.answer.new.index
+    (g.W.Write.contents c.args.out.now) (g.W.Write.contents c.loop.out) (g.W.Write.contents c.answer.new.out) (g.W.Write.contents c.flush.new.self)
+    c.loop.invariant (read_alone left c.clear.new.self.items line c.clear.ensures.items c.in_ok-read_until.ensures.bytes) c.in_ok-read_until.ensures.rest some (parts some)
+    c.in_ok-answer.ensures c.flush.ensures.bytes

@@ -1,0 +1,103 @@
+//! The lines of a ledger.
+
+ghost use Rattle.std.specs.Prelude.{◌≡◌, true, Some, Ok, Err, [], ◌∷◌, ◌++◌, IfSome, IfOk, OnSome, codes};
+ghost use Rattle.index_model.specs.declared.entry.Entry.{Entry as TheEntry};
+ghost use Rattle.index_model.specs.declared.range.Range.{Range as TheRange};
+ghost use Rattle.text_forms.specs.Spelling.{words_of};
+ghost use Rattle.text_forms.specs.Values.{entry_words, range_words, IsEntryOfBytes, IsRangeOfBytes, AreRows};
+ghost use Rattle.ledger_lines.specs.Lines.{line_words, HasValues, AreNoValues, AreRefused, is_alone};
+
+use index_model::{Entry, Fault, Range};
+use text_forms::{Rows, Words, all_rows, entry, is_word, range};
+
+/// A line of a ledger.
+#[derive(Drop)]
+pub enum Line<'a> {
+    Insert(Entry),
+    /// All entries with one of these rows are deleted.
+    Delete(Rows<'a>),
+    List(Range),
+    Vacuum,
+    Checkpoint,
+    Commit,
+}
+
+/// The line that a text spells. None where it has no form of a line; refused with `KeyTooLong` (6) or `BadRow` (7) where it has,
+/// but there is no such key, or else no such row.
+pub fn parse(text: &[u8]) -> Option<Result<Line<'_>, Fault>>
+    ensures ok { IfSome result (λ read. IfOk read (λ line. words_of text.now ≡ line_words line)) }
+    ensures valid { IfSome result (λ read. IfOk read HasValues) }
+    ensures only { (line : Line) → HasValues line → words_of text.now ≡ line_words line
+        → result ≡ Some (Ok line) }
+    ensures refused { (fault : Fault) → result ≡ Some (Err fault)
+        → AreRefused fault (words_of text.now) }
+{
+    let mut words = Words::new(text);
+    let line = read(&mut words)?;
+    if words.have_ended() { Some(line) } else { None }
+}
+
+fn read<'a>(words: &mut Words<'a>) -> Option<Result<Line<'a>, Fault>>
+    ensures ok { (line : Line) → result ≡ Some (Ok line)
+        → words.old ≡ line_words line ++ words.new }
+    ensures valid { IfSome result (λ read. IfOk read HasValues) }
+    ensures only { (line : Line) → HasValues line → words.old ≡ line_words line
+        → (result ≡ Some (Ok line)) × (words.new ≡ []) }
+    ensures refused { (fault : Fault) → result ≡ Some (Err fault) → words.new ≡ []
+        → AreRefused fault words.old }
+{
+    let name = words.next()?;
+    if let Some(line) = alone(name) {
+        return Some(Ok(line));
+    }
+    with_values(name, words)
+}
+
+// A line of one word.
+fn alone(name: &[u8]) -> Option<Line<'static>>
+    ensures found { IfSome result (λ line. name.now ∷ [] ≡ line_words line) }
+    ensures valid { IfSome result HasValues }
+    ensures vacuum { name.now ≡ codes "vacuum" → result ≡ Some Line.Vacuum }
+    ensures checkpoint { name.now ≡ codes "checkpoint" → result ≡ Some Line.Checkpoint }
+    ensures commit { name.now ≡ codes "commit" → result ≡ Some Line.Commit }
+    ensures named { OnSome result (is_alone name.now ≡ true) }
+{
+    if is_word(name, b"vacuum") {
+        return Some(Line::Vacuum);
+    }
+    if is_word(name, b"checkpoint") {
+        return Some(Line::Checkpoint);
+    }
+    if is_word(name, b"commit") {
+        return Some(Line::Commit);
+    }
+    None
+}
+
+// A line of an entry, a range or rows.
+fn with_values<'a>(name: &[u8], words: &mut Words<'a>) -> Option<Result<Line<'a>, Fault>>
+    ensures ok { (line : Line) → result ≡ Some (Ok line)
+        → name.now ∷ words.old ≡ line_words line ++ words.new }
+    ensures valid { IfSome result (λ read. IfOk read HasValues) }
+    ensures insert { (entry : TheEntry) → IsEntryOfBytes entry → name.now ≡ codes "insert"
+        → words.old ≡ entry_words entry
+        → (result ≡ Some (Ok (Line.Insert entry))) × (words.new ≡ []) }
+    ensures delete { AreRows words.old → name.now ≡ codes "delete"
+        → (result ≡ Some (Ok (Line.Delete words.old))) × (words.new ≡ []) }
+    ensures list { (range : TheRange) → IsRangeOfBytes range → name.now ≡ codes "list"
+        → words.old ≡ range_words range
+        → (result ≡ Some (Ok (Line.List range))) × (words.new ≡ []) }
+    ensures refused { (fault : Fault) → result ≡ Some (Err fault) → words.new ≡ []
+        → AreNoValues fault name.now words.old }
+{
+    if is_word(name, b"insert") {
+        return Some(entry(words)?.map(|entry| Line::Insert(entry)));
+    }
+    if is_word(name, b"delete") {
+        return Some(all_rows(words)?.map(|rows| Line::Delete(rows)));
+    }
+    if is_word(name, b"list") {
+        return Some(range(words)?.map(|range| Line::List(range)));
+    }
+    None
+}

@@ -1,0 +1,113 @@
+//! The sound indexes.
+
+use crate::plain::{
+    checkpoint, commit, copy, create, device, index_over, insert, into_device, open,
+};
+use access_method::Index;
+use device::{Device, MemDevice};
+use index_model::{Entry, Fault, Key, Limits, RowAddr};
+use page_action::PageStore;
+use page_store::Store;
+use std::alloc::Global;
+
+/// An index of one user in memory.
+type InMemory = Index<Store<MemDevice>>;
+
+/// The bytes of a device of 32 pages: a superblock, the log, the pages.
+pub const LEN: u64 = 4_096 + 65_536 + 4_096 * 32;
+
+/// Pages in memory at once.
+pub const FRAMES: u32 = 16;
+
+/// How many entries the index of three levels has.
+pub const ENTRIES: u32 = 30;
+
+/// The entry of this key and this row.
+pub fn keyed(key: &[u8], block: u32, offset: u16) -> Entry {
+    Entry {
+        key: Key::new(key).unwrap_or(Key::EMPTY),
+        row: RowAddr::new(block, offset).unwrap_or_default(),
+    }
+}
+
+/// Entry i of the index of three levels, for i from 1; each has a key of its own.
+pub fn entry(i: u32) -> Entry {
+    keyed(&i.wrapping_mul(8).to_be_bytes(), i, 1)
+}
+
+/// A device with an empty index of so many pages of four items, with the smallest log.
+fn made(alloc: Global, pages: u32, unique: bool) -> Result<MemDevice, Fault> {
+    let mut device = device(alloc, 69_632 + 4_096 * u64::from(pages))?;
+    create(
+        &mut device,
+        &Limits {
+            items: 4,
+            pages,
+            log_bytes: 65_536,
+            unique,
+        },
+    )?;
+    Ok(device)
+}
+
+/// The index on a device.
+fn opened<D: Device + Drop>(alloc: Global, device: D) -> Result<Index<Store<D>>, Fault> {
+    match open(alloc, device, FRAMES) {
+        Ok(store) => index_over(alloc, store),
+        Err(refused) => Err(refused.fault),
+    }
+}
+
+/// An empty index.
+fn empty(alloc: Global, pages: u32, unique: bool) -> Result<InMemory, Fault> {
+    opened(alloc, made(alloc, pages, unique)?)
+}
+
+/// What a crash keeps of it.
+fn left(alloc: Global, index: InMemory) -> Result<MemDevice, Fault> {
+    copy(alloc, &into_device(index))
+}
+
+/// Inserts the entries from there to there, in shuffled order.
+fn fill<S: PageStore>(index: &mut Index<S>, from: u32, to: u32) -> Result<(), Fault> {
+    for i in from..to {
+        insert(index, entry(1 + i.wrapping_mul(7) % ENTRIES))?;
+    }
+    Ok(())
+}
+
+/// Inserts all, with a checkpoint before the last ones and a commit behind them.
+fn fill_all<S: PageStore>(index: &mut Index<S>) -> Result<(), Fault> {
+    fill(index, 0, 27)?;
+    checkpoint(index)?;
+    fill(index, 27, ENTRIES)?;
+    commit(index)?;
+    Ok(())
+}
+
+/// What a crash keeps of an index of three levels, unique or not, behind a checkpoint and a commit: the last inserts stand in
+/// the log alone.
+pub fn sound(alloc: Global, unique: bool) -> Result<MemDevice, Fault> {
+    let mut index = empty(alloc, 32, unique)?;
+    fill_all(&mut index)?;
+    left(alloc, index)
+}
+
+/// Inserts five entries, with a checkpoint behind them.
+fn fill_five<S: PageStore>(index: &mut Index<S>) -> Result<(), Fault> {
+    for number in 1..6u8 {
+        insert(
+            index,
+            keyed(&[0x60u8.saturating_add(number)], 0, u16::from(number)),
+        )?;
+    }
+    checkpoint(index)?;
+    Ok(())
+}
+
+/// An index of five entries, behind a checkpoint: the leaves 1 and 2 under the root 3.
+pub fn five(alloc: Global) -> Result<MemDevice, Fault> {
+    let mut index = empty(alloc, 16, false)?;
+    fill_five(&mut index)?;
+    left(alloc, index)
+}
