@@ -6,15 +6,16 @@ ghost use Rattle.sessions.specs.Finishing.{AreIdle, HasRun};
 ghost use Rattle.sessions.specs.Handed.{IsAsHanded};
 ghost use Rattle.sessions.specs.Standing.{Stands};
 
+use crate::context::RunContext;
 use crate::crew::Number;
 use crate::door::Door;
+use crate::gate::Gate;
 use crate::hire::hire;
 use crate::jobs::Jobs;
 use crate::record::Record;
 use crate::room::Room;
 use crate::slot::Slot;
 use crate::ticket::{JobList, JobTicket};
-use crate::worker::Gate;
 use index_model::DeadRows;
 use page_action::PageStore;
 use std::sync::{Mutex, Wait};
@@ -59,15 +60,19 @@ pub fn run_all<
 {
     let slot: Mutex<Slot<S, T, J>> = Mutex::new(Slot::Waiting);
     let shares = Door::new();
-    let shared = &slot;
-    let door = &shares;
+    let context = RunContext {
+        rt,
+        queue,
+        cell,
+        slot: &slot,
+        door: &shares,
+        gate,
+    };
+    let run = &context;
     thread::scope(
         thread::scope_env(),
         rt,
         move |scope| -> Result<(World<S, T>, u64, Vec<Record>), World<S, T>>
-            requires list { J.jobs ≡ K.list }
-            requires cell { cell.now.table.shared.table_id ≡ J.seats }
-            requires queue { queue.now.table.shared.table_id ≡ J.queue }
             requires parts { J.parts ≡ 65 }
             requires handles { (handles.items ≡ []) × (last < vec_capacity handles) }
             requires workers { last + 1 ≡ J.workers }
@@ -79,10 +84,6 @@ pub fn run_all<
             ensures err { IfErr result (λ w. w ≡ world) }
             ensures done { IfOk result (λ r. HasRun S.PageStore T.DeadRows J.stood J.kept_then
                 J.handed J.jobs J.workers r.0 r.1 r.2.items) }
-        {
-            hire(
-                scope, rt, queue, cell, shared, door, gate, world, room, handles, last,
-            )
-        },
+        { hire(scope, run, world, room, handles, last) },
     )
 }

@@ -4,17 +4,17 @@ ghost use Rattle.std.specs.Prelude.{◌≡◌, [], None};
 ghost use Rattle.crossbeam_queue.specs.Passes.{view, IsPassOf};
 ghost use Rattle.worker_seats.specs.Seats.{known_by};
 
-use crate::door::Door;
+use crate::context::RunContext;
+use crate::gate::Gate;
 use crate::jobs::Jobs;
 use crate::ready::{is_open, is_waiting};
-use crate::slot::Slot;
 use crate::ticket::{JobList, JobTicket};
-use crate::worker::{Gate, work};
+use crate::worker::work;
 use index_model::DeadRows;
 use page_action::PageStore;
-use std::sync::{Mutex, Wait};
+use std::sync::Wait;
 use std::thread::Promise;
-use worker_seats::{JobQueue, QueuePass, Seat, SeatCell, Worker};
+use worker_seats::{QueuePass, Seat, Worker};
 
 /// Which worker it is.
 #[derive(Drop)]
@@ -28,33 +28,26 @@ impl<J: Jobs, K: JobList> Promise<Worker<J, JobTicket<K>>> for Number {
 
 /// A worker's thread: it waits until all have started, and works where the lock was opened.
 pub fn crew<S: PageStore, T: DeadRows + Drop, J: Jobs, K: JobList, G: Gate, R: Wait>(
-    rt: &R,
-    queue: &JobQueue<JobTicket<K>>,
-    cell: &SeatCell,
-    slot: &Mutex<Slot<S, T, J>>,
-    door: &Door,
-    gate: &G,
+    run: &RunContext<S, T, J, K, G, R>,
     seat: Seat<J>,
     pass: QueuePass<JobTicket<K>>,
 ) -> Worker<J, JobTicket<K>>
-    requires list { J.jobs ≡ K.list }
-    requires cell { cell.now.table.shared.table_id ≡ J.seats }
-    requires queue { queue.now.table.shared.table_id ≡ J.queue }
     requires rests { (known_by seat.pass).job ≡ None }
     requires fresh { (known_by seat.pass).notes ≡ [] }
-    requires pass { IsPassOf queue.now pass }
+    requires pass { IsPassOf run.now.queue.now pass }
     requires part { (view pass).parts ≡ 1 }
     requires popped { (view pass).popped ≡ [] }
     ensures { result.seat.worker ≡ seat.worker }
 {
     let open = {
-        let guard = door
+        let guard = run
+            .door
             .opened
-            .wait_while(rt, slot.lock(rt), |slot| is_waiting(slot));
+            .wait_while(run.rt, run.slot.lock(run.rt), |slot| is_waiting(slot));
         is_open(&*guard)
     };
     if open {
-        let (seat, pass) = work(rt, queue, cell, slot, door, gate, seat, pass);
+        let (seat, pass) = work(run, seat, pass);
         return Worker { seat, pass };
     }
     Worker { seat, pass }

@@ -12,8 +12,9 @@ ghost use Rattle.sessions.specs.Notes.{jobs_of};
 ghost use Rattle.sessions.specs.Standing.{Stands};
 ghost use Rattle.sessions.specs.declared.record.Pending.{Pending as WaitingJob};
 
+use crate::context::RunContext;
 use crate::crew::{Number, crew};
-use crate::door::Door;
+use crate::gate::Gate;
 use crate::jobs::Jobs;
 use crate::opening::{ended, first};
 use crate::ready::is_open;
@@ -22,36 +23,33 @@ use crate::room::Room;
 use crate::shared::Shared;
 use crate::slot::Slot;
 use crate::ticket::{JobList, JobTicket};
-use crate::worker::{Gate, work};
+use crate::worker::work;
 use index_model::DeadRows;
 use page_action::PageStore;
 use std::mem;
+use std::sync::Wait;
 use std::sync::ledger::Share;
-use std::sync::{Mutex, Wait};
 use std::thread::{PromisedHandle, Scope, Threads};
-use worker_seats::{JobQueue, Parts, QueuePass, Seat, SeatCell, SeatPass, Worker, gather, open};
+use worker_seats::{Parts, QueuePass, Seat, SeatPass, Worker, gather, open};
 use world::World;
 
 // Puts a value under the lock, and wakes all.
-fn put<S: PageStore + Drop, T: DeadRows + Drop, J: Jobs, R: Wait>(
-    rt: &R,
-    slot: &Mutex<Slot<S, T, J>>,
-    door: &Door,
+fn put<S: PageStore + Drop, T: DeadRows + Drop, J: Jobs, K: JobList, G: Gate, R: Wait>(
+    run: &RunContext<S, T, J, K, G, R>,
     value: Slot<S, T, J>,
 ) {
-    *slot.lock(rt) = value;
-    door.opened.notify_all();
+    *run.slot.lock(run.rt) = value;
+    run.door.opened.notify_all();
 }
 
 // Takes what lies under the lock out of it.
-fn take_out<S: PageStore + Drop, T: DeadRows + Drop, J: Jobs, R: Wait>(
-    rt: &R,
-    slot: &Mutex<Slot<S, T, J>>,
-    door: &Door,
+fn take_out<S: PageStore + Drop, T: DeadRows + Drop, J: Jobs, K: JobList, G: Gate, R: Wait>(
+    run: &RunContext<S, T, J, K, G, R>,
 ) -> Shared<S, T, J> {
-    let mut guard = door
+    let mut guard = run
+        .door
         .opened
-        .wait_while(rt, slot.lock(rt), |slot| !is_open(slot));
+        .wait_while(run.rt, run.slot.lock(run.rt), |slot| !is_open(slot));
     let Slot::Open(shared) = mem::replace(&mut *guard, Slot::Closed) else {
         unreachable!()
     };
@@ -70,12 +68,7 @@ fn start_all<
     R: Threads + Wait + Sync + 's,
 >(
     scope: &'s Scope<'s, E>,
-    rt: &'s R,
-    queue: &'s JobQueue<JobTicket<K>>,
-    cell: &'s SeatCell,
-    slot: &'s Mutex<Slot<S, T, J>>,
-    door: &'s Door,
-    gate: &'s G,
+    run: &'s RunContext<'s, S, T, J, K, G, R>,
     keeper: &mut SeatPass,
     pass: &mut QueuePass<JobTicket<K>>,
     all: &mut Share<J>,
@@ -83,13 +76,10 @@ fn start_all<
     handles: &mut Vec<PromisedHandle<Worker<J, JobTicket<K>>, Number>>,
     last: u32,
 ) -> bool
-    requires list { J.jobs ≡ K.list }
-    requires cell { cell.now.table.shared.table_id ≡ J.seats }
-    requires queue { queue.now.table.shared.table_id ≡ J.queue }
     requires few { last < 64 }
     requires keeper { (keeper.old.table_id ≡ J.seats)
         × (known_by keeper.old ≡ keeper_of [] []) }
-    requires pass { IsPassOf queue.now pass.old }
+    requires pass { IsPassOf run.now.queue.now pass.old }
     requires whole { (view pass.old).parts ≡ 1024 }
     requires popped { (view pass.old).popped ≡ [] }
     requires all { (all.old.parts ≡ 65) × (all.old.amount ≡ 0) }
@@ -98,7 +88,7 @@ fn start_all<
     ensures of { result ≡ true → keeper.new.table_id ≡ J.seats }
     ensures keeper { result ≡ true
         → known_by keeper.new ≡ keeper_of [] (jobs_of pending.new.items) }
-    ensures pass { result ≡ true → IsPassOf queue.now pass.new }
+    ensures pass { result ≡ true → IsPassOf run.now.queue.now pass.new }
     ensures whole { result ≡ true → (view pass.new).parts + last ≡ 1024 }
     ensures pushed { result ≡ true → (view pass.new).pushed ≡ (view pass.old).pushed }
     ensures popped { result ≡ true → (view pass.new).popped ≡ [] }
@@ -113,20 +103,17 @@ fn start_all<
 {
     for w in 0..last {
         let share = all.split_off(1, 0);
-        let seat = open(cell, keeper, share, w);
-        let mine = queue.another::<Parts>(pass);
+        let seat = open(run.cell, keeper, share, w);
+        let mine = run.queue.another::<Parts>(pass);
         pending.push_reserved(None);
         let job = move || -> Worker<J, JobTicket<K>>
-            requires list { J.jobs ≡ K.list }
-            requires cell { cell.now.table.shared.table_id ≡ J.seats }
-            requires queue { queue.now.table.shared.table_id ≡ J.queue }
             requires rests { (known_by seat.pass).job ≡ None }
             requires fresh { (known_by seat.pass).notes ≡ [] }
-            requires pass { IsPassOf queue.now mine }
+            requires pass { IsPassOf run.now.queue.now mine }
             requires part { (view mine).parts ≡ 1 }
             requires popped { (view mine).popped ≡ [] }
             ensures { result.seat.worker ≡ seat.worker }
-        { crew(rt, queue, cell, slot, door, gate, seat, mine) };
+        { crew(run, seat, mine) };
         match scope.spawn_with(Number(w), job) {
             Ok(handle) => handles.push_reserved(handle),
             Err(_) => return false,
@@ -154,25 +141,17 @@ fn joined<J: Jobs, K: JobList, R: Threads>(
 
 // Works as the last worker, joins the others, and works until no job is left: then the pass has every part.
 fn work_out<S: PageStore, T: DeadRows + Drop, J: Jobs, K: JobList, G: Gate, R: Threads + Wait>(
-    rt: &R,
-    queue: &JobQueue<JobTicket<K>>,
-    cell: &SeatCell,
-    slot: &Mutex<Slot<S, T, J>>,
-    door: &Door,
-    gate: &G,
+    run: &RunContext<S, T, J, K, G, R>,
     own: Seat<J>,
     pass: QueuePass<JobTicket<K>>,
     handles: Vec<PromisedHandle<Worker<J, JobTicket<K>>, Number>>,
     staff: Vec<Worker<J, JobTicket<K>>>,
     mut seats: Vec<Seat<J>>,
 ) -> (Vec<Seat<J>>, QueuePass<JobTicket<K>>)
-    requires list { J.jobs ≡ K.list }
-    requires cell { cell.now.table.shared.table_id ≡ J.seats }
-    requires queue { queue.now.table.shared.table_id ≡ J.queue }
     requires own { own.worker ≡ vec_len handles }
     requires rests { (known_by own.pass).job ≡ None }
     requires fresh { (known_by own.pass).notes ≡ [] }
-    requires pass { IsPassOf queue.now pass }
+    requires pass { IsPassOf run.now.queue.now pass }
     requires part { 0 < (view pass).parts }
     requires parts { (view pass).parts + vec_len handles ≡ 1024 }
     requires popped { (view pass).popped ≡ [] }
@@ -189,10 +168,10 @@ fn work_out<S: PageStore, T: DeadRows + Drop, J: Jobs, K: JobList, G: Gate, R: T
     ensures popped { (h : ℕ → ℕ) → weigh h (view result.1).popped
         ≡ sum_over (λ s. weigh h (jobs_in (known_by s.pass).notes)) result.0.items }
 {
-    let (own, mut pass) = work(rt, queue, cell, slot, door, gate, own, pass);
-    let staff = joined(rt, handles, staff);
-    gather(queue, &mut pass, staff, &mut seats);
-    let (own, pass) = work(rt, queue, cell, slot, door, gate, own, pass);
+    let (own, mut pass) = work(run, own, pass);
+    let staff = joined(run.rt, handles, staff);
+    gather(run.queue, &mut pass, staff, &mut seats);
+    let (own, pass) = work(run, own, pass);
     seats.push_reserved(own);
     (seats, pass)
 }
@@ -210,20 +189,12 @@ pub fn hire<
     R: Threads + Wait + Sync + 's,
 >(
     scope: &'s Scope<'s, E>,
-    rt: &'s R,
-    queue: &'s JobQueue<JobTicket<K>>,
-    cell: &'s SeatCell,
-    slot: &'s Mutex<Slot<S, T, J>>,
-    door: &'s Door,
-    gate: &'s G,
+    run: &'s RunContext<'s, S, T, J, K, G, R>,
     world: World<S, T>,
     room: Room<J, K>,
     mut handles: Vec<PromisedHandle<Worker<J, JobTicket<K>>, Number>>,
     last: u32,
 ) -> Result<(World<S, T>, u64, Vec<Record>), World<S, T>>
-    requires list { J.jobs ≡ K.list }
-    requires cell { cell.now.table.shared.table_id ≡ J.seats }
-    requires queue { queue.now.table.shared.table_id ≡ J.queue }
     requires parts { J.parts ≡ 65 }
     requires handles { (handles.items ≡ []) × (last < vec_capacity handles) }
     requires workers { last + 1 ≡ J.workers }
@@ -248,12 +219,7 @@ pub fn hire<
     } = room;
     let started = start_all(
         scope,
-        rt,
-        queue,
-        cell,
-        slot,
-        door,
-        gate,
+        run,
         &mut keeper,
         &mut pass,
         &mut all,
@@ -262,17 +228,15 @@ pub fn hire<
         last,
     );
     if !started {
-        put(rt, slot, door, Slot::Closed);
+        put(run, Slot::Closed);
         return Err(world);
     }
     let share = all.split_off(1, 0);
-    let own = open(cell, &mut keeper, share, last);
+    let own = open(run.cell, &mut keeper, share, last);
     pending.push_reserved(None);
     let shared = first(world, history, pending, book, keeper);
-    put(rt, slot, door, Slot::Open(shared));
-    let (seats, pass) = work_out(
-        rt, queue, cell, slot, door, gate, own, pass, handles, staff, seats,
-    );
-    let shared = take_out(rt, slot, door);
-    Ok(ended(rt, cell, shared, seats, all, &pass))
+    put(run, Slot::Open(shared));
+    let (seats, pass) = work_out(run, own, pass, handles, staff, seats);
+    let shared = take_out(run);
+    Ok(ended(run.rt, run.cell, shared, seats, all, &pass))
 }

@@ -1,9 +1,12 @@
 //! Workers that run a list of jobs on one world, whose events are done under one lock.
 #![tactic(auto)]
 
+mod baton;
 mod begun;
+mod context;
 mod crew;
 mod door;
+mod gate;
 mod hire;
 mod job;
 mod jobs;
@@ -21,6 +24,7 @@ mod slot;
 mod ticket;
 mod worker;
 
+pub use gate::{Gate, NoGate};
 pub use job::Job;
 pub use jobs::Jobs;
 pub use opening::{ended, first};
@@ -31,4 +35,3 @@ pub use run::run_jobs;
 pub use shared::{Shared, Turn};
 pub use slot::Slot;
 pub use ticket::{JobList, JobTicket, all_tickets};
-pub use worker::{Gate, NoGate, work};

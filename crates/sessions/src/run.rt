@@ -16,6 +16,7 @@ ghost use Rattle.sessions.specs.Kept.{KeepsAll};
 ghost use Rattle.sessions.specs.declared.record.Record.{Record as DoneJob};
 
 use crate::begun::run_all;
+use crate::gate::Gate;
 use crate::job::Job;
 use crate::jobs::Jobs;
 use crate::limits::refusal;
@@ -24,7 +25,6 @@ use crate::receipts::{make_tables, write_receipts};
 use crate::record::Record;
 use crate::room::make_room;
 use crate::ticket::{JobList, JobTicket, all_tickets};
-use crate::worker::Gate;
 use index_model::{DeadRows, Fault};
 use page_action::PageStore;
 use std::alloc::Global;
