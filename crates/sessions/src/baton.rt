@@ -3,7 +3,7 @@
 use std::sync::{Condvar, Mutex, Wait};
 
 /// The events that a worker does in a row while others wait to go on.
-const EVENTS: u32 = 256;
+const EVENTS: u32 = 1_024;
 
 // Workers that wait together.
 #[derive(Drop)]
