@@ -12,7 +12,7 @@ use Rattle.session_calls.specs.declared.request.Request.TheVariants.{Cleanup as 
 use Rattle.schedule.specs.TheoremMoments.{StoreAndSlots, snapshot_of}
 use Rattle.schedule.specs.TheoremRuns.{Fits}
 use Rattle.whole_calls.specs.Going.{CallRuns}
-use Rattle.whole_calls.specs.Sweeping.{SweepTold, swept_came, TellsCleaned, TellsDeleted, TellsPages}
+use Rattle.whole_calls.specs.Sweeping.{SweepTold, sweep_outcome, TellsCleaned, TellsDeleted, TellsPages}
 use Rattle.whole_calls.specs.Telling.{acts_by, AreOwnEffects, first_call}
 use Rattle.access_method.specs.Indexes.{IsCleanedUp}
 
@@ -32,10 +32,12 @@ module _ {S : Type 0} (g : Ghosts S) (old new : StoreAndSlots S) (start : Entry 
       → (e : Entry) → contents_after start then_history e ≡ contents_after start history e
   stays then_history effects own is e =
       ap (λ (l : List Action). contents_after start l e) is ∙ contents_after-append start history (acts_by (length calls) effects) e
-      ∙ ap (λ (o : Option Bool). unwrap_or o (contents_after start history e)) (says_nothing (length calls) (first_call 63 ToCleanup (snapshot_of old history calls)) (length history) effects e refl own)
+      ∙ ap (λ (o : Option Bool). unwrap_or o (contents_after start history e))
+      (says_nothing (length calls) (first_call 63 ToCleanup (snapshot_of old history calls)) (length history) effects e refl own)
 
   pub cleaned_up : (result : Result VacuumStats Fault)
-      → (r : CallRuns g 63 (SweepTold 63 ToCleanup result) (swept_came result) old new start history calls) → TellsCleaned (g.state new.store) result → TellsDeleted (deleted_in (g.state old.store)) (g.state new.store) result
+      → (r : CallRuns g 63 (SweepTold 63 ToCleanup result) (sweep_outcome result) old new start history calls)
+      → TellsCleaned (g.state new.store) result → TellsDeleted (deleted_in (g.state old.store)) (g.state new.store) result
       → IfOk result (λ stats. TellsPages (g.state new.store) stats × (stats.tuples_removed ≡ 0))
       → IsCleanedUp g result old.store new.store
   cleaned_up (Ok stats) r told deleted pages =

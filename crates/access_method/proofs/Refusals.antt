@@ -2,7 +2,7 @@
 use Rattle.whole_calls.specs.Inserting.{InsertGoes}
 use Rattle.whole_calls.specs.Going.{CallRuns}
 use Rattle.schedule.specs.declared.event.Event.{Event}
-use Rattle.schedule.specs.TheoremRuns.{IsRun, Carries, Fits}
+use Rattle.schedule.specs.TheoremRuns.{IsRun, ForEachHistory, Fits}
 use Rattle.session_calls.specs.declared.answer.Answer.{Answer}
 use Rattle.index_model.specs.Calls.{Call}
 use Rattle.index_model.specs.Actions.{Action}
@@ -27,14 +27,14 @@ use Rattle.session_calls.specs.Ops.{IsFaultCaused, is_vacuum}
 use Rattle.session_calls.specs.Sessions.{is_busy}
 use Rattle.session_calls.specs.declared.request.Request.TheVariants.{Insert as ToInsert, Bulk as ToBulk, Cleanup as ToCleanup}
 use Rattle.session_calls.proofs.Meeting.{other_row_so}
-use Rattle.schedule.specs.TheoremMoments.{StoreAndSlots, Snapshot, snapshot_of}
+use Rattle.schedule.specs.TheoremMoments.{StoreAndSlots, Moment, snapshot_of}
 use Rattle.session_calls.specs.Slots.{slot_of, slot_vacuums, one_vacuums}
-use Rattle.schedule.specs.Snapshots.{IsFree}
+use Rattle.schedule.specs.MomentInvariants.{IsFreeSession}
 use Rattle.schedule.proofs.Lists.{get_some}
-use Rattle.whole_calls.specs.Refusing.{another_runs, where_inserted, where_called, is_tall, InsertCallIsCaused, where_gone}
+use Rattle.whole_calls.specs.Refusing.{another_runs, causes_of_inserted, causes_of_called, is_tall, InsertCallIsCaused, causes_of_gone}
 use Rattle.whole_calls.specs.declared.inserted.Inserted.{Inserted}
 use Rattle.access_method.specs.Indexes.{slots_within, has_entry, InsertsOrKeeps, slots_with}
-use Rattle.access_method.specs.Refusals.{where_run, where_inserting, none_is_left, InsertHasCause, IsUnhindered, IsForWantOfSpace, IsOfSpace, InsertsUnhindered}
+use Rattle.access_method.specs.Refusals.{causes_of_run, causes_of_aminsert, none_is_left, InsertHasCause, IsUnhindered, IsForWantOfSpace, IsOfSpace, InsertsUnhindered}
 use Rattle.access_method.specs.Tokens.{NoneVacuums}
 use Rattle.access_method.specs.declared.index.Index.{Index}
 use Rattle.schedule.proofs.Fitting.{beyond_of, running_of}
@@ -72,7 +72,8 @@ module _ {S : Type 0} (g : Ghosts S) (old : Index S) (new : S) where
     | inl stopped ↦ or_left (had || failed) (begun_all || acted_all) (or_left had failed stopped)
     | inr rest ↦ elim (or_cases failed (acted_all || false) rest) [
       | inl now ↦ or_left (had || failed) (begun_all || acted_all) (or_right had failed now)
-      | inr ended ↦ or_right (had || failed) (begun_all || acted_all) (or_right begun_all acted_all (elim (or_cases acted_all false ended) [ inl all ↦ all | inr no_one ↦ absurd (true_false (sym no_one)) ]))
+      | inr ended ↦ or_right (had || failed) (begun_all || acted_all)
+          (or_right begun_all acted_all (elim (or_cases acted_all false ended) [ inl all ↦ all | inr no_one ↦ absurd (true_false (sym no_one)) ]))
     ]
   ]
 
@@ -92,8 +93,8 @@ module _ {S : Type 0} (g : Ghosts S) (old : Index S) (new : S) where
 
     refused_cause : (was_there : Bool) (key_was : Row → Bool) (used_up tall : Bool) (fault : Fault) → (fault ≡ Exists → was_there ≡ true)
         → ((row : Row) → fault ≡ KeyExists row → (g.state new).limits.unique ≡ true → key_was row ≡ true)
-        → HasCause (where_called g 63 (ToInsert entry) (slots_within old) (where_inserted g 63 5 true (λ r. (g.state new).limits.unique) used_up tall (slots_within old) new)) fault
-        → HasCause (where_inserting g was_there key_was used_up tall old new) fault
+        → HasCause (causes_of_called g 63 (ToInsert entry) (slots_within old) (causes_of_inserted g 63 5 true (λ r. (g.state new).limits.unique) used_up tall (slots_within old) new)) fault
+        → HasCause (causes_of_aminsert g was_there key_was used_up tall old new) fault
     refused_cause was_there key_was used_up tall Stopped was key h = stopped_called h
     refused_cause was_there key_was used_up tall Exists was key h = was refl
     refused_cause was_there key_was used_up tall (KeyExists row) was key h = key row refl h
@@ -101,8 +102,8 @@ module _ {S : Type 0} (g : Ghosts S) (old : Index S) (new : S) where
     refused_cause was_there key_was used_up tall SessionBusy was key h = absurd (true_false (sym h ∙ free))
     refused_cause was_there key_was used_up tall fault was key h = h
 
-    left_cause : (used_up tall : Bool) (unfinished : Option Fault) → IsFaultCaused (where_inserted g 63 5 false (λ r. false) used_up tall (slots_within old) new) unfinished
-        → IsFaultCaused (where_inserting g false (λ r. false) used_up tall old new) unfinished
+    left_cause : (used_up tall : Bool) (unfinished : Option Fault) → IsFaultCaused (causes_of_inserted g 63 5 false (λ r. false) used_up tall (slots_within old) new) unfinished
+        → IsFaultCaused (causes_of_aminsert g false (λ r. false) used_up tall old new) unfinished
     left_cause used_up tall None h = tt
     left_cause used_up tall (Some Stopped) h = stopped_run h
     left_cause used_up tall (Some fault) h = h
@@ -115,37 +116,41 @@ module _ {S : Type 0} (g : Ghosts S) (old : Index S) (new : S) where
         (λ row is unique. (let key = told.key_was_there row is in other_row_so (g.state old.store) entry row (ap (λ (f : Format). f.unique) (sym limits) ∙ unique) key.0 key.1)) h
 
 -- a run leaves the number of frames as it was
-run_frames : {S : Type 0} (g : Ghosts S) (start : Entry → Bool) (told : List Answer) (events : List Event) (answers : List Answer) (first last : Snapshot S) → IsRun g start told events answers first last
+run_frames : {S : Type 0} (g : Ghosts S) (start : Entry → Bool) (told : List Answer) (events : List Event) (answers : List Answer)
+    (first last : Moment S) → IsRun g start told events answers first last
     → (g.state last.store).frames ≡ (g.state first.store).frames
-run_frames {S} g start told [] [] first last is = ap (λ (m : Snapshot S). (g.state m.store).frames) (sym is)
+run_frames {S} g start told [] [] first last is = ap (λ (m : Moment S). (g.state m.store).frames) (sym is)
 run_frames g start told [] (answer ∷ answers) first last is = absurd is
 run_frames g start told (event ∷ events) [] first last is = absurd is
 run_frames g start told (event ∷ events) (answer ∷ answers) first last is = run_frames g start (told ++ answer ∷ []) events answers is.1.0 last is.1.2 ∙ is.1.1.also.quiet.frames
 
 -- ... and the limits
-run_limits : {S : Type 0} (g : Ghosts S) (start : Entry → Bool) (told : List Answer) (events : List Event) (answers : List Answer) (first last : Snapshot S) → IsRun g start told events answers first last
+run_limits : {S : Type 0} (g : Ghosts S) (start : Entry → Bool) (told : List Answer) (events : List Event) (answers : List Answer)
+    (first last : Moment S) → IsRun g start told events answers first last
     → (g.state last.store).limits ≡ (g.state first.store).limits
-run_limits {S} g start told [] [] first last is = ap (λ (m : Snapshot S). (g.state m.store).limits) (sym is)
+run_limits {S} g start told [] [] first last is = ap (λ (m : Moment S). (g.state m.store).limits) (sym is)
 run_limits g start told [] (answer ∷ answers) first last is = absurd is
 run_limits g start told (event ∷ events) [] first last is = absurd is
 run_limits g start told (event ∷ events) (answer ∷ answers) first last is = run_limits g start (told ++ answer ∷ []) events answers is.1.0 last is.1.2 ∙ is.1.1.also.quiet.limits
 
-pub limits_stay : {S : Type 0} (g : Ghosts S) (session : ℕ) (Tells : Snapshot S → Snapshot S → Type 0) (came : Option Answer) (old new : StoreAndSlots S) (start : Entry → Bool) (history : List Action) (calls : List Call)
+pub limits_stay : {S : Type 0} (g : Ghosts S) (session : ℕ) (Tells : Moment S → Moment S → Type 0) (came : Option Answer) (old new : StoreAndSlots S)
+    (start : Entry → Bool) (history : List Action) (calls : List Call)
     → CallRuns g session Tells came old new start history calls → (g.state new.store).limits ≡ (g.state old.store).limits
 limits_stay g session Tells came old new start history calls r = run_limits g start [] r.events r.answers (snapshot_of old history calls) (snapshot_of new r.then_history r.then_calls) r.ran.run
 
 pub insert_limits : {S : Type 0} (g : Ghosts S) (entry : Entry) (result : Result Inserted Fault) (old new : StoreAndSlots S)
-    → InsertGoes g 63 entry result old new → Carries g old new (λ start history calls. (g.state new.store).limits ≡ (g.state old.store).limits)
+    → InsertGoes g 63 entry result old new → ForEachHistory g old new (λ start history calls. (g.state new.store).limits ≡ (g.state old.store).limits)
 insert_limits g entry (Ok inserted) old new (inl goes) honest start history calls fits = limits_stay g 63 _ _ old new start history calls (goes honest start history calls fits)
 insert_limits g entry (Ok inserted) old new (inr cut) honest start history calls fits = limits_stay g 63 _ _ old new start history calls (cut.goes honest start history calls fits)
 insert_limits g entry (Err fault) old new goes honest start history calls fits = limits_stay g 63 _ _ old new start history calls (goes honest start history calls fits)
 
-pub frames_stay : {S : Type 0} (g : Ghosts S) (session : ℕ) (Tells : Snapshot S → Snapshot S → Type 0) (came : Option Answer) (old new : StoreAndSlots S) (start : Entry → Bool) (history : List Action) (calls : List Call)
+pub frames_stay : {S : Type 0} (g : Ghosts S) (session : ℕ) (Tells : Moment S → Moment S → Type 0) (came : Option Answer) (old new : StoreAndSlots S)
+    (start : Entry → Bool) (history : List Action) (calls : List Call)
     → CallRuns g session Tells came old new start history calls → (g.state new.store).frames ≡ (g.state old.store).frames
 frames_stay g session Tells came old new start history calls r = run_frames g start [] r.events r.answers (snapshot_of old history calls) (snapshot_of new r.then_history r.then_calls) r.ran.run
 
 pub insert_frames : {S : Type 0} (g : Ghosts S) (entry : Entry) (result : Result Inserted Fault) (old new : StoreAndSlots S)
-    → InsertGoes g 63 entry result old new → Carries g old new (λ start history calls. (g.state new.store).frames ≡ (g.state old.store).frames)
+    → InsertGoes g 63 entry result old new → ForEachHistory g old new (λ start history calls. (g.state new.store).frames ≡ (g.state old.store).frames)
 insert_frames g entry (Ok inserted) old new (inl goes) honest start history calls fits = frames_stay g 63 _ _ old new start history calls (goes honest start history calls fits)
 insert_frames g entry (Ok inserted) old new (inr cut) honest start history calls fits = frames_stay g 63 _ _ old new start history calls (cut.goes honest start history calls fits)
 insert_frames g entry (Err fault) old new goes honest start history calls fits = frames_stay g 63 _ _ old new start history calls (goes honest start history calls fits)
@@ -158,17 +163,19 @@ module _ {S : Type 0} (g : Ghosts S) (session : ℕ) (old : Index S) (new : S) (
       let same = un.failures in
       omega (arith, k, same)
 
-  none_stopped : (((g.backing old.store).stopped || has_failed (g.backing old.store) (g.backing new)) || (is_at_end (g.state old.store).begun || nat_le 18446744073709551615 (g.state new).acts)) ≡ true → ⊥
-  none_stopped h = elim (or_cases ((g.backing old.store).stopped || has_failed (g.backing old.store) (g.backing new)) (is_at_end (g.state old.store).begun || nat_le 18446744073709551615 (g.state new).acts) h) [
-    | inl log ↦ elim (or_cases (g.backing old.store).stopped (has_failed (g.backing old.store) (g.backing new)) log) [
-      | inl had ↦ true_false (sym had ∙ un.alive)
-      | inr now ↦ none_failed now
-    ]
-    | inr count ↦ elim (or_cases (is_at_end (g.state old.store).begun) (nat_le 18446744073709551615 (g.state new).acts) count) [
-      | inl begun ↦ (let k = eqb-true (g.state old.store).begun 18446744073709551615 begun in let low = un.begun in omega (arith, k, low))
-      | inr acts ↦ (let k = leb-true 18446744073709551615 (g.state new).acts acts in let low = un.acts in omega (arith, k, low))
-    ]
-  ]
+  none_stopped : (((g.backing old.store).stopped || has_failed (g.backing old.store) (g.backing new)) ||
+      (is_at_end (g.state old.store).begun || nat_le 18446744073709551615 (g.state new).acts)) ≡ true → ⊥
+  none_stopped h = elim
+      (or_cases ((g.backing old.store).stopped || has_failed (g.backing old.store) (g.backing new)) (is_at_end (g.state old.store).begun || nat_le 18446744073709551615 (g.state new).acts) h) [
+        | inl log ↦ elim (or_cases (g.backing old.store).stopped (has_failed (g.backing old.store) (g.backing new)) log) [
+          | inl had ↦ true_false (sym had ∙ un.alive)
+          | inr now ↦ none_failed now
+        ]
+        | inr count ↦ elim (or_cases (is_at_end (g.state old.store).begun) (nat_le 18446744073709551615 (g.state new).acts) count) [
+          | inl begun ↦ (let k = eqb-true (g.state old.store).begun 18446744073709551615 begun in let low = un.begun in omega (arith, k, low))
+          | inr acts ↦ (let k = leb-true 18446744073709551615 (g.state new).acts acts in let low = un.acts in omega (arith, k, low))
+        ]
+      ]
 
   none_pinned : (another_runs old.calls.slots.items session || nat_lt (g.state new).frames 4) ≡ true → ⊥
   none_pinned h = elim (or_cases (another_runs old.calls.slots.items session) (nat_lt (g.state new).frames 4) h) [
@@ -177,7 +184,7 @@ module _ {S : Type 0} (g : Ghosts S) (session : ℕ) (old : Index S) (new : S) (
   ]
 
   -- a call that is refused for nothing of its own isn't refused
-  pub run_unhindered : (fault : Fault) → HasCause (where_run g session old new) fault → ⊥
+  pub run_unhindered : (fault : Fault) → HasCause (causes_of_run g session old new) fault → ⊥
   run_unhindered Io h = none_failed h
   run_unhindered Stopped h = none_stopped h
   run_unhindered (Blocked b) h = true_false (sym h ∙ un.alone)
@@ -203,7 +210,8 @@ module _ {S : Type 0} (g : Ghosts S) (session : ℕ) (old : Index S) (new : S) (
 -- ... of an insert
 module _ {S : Type 0} (g : Ghosts S) (entry : Entry) (old : Index S) (new : S) (un : IsUnhindered g 63 old new) (same_frames : (g.state new).frames ≡ (g.state old.store).frames) where
   refused_unhindered : (fault : Fault)
-      → HasCause (where_inserting g (has_entry g old.store entry) (other_row_is_there (g.state old.store) entry) (none_is_left (g.state old.store).begun (g.state new)) (is_tall (g.state new)) old new) fault
+      → HasCause (causes_of_aminsert g (has_entry g old.store entry) (other_row_is_there (g.state old.store) entry)
+      (none_is_left (g.state old.store).begun (g.state new)) (is_tall (g.state new)) old new) fault
       → IsForWantOfSpace g entry old.store new fault
   refused_unhindered Exists h = h
   refused_unhindered (KeyExists row) h = h
@@ -211,7 +219,9 @@ module _ {S : Type 0} (g : Ghosts S) (entry : Entry) (old : Index S) (new : S) (
   refused_unhindered TooTall h = h
   refused_unhindered fault h = absurd (run_unhindered g 63 old new un same_frames fault h)
 
-  left_unhindered : (unfinished : Option Fault) → IsFaultCaused (where_inserting g false (λ r. false) (none_is_left (g.state old.store).begun (g.state new)) (is_tall (g.state new)) old new) unfinished → IsOfSpace (g.state old.store).begun (g.state new) unfinished
+  left_unhindered : (unfinished : Option Fault)
+      → IsFaultCaused (causes_of_aminsert g false (λ r. false) (none_is_left (g.state old.store).begun (g.state new)) (is_tall (g.state new)) old new)
+      unfinished → IsOfSpace (g.state old.store).begun (g.state new) unfinished
   left_unhindered None h = tt
   left_unhindered (Some IndexFull) h = h
   left_unhindered (Some TooTall) h = h
@@ -235,7 +245,7 @@ pub calm_slots : (slots : List (Option Op)) → NoneVacuums slots → one_vacuum
 calm_slots slots none = none_vacuums slots (λ session op at is. true_false (sym is ∙ sym (ap (λ (o : Option (Option Op)). slot_vacuums (unwrap_or o None)) at) ∙ none session))
 
 -- where no open scan's call runs, nobody else holds a page
-pub all_alone : {S : Type 0} (g : Ghosts S) (start : Entry → Bool) (now : Snapshot S) → Fits g start now → another_runs now.slots 63 ≡ false
+pub all_alone : {S : Type 0} (g : Ghosts S) (start : Entry → Bool) (now : Moment S) → Fits g start now → another_runs now.slots 63 ≡ false
     → IsAlone (g.state now.store) 63
 all_alone g start now fits idle other differ = by (slice_get now.slots other) refl
   where
@@ -250,18 +260,20 @@ all_alone g start now fits idle other differ = by (slice_get now.slots other) re
       | inl lt ↦ absurd (let s = get_some now.slots other lt in some_none s.0 (sym s.1 ∙ at))
       | inr ge ↦ (beyond_of fits other ge).holds
     ]
-    by (Some None) at = (let free : IsFree g now other = running_of fits other None at in free.idle.holds)
+    by (Some None) at = (let free : IsFreeSession g now other = running_of fits other None at in free.idle.holds)
     by (Some (Some op)) at = absurd (let same : Some op ≡ None = sym (ap (λ (o : Option (Option Op)). unwrap_or o None) at) ∙ none in cc)
 
 -- why a bulk delete is refused
-module _ {S : Type 0} (g : Ghosts S) (dead : Row → Bool) (old : Index S) (new : S) (inserts : slot_of old.calls.slots.items 63 ≡ None) (slots : length old.calls.slots.items ≡ 64) (none : one_vacuums old.calls.slots.items ≡ false) where
+module _ {S : Type 0} (g : Ghosts S) (dead : Row → Bool) (old : Index S) (new : S) (inserts : slot_of old.calls.slots.items 63 ≡ None)
+    (slots : length old.calls.slots.items ≡ 64) (none : one_vacuums old.calls.slots.items ≡ false) where
   no_sets : (not (nat_lt 0 (length (dead ∷ []))) || is_none (slice_get old.calls.slots.items 63)) ≡ true → ⊥
   no_sets h = elim (or_cases (not (nat_lt 0 (length (dead ∷ [])))) (is_none (slice_get old.calls.slots.items 63)) h) [
     | inl no_set ↦ true_false (sym no_set ∙ ap not (lt-ltb 0 1 (omega arith)))
     | inr no_session ↦ true_false (sym no_session ∙ there_at old slots)
   ]
 
-  sweep_cause : (fault : Fault) → HasCause (where_called g 63 (ToBulk 0) (slots_with dead old) (where_gone g 63 5 false (slots_with dead old) new)) fault → HasCause (where_run g 63 old new) fault
+  sweep_cause : (fault : Fault)
+      → HasCause (causes_of_called g 63 (ToBulk 0) (slots_with dead old) (causes_of_gone g 63 5 false (slots_with dead old) new)) fault → HasCause (causes_of_run g 63 old new) fault
   sweep_cause Stopped h = stopped_called g old new h
   sweep_cause VacuumRunning h = absurd (true_false (sym h ∙ none))
   sweep_cause NoSession h = absurd (no_sets h)
@@ -269,15 +281,16 @@ module _ {S : Type 0} (g : Ghosts S) (dead : Row → Bool) (old : Index S) (new 
   sweep_cause fault h = h
 
   pub swept_cause : (result : Result VacuumStats Fault)
-      → IfErr result (HasCause (where_called g 63 (ToBulk 0) (slots_with dead old) (where_gone g 63 5 false (slots_with dead old) new)))
-      → IfErr result (HasCause (where_run g 63 old new))
+      → IfErr result (HasCause (causes_of_called g 63 (ToBulk 0) (slots_with dead old) (causes_of_gone g 63 5 false (slots_with dead old) new)))
+      → IfErr result (HasCause (causes_of_run g 63 old new))
   swept_cause (Ok stats) h = tt
   swept_cause (Err fault) h = sweep_cause fault h
 
 -- why a cleanup is refused
-module _ {S : Type 0} (g : Ghosts S) (old : Index S) (new : S) (inserts : slot_of old.calls.slots.items 63 ≡ None) (slots : length old.calls.slots.items ≡ 64) (none : one_vacuums old.calls.slots.items ≡ false) where
-  clean_cause : (fault : Fault) → HasCause (where_called g 63 ToCleanup (slots_within old) (where_gone g 63 5 false (slots_within old) new)) fault
-      → HasCause (where_run g 63 old new) fault
+module _ {S : Type 0} (g : Ghosts S) (old : Index S) (new : S) (inserts : slot_of old.calls.slots.items 63 ≡ None)
+    (slots : length old.calls.slots.items ≡ 64) (none : one_vacuums old.calls.slots.items ≡ false) where
+  clean_cause : (fault : Fault) → HasCause (causes_of_called g 63 ToCleanup (slots_within old) (causes_of_gone g 63 5 false (slots_within old) new)) fault
+      → HasCause (causes_of_run g 63 old new) fault
   clean_cause Stopped h = stopped_called g old new h
   clean_cause VacuumRunning h = absurd (true_false (sym h ∙ none))
   clean_cause NoSession h = absurd (true_false (sym h ∙ there_at old slots))
@@ -285,19 +298,19 @@ module _ {S : Type 0} (g : Ghosts S) (old : Index S) (new : S) (inserts : slot_o
   clean_cause fault h = h
 
   pub cleaned_cause : (result : Result VacuumStats Fault)
-      → IfErr result (HasCause (where_called g 63 ToCleanup (slots_within old) (where_gone g 63 5 false (slots_within old) new)))
-      → IfErr result (HasCause (where_run g 63 old new))
+      → IfErr result (HasCause (causes_of_called g 63 ToCleanup (slots_within old) (causes_of_gone g 63 5 false (slots_within old) new)))
+      → IfErr result (HasCause (causes_of_run g 63 old new))
   cleaned_cause (Ok stats) h = tt
   cleaned_cause (Err fault) h = clean_cause fault h
 
 -- why a scan gives nothing
 pub give_cause : {S : Type 0} (g : Ghosts S) (session : ℕ) (old : Index S) (new : S) (fault : Fault)
-    → HasCause (where_gone g session 5 false (slots_within old) new) fault → HasCause (where_run g session old new) fault
+    → HasCause (causes_of_gone g session 5 false (slots_within old) new) fault → HasCause (causes_of_run g session old new) fault
 give_cause g session old new Stopped h = stopped_run g old new h
 give_cause g session old new fault h = h
 
 -- a call that nothing hinders, and that is refused for nothing of its own
 pub finishes : {S X : Type 0} (g : Ghosts S) (session : ℕ) (old : Index S) (new : S) (result : Result X Fault) → IsUnhindered g session old new
-    → (g.state new).frames ≡ (g.state old.store).frames → IfErr result (HasCause (where_run g session old new)) → IsOk result
+    → (g.state new).frames ≡ (g.state old.store).frames → IfErr result (HasCause (causes_of_run g session old new)) → IsOk result
 finishes g session old new (Ok x) un same h = refl
 finishes g session old new (Err fault) un same h = absurd (run_unhindered g session old new un same fault h)

@@ -1,20 +1,20 @@
 -- What the answers of an insert and of a scan say, read off the run.
 use Rattle.std.specs.Prelude.{IfOk, IfErr, OnOk, unwrap_or}
 use Rattle.index_model.specs.Faults.{HasCause}
-use Rattle.page_action.specs.Causes.{where_forced, with_row}
+use Rattle.page_action.specs.Causes.{causes_of_forced, with_row}
 use Rattle.session_calls.specs.declared.answer.Answer.{Answer}
 use Rattle.session_calls.specs.declared.answer.Answer.TheVariants.{Begun, Going, Added, Ready, Done, Finished, Gave, Ended, Forced, Flushed, Checkpointed, Refused}
 use Rattle.schedule.specs.TheoremKinds.{Kind, KeepsStore, Upkeep, Forces, Flushes, Checkpoints, kind_of}
 use Rattle.schedule.specs.Making.{EventDoes}
 use Rattle.schedule.specs.Events.{kept_answer, IsOfSession, AnswersUpkeep, StoreIsKept}
-use Rattle.schedule.specs.TheoremRuns.{Carries, Runs, Fits}
+use Rattle.schedule.specs.TheoremRuns.{ForEachHistory, Runs, Fits}
 use Rattle.schedule.specs.declared.event.Event.{Event}
 use Rattle.schedule.proofs.Keeping.{Laws}
 use Rattle.whole_calls.specs.Telling.{IsSilent}
 use Rattle.whole_calls.specs.Going.{CallGoes}
 use Rattle.whole_calls.proofs.Composing.{goes_by}
 use Rattle.whole_calls.proofs.Tellings.{keeps_silent}
-use Rattle.access_method.specs.Counted.{counted, kept_came}
+use Rattle.access_method.specs.Counted.{counted, upkeep_outcome}
 use Rattle.std.proofs.Common.{◌≡◌, ◌||◌, ℕ, zero, suc, ◌+◌, ◌-◌, Bool, true, false, Option, Some, None, Result, Ok, Err, List, [], ◌∷◌, ◌++◌, length, take, slice_get, refl, sym, ap, subst, inl, inr, ◌∙◌, arith, length-append, append_assoc}
 use Rattle.std.proofs.lemmas.List.{take_at, length-replicate}
 use Rattle.std.proofs.Math.Seq.{take-append-add}
@@ -36,7 +36,7 @@ use Rattle.schedule.specs.TheoremMoments.{StoreAndSlots, snapshot_of}
 use Rattle.schedule.proofs.Lists.{get_append_new, get_set_same, get_within, same_some}
 use Rattle.whole_calls.specs.Telling.{InsertTold, inserted_call, shapes}
 use Rattle.whole_calls.specs.Inserting.{InsertGoes}
-use Rattle.whole_calls.specs.Giving.{Becomes, TellsGiven, give_came}
+use Rattle.whole_calls.specs.Giving.{Becomes, TellsGiven, given_outcome}
 use Rattle.whole_calls.specs.Going.{CallRuns}
 use Rattle.whole_calls.proofs.Refusing.{or_left, or_right}
 use Rattle.access_method.specs.Indexes.{has_entry, InsertsOrKeeps, AnswersScan}
@@ -72,7 +72,8 @@ key_was_free was is entry grown absent differ row = by (was (with_row entry row)
         absurd cc
 
 -- an insert's answer in words of the contents
-told_or_kept : {S : Type 0} (g : Ghosts S) (entry : Entry) (result : Result Inserted Fault) (came : Option Answer) (old new : StoreAndSlots S) (start : Entry → Bool) (history : List Action) (calls : List Call)
+told_or_kept : {S : Type 0} (g : Ghosts S) (entry : Entry) (result : Result Inserted Fault) (came : Option Answer) (old new : StoreAndSlots S)
+    (start : Entry → Bool) (history : List Action) (calls : List Call)
     → Fits g start (snapshot_of old history calls) → CallRuns g 63 (InsertTold 63 entry result) came old new start history calls → InsertsOrKeeps g entry result old.store new.store
 told_or_kept g entry (Ok inserted) came old new start history calls fits r =
     let t = r.tells in
@@ -88,8 +89,10 @@ told_or_kept g entry (Ok inserted) came old new start history calls fits r =
     let b : length (shapes (length calls) t.before) ≡ t.before = length-replicate t.before _ in
     omega (arith, a, b)) in
     let before : added.before ≡ length front = (let a = added.number_is in let b = t.action_is in omega (arith, a, b, many)) in
-    let first : take added.before r.then_history ≡ front = ap (λ (n : ℕ). take n r.then_history) before ∙ ap (λ (l : List Action). take (length front) l) t.history_is ∙ take_at front (act ∷ behind) (length front) refl in
-    let kept : (e : Entry) → contents_after start front e ≡ contents_after start history e = λ e. after_nothing start history (shapes (length calls) t.before) e (all_shapes_say (length calls) t.before e) in
+    let first : take added.before r.then_history ≡ front = ap (λ (n : ℕ). take n r.then_history) before
+    ∙ ap (λ (l : List Action). take (length front) l) t.history_is ∙ take_at front (act ∷ behind) (length front) refl in
+    let kept : (e : Entry)
+    → contents_after start front e ≡ contents_after start history e = λ e. after_nothing start history (shapes (length calls) t.before) e (all_shapes_say (length calls) t.before e) in
     let whole : r.then_history ≡ (front ++ act ∷ []) ++ behind = t.history_is ∙ sym (append_assoc front (act ∷ []) behind) in
     let absent : has_entry g old.store entry ≡ false =
     fits.explains.contents entry ∙ sym (kept entry) ∙ ap (λ (l : List Action). contents_after start l entry) (sym first) ∙ added.was_absent in
@@ -112,7 +115,8 @@ told_or_kept g entry (Ok inserted) came old new start history calls fits r =
 told_or_kept g entry (Err fault) came old new start history calls fits r =
     let t = r.tells in
     record {
-      contents = λ e. r.ran.fits.explains.contents e ∙ ap (λ (l : List Action). contents_after start l e) t.history_is ∙ after_nothing start history (shapes (length calls) t.shaped) e (all_shapes_say (length calls) t.shaped e) ∙ sym (fits.explains.contents e);
+      contents = λ e. r.ran.fits.explains.contents e ∙ ap (λ (l : List Action). contents_after start l e) t.history_is
+          ∙ after_nothing start history (shapes (length calls) t.shaped) e (all_shapes_say (length calls) t.shaped e) ∙ sym (fits.explains.contents e);
       was_there = λ exists. held entry ((refused Exists (t.exists_is exists)).0 refl);
       key_was_there = λ row is.
           let may = (refused (KeyExists row) (t.key_exists_is row is)).1 row refl in
@@ -140,13 +144,17 @@ told_or_kept g entry (Err fault) came old new start history calls fits r =
         ∙ ap (λ (l : List Action). contents_after start l e) (sym first) ∙ at.there
 
 pub inserts_or_keeps : {S : Type 0} (g : Ghosts S) (entry : Entry) (result : Result Inserted Fault) (old new : StoreAndSlots S)
-    → InsertGoes g 63 entry result old new → Carries g old new (λ start history calls. InsertsOrKeeps g entry result old.store new.store)
-inserts_or_keeps g entry (Ok inserted) old new (inl goes) honest start history calls fits = told_or_kept g entry (Ok inserted) (Some (Added inserted.action inserted.unfinished)) old new start history calls fits (goes honest start history calls fits)
-inserts_or_keeps g entry (Ok inserted) old new (inr short) honest start history calls fits = told_or_kept g entry (Ok inserted) (Some (Refused short.fault)) old new start history calls fits (short.goes honest start history calls fits)
-inserts_or_keeps g entry (Err fault) old new goes honest start history calls fits = told_or_kept g entry (Err fault) (Some (Refused fault)) old new start history calls fits (goes honest start history calls fits)
+    → InsertGoes g 63 entry result old new → ForEachHistory g old new (λ start history calls. InsertsOrKeeps g entry result old.store new.store)
+inserts_or_keeps g entry (Ok inserted) old new (inl goes) honest start history calls fits =
+    told_or_kept g entry (Ok inserted) (Some (Added inserted.action inserted.unfinished)) old new start history calls fits (goes honest start history calls fits)
+inserts_or_keeps g entry (Ok inserted) old new (inr short) honest start history calls fits =
+    told_or_kept g entry (Ok inserted) (Some (Refused short.fault)) old new start history calls fits (short.goes honest start history calls fits)
+inserts_or_keeps g entry (Err fault) old new goes honest start history calls fits =
+    told_or_kept g entry (Err fault) (Some (Refused fault)) old new start history calls fits (goes honest start history calls fits)
 
 -- a running scan's answer so far
-so_far : (start : Entry → Bool) (history : List Action) (number began until : ℕ) (ask : Ask) (range : Range) (given : List Entry) (added : Option ℕ) (ending : Ending) → ask ≡ AskScan range → ending ≡ Running
+so_far : (start : Entry → Bool) (history : List Action) (number began until : ℕ) (ask : Ask) (range : Range) (given : List Entry) (added : Option ℕ)
+    (ending : Ending) → ask ≡ AskScan range → ending ≡ Running
     → AnswersRight start history number began (end_of history ending until) ask given added ending → IsScanAnswerSoFar start history range began (length history) given
 so_far start history number began until ask range given added ending is_ask is_running right =
     subst (λ (a : Ask). AnswersRight start history number began (length history) a given added Running) is_ask
@@ -154,10 +162,11 @@ so_far start history number began until ask range given added ending is_ask is_r
 
 -- ... as it gives
 pub gives_right : {S : Type 0} (g : Ghosts S) (session : ℕ) (result : Result (Option Entry) Fault) (old new : StoreAndSlots S) (start : Entry → Bool) (history : List Action) (calls : List Call)
-    → CallRuns g session (TellsGiven session result) (give_came result) old new start history calls → AnswersScan session result start history calls
+    → CallRuns g session (TellsGiven session result) (given_outcome result) old new start history calls → AnswersScan session result start history calls
 gives_right g session (Ok (Some entry)) old new start history calls r number call range running ask =
     let told : Becomes number (given_one call entry) (snapshot_of old history calls) (snapshot_of new r.then_history r.then_calls) = r.tells number call range running ask in
-    let found : slice_get r.then_calls number ≡ Some (given_one call entry) = ap (λ (l : List Call). slice_get l number) told.calls_is ∙ get_set_same calls number (given_one call entry) (get_within calls number call running.found) in
+    let found : slice_get r.then_calls number ≡ Some (given_one call entry) = ap (λ (l : List Call). slice_get l number) told.calls_is
+    ∙ get_set_same calls number (given_one call entry) (get_within calls number call running.found) in
     let meets : Meets start r.then_history number (given_one call entry) = r.ran.fits.explains.meets number (given_one call entry) found in
     subst (λ (l : List Action). IsScanAnswerSoFar start l range call.began (length l) (call.given ++ entry ∷ [])) told.history_is
     (so_far start r.then_history number call.began call.until call.ask range (call.given ++ entry ∷ []) call.added call.ending ask running.running meets.right)
@@ -209,20 +218,21 @@ is_counted Checkpoints (Checkpointed n) counts kind = number n refl refl
 is_counted Checkpoints (Refused f) counts kind = refusal f
 
 -- what was told was answered
-came_of : (upkeep : Upkeep) (answer : Answer) → IsCounted upkeep answer → kept_came upkeep (counted answer) ≡ Some answer
-came_of upkeep answer (number n is told) = ap (λ (r : Result ℕ Fault). kept_came upkeep r) told ∙ is
+came_of : (upkeep : Upkeep) (answer : Answer) → IsCounted upkeep answer → upkeep_outcome upkeep (counted answer) ≡ Some answer
+came_of upkeep answer (number n is told) = ap (λ (r : Result ℕ Fault). upkeep_outcome upkeep r) told ∙ is
 came_of upkeep answer (refusal fault) = refl
 
 -- it is a run of one event, of which nothing is told
 goes_kept : {S : Type 0} (g : Ghosts S) (laws : Laws g) (upkeep : Upkeep) (event : Event) (answer : Answer) (a b : StoreAndSlots S)
     → kind_of event ≡ KeepsStore upkeep → IsCounted upkeep answer
-    → Carries g a b (Runs g a b (event ∷ []) (answer ∷ [])) → CallGoes g 0 IsSilent (kept_came upkeep (counted answer)) a b
+    → ForEachHistory g a b (Runs g a b (event ∷ []) (answer ∷ [])) → CallGoes g 0 IsSilent (upkeep_outcome upkeep (counted answer)) a b
 goes_kept {S} g laws upkeep event answer a b kind answers runs = subst (λ (came : Option Answer). CallGoes g 0 IsSilent came a b) (sym (came_of upkeep answer answers))
     (goes_by g laws 0 IsSilent event answer a b (subst (λ (k : Kind). IsOfSession 0 k) (sym kind) tt) runs
     (λ start x y from to fits does. keeps_silent g start upkeep answer x y (subst (λ (k : Kind). EventDoes g start k answer x y) kind does)))
 
 -- what was done for the store, as a result tells it: the number of actions, that they are durable, and why it was refused
-module _ {S : Type 0} (g : Ghosts S) (upkeep : Upkeep) (answer : Answer) (old new : S) (result : Result ℕ Fault) (is : result ≡ counted answer) (counts : Counts upkeep) (kind : AnswersUpkeep upkeep answer) (kept : StoreIsKept g upkeep answer old new) where
+module _ {S : Type 0} (g : Ghosts S) (upkeep : Upkeep) (answer : Answer) (old new : S) (result : Result ℕ Fault) (is : result ≡ counted answer)
+    (counts : Counts upkeep) (kind : AnswersUpkeep upkeep answer) (kept : StoreIsKept g upkeep answer old new) where
   number_of : (r : Result ℕ Fault) (a : Answer) → r ≡ counted a → a ≡ answer → IsCounted upkeep a → IfOk r (λ n. n ≡ (g.state old).acts)
   number_of r a told same (number n was ok) = subst (λ (x : Result ℕ Fault). IfOk x (λ m. m ≡ (g.state old).acts)) (sym (told ∙ ok)) (kept.number n (was ∙ ap Some same))
   number_of r a told same (refusal fault) = subst (λ (x : Result ℕ Fault). IfOk x (λ m. m ≡ (g.state old).acts)) (sym told) tt
@@ -232,9 +242,9 @@ module _ {S : Type 0} (g : Ghosts S) (upkeep : Upkeep) (answer : Answer) (old ne
   durable_of r a told same (refusal fault) = subst (λ (x : Result ℕ Fault). OnOk x ((g.backing new).durable ≡ (g.state old).acts)) (sym told) tt
 
   cause_of : (r : Result ℕ Fault) (a : Answer) → r ≡ counted a → a ≡ answer → IsCounted upkeep a
-      → IfErr r (HasCause (where_forced (g.backing old) (g.backing new)))
-  cause_of r a told same (number n was ok) = subst (λ (x : Result ℕ Fault). IfErr x (HasCause (where_forced (g.backing old) (g.backing new)))) (sym (told ∙ ok)) tt
-  cause_of r a told same (refusal fault) = subst (λ (x : Result ℕ Fault). IfErr x (HasCause (where_forced (g.backing old) (g.backing new)))) (sym told) (kept.caused fault (sym same))
+      → IfErr r (HasCause (causes_of_forced (g.backing old) (g.backing new)))
+  cause_of r a told same (number n was ok) = subst (λ (x : Result ℕ Fault). IfErr x (HasCause (causes_of_forced (g.backing old) (g.backing new)))) (sym (told ∙ ok)) tt
+  cause_of r a told same (refusal fault) = subst (λ (x : Result ℕ Fault). IfErr x (HasCause (causes_of_forced (g.backing old) (g.backing new)))) (sym told) (kept.caused fault (sym same))
 
   pub number_told : IfOk result (λ n. n ≡ (g.state old).acts)
   number_told = number_of result answer is refl (is_counted upkeep answer counts kind)
@@ -242,7 +252,7 @@ module _ {S : Type 0} (g : Ghosts S) (upkeep : Upkeep) (answer : Answer) (old ne
   pub durable_told : OnOk result ((g.backing new).durable ≡ (g.state old).acts)
   durable_told = durable_of result answer is refl (is_counted upkeep answer counts kind)
 
-  pub cause_told : IfErr result (HasCause (where_forced (g.backing old) (g.backing new)))
+  pub cause_told : IfErr result (HasCause (causes_of_forced (g.backing old) (g.backing new)))
   cause_told = cause_of result answer is refl (is_counted upkeep answer counts kind)
 
 -- a checkpoint leaves the whole room of the log
@@ -254,6 +264,8 @@ room_told Room answer result is kind h = subst (λ (r : Result ℕ Fault). OnOk 
     of a (number n was ok) room = subst (λ (r : Result ℕ Fault). OnOk r Room) (sym ok) (room n (sym (same_some (kept_answer Checkpoints n) (Checkpointed n) a refl was)))
     of a (refusal fault) room = tt
 
-pub goes_told_kept : {S : Type 0} (g : Ghosts S) (laws : Laws g) (upkeep : Upkeep) (event : Event) (answer : Answer) (a b : StoreAndSlots S) (result : Result ℕ Fault) → result ≡ counted answer → kind_of event ≡ KeepsStore upkeep
-    → Counts upkeep → AnswersUpkeep upkeep answer → Carries g a b (Runs g a b (event ∷ []) (answer ∷ [])) → CallGoes g 0 IsSilent (kept_came upkeep result) a b
-goes_told_kept g laws upkeep event answer a b result is kind counts answers runs = subst (λ (r : Result ℕ Fault). CallGoes g 0 IsSilent (kept_came upkeep r) a b) (sym is) (goes_kept g laws upkeep event answer a b kind (is_counted upkeep answer counts answers) runs)
+pub goes_told_kept : {S : Type 0} (g : Ghosts S) (laws : Laws g) (upkeep : Upkeep) (event : Event) (answer : Answer) (a b : StoreAndSlots S)
+    (result : Result ℕ Fault) → result ≡ counted answer → kind_of event ≡ KeepsStore upkeep
+    → Counts upkeep → AnswersUpkeep upkeep answer → ForEachHistory g a b (Runs g a b (event ∷ []) (answer ∷ [])) → CallGoes g 0 IsSilent (upkeep_outcome upkeep result) a b
+goes_told_kept g laws upkeep event answer a b result is kind counts answers runs =
+    subst (λ (r : Result ℕ Fault). CallGoes g 0 IsSilent (upkeep_outcome upkeep r) a b) (sym is) (goes_kept g laws upkeep event answer a b kind (is_counted upkeep answer counts answers) runs)

@@ -18,9 +18,9 @@ use Rattle.session_calls.specs.Ops.{RunsOn}
 use Rattle.session_calls.proofs.RunningOn.{stays_vacuum}
 use Rattle.session_calls.specs.declared.request.Request.TheVariants.{Scan as ToScan}
 use Rattle.session_calls.specs.declared.op.Op.{Op}
-use Rattle.schedule.specs.TheoremMoments.{Snapshot}
+use Rattle.schedule.specs.TheoremMoments.{Moment}
 use Rattle.session_calls.specs.Slots.{slot_of, slot_vacuums}
-use Rattle.schedule.specs.Events.{OthersStay, where_begun_at}
+use Rattle.schedule.specs.Events.{OthersStay, causes_of_begun_at}
 use Rattle.schedule.proofs.Unused.{in_replicate}
 use Rattle.schedule.proofs.Lists.{get_set_same, get_set_other, get_some}
 use Rattle.whole_calls.specs.Telling.{TellsEnd, BeginTold}
@@ -112,7 +112,7 @@ module _ (old new : List (Option Op)) (seats : List (Option Seat)) (session : �
   }
 
 -- an end, and then a beginning
-pub rescan_told : {S : Type 0} (session : ℕ) (range : Range) (u : Unit {0}) (x y z : Snapshot S) → TellsEnd session x y
+pub rescan_told : {S : Type 0} (session : ℕ) (range : Range) (u : Unit {0}) (x y z : Moment S) → TellsEnd session x y
     → BeginTold session (ToScan range) (Ok u) y z → RescanTold session range x z
 rescan_told session range u x y z end began = record {
   history_is = began.history_is ∙ end.history_is;
@@ -154,10 +154,11 @@ no_cause stopped runs (KeyExists row) h = cc
 -- a scan that may begin is not refused
 pub may_begin : {S : Type 0} (g : Ghosts S) (old store : S) (slots : List (Option Op)) (session : ℕ) (fault : Fault) (at_end : Bool)
     → ((g.backing old).stopped || (is_at_end (g.state old).begun || at_end)) ≡ false → g.backing store ≡ g.backing old → (g.state store).begun ≡ (g.state old).begun
-    → session < length slots → slot_of slots session ≡ None → (vacuums : Bool) (sets : DeadSets) (range : Range) → HasCause (where_begun_at g store vacuums sets (ToScan range) (slice_get slots session)) fault → ⊥
+    → session < length slots → slot_of slots session ≡ None → (vacuums : Bool) (sets : DeadSets) (range : Range)
+    → HasCause (causes_of_begun_at g store vacuums sets (ToScan range) (slice_get slots session)) fault → ⊥
 may_begin g old store slots session fault at_end may backing begun within over vacuums sets range cause =
     no_cause ((g.backing store).stopped || is_at_end (g.state store).begun) runs fault
-    (subst (λ (o : Option (Option Op)). HasCause (where_begun_at g store vacuums sets (ToScan range) o) fault) (empty_slot slots session within over) cause)
+    (subst (λ (o : Option (Option Op)). HasCause (causes_of_begun_at g store vacuums sets (ToScan range) o) fault) (empty_slot slots session within over) cause)
   where
     first : (a b c : Bool) → (a || (b || c)) ≡ false → (a || b) ≡ false
     first false false c h = refl

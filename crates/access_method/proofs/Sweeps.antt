@@ -20,12 +20,12 @@ use Rattle.session_calls.specs.declared.op.Op.TheVariants.{Bulk}
 use Rattle.session_calls.specs.declared.request.Request.TheVariants.{Bulk as ToBulk}
 use Rattle.schedule.specs.TheoremCrashes.{KeepsHistory, IsCrashSafe}
 use Rattle.schedule.specs.Events.{OthersStay}
-use Rattle.schedule.specs.TheoremMoments.{StoreAndSlots, Snapshot, snapshot_of}
+use Rattle.schedule.specs.TheoremMoments.{StoreAndSlots, Moment, snapshot_of}
 use Rattle.schedule.specs.TheoremRuns.{Fits}
 use Rattle.session_calls.specs.Slots.{slot_of}
 use Rattle.schedule.proofs.Lists.{get_append_new}
 use Rattle.whole_calls.specs.Going.{CallRuns}
-use Rattle.whole_calls.specs.Sweeping.{SweepTold, swept_came, TellsEntries, TellsPages, removed_of}
+use Rattle.whole_calls.specs.Sweeping.{SweepTold, sweep_outcome, TellsEntries, TellsPages, removed_of}
 use Rattle.whole_calls.specs.Telling.{acts_by, AreOwnEffects, first_call}
 use Rattle.access_method.specs.Indexes.{IsSweptOrLess}
 
@@ -75,7 +75,8 @@ drop_front [] ys = refl
 drop_front (x ∷ xs) ys = drop_front xs ys
 
 -- a bulk delete over this set
-module _ {S : Type 0} (g : Ghosts S) (dead : Row → Bool) (old new : StoreAndSlots S) (sets_are : old.sets ≡ dead ∷ []) (start : Entry → Bool) (history : List Action) (calls : List Call) (fits : Fits g start (snapshot_of old history calls)) where
+module _ {S : Type 0} (g : Ghosts S) (dead : Row → Bool) (old new : StoreAndSlots S) (sets_are : old.sets ≡ dead ∷ []) (start : Entry → Bool)
+    (history : List Action) (calls : List Call) (fits : Fits g start (snapshot_of old history calls)) where
   abbrev sweep_call : Call
   sweep_call = first_call 63 (ToBulk 0) (snapshot_of old history calls)
 
@@ -112,7 +113,8 @@ module _ {S : Type 0} (g : Ghosts S) (dead : Row → Bool) (old new : StoreAndSl
         of false at = refl
         of true at =
             let before : is_there_after start then_history (length history) e ≡ true =
-            ap (λ (l : List Action). is_there_after start l (length history) e) is ∙ there_before start history (acts_by (length calls) effects) (length history) e (omega arith) ∙ there_now start history e ∙ was_there e at in
+            ap (λ (l : List Action). is_there_after start l (length history) e) is
+            ∙ there_before start history (acts_by (length calls) effects) (length history) e (omega arith) ∙ there_now start history e ∙ was_there e at in
             let now : is_there_after start then_history (length then_history) e ≡ true = there_now start then_history e ∙ at in
             absurd (adds_none dead (length calls) sweep_call (length history) effects e asks own (subst (λ (l : List Action). IsAddedIn l e) between (right.gone e gone before now)))
 
@@ -126,7 +128,7 @@ module _ {S : Type 0} (g : Ghosts S) (dead : Row → Bool) (old new : StoreAndSl
   removed_so false false dies same there = refl
 
   pub swept_or_less : (result : Result VacuumStats Fault)
-      → (r : CallRuns g 63 (SweepTold 63 (ToBulk 0) result) (swept_came result) old new start history calls) → TellsEntries (g.state new.store) result
+      → (r : CallRuns g 63 (SweepTold 63 (ToBulk 0) result) (sweep_outcome result) old new start history calls) → TellsEntries (g.state new.store) result
       → IfOk result (λ stats. TellsPages (g.state new.store) stats × (stats.pages_newly_deleted ≡ 0))
       → IsSweptOrLess g dead result old.store new.store
   swept_or_less (Ok stats) r left pages =
@@ -135,7 +137,8 @@ module _ {S : Type 0} (g : Ghosts S) (dead : Row → Bool) (old new : StoreAndSl
       let found : slice_get r.then_calls (length calls) ≡ Some call = ap (λ (l : List Call). slice_get l (length calls)) t.calls_is ∙ get_append_new calls call in
       let meets : Meets start r.then_history (length calls) call = r.ran.fits.explains.meets (length calls) call found in
       let right : IsBulkDeleteAnswer start r.then_history (length calls) (length history) (length r.then_history) dead stats =
-      subst (λ (l : List (Row → Bool)). IsBulkDeleteAnswer start r.then_history (length calls) (length history) (length r.then_history) (unwrap_or (slice_get l 0) (λ row. false)) stats) sets_are meets.right in
+      subst (λ (l : List (Row → Bool)).
+      IsBulkDeleteAnswer start r.then_history (length calls) (length history) (length r.then_history) (unwrap_or (slice_get l 0) (λ row. false)) stats) sets_are meets.right in
       let apt = remove_there start (length calls) r.then_calls call dead found asks history r.then_history t.effects t.history_is r.ran.fits.explains.owned in
       let after : (e : Entry) → contents_after start r.then_history e ≡ (contents_after start history e && not (dead e.row)) = λ e. of e (dead e.row) refl t.effects t.own t.history_is right in
       record {
@@ -144,7 +147,8 @@ module _ {S : Type 0} (g : Ghosts S) (dead : Row → Bool) (old new : StoreAndSl
           listed = removed_of t.effects;
           once = all_once start (length calls) history t.effects apt;
           such = λ e. removed_so (contents_after start history e) (is_among (removed_of t.effects) e) (dead e.row)
-              (sym (left_by_all start (length calls) history t.effects apt e) ∙ ap (λ (l : List Action). contents_after start l e) (sym t.history_is) ∙ after e) (all_were start (length calls) history t.effects apt e)
+              (sym (left_by_all start (length calls) history t.effects apt e) ∙ ap (λ (l : List Action). contents_after start l e) (sym t.history_is)
+              ∙ after e) (all_were start (length calls) history t.effects apt e)
               ∙ ap (λ (b : Bool). b && dead e.row) (sym (fits.explains.contents e));
           many = right.removed ∙ ap (λ (l : List Action). removed_by (length calls) l) (between r.then_history t.effects t.own t.history_is) ∙ all_counted start (length calls) t.effects;
         };
@@ -163,9 +167,12 @@ module _ {S : Type 0} (g : Ghosts S) (dead : Row → Bool) (old new : StoreAndSl
 
       of : (e : Entry) (d : Bool) → dead e.row ≡ d → (effects : List Effect) → AreOwnEffects sweep_call (length history) effects
           → r.then_history ≡ history ++ acts_by (length calls) effects
-          → IsBulkDeleteAnswer start r.then_history (length calls) (length history) (length r.then_history) dead stats → contents_after start r.then_history e ≡ (contents_after start history e && not (dead e.row))
-      of e false alive effects own is right = alive_stays r.then_history effects own is e alive ∙ and_true (contents_after start history e) ∙ ap (λ (d : Bool). contents_after start history e && not d) (sym alive)
-      of e true gone effects own is right = dead_is_gone r.then_history effects own is stats right e gone ∙ and_false (contents_after start history e) ∙ ap (λ (d : Bool). contents_after start history e && not d) (sym gone)
+          → IsBulkDeleteAnswer start r.then_history (length calls) (length history) (length r.then_history) dead stats
+          → contents_after start r.then_history e ≡ (contents_after start history e && not (dead e.row))
+      of e false alive effects own is right = alive_stays r.then_history effects own is e alive ∙ and_true (contents_after start history e)
+          ∙ ap (λ (d : Bool). contents_after start history e && not d) (sym alive)
+      of e true gone effects own is right = dead_is_gone r.then_history effects own is stats right e gone ∙ and_false (contents_after start history e)
+          ∙ ap (λ (d : Bool). contents_after start history e && not d) (sym gone)
   swept_or_less (Err fault) r left pages =
       let t = r.tells in
       record {
@@ -186,7 +193,7 @@ none_sweeps old new others over before session set op at = elim (cases_eq sessio
 ]
 
 -- a stretch is crash-safe whatever the sets are
-pub safe_within : {S : Type 0} (g : Ghosts S) (start : Entry → Bool) (first last : Snapshot S) (sets then_sets : List (Row → Bool))
+pub safe_within : {S : Type 0} (g : Ghosts S) (start : Entry → Bool) (first last : Moment S) (sets then_sets : List (Row → Bool))
     → (KeepsHistory g start (record first { sets = sets }) → IsCrashSafe g start (record first { sets = sets }) last)
     → KeepsHistory g start first → IsCrashSafe g start first (record last { sets = then_sets })
 safe_within g start first last sets then_sets safe keeps =

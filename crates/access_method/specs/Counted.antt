@@ -15,6 +15,6 @@ counted (Refused fault) = Err fault
 counted answer = Err NoSession
 
 -- ... and what was answered then
-abbrev pub kept_came : Upkeep → Result ℕ Fault → Option Answer
-kept_came upkeep (Ok count) = kept_answer upkeep count
-kept_came upkeep (Err fault) = Some (Refused fault)
+abbrev pub upkeep_outcome : Upkeep → Result ℕ Fault → Option Answer
+upkeep_outcome upkeep (Ok count) = kept_answer upkeep count
+upkeep_outcome upkeep (Err fault) = Some (Refused fault)

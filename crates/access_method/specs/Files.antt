@@ -1,6 +1,6 @@
 -- Indexes in files: how one is opened, and what a commit or a closing leaves on the disk.
 use Rattle.std.specs.Prelude.{◌≡◌, ℕ, Bool, true, List, length, ⊤}
-use Rattle.access_method.specs.Indexes.{IndexFits, IndexCarries, IndexKeeps}
+use Rattle.access_method.specs.Indexes.{IndexFits, ForEachIndexHistory, IndexKeeps}
 use Rattle.access_method.specs.declared.index.Index.{Index}
 use Rattle.device.specs.Disk.{Trace, MayLeave}
 use Rattle.device.specs.declared.device.Device.{Ghosts as DeviceGhosts}
@@ -32,7 +32,7 @@ IsOpenFault fault = ⊥
 -- Where the device has kept its model up to now: whatever contents, actions and calls fitted the index and were kept, each image
 -- that a crash leaves now is an index with the contents after a first part of these actions, of so many at least.
 abbrev pub StaysOnDisk : {D : Type 0} (d : DeviceGhosts D) → Ghosts (Store D d) → ℕ → Index (Store D d) → Index (Store D d) → Type 0
-StaysOnDisk d g count old new = IndexCarries g old new (λ start history calls. IndexKeeps g old start history calls
+StaysOnDisk d g count old new = ForEachIndexHistory g old new (λ start history calls. IndexKeeps g old start history calls
     → (image : List ℕ) → MayLeave (held_by d new.store).trace.now image
     → IsIndexAfterFirstPart (state_of d new.store).limits start history count image)
 

@@ -24,13 +24,13 @@ use Rattle.session_calls.specs.TheoremCalls.{begun_call}
 use Rattle.session_calls.specs.declared.answer.Answer.{Answer}
 use Rattle.session_calls.specs.declared.request.Request.TheVariants.{Bulk as ToBulk}
 use Rattle.schedule.specs.TheoremCrashes.{KeepsHistory, IsCrashSafe}
-use Rattle.schedule.specs.TheoremRuns.{Carries, Fits}
-use Rattle.schedule.specs.TheoremMoments.{StoreAndSlots, Snapshot, snapshot_of, IsRunningCall}
+use Rattle.schedule.specs.TheoremRuns.{ForEachHistory, Fits}
+use Rattle.schedule.specs.TheoremMoments.{StoreAndSlots, Moment, snapshot_of, IsRunningCall}
 use Rattle.vacuum.specs.Counts.{entries_below}
 use Rattle.whole_calls.specs.Going.{CallRuns, CallGoes}
 use Rattle.whole_calls.specs.Inserting.{InsertGoes}
 use Rattle.whole_calls.specs.Made.{IsMadeOf}
-use Rattle.whole_calls.specs.Sweeping.{SweepTold, swept_came, TellsCleaned, TellsDeleted, TellsPages}
+use Rattle.whole_calls.specs.Sweeping.{SweepTold, sweep_outcome, TellsCleaned, TellsDeleted, TellsPages}
 use Rattle.whole_calls.specs.Telling.{HasNone}
 use Rattle.whole_calls.specs.declared.inserted.Inserted.{Inserted}
 use Rattle.access_method.specs.Tokens.{seat_of, AreTaken}
@@ -52,7 +52,7 @@ IndexKeeps g index start history calls = KeepsHistory g start (snapshot_of (slot
 
 -- for whatever fitted the index before there is a run of events of this session, of which one answered what the call came
 -- to, and this is told
-abbrev pub IndexGoes : {S : Type 0} → Ghosts S → ℕ → (Snapshot S → Snapshot S → Type 0) → Option Answer → Index S → Index S → Type 0
+abbrev pub IndexGoes : {S : Type 0} → Ghosts S → ℕ → (Moment S → Moment S → Type 0) → Option Answer → Index S → Index S → Type 0
 IndexGoes g session Tells came old new = CallGoes g session Tells came (slots_within old) (slots_within new)
 
 -- ... of an insert that is run to its end
@@ -65,8 +65,8 @@ abbrev pub IndexMakes : {S : Type 0} → Ghosts S → ℕ → (List Answer → T
 IndexMakes g session Came old new = IsMadeOf g session 5 Came (slots_within old) (slots_within new)
 
 -- where the device has kept its model up to now, this holds of whatever fitted the index before
-abbrev pub IndexCarries : {S : Type 0} → Ghosts S → Index S → Index S → ((Entry → Bool) → List Action → List Call → Type 0) → Type 0
-IndexCarries g old new goes = Carries g (slots_within old) (slots_within new) goes
+abbrev pub ForEachIndexHistory : {S : Type 0} → Ghosts S → Index S → Index S → ((Entry → Bool) → List Action → List Call → Type 0) → Type 0
+ForEachIndexHistory g old new goes = ForEachHistory g (slots_within old) (slots_within new) goes
 
 -- the same, with one set of dead rows
 abbrev pub slots_with : {S : Type 0} → (Row → Bool) → Index S → StoreAndSlots S
@@ -75,8 +75,9 @@ slots_with dead index = record { store = index.store; slots = index.calls.slots.
 -- A bulk delete of this set goes, run to its end: there is a run of events over the index with this set, of which one answered
 -- what the call came to. The index is fitted by what comes behind it; where the history was kept, it is so still, and a crash in
 -- between leaves a first part of it.
-pub record SweepRuns {S : Type 0} (g : Ghosts S) (dead : Row → Bool) (result : Result VacuumStats Fault) (old new : Index S) (start : Entry → Bool) (history : List Action) (calls : List Call) : Type 0 where
-  pub sweeps : CallRuns g 63 (SweepTold 63 (ToBulk 0) result) (swept_came result) (slots_with dead old) (slots_with dead new) start history calls
+pub record SweepRuns {S : Type 0} (g : Ghosts S) (dead : Row → Bool) (result : Result VacuumStats Fault) (old new : Index S) (start : Entry → Bool)
+    (history : List Action) (calls : List Call) : Type 0 where
+  pub sweeps : CallRuns g 63 (SweepTold 63 (ToBulk 0) result) (sweep_outcome result) (slots_with dead old) (slots_with dead new) start history calls
   pub fits : IndexFits g new start sweeps.then_history sweeps.then_calls
   pub safe : IndexKeeps g old start history calls → IsCrashSafe g start (snapshot_of (slots_within old) history calls) (snapshot_of (slots_within new) sweeps.then_history sweeps.then_calls)
 
@@ -118,7 +119,7 @@ NotRescannedFor g index token NoSession = seat_of index.seats token ≡ None
 NotRescannedFor g index token fault = ⊥
 
 -- the old call is given up, if it still ran, and a scan of the range is begun; no action is appended
-pub record RescanTold {S : Type 0} (session : ℕ) (range : Range) (old new : Snapshot S) : Type 0 where
+pub record RescanTold {S : Type 0} (session : ℕ) (range : Range) (old new : Moment S) : Type 0 where
   pub history_is : new.history ≡ old.history
   pub given_up : List Call
   pub kept : HasNone session old → given_up ≡ old.calls
@@ -162,7 +163,7 @@ pub record AreSoMany (is_such : Entry → Bool) (count : ℕ) : Type 0 where
 
 -- the entries of dead rows are gone, and no others; and it is told how many they were, how many entries are left, how many pages are in use,
 -- and how many of them are deleted, of which it has deleted none
-pub record IsSwept {S : Type 0} (g : Ghosts S) (dead : Row → Bool) (stats : VacuumStats) (old new : S) : Type 0 where
+pub record IsBulkDeleted {S : Type 0} (g : Ghosts S) (dead : Row → Bool) (stats : VacuumStats) (old new : S) : Type 0 where
   pub contents : (e : Entry) → has_entry g new e ≡ (has_entry g old e && not (dead e.row))
   pub removed : AreSoMany (λ e. has_entry g old e && dead e.row) stats.tuples_removed
   pub left : stats.num_index_tuples ≡ entries_below (g.state new).pages (length (g.state new).pages)
@@ -176,7 +177,7 @@ pub record LosesDeadRows {S : Type 0} (g : Ghosts S) (dead : Row → Bool) (old 
 
 -- the entries of dead rows are gone; or some of them, where it was refused
 abbrev pub IsSweptOrLess : {S : Type 0} → Ghosts S → (Row → Bool) → Result VacuumStats Fault → S → S → Type 0
-IsSweptOrLess g dead (Ok stats) old new = IsSwept g dead stats old new
+IsSweptOrLess g dead (Ok stats) old new = IsBulkDeleted g dead stats old new
 IsSweptOrLess g dead (Err fault) old new = LosesDeadRows g dead old new
 
 -- the contents are those before a cleanup; where it answers, it tells how many entries there are, and no half-dead page is left; and how many

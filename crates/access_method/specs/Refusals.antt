@@ -24,8 +24,8 @@ use Rattle.access_method.specs.declared.index.Index.{Index}
 -- a counter is at its end; the call of an open scan, another one, still runs, and may hold a page or a frame; there are fewer frames
 -- than one act needs. The log is never full, there is a session, which has no other call, no bulk delete or cleanup runs, and no page
 -- is damaged.
-abbrev pub where_run : {S : Type 0} → Ghosts S → ℕ → Index S → S → Circumstances
-where_run g session old new = record nothing_wrong {
+abbrev pub causes_of_run : {S : Type 0} → Ghosts S → ℕ → Index S → S → Circumstances
+causes_of_run g session old new = record nothing_wrong {
   device_failed = has_failed (g.backing old.store) (g.backing new);
   is_stopped = ((g.backing old.store).stopped || has_failed (g.backing old.store) (g.backing new)) || (is_at_end (g.state old.store).begun || nat_le 18446744073709551615 (g.state new).acts);
   is_held_by_another = λ b. another_runs old.calls.slots.items session;
@@ -34,8 +34,8 @@ where_run g session old new = record nothing_wrong {
 
 -- ... of an insert also that its entry was there, or another row of its key, that no block can be had, or that the root is on level 31,
 -- as far as these say so
-abbrev pub where_inserting : {S : Type 0} → Ghosts S → Bool → (Row → Bool) → Bool → Bool → Index S → S → Circumstances
-where_inserting g was_there key_was no_block tall old new = record (where_run g 63 old new) {
+abbrev pub causes_of_aminsert : {S : Type 0} → Ghosts S → Bool → (Row → Bool) → Bool → Bool → Index S → S → Circumstances
+causes_of_aminsert g was_there key_was no_block tall old new = record (causes_of_run g 63 old new) {
   entry_was_there = was_there;
   key_was_there = key_was;
   no_block_is_free = no_block;
@@ -50,9 +50,10 @@ none_is_left begun st = has_no_block 63 (Some begun) st
 -- a refused insert had its cause, on a unique index maybe that another row of its key was there; and so had what an insert leaves
 -- unfinished: never that its entry or its key was there
 abbrev pub InsertHasCause : {S : Type 0} → Ghosts S → Entry → Result Inserted Fault → Index S → S → Type 0
-InsertHasCause g entry (Ok inserted) old new = IsFaultCaused (where_inserting g false (λ r. false) (none_is_left (g.state old.store).begun (g.state new)) (is_tall (g.state new)) old new) inserted.unfinished
+InsertHasCause g entry (Ok inserted) old new =
+    IsFaultCaused (causes_of_aminsert g false (λ r. false) (none_is_left (g.state old.store).begun (g.state new)) (is_tall (g.state new)) old new) inserted.unfinished
 InsertHasCause g entry (Err fault) old new =
-    HasCause (where_inserting g (has_entry g old.store entry) (other_row_is_there (g.state old.store) entry) (none_is_left (g.state old.store).begun (g.state new))
+    HasCause (causes_of_aminsert g (has_entry g old.store entry) (other_row_is_there (g.state old.store) entry) (none_is_left (g.state old.store).begun (g.state new))
     (is_tall (g.state new)) old new) fault
 
 -- Nothing hinders a call of this session between these moments: no other open scan's call runs, the log hasn't failed before and no
@@ -94,7 +95,7 @@ InsertsUnhindered g entry (Err fault) old new = IsForWantOfSpace g entry old new
 -- the running scan of the session gives no entry that is asked for one: that has its cause
 abbrev pub GiveHasCause : {S : Type 0} → Ghosts S → ℕ → Result (Option Entry) Fault → Index S → S → (Entry → Bool) → List Action → List Call → Type 0
 GiveHasCause g session result old new start history calls =
-    (number : ℕ) (call : Call) (range : Range) → IsRunningCall calls session number call → call.ask ≡ AskScan range → IfErr result (HasCause (where_run g session old new))
+    (number : ℕ) (call : Call) (range : Range) → IsRunningCall calls session number call → call.ask ≡ AskScan range → IfErr result (HasCause (causes_of_run g session old new))
 
 -- ... where nothing hinders it, it gives one, or None
 abbrev pub GivesUnhindered : {S : Type 0} → Ghosts S → ℕ → Result (Option Entry) Fault → Index S → S → (Entry → Bool) → List Action → List Call → Type 0

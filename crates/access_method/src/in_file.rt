@@ -4,12 +4,12 @@ ghost use Rattle.std.specs.Prelude.{◌≡◌, ◌⊎◌, IsTrue, List, length, 
 ghost use Rattle.access_method.specs.Files.{bytes_before, IsOpenFault, StaysOnDevice, IsLastOver};
 ghost use Rattle.access_method.specs.Indexes.{IndexBegins};
 ghost use Rattle.device.specs.Event.{behind_calls};
-ghost use Rattle.device_layout.specs.Layout.{needed_length};
+ghost use Rattle.page_codec.specs.Places.{needed_length};
 ghost use Rattle.index_model.specs.Faults.{HasCause};
 ghost use Rattle.index_model.specs.Formats.{made};
 ghost use Rattle.index_model.specs.Limits.{AreLimits};
 ghost use Rattle.index_model.specs.declared.format.Format.{Format};
-ghost use Rattle.page_action.specs.Causes.{where_forced};
+ghost use Rattle.page_action.specs.Causes.{causes_of_forced};
 ghost use Rattle.page_action.specs.Room.{HasWholeRoom};
 ghost use Rattle.page_codec.specs.declared.page.Page.{Page};
 ghost use Rattle.page_store.specs.Stores.{state_of, device_of};
@@ -22,9 +22,9 @@ ghost use Rattle.tree_acts.specs.TheoremKeys.{IsTreeFor};
 use crate::draft::{draft_of, make_draft, place_draft, want_free};
 use crate::index::Index;
 use device::{Device, FileDevice, Start};
-use device_layout::{needed_len, page_place};
 use index_model::{Fault, Format, Limits};
 use page_action::PageStore;
+use page_codec::{needed_len, page_place};
 use page_store::Store;
 use std::alloc::Global;
 use std::fs::{self, File};
@@ -159,7 +159,7 @@ pub fn close<D: Device>(index: Index<Store<D>>) -> Closed<D>
     ensures empties { OnOk result.written (IsLastOver D.Device result.device (λ last.
         HasWholeRoom (state_of D.Device index.store).limits (⟦<Store<D> as PageStore>⟧.backing last))) }
     ensures cause { IfErr result.written (λ fault. IsLastOver D.Device result.device (λ last.
-        HasCause (where_forced (⟦<Store<D> as PageStore>⟧.backing index.store)
+        HasCause (causes_of_forced (⟦<Store<D> as PageStore>⟧.backing index.store)
         (⟦<Store<D> as PageStore>⟧.backing last)) fault)) }
 {
     let mut index = index;

@@ -39,9 +39,9 @@ pub struct NotMade<S> {
 }
 
 // A set of dead rows without rows.
-struct NoRows {}
+struct EmptySet {}
 
-impl DeadRows for NoRows {
+impl DeadRows for EmptySet {
     ghost use Rattle.std.specs.Prelude.{false};
 
     ghost is_in = { λ rows row. false };
@@ -52,15 +52,15 @@ impl DeadRows for NoRows {
 }
 
 // What scans and inserts are given: they name no set.
-const NO_SETS: [NoRows; 0] = [];
+const NO_SETS: [EmptySet; 0] = [];
 
 // The one set that a bulk delete names.
 #[derive(Drop)]
-struct Lent<'a, T> {
+struct BorrowedRows<'a, T> {
     rows: &'a T,
 }
 
-impl<T: DeadRows> DeadRows for Lent<'_, T> {
+impl<T: DeadRows> DeadRows for BorrowedRows<'_, T> {
     ghost is_in = { λ set row. T.is_in set.rows.now row };
 
     fn is_dead(&self, row: RowAddr) -> bool {
@@ -98,22 +98,22 @@ impl<S: PageStore> Index<S> {
     ghost use Rattle.page_action.specs.Contents.{entry_on_live_leaf};
     ghost use Rattle.page_action.specs.Room.{HasWholeRoom};
     ghost use Rattle.index_model.specs.Faults.{HasCause};
-    ghost use Rattle.page_action.specs.Causes.{where_forced};
+    ghost use Rattle.page_action.specs.Causes.{causes_of_forced};
     ghost use Rattle.page_action.specs.States.{Continues};
     ghost use Rattle.session_calls.specs.Ops.{op_before};
     ghost use Rattle.session_calls.specs.declared.answer.Answer.TheVariants.{Begun};
     ghost use Rattle.session_calls.specs.declared.request.Request.TheVariants.{Scan as ToScan, Cleanup as ToCleanup};
     ghost use Rattle.schedule.specs.TheoremKinds.{Forces, Checkpoints};
     ghost use Rattle.schedule.specs.Sessions.{op_of};
-    ghost use Rattle.schedule.specs.Snapshots.{IsUnused};
+    ghost use Rattle.schedule.specs.MomentInvariants.{IsUnused};
     ghost use Rattle.whole_calls.specs.Made.{IsMadeOf, ComesTo, InsertComesTo};
     ghost use Rattle.whole_calls.specs.Telling.{IsSilent, HasBegun, TellsEnd};
-    ghost use Rattle.whole_calls.specs.Sweeping.{SweepTold, swept_came, LeavesOnlyNeeded};
-    ghost use Rattle.whole_calls.specs.Giving.{TellsGiven, EndsUnlessGiven, give_came};
+    ghost use Rattle.whole_calls.specs.Sweeping.{SweepTold, sweep_outcome, LeavesOnlyNeeded};
+    ghost use Rattle.whole_calls.specs.Giving.{TellsGiven, EndsUnlessGiven, given_outcome};
     ghost use Rattle.access_method.specs.Tokens.{seat_of};
-    ghost use Rattle.access_method.specs.Indexes.{IndexFits, IndexKeeps, IndexGoes, IndexInserts, IndexMakes, slots_with, IndexCarries, SweepRuns, KeepsTokens, IsNewToken, SeatBecomes, seat_with, RescanTold, TokenAfter, InsertsOrKeeps, IsSweptOrLess, IsCleanedUp, AnswersScan, NotOpenedFor, NotRescannedFor, cannot_begin};
-    ghost use Rattle.access_method.specs.Counted.{kept_came};
-    ghost use Rattle.access_method.specs.Refusals.{where_run, InsertHasCause, IsUnhindered, IsCalm, InsertsUnhindered, GiveHasCause, GivesUnhindered};
+    ghost use Rattle.access_method.specs.Indexes.{IndexFits, IndexKeeps, IndexGoes, IndexInserts, IndexMakes, slots_with, ForEachIndexHistory, SweepRuns, KeepsTokens, IsNewToken, SeatBecomes, seat_with, RescanTold, TokenAfter, InsertsOrKeeps, IsSweptOrLess, IsCleanedUp, AnswersScan, NotOpenedFor, NotRescannedFor, cannot_begin};
+    ghost use Rattle.access_method.specs.Counted.{upkeep_outcome};
+    ghost use Rattle.access_method.specs.Refusals.{causes_of_run, InsertHasCause, IsUnhindered, IsCalm, InsertsUnhindered, GiveHasCause, GivesUnhindered};
 
     /// An index over the store, with no call and no open scan. Where the store's pages are in order and it has made no
     /// act, the index is fitted by the contents of its pages, no actions and no calls; over an own device it keeps them
@@ -151,13 +151,13 @@ impl<S: PageStore> Index<S> {
         ensures runs { IndexInserts S.PageStore 63 entry result self.old self.new }
         // Whatever the pages are.
         ensures made { IndexMakes S.PageStore 63 (InsertComesTo result) self.old self.new }
-        ensures inserts { IndexCarries S.PageStore self.old self.new
+        ensures inserts { ForEachIndexHistory S.PageStore self.old self.new
             (λ start history calls. InsertsOrKeeps S.PageStore entry result self.old.store
             self.new.store) }
         // It never answers `LogFull`, `NoSession`, `SessionBusy` nor `VacuumRunning`.
-        ensures cause { IndexCarries S.PageStore self.old self.new
+        ensures cause { ForEachIndexHistory S.PageStore self.old self.new
             (λ start history calls. InsertHasCause S.PageStore entry result self.old self.new.store) }
-        ensures alone { IndexCarries S.PageStore self.old self.new
+        ensures alone { ForEachIndexHistory S.PageStore self.old self.new
             (λ start history calls. IsUnhindered S.PageStore 63 self.old self.new.store
             → InsertsUnhindered S.PageStore entry result self.old.store self.new.store) }
         ensures tokens { KeepsTokens self.old self.new }
@@ -178,25 +178,25 @@ impl<S: PageStore> Index<S> {
     /// `PageDamaged` (17) on pages that are no tree: what it has removed stays removed, and no other entry is gone.
     pub fn ambulkdelete<T: DeadRows>(&mut self, dead: &T) -> Result<VacuumStats, Fault>
         ensures steps { Continues S.follows self.old.store self.new.store }
-        ensures sweeps { IndexCarries S.PageStore self.old self.new
+        ensures sweeps { ForEachIndexHistory S.PageStore self.old self.new
             (SweepRuns S.PageStore (T.is_in dead.now) result self.old self.new) }
         // Whatever the pages are.
-        ensures made { IsMadeOf S.PageStore 63 5 (ComesTo (swept_came result))
+        ensures made { IsMadeOf S.PageStore 63 5 (ComesTo (sweep_outcome result))
             (slots_with (T.is_in dead.now) self.old) (slots_with (T.is_in dead.now) self.new) }
-        ensures deletes { IndexCarries S.PageStore self.old self.new
+        ensures deletes { ForEachIndexHistory S.PageStore self.old self.new
             (λ start history calls. IsSweptOrLess S.PageStore (T.is_in dead.now) result
             self.old.store self.new.store) }
         // It never answers `LogFull`, `NoSession`, `SessionBusy` nor `VacuumRunning`.
-        ensures cause { IndexCarries S.PageStore self.old self.new (λ start history calls.
-            IfErr result (HasCause (where_run S.PageStore 63 self.old self.new.store))) }
-        ensures finishes { IndexCarries S.PageStore self.old self.new (λ start history calls.
+        ensures cause { ForEachIndexHistory S.PageStore self.old self.new (λ start history calls.
+            IfErr result (HasCause (causes_of_run S.PageStore 63 self.old self.new.store))) }
+        ensures finishes { ForEachIndexHistory S.PageStore self.old self.new (λ start history calls.
             IsUnhindered S.PageStore 63 self.old self.new.store → IsOk result) }
         ensures tokens { KeepsTokens self.old self.new }
     {
         bulk_delete(
             &mut self.store,
             &mut self.calls,
-            &[Lent { rows: dead }],
+            &[BorrowedRows { rows: dead }],
             63,
             0,
             LEAST_ROOM,
@@ -211,21 +211,21 @@ impl<S: PageStore> Index<S> {
     pub fn amvacuumcleanup(&mut self) -> Result<VacuumStats, Fault>
         ensures steps { Continues S.follows self.old.store self.new.store }
         ensures runs { IndexGoes S.PageStore 63 (SweepTold 63 ToCleanup result)
-            (swept_came result) self.old self.new }
+            (sweep_outcome result) self.old self.new }
         // Whatever the pages are.
-        ensures made { IndexMakes S.PageStore 63 (ComesTo (swept_came result)) self.old self.new }
-        ensures cleans { IndexCarries S.PageStore self.old self.new
+        ensures made { IndexMakes S.PageStore 63 (ComesTo (sweep_outcome result)) self.old self.new }
+        ensures cleans { ForEachIndexHistory S.PageStore self.old self.new
             (λ start history calls. IsCleanedUp S.PageStore result self.old.store
             self.new.store) }
         // The empty leaves that are left then are the rightmost one, flagged ones, those right behind a flagged one, and last
         // children of their parents.
-        ensures spares { IndexCarries S.PageStore self.old self.new
+        ensures spares { ForEachIndexHistory S.PageStore self.old self.new
             (λ start history calls. IsCalm S.PageStore self.old
             → LeavesOnlyNeeded (S.state self.new.store) result) }
         // It never answers `LogFull`, `NoSession`, `SessionBusy` nor `VacuumRunning`.
-        ensures cause { IndexCarries S.PageStore self.old self.new (λ start history calls.
-            IfErr result (HasCause (where_run S.PageStore 63 self.old self.new.store))) }
-        ensures finishes { IndexCarries S.PageStore self.old self.new (λ start history calls.
+        ensures cause { ForEachIndexHistory S.PageStore self.old self.new (λ start history calls.
+            IfErr result (HasCause (causes_of_run S.PageStore 63 self.old self.new.store))) }
+        ensures finishes { ForEachIndexHistory S.PageStore self.old self.new (λ start history calls.
             IsUnhindered S.PageStore 63 self.old self.new.store → IsOk result) }
         ensures tokens { KeepsTokens self.old self.new }
     {
@@ -236,12 +236,12 @@ impl<S: PageStore> Index<S> {
     pub fn commit(&mut self) -> Result<u64, Fault>
         ensures steps { Continues S.follows self.old.store self.new.store }
         ensures runs { IndexGoes S.PageStore 0 IsSilent
-            (kept_came Forces result) self.old self.new }
+            (upkeep_outcome Forces result) self.old self.new }
         ensures number { IfOk result (λ n. n ≡ (S.state self.old.store).acts) }
         ensures durable { OnOk result ((S.backing self.new.store).durable
             ≡ (S.state self.old.store).acts) }
         ensures cause { IfErr result
-            (HasCause (where_forced (S.backing self.old.store) (S.backing self.new.store))) }
+            (HasCause (causes_of_forced (S.backing self.old.store) (S.backing self.new.store))) }
         ensures tokens { KeepsTokens self.old self.new }
     {
         count(force(&mut self.store))
@@ -252,14 +252,14 @@ impl<S: PageStore> Index<S> {
     pub fn checkpoint(&mut self) -> Result<u64, Fault>
         ensures steps { Continues S.follows self.old.store self.new.store }
         ensures runs { IndexGoes S.PageStore 0 IsSilent
-            (kept_came Checkpoints result) self.old self.new }
+            (upkeep_outcome Checkpoints result) self.old self.new }
         ensures number { IfOk result (λ n. n ≡ (S.state self.old.store).acts) }
         ensures durable { OnOk result ((S.backing self.new.store).durable
             ≡ (S.state self.old.store).acts) }
         ensures room { OnOk result
             (HasWholeRoom (S.state self.old.store).limits (S.backing self.new.store)) }
         ensures cause { IfErr result
-            (HasCause (where_forced (S.backing self.old.store) (S.backing self.new.store))) }
+            (HasCause (causes_of_forced (S.backing self.old.store) (S.backing self.new.store))) }
         ensures tokens { KeepsTokens self.old self.new }
     {
         count(checkpoint(&mut self.store))
@@ -289,19 +289,19 @@ impl<S: PageStore> Index<S> {
         ensures runs { seat_of self.old.seats token ≡ seat_with token false
             → op_of self.old.calls token.session ≢ None
             → IndexGoes S.PageStore token.session (TellsGiven token.session result)
-            (give_came result) self.old self.new }
+            (given_outcome result) self.old self.new }
         // Whatever the pages are: so it answers None only behind a step that answered `Done`.
         ensures made { seat_of self.old.seats token ≡ seat_with token false
             → op_of self.old.calls token.session ≢ None
-            → IndexMakes S.PageStore token.session (ComesTo (give_came result)) self.old self.new }
-        ensures answers { IndexCarries S.PageStore self.old self.new
+            → IndexMakes S.PageStore token.session (ComesTo (given_outcome result)) self.old self.new }
+        ensures answers { ForEachIndexHistory S.PageStore self.old self.new
             (AnswersScan token.session result) }
         // It never answers `LogFull`.
         ensures cause { seat_of self.old.seats token ≡ seat_with token false
-            → IndexCarries S.PageStore self.old self.new
+            → ForEachIndexHistory S.PageStore self.old self.new
             (GiveHasCause S.PageStore token.session result self.old self.new.store) }
         ensures gives { seat_of self.old.seats token ≡ seat_with token false
-            → IndexCarries S.PageStore self.old self.new
+            → ForEachIndexHistory S.PageStore self.old self.new
             (GivesUnhindered S.PageStore token.session result self.old self.new.store) }
         ensures closed { seat_of self.old.seats token ≡ None
             → (result ≡ Err Fault.NoSession) × (self.new ≡ self.old) }

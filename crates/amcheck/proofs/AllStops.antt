@@ -5,17 +5,17 @@ use Rattle.std.proofs.lemmas.Option.{slice_get-get_or}
 use Rattle.damages.specs.Damages.{Index, Place, place_at, Here, IsOnLevel}
 use Rattle.damages.proofs.Decided.{no_link}
 use Rattle.damages.proofs.Walks.{has_before}
-use Rattle.amcheck.specs.AllStops.{AreWhole, AreAllStops}
+use Rattle.amcheck.specs.AllStops.{StopsAreAll, AreAllStops}
 use Rattle.amcheck.specs.Chains.{IsClearChain}
-use Rattle.amcheck.specs.Ends.{IsEnd}
-use Rattle.amcheck.specs.Stops.{blocks_of, IsStop}
+use Rattle.amcheck.specs.Ends.{IsChainEnd}
+use Rattle.amcheck.specs.Stops.{stop_blocks, IsStop}
 use Rattle.amcheck.specs.declared.stops.Stop.{Stop}
 use Rattle.amcheck.specs.declared.walks.End.{End}
 use Rattle.amcheck.specs.declared.walks.End.TheVariants.{Whole, Off, Met}
 use Rattle.amcheck.proofs.Found.{no_stop}
 use Rattle.amcheck.proofs.Walked.{stop_inside}
 
-pub blocks_append : (xs ys : List Stop) → blocks_of (xs ++ ys) ≡ blocks_of xs ++ blocks_of ys
+pub blocks_append : (xs ys : List Stop) → stop_blocks (xs ++ ys) ≡ stop_blocks xs ++ stop_blocks ys
 blocks_append [] ys = refl
 blocks_append (x ∷ xs) ys = ap (λ (bs : List ℕ). x.block ∷ bs) (blocks_append xs ys)
 
@@ -26,7 +26,7 @@ taken (x ∷ xs) zero le = refl
 taken (x ∷ xs) (suc n) le = (let r = taken xs n (omega arith) in omega (arith, r))
 
 -- a walk along a chain without damage ends at its last page
-pub ends_clear : (ix : Index) (keys : Bool) (depth n : ℕ) (end : End) → depth ≤ ix.top → IsClearChain ix keys depth → IsEnd ix depth n end → (place_at ix depth n).block ≡ None
+pub ends_clear : (ix : Index) (keys : Bool) (depth n : ℕ) (end : End) → depth ≤ ix.top → IsClearChain ix keys depth → IsChainEnd ix depth n end → (place_at ix depth n).block ≡ None
 ends_clear ix keys depth n Whole deep clear e = e
 ends_clear ix keys depth n (Off b) deep clear e = absurd (clear (record { depth = depth; place = n; block = b; deep = deep; is = e.0 }) 1 refl (inl (refl, e.1)))
 ends_clear ix keys depth n (Met s) deep clear e =
@@ -77,7 +77,7 @@ pick false a b = b
 pub stop_moved : (ix : Index) (d d' p p' : ℕ) (s : Stop) → d ≡ d' → p ≡ p' → IsStop ix d' p' s → IsStop ix d p s
 stop_moved ix d d' p p' s deep there is = (λ i. place_at ix (deep i) (there i)) ∙ is
 
-module _ (ix : Index) (d : ℕ) (front back : List Stop) (old : Indexed ix d front) (whole : AreWhole ix d back) where
+module _ (ix : Index) (d : ℕ) (front back : List Stop) (old : Indexed ix d front) (whole : StopsAreAll ix d back) where
   abbrev n : ℕ
   n = length front
 

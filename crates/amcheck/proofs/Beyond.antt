@@ -123,7 +123,8 @@ least_right low page admitted h wrong = (let both = by page.items (links_ascend 
     first_one [] h = tt
     first_one (e ∷ es) h = h
 
-    by : (items : Items) → Ascends LinkBefore (links_of items) → IsNoneOrBeyond low (least_bound (entries_of items) (links_of items)) → IsFirstBeyond low (entries_of items) × IsSecondBeyond low (links_of items)
+    by : (items : Items) → Ascends LinkBefore (links_of items) → IsNoneOrBeyond low (least_bound (entries_of items) (links_of items))
+        → IsFirstBeyond low (entries_of items) × IsSecondBeyond low (links_of items)
     by Meta up h = (tt, tt)
     by (Entries v) up h = (first_one v.items h, tt)
     by (Downlinks v) up h = (tt, second_back low v.items up h)
@@ -156,7 +157,8 @@ module _ (keys : Bool) (page : Page) (sketch : Sketch) (root : Option ℕ) (s : 
   least_told None least = λ n w. least n (wrong_from n w)
   least_told (Some n) least = (wrong_to n least.0, λ m lt w. least.1 m lt (wrong_from m w))
 
-pub least_six : (keys : Bool) (sketch : Sketch) (root : Option ℕ) (s : Spot) (block : ℕ) → ((sketch.left ≢ s.left) → ⊥) → (sketch.state ≡ Deleted → ⊥) → ((sketch.state ≡ Live) × (Rises s.low sketch.high → ⊥) → ⊥)
+pub least_six : (keys : Bool) (sketch : Sketch) (root : Option ℕ) (s : Spot) (block : ℕ) → ((sketch.left ≢ s.left) → ⊥) → (sketch.state ≡ Deleted → ⊥)
+    → ((sketch.state ≡ Live) × (Rises s.low sketch.high → ⊥) → ⊥)
     → (IsNoneOrBeyond s.low sketch.least → ⊥) → IsLeastNumber (IsWrongSketch keys sketch root s block) (Some 6)
 least_six keys sketch root s block linked stands rises wrong = (inr (inr (inr (inl (refl, wrong)))), less)
   where

@@ -9,7 +9,7 @@ use Rattle.amcheck.specs.Chains.{IsFirstOfChain}
 use Rattle.amcheck.specs.Ways.{IsClearWay, IsFirstOfWay}
 use Rattle.amcheck.specs.LevelDamages.{IsClearLevel, IsFirstOfLevel, IsOfUpper, AreOfUpper}
 use Rattle.amcheck.specs.Marks.{IsMet}
-use Rattle.amcheck.specs.Stops.{blocks_of, AreStops}
+use Rattle.amcheck.specs.Stops.{stop_blocks, AreStops}
 use Rattle.amcheck.specs.declared.marks.Met.{Met}
 use Rattle.amcheck.specs.declared.stops.Stop.{Stop}
 use Rattle.tree_shape.proofs.Few.{few_blocks}
@@ -41,18 +41,18 @@ seen_upper ix depth before seen met met' upper kept added = record {
 }
 
 -- a block that a walk added is at one of its stops
-pub met_on : (ix : Index) (depth : ℕ) (before after : List ℕ) (stops : List Stop) → after ≡ before ++ blocks_of stops → AreStops ix depth stops → (b : ℕ) → IsIn b after
+pub met_on : (ix : Index) (depth : ℕ) (before after : List ℕ) (stops : List Stop) → after ≡ before ++ stop_blocks stops → AreStops ix depth stops → (b : ℕ) → IsIn b after
     → IsIn b before ⊎ IsOnLevel ix depth b
-met_on ix depth before after stops added are b among = elim (in_append_cases b before (blocks_of stops) (subst (λ (l : List ℕ). IsIn b l) added among)) [
+met_on ix depth before after stops added are b among = elim (in_append_cases b before (stop_blocks stops) (subst (λ (l : List ℕ). IsIn b l) added among)) [
   | inl old ↦ inl old
   | inr new ↦ (let s = stop_of stops b new in inr (subst (IsOnLevel ix depth) (sym s.is) (are.on_level s.place s.stop s.there)))
 ]
 
 -- so there are no more stops than pages
-pub stops_below : (met : Met) (used : ℕ) (before : List ℕ) (stops : List Stop) → IsMet met used → 0 < used → met.blocks.items ≡ before ++ blocks_of stops → length stops ≤ used
+pub stops_below : (met : Met) (used : ℕ) (before : List ℕ) (stops : List Stop) → IsMet met used → 0 < used → met.blocks.items ≡ before ++ stop_blocks stops → length stops ≤ used
 stops_below met used before stops is some added =
     let few = few_blocks used met.blocks.items some is.distinct is.in_use in
-    let size = ap length added ∙ length-append before (blocks_of stops) in
+    let size = ap length added ∙ length-append before (stop_blocks stops) in
     omega (arith, few, size, blocks_length stops)
 
 not_so : false ≡ true → ⊥
@@ -87,7 +87,8 @@ module _ (keys : Bool) (pages : List Page) (depth number block : ℕ) (deep : de
   way_first f (nowhere b) n damage before = not_so damage.0
 
   -- ... and before one of the chain, where the way is clear
-  chain_first : (way : IsClearWay ix depth) (f : IsFirstOfChain ix keys depth number block) (other : Site ix) (n : ℕ) → IsDamage false keys other n → ComesBefore (rank other n) (rank (on_chain f.here) number) → ⊥
+  chain_first : (way : IsClearWay ix depth) (f : IsFirstOfChain ix keys depth number block) (other : Site ix) (n : ℕ) → IsDamage false keys other n
+      → ComesBefore (rank other n) (rank (on_chain f.here) number) → ⊥
   chain_first way f (on_way d s e) n damage (inl lt) = omega (arith, lt)
   chain_first way f (on_way d s e) n damage (inr (same, inl lt)) = (above d (let k = f.deep in omega (arith, lt))).way s n damage
   chain_first way f (on_way d s e) n damage (inr (same, inr (is, more))) = way s n (subst (λ (k : ℕ). IsOfWay ix k s n) (is ∙ f.deep) damage)

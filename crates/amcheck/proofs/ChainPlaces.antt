@@ -3,7 +3,7 @@ use Rattle.std.proofs.Common.{◌≡◌, ◌≢◌, ℕ, zero, suc, ◌<◌, ◌
 use Rattle.std.proofs.lemmas.Bool.{cases_eq}
 use Rattle.std.proofs.lemmas.List.{get_or-set_same, get_or-set_other}
 use Rattle.damages.proofs.Decided.{no_link, some_is}
-use Rattle.amcheck.specs.AllStops.{ArePlaces}
+use Rattle.amcheck.specs.AllStops.{PlacesAreOfStops}
 use Rattle.amcheck.specs.declared.stops.Stop.{Stop}
 use Rattle.amcheck.proofs.Walked.{stop_inside}
 
@@ -18,7 +18,7 @@ no_places stops places none = record {
   none = λ b k s lt. absurd (omega arith);
 }
 
-pub all_places : (n : ℕ) (stops : List Stop) (places : List (Option ℕ)) → length stops ≤ n → ArePlacesTo n stops places → ArePlaces stops places
+pub all_places : (n : ℕ) (stops : List Stop) (places : List (Option ℕ)) → length stops ≤ n → ArePlacesTo n stops places → PlacesAreOfStops stops places
 all_places n stops places le to = record {
   there = to.there;
   none = λ b k s e found. to.none b k s (let lt = stop_inside stops k s found in omega arith) e found;

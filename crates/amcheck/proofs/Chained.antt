@@ -51,7 +51,8 @@ too_many ix depth None s block is much = absurd much
 too_many ix depth (Some r) s block is much = (is.0, λ same. much.0 (same ∙ sym is.1), λ behind. much.1 (subst (λ (b : ℕ). IsBehindRoot b s) (sym is.1) behind))
 
 -- a page at this place of the chain
-place_same : {ix : Index} (h : Here ix) (depth place : ℕ) (s : Spot) (b : ℕ) → h.depth ≡ depth → h.place ≡ place → place_at ix depth place ≡ record { spot = s; block = Some b } → (h.block ≡ b) × (spot h ≡ s)
+place_same : {ix : Index} (h : Here ix) (depth place : ℕ) (s : Spot) (b : ℕ) → h.depth ≡ depth → h.place ≡ place
+    → place_at ix depth place ≡ record { spot = s; block = Some b } → (h.block ≡ b) × (spot h ≡ s)
 place_same {ix} h depth place s b deep there is =
     let whole : place_at ix h.depth h.place ≡ record { spot = s; block = Some b } = (λ i. place_at ix (deep i) (there i)) ∙ is in
     (some_is h.block b (sym h.is ∙ ap (λ (p : Place). p.block) whole), ap (λ (p : Place). p.spot) whole)
@@ -70,7 +71,8 @@ module _ (ix : Index) (keys : Bool) (depth : ℕ) (root : Option ℕ) (stops : L
           let inside = stop_inside stops h.place s there in
           let t = get_or stops m.earlier no_stop in
           let first : slice_get stops m.earlier ≡ Some t = slice_get-get_or stops m.earlier no_stop (omega arith) in
-          let block : t.block ≡ h.block = some_is t.block h.block (sym (ap (λ (p : Place). p.block) (are.placed m.earlier t first)) ∙ subst (λ (d : ℕ). (place_at ix d m.earlier).block ≡ Some h.block) same m.same) in
+          let block : t.block ≡ h.block =
+          some_is t.block h.block (sym (ap (λ (p : Place). p.block) (are.placed m.earlier t first)) ∙ subst (λ (d : ℕ). (place_at ix d m.earlier).block ≡ Some h.block) same m.same) in
           are.once m.earlier h.place t s m.before first there (block ∙ told.0)
 
       by : IsOfChain keys h n → IsWrong keys (ix.at s.block) root (spot_at ix.at s) s.block n
@@ -117,7 +119,8 @@ module _ (ix : Index) (keys : Bool) (depth : ℕ) (root : Option ℕ) (stops : L
   is_damage h n same (inr (inr (inr (inr (inr (inl a)))))) = inr (inr (inr (inr (inr (inr (inr (inl a)))))))
   is_damage h n same (inr (inr (inr (inr (inr (inr a)))))) = inr (inr (inr (inr (inr (inr (inr (inr a)))))))
 
-  pub first_at : (k n : ℕ) (s : Stop) → slice_get stops k ≡ Some s → IsFirstPlace (IsBad ix.at keys root stops) (Some k) → IsLeastNumber (IsWrongAt ix.at keys root stops k) (Some n) → IsFirstOfChain ix keys depth n s.block
+  pub first_at : (k n : ℕ) (s : Stop) → slice_get stops k ≡ Some s → IsFirstPlace (IsBad ix.at keys root stops) (Some k)
+      → IsLeastNumber (IsWrongAt ix.at keys root stops k) (Some n) → IsFirstOfChain ix keys depth n s.block
   first_at k n s there first least =
       let placed = are.placed k s there in
       record {
@@ -197,6 +200,7 @@ module _ (ix : Index) (keys : Bool) (depth : ℕ) (root : Option ℕ) (stops : L
         ];
       }
 
-      pub first_met : (n : ℕ) → (n ≡ 2 → (ix.at s.block).left ≢ s.left) → (n ≡ 3 → (ix.at s.block).left ≡ s.left) → (n ≡ 2) ⊎ (n ≡ 3) → IsEarlier ix depth (length stops) s.block → IsFirstOfChain ix keys depth n s.block
+      pub first_met : (n : ℕ) → (n ≡ 2 → (ix.at s.block).left ≢ s.left) → (n ≡ 3 → (ix.at s.block).left ≡ s.left) → (n ≡ 2) ⊎ (n ≡ 3)
+          → IsEarlier ix depth (length stops) s.block → IsFirstOfChain ix keys depth n s.block
       first_met n two three (inl e) before = subst (λ (k : ℕ). IsFirstOfChain ix keys depth k s.block) (sym e) (first_two (two e))
       first_met n two three (inr e) before = subst (λ (k : ℕ). IsFirstOfChain ix keys depth k s.block) (sym e) (first_three (three e) before)

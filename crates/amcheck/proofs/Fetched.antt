@@ -4,7 +4,7 @@ use Rattle.std.specs.Prelude.{All}
 use Rattle.std.proofs.lemmas.Bool.{cases_lt}
 use Rattle.std.proofs.lemmas.List.{append-nil}
 use Rattle.std.proofs.lemmas.List.Elements.{All-cons}
-use Rattle.page_action.specs.Frames.{Memory, is_among, FrameCosts, TakesFrames}
+use Rattle.page_action.specs.Frames.{Memory, is_block_among, FrameCosts, TakesFrames}
 use Rattle.page_action.specs.States.{Backing}
 use Rattle.amcheck.specs.Reading.{blocks_below, without_first, IsRestBut}
 
@@ -22,10 +22,10 @@ pub below_next : (n k : ℕ) → k < n → (rest : List ℕ) × (blocks_below n 
 below_next n k lt = below_split n (suc k) (omega (arith, lt))
 
 -- what is kept of one block more
-without_kept : (pinned : List ℕ) (k x : ℕ) (xs : List ℕ) → is_among pinned x ≡ true → without_first pinned (suc k) (x ∷ xs) ≡ x ∷ without_first pinned k xs
+without_kept : (pinned : List ℕ) (k x : ℕ) (xs : List ℕ) → is_block_among pinned x ≡ true → without_first pinned (suc k) (x ∷ xs) ≡ x ∷ without_first pinned k xs
 without_kept pinned k x xs among = rw among refl
 
-without_gone : (pinned : List ℕ) (k x : ℕ) (xs : List ℕ) → is_among pinned x ≡ false → without_first pinned (suc k) (x ∷ xs) ≡ without_first pinned k xs
+without_gone : (pinned : List ℕ) (k x : ℕ) (xs : List ℕ) → is_block_among pinned x ≡ false → without_first pinned (suc k) (x ∷ xs) ≡ without_first pinned k xs
 without_gone pinned k x xs not = rw not refl
 
 bool_cases : (b : Bool) → (b ≡ true) ⊎ (b ≡ false)
@@ -36,7 +36,7 @@ bool_cases false = inr refl
 abbrev Twice : List ℕ → List ℕ → ℕ → ℕ → Type 0
 Twice pinned xs k j = (count : ℕ) × (without_first pinned j (without_first pinned k xs) ≡ without_first pinned count xs)
 
-twice_kept : (pinned xs : List ℕ) (k x : ℕ) → is_among pinned x ≡ true → ((j : ℕ) → Twice pinned xs k j) → (j : ℕ) → Twice pinned (x ∷ xs) (suc k) j
+twice_kept : (pinned xs : List ℕ) (k x : ℕ) → is_block_among pinned x ≡ true → ((j : ℕ) → Twice pinned xs k j) → (j : ℕ) → Twice pinned (x ∷ xs) (suc k) j
 twice_kept pinned xs k x among early zero = (suc k, refl)
 twice_kept pinned xs k x among early (suc j) = (
   suc (early j).0,
@@ -49,7 +49,7 @@ rest_twice : (pinned xs : List ℕ) (k j : ℕ) → Twice pinned xs k j
 rest_twice pinned xs zero j = (j, refl)
 rest_twice pinned [] (suc k) zero = (0, refl)
 rest_twice pinned [] (suc k) (suc j) = (0, refl)
-rest_twice pinned (x ∷ xs) (suc k) j = elim (bool_cases (is_among pinned x)) [
+rest_twice pinned (x ∷ xs) (suc k) j = elim (bool_cases (is_block_among pinned x)) [
   | inl among ↦ twice_kept pinned xs k x among (λ (i : ℕ). rest_twice pinned xs k i) j
   | inr not ↦
       let early = rest_twice pinned xs k j in
@@ -60,16 +60,16 @@ rest_twice pinned (x ∷ xs) (suc k) j = elim (bool_cases (is_among pinned x)) [
 all_tail : (P : ℕ → Type 0) (x : ℕ) (xs : List ℕ) → All P (x ∷ xs) → All P xs
 all_tail P x xs all = λ k d less. all (suc k) d (omega (arith, less))
 
-gone_behind : (pinned more rest : List ℕ) → All (λ b. is_among pinned b ≡ false) more → without_first pinned (length more) (more ++ rest) ≡ rest
+gone_behind : (pinned more rest : List ℕ) → All (λ b. is_block_among pinned b ≡ false) more → without_first pinned (length more) (more ++ rest) ≡ rest
 gone_behind pinned [] rest all = refl
 gone_behind pinned (x ∷ more) rest all =
-    without_gone pinned (length more) x (more ++ rest) (all 0 0 (omega arith)) ∙ gone_behind pinned more rest (all_tail (λ b. is_among pinned b ≡ false) x more all)
+    without_gone pinned (length more) x (more ++ rest) (all 0 0 (omega arith)) ∙ gone_behind pinned more rest (all_tail (λ b. is_block_among pinned b ≡ false) x more all)
 
-gone_after : (pinned front more rest : List ℕ) → All (λ b. is_among pinned b ≡ true) front → All (λ b. is_among pinned b ≡ false) more
+gone_after : (pinned front more rest : List ℕ) → All (λ b. is_block_among pinned b ≡ true) front → All (λ b. is_block_among pinned b ≡ false) more
     → (count : ℕ) × (without_first pinned count (front ++ (more ++ rest)) ≡ front ++ rest)
 gone_after pinned [] more rest front_all all = (length more, gone_behind pinned more rest all)
 gone_after pinned (x ∷ front) more rest front_all all =
-    let early = gone_after pinned front more rest (all_tail (λ b. is_among pinned b ≡ true) x front front_all) all in
+    let early = gone_after pinned front more rest (all_tail (λ b. is_block_among pinned b ≡ true) x front front_all) all in
     (suc early.0, without_kept pinned early.0 x (front ++ (more ++ rest)) (front_all 0 0 (omega arith)) ∙ ap (λ (l : List ℕ). x ∷ l) early.1)
 
 rest_same : (pinned xs ys : List ℕ) → ys ≡ xs → IsRestBut pinned ys xs
@@ -81,7 +81,8 @@ rest_one frames pinned m m' old new (inl none) = rest_same pinned old.changed ne
 rest_one frames pinned m m' old new (inr over) = elim over.left [
   | inl none ↦ rest_same pinned old.changed new.changed none
   | inr some ↦
-      let gone : All (λ b. is_among pinned b ≡ false) (over.block ∷ some.more) = All-cons (λ b. is_among pinned b ≡ false) over.block some.more over.unpinned (λ k d less. (some.each k d less).0) in
+      let gone : All (λ b. is_block_among pinned b ≡ false) (over.block ∷ some.more) =
+      All-cons (λ b. is_block_among pinned b ≡ false) over.block some.more over.unpinned (λ k d less. (some.each k d less).0) in
       let after = gone_after pinned over.front (over.block ∷ some.more) some.rest over.passed gone in
       record {
         count = after.0;

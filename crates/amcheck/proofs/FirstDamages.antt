@@ -91,7 +91,8 @@ first_is_meta pages page stand found = by page.items refl own.0.kind
     by (Downlinks v) is kind = absurd (no_block page.block own.1 kind.block)
 
 -- so it names the root
-pub names_root : (pages : List Page) (root level : ℕ) → StandAtTheirBlocks pages → 0 < length pages → (nodes_of pages 0).right ≡ Some root → level ≡ (nodes_of pages 0).level → NamesRoot pages root level
+pub names_root : (pages : List Page) (root level : ℕ) → StandAtTheirBlocks pages → 0 < length pages → (nodes_of pages 0).right ≡ Some root
+    → level ≡ (nodes_of pages 0).level → NamesRoot pages root level
 names_root pages root level stand some right level_is =
     let page = page_there pages 0 some in
     let here : nodes_of pages 0 ≡ node_of page.0 = ap node_from page.1 in
@@ -112,14 +113,15 @@ never_rootless pages stand some none =
     by (Some b) is some = cc
 
 -- the two words of a tree say the same
-pub tree_there : (pages : List Page) → IsTree pages → levels.HasTree pages
+pub tree_there : (pages : List Page) → IsTree pages → levels.LevelsHaveTree pages
 tree_there pages t = record { meta = t.meta; meta_at = t.meta_at; root = t.root; names_root = t.names_root; chain = t.chain; is = t.is }
 
-pub tree_back : (pages : List Page) → levels.HasTree pages → IsTree pages
+pub tree_back : (pages : List Page) → levels.LevelsHaveTree pages → IsTree pages
 tree_back pages t = record { meta = t.meta; meta_at = t.meta_at; root = t.root; names_root = t.names_root; chain = t.chain; is = t.is }
 
 -- what is told of the judgement
-pub answer_told : (parents keys : Bool) (pages : List Page) (judged : Result Report Damage) (result : Result Report CheckFault) → OnOk judged (IsSound parents keys pages) → IfOk judged (IsReport pages)
+pub answer_told : (parents keys : Bool) (pages : List Page) (judged : Result Report Damage) (result : Result Report CheckFault)
+    → OnOk judged (IsSound parents keys pages) → IfOk judged (IsReport pages)
     → IfErr judged (λ d. IsFirstDamage parents keys pages d.number d.block)
     → IfOk judged (λ report. result ≡ Ok report) → IfErr judged (λ d. result ≡ Err (Damaged d.number d.block)) → IsAnswer parents keys pages result
 answer_told parents keys pages (Ok report) result sound is first ok err = subst (IsAnswer parents keys pages) (sym ok) (sound, is)

@@ -9,7 +9,7 @@ use Rattle.tree_shape.specs.Chains.{from_low}
 use Rattle.damages.specs.Damages.{Index, IsOnLevel}
 use Rattle.damages.proofs.Decided.{no_link, some_is}
 use Rattle.amcheck.specs.AllStops.{IsStopOf, HasNoStop, HaveBlocksOnce}
-use Rattle.amcheck.specs.Downlinks.{IsOff, HasOtherLow, HasWrongBound, IsSkipped, LacksLink, IsSkippedStop, LeadsBefore, IsExtra, HasExtra, AreNoted, IsWrongAmong}
+use Rattle.amcheck.specs.Downlinks.{IsOff, HasOtherLow, HasWrongBound, IsSkipped, LacksLink, IsSkippedStop, LeadsBefore, IsExtra, HasExtra, DownlinksAreNoted, IsWrongAmong}
 use Rattle.amcheck.specs.Stops.{high_at, IsLeastNumber}
 use Rattle.amcheck.specs.declared.stops.Stop.{Stop}
 
@@ -43,7 +43,8 @@ one_stop stops b s t once f g =
 pub no_stop_of : (stops : List Stop) (b : ℕ) (s : Stop) → HasNoStop stops b → IsStopOf stops b s → ⊥
 no_stop_of stops b s none f = none f.place s f.there f.is
 
-pub other_low : (r : Bool) (at : ℕ → Node) (stops : List Stop) (link : Downlink) (s : Stop) → HaveBlocksOnce stops → IsStopOf stops link.child s → (IsTrue r ↔ (link.bound ≡ high_at at s.low_at)) → IsTrue (not r) ↔ HasOtherLow at stops link
+pub other_low : (r : Bool) (at : ℕ → Node) (stops : List Stop) (link : Downlink) (s : Stop) → HaveBlocksOnce stops → IsStopOf stops link.child s
+    → (IsTrue r ↔ (link.bound ≡ high_at at s.low_at)) → IsTrue (not r) ↔ HasOtherLow at stops link
 other_low true at stops link s once f told = (
   λ e. absurd (let k : false ≡ true = e in cc),
   λ h. absurd (h.differs (told.0 refl ∙ ap (λ (t : Stop). high_at at t.low_at) (one_stop stops link.child s h.stop once f h.is))),
@@ -66,7 +67,8 @@ extra_skipped at stops linked b s f skipped = (
   λ w. refl,
 )
 
-pub extra_linked : (r : Bool) (at : ℕ → Node) (stops : List Stop) (linked : List Bool) (b : ℕ) (s : Stop) → HaveBlocksOnce stops → IsStopOf stops b s → (IsSkipped (at b) s.behind → ⊥) → r ≡ get_or linked b false
+pub extra_linked : (r : Bool) (at : ℕ → Node) (stops : List Stop) (linked : List Bool) (b : ℕ) (s : Stop) → HaveBlocksOnce stops → IsStopOf stops b s
+    → (IsSkipped (at b) s.behind → ⊥) → r ≡ get_or linked b false
     → IsTrue r ↔ IsExtra at stops linked b
 extra_linked r at stops linked b s once f not r_is = (λ e. record { is = inr (inr (sym r_is ∙ e)) }, λ w. by w.is)
   where
@@ -91,7 +93,7 @@ one_more P links n m link there holds is before j l lt found = elim (cases_eq j 
 -- no child so far is one too many, and those are marked
 pub record HasNotedTo (at : ℕ → Node) (stops : List Stop) (links : List Downlink) (n : ℕ) (before after : List Bool) : Type 0 where
   pub right : (j : ℕ) (l : Downlink) → j < n → slice_get links j ≡ Some l → (IsExtra at stops before l.child ⊎ LeadsBefore links j l.child) → ⊥
-  pub noted : AreNoted links n before after
+  pub noted : DownlinksAreNoted links n before after
 
 pub none_noted : (at : ℕ → Node) (stops : List Stop) (links : List Downlink) (before : List Bool) → HasNotedTo at stops links 0 before before
 none_noted at stops links before = record {
@@ -99,7 +101,8 @@ none_noted at stops links before = record {
   noted = record { from = λ b e. inl e; kept = λ b e. e; new = λ b w. let lt = w.before in absurd (omega arith) };
 }
 
-module _ (at : ℕ → Node) (stops : List Stop) (links : List Downlink) (n : ℕ) (before after : List Bool) (link : Downlink) (there : slice_get links n ≡ Some link) (so_far : HasNotedTo at stops links n before after) where
+module _ (at : ℕ → Node) (stops : List Stop) (links : List Downlink) (n : ℕ) (before after : List Bool) (link : Downlink)
+    (there : slice_get links n ≡ Some link) (so_far : HasNotedTo at stops links n before after) where
   -- one too many with the marks so far is so with those before, or leads where an earlier one does
   pub extra_now : IsExtra at stops after link.child → HasExtra at stops before links
   extra_now extra = record { item = n; link = link; there = there; wrong = by extra.is }
@@ -158,14 +161,23 @@ module _ (at : ℕ → Node) (stops : List Stop) (links : List Downlink) (n : �
         | inr differs ↦ get_or-set_other after link.child b true false (λ k. differs k) ∙ e
       ]
 
-pub none_extra : (at : ℕ → Node) (stops : List Stop) (links : List Downlink) (n : ℕ) (before after : List Bool) → length links ≤ n → HasNotedTo at stops links n before after → HasExtra at stops before links → ⊥
+pub none_extra : (at : ℕ → Node) (stops : List Stop) (links : List Downlink) (n : ℕ) (before after : List Bool) → length links ≤ n
+    → HasNotedTo at stops links n before after → HasExtra at stops before links → ⊥
 none_extra at stops links n before after le to has = to.right has.item has.link (let lt = link_inside links has.item has.link has.there in omega arith) has.there has.wrong
 
-pub noted_all : (at : ℕ → Node) (stops : List Stop) (links : List Downlink) (n m : ℕ) (before after : List Bool) → length links ≤ n → m ≡ length links → HasNotedTo at stops links n before after → AreNoted links m before after
+pub noted_all : (at : ℕ → Node) (stops : List Stop) (links : List Downlink) (n m : ℕ) (before after : List Bool) → length links ≤ n → m ≡ length links
+    → HasNotedTo at stops links n before after → DownlinksAreNoted links m before after
 noted_all at stops links n m before after le is to = record {
   from = λ b e. elim (to.noted.from b e) [
     | inl old ↦ inl old
-    | inr new ↦ inr (record { earlier = new.earlier; link = new.link; before = (let lt = link_inside links new.earlier new.link new.there in omega (arith, lt, is)); there = new.there; leads = new.leads })
+    | inr new ↦ inr (record {
+      earlier = new.earlier;
+      link = new.link;
+      before =
+          (let lt = link_inside links new.earlier new.link new.there in omega (arith, lt, is));
+      there = new.there;
+      leads = new.leads;
+    })
   ];
   kept = to.noted.kept;
   new = λ b w. to.noted.new b (record { earlier = w.earlier; link = w.link; before = (let lt = w.before in omega (arith, lt, is, le)); there = w.there; leads = w.leads });
@@ -197,7 +209,8 @@ module _ (at : ℕ → Node) (stops : List Stop) (linked : List Bool) (links : L
       pub least_nine : HasExtra at stops linked links → IsLeastNumber Wrong (Some 9)
       least_nine wrong = (record { is = inr (inr (refl, wrong)) }, λ m lt w. less m lt w.is)
         where
-          less : (m : ℕ) → m < 9 → ((m ≡ 7) × HasWrongBound at stops links) ⊎ ((m ≡ 8) × LacksLink top node stop.behind (get_or linked stop.block false)) ⊎ ((m ≡ 9) × HasExtra at stops linked links) → ⊥
+          less : (m : ℕ) → m < 9 → ((m ≡ 7) × HasWrongBound at stops links)
+              ⊎ ((m ≡ 8) × LacksLink top node stop.behind (get_or linked stop.block false)) ⊎ ((m ≡ 9) × HasExtra at stops linked links) → ⊥
           less m lt (inl a) = right a.1
           less m lt (inr (inl a)) = linked_too a.1
           less m lt (inr (inr a)) = (let k = a.0 in omega (arith, k, lt))

@@ -11,8 +11,8 @@ use Rattle.tree_shape.specs.LinkPlaces.{HasLinks}
 use Rattle.tree_shape.specs.Nodes.{Node, node_of, node_from, nodes_of, no_node, links_of}
 use Rattle.damages.proofs.Decided.{no_link, some_is}
 use Rattle.damages.proofs.Fitting.{page_there}
-use Rattle.amcheck.specs.Reports.{total, entry_count, one_if_half_dead, one_if_deleted, one_if_flagged}
-use Rattle.amcheck.specs.Sketches.{IsSketch, Keeps, AreKept, links_at, HasGrown}
+use Rattle.amcheck.specs.Reports.{sum_of_all, count_entries_on, one_if_half_dead, one_if_deleted, one_if_flagged}
+use Rattle.amcheck.specs.Sketches.{IsSketch, KeepsSketch, AreKept, links_at, HasGrown}
 use Rattle.amcheck.specs.declared.sketches.Sketch.{Sketch}
 
 get_left : {A : Type 0} (xs ys : List A) (k : ℕ) → k < length xs → slice_get (xs ++ ys) k ≡ slice_get xs k
@@ -38,7 +38,7 @@ links_left : (whole more : List Page) (o : Option ℕ) → ((k : ℕ) → o ≡ 
 links_left whole more None inside = refl
 links_left whole more (Some k) inside = ap (λ (p : Option Page). (node_from p).links) (get_left whole more k (inside k refl))
 
-keeps_left : (whole more : List Page) (page : Page) (sketch : Sketch) → Keeps whole page sketch → Keeps (whole ++ more) page sketch
+keeps_left : (whole more : List Page) (page : Page) (sketch : Sketch) → KeepsSketch whole page sketch → KeepsSketch (whole ++ more) page sketch
 keeps_left whole more page sketch k = record {
   is = k.is;
   entries = k.entries;
@@ -47,13 +47,14 @@ keeps_left whole more page sketch k = record {
   inside = λ place is. let lt = k.inside place is in omega (arith, lt, length-append whole more);
 }
 
-module _ (pages whole more : List Page) (sketches : List Sketch) (page : Page) (sketch : Sketch) (kept : AreKept pages whole sketches) (one : length more ≤ 1) (new : Keeps (whole ++ more) page sketch) where
-  each : (block : ℕ) (p : Page) (s : Sketch) → slice_get (pages ++ page ∷ []) block ≡ Some p → slice_get (sketches ++ sketch ∷ []) block ≡ Some s → Keeps (whole ++ more) p s
+module _ (pages whole more : List Page) (sketches : List Sketch) (page : Page) (sketch : Sketch) (kept : AreKept pages whole sketches)
+    (one : length more ≤ 1) (new : KeepsSketch (whole ++ more) page sketch) where
+  each : (block : ℕ) (p : Page) (s : Sketch) → slice_get (pages ++ page ∷ []) block ≡ Some p → slice_get (sketches ++ sketch ∷ []) block ≡ Some s → KeepsSketch (whole ++ more) p s
   each block p s at_p at_s = by (more_cases pages page p block at_p) (more_cases sketches sketch s block at_s)
     where
-      by : (slice_get pages block ≡ Some p) ⊎ ((block ≡ length pages) × (page ≡ p)) → (slice_get sketches block ≡ Some s) ⊎ ((block ≡ length sketches) × (sketch ≡ s)) → Keeps (whole ++ more) p s
+      by : (slice_get pages block ≡ Some p) ⊎ ((block ≡ length pages) × (page ≡ p)) → (slice_get sketches block ≡ Some s) ⊎ ((block ≡ length sketches) × (sketch ≡ s)) → KeepsSketch (whole ++ more) p s
       by (inl a) (inl b) = keeps_left whole more p s (kept.each block p s a b)
-      by (inr a) (inr b) = subst (λ (q : Page). Keeps (whole ++ more) q s) a.1 (subst (Keeps (whole ++ more) page) b.1 new)
+      by (inr a) (inr b) = subst (λ (q : Page). KeepsSketch (whole ++ more) q s) a.1 (subst (KeepsSketch (whole ++ more) page) b.1 new)
       by (inl a) (inr b) = absurd (let lt = slice_get_within pages block p a in omega (arith, lt, b.0, kept.count))
       by (inr a) (inl b) = absurd (let lt = slice_get_within sketches block s b in omega (arith, lt, a.0, kept.count))
 
@@ -65,13 +66,14 @@ module _ (pages whole more : List Page) (sketches : List Sketch) (page : Page) (
   }
 
 -- one page more is kept
-pub kept_more : (pages whole : List Page) (sketches : List Sketch) (page : Page) (sketch : Sketch) (after whole' : List Page) (sketches' : List Sketch) → AreKept pages whole sketches → HasGrown whole whole'
-    → Keeps whole' page sketch → after ≡ pages ++ page ∷ [] → sketches' ≡ sketches ++ sketch ∷ [] → AreKept after whole' sketches'
+pub kept_more : (pages whole : List Page) (sketches : List Sketch) (page : Page) (sketch : Sketch) (after whole' : List Page)
+    (sketches' : List Sketch) → AreKept pages whole sketches → HasGrown whole whole'
+    → KeepsSketch whole' page sketch → after ≡ pages ++ page ∷ [] → sketches' ≡ sketches ++ sketch ∷ [] → AreKept after whole' sketches'
 kept_more pages whole sketches page sketch after whole' sketches' kept grown new after_is sketches_is =
     subst (λ (ps : List Page). AreKept ps whole' sketches') (sym after_is)
     (subst (λ (ws : List Page). AreKept (pages ++ page ∷ []) ws sketches') (sym grown.is)
     (subst (AreKept (pages ++ page ∷ []) (whole ++ grown.more)) (sym sketches_is)
-    (all pages whole grown.more sketches page sketch kept grown.few (subst (λ (ws : List Page). Keeps ws page sketch) grown.is new))))
+    (all pages whole grown.more sketches page sketch kept grown.few (subst (λ (ws : List Page). KeepsSketch ws page sketch) grown.is new))))
 
 pub none_kept : (pages whole : List Page) (sketches : List Sketch) → pages ≡ [] → whole ≡ [] → sketches ≡ [] → AreKept pages whole sketches
 none_kept pages whole sketches a b c = record {
@@ -97,13 +99,13 @@ module _ (pages whole : List Page) (sketches : List Sketch) (kept : AreKept page
   node_is : nodes_of pages block ≡ node_of there.0
   node_is = ap node_from there.1
 
-  keeps : Keeps whole there.0 sketch
+  keeps : KeepsSketch whole there.0 sketch
   keeps = kept.each block there.0 sketch there.1 found
 
   pub sketch_is : IsSketch (nodes_of pages block) sketch
   sketch_is = subst (λ (n : Node). IsSketch n sketch) (sym node_is) keeps.is
 
-  pub entries_are : (page : Page) → slice_get pages block ≡ Some page → sketch.entries ≡ entry_count page
+  pub entries_are : (page : Page) → slice_get pages block ≡ Some page → sketch.entries ≡ count_entries_on page
   entries_are page is = (kept.each block page sketch is found).entries
 
   pub entries_few : sketch.entries ≤ 50
@@ -127,12 +129,12 @@ inside_of whole None inside place is = absurd (no_link is)
 inside_of whole (Some k) inside place is = subst (λ (n : ℕ). n < length whole) (some_is k place is) inside
 
 -- a sum from a page on is that page's number, and the sum behind it
-pub total_drop : (number : Page → ℕ) (pages : List Page) (k : ℕ) (page : Page) → slice_get pages k ≡ Some page → total number (drop k pages) ≡ number page + total number (drop (k + 1) pages)
-total_drop number pages k page is = by pages k is ∙ ap (λ (n : ℕ). number page + total number (drop n pages)) (let e : suc k ≡ k + 1 = omega arith in e)
+pub total_drop : (number : Page → ℕ) (pages : List Page) (k : ℕ) (page : Page) → slice_get pages k ≡ Some page → sum_of_all number (drop k pages) ≡ number page + sum_of_all number (drop (k + 1) pages)
+total_drop number pages k page is = by pages k is ∙ ap (λ (n : ℕ). number page + sum_of_all number (drop n pages)) (let e : suc k ≡ k + 1 = omega arith in e)
   where
-    by : (pages : List Page) (k : ℕ) → slice_get pages k ≡ Some page → total number (drop k pages) ≡ number page + total number (drop (suc k) pages)
+    by : (pages : List Page) (k : ℕ) → slice_get pages k ≡ Some page → sum_of_all number (drop k pages) ≡ number page + sum_of_all number (drop (suc k) pages)
     by [] k is = absurd (no_link is)
-    by (p ∷ pages) zero is = ap (λ (q : Page). number q + total number pages) (some_is p page is)
+    by (p ∷ pages) zero is = ap (λ (q : Page). number q + sum_of_all number pages) (some_is p page is)
     by (p ∷ pages) (suc k) is = by pages k is
 
 pub one_half_dead : (state : PageState) → one_if_half_dead state ≤ 1

@@ -11,10 +11,10 @@ use Rattle.damages.specs.Damages.{Index, index_of, Place, place_at, Here, Item, 
 use Rattle.damages.specs.Damages.Site.{on_way, on_chain, at_child, at_page, nowhere}
 use Rattle.damages.proofs.Decided.{no_link, some_is, bool_so, on_level_so}
 use Rattle.amcheck.specs.AllStops.{AreAllStops, IsAt, HaveBlocksOnce, IsStopOf, HasNoStop}
-use Rattle.amcheck.specs.Downlinks.{IsOff, AreBelow, HasWrongBound, IsSkipped, LacksLink, IsSkippedStop, LeadsBefore, IsExtra, HasExtra, AreNoted, IsWrongAmong}
-use Rattle.amcheck.specs.Levels.{IsStray}
+use Rattle.amcheck.specs.Downlinks.{IsOff, AreBelow, HasWrongBound, IsSkipped, LacksLink, IsSkippedStop, LeadsBefore, IsExtra, HasExtra, DownlinksAreNoted, IsWrongAmong}
+use Rattle.amcheck.specs.Levels.{IsNotMet}
 use Rattle.amcheck.specs.ParentDamages.{AreChildrenBelow, IsClearAt, IsFirstChild, IsFirstOfPage, IsFirstAt, AreMarked}
-use Rattle.amcheck.specs.Stops.{high_at, spot_at, blocks_of, IsStop, IsLeastNumber, AreInUse}
+use Rattle.amcheck.specs.Stops.{high_at, spot_at, stop_blocks, IsStop, IsLeastNumber, StopsAreInUse}
 use Rattle.amcheck.specs.declared.stops.Stop.{Stop}
 use Rattle.amcheck.proofs.AllStops.{HasIndex, Indexed, indexed, stop_moved}
 use Rattle.amcheck.proofs.ItemsNoted.{item_inside}
@@ -29,7 +29,7 @@ number_large h n (inl a) = (let k = a.0 in omega (arith, k))
 number_large h n (inr (inl a)) = (let k = a.0 in omega (arith, k))
 number_large h n (inr (inr a)) = (let k = a.0 in omega (arith, k))
 
-in_blocks : (ss : List Stop) (k : ℕ) (s : Stop) → slice_get ss k ≡ Some s → IsIn s.block (blocks_of ss)
+in_blocks : (ss : List Stop) (k : ℕ) (s : Stop) → slice_get ss k ≡ Some s → IsIn s.block (stop_blocks ss)
 in_blocks [] k s e = absurd (no_link e)
 in_blocks (x ∷ ss) zero s e = inl (ap (λ (t : Stop). t.block) (sym (some_is x s e)))
 in_blocks (x ∷ ss) (suc k) s e = inr (in_blocks ss k s e)
@@ -45,7 +45,7 @@ with_parents keys pages number block f = by f.site f.is f.block_is f.first
     not_so : false ≡ true → ⊥
     not_so e = cc
 
-    by : (site : Site (index_of pages)) → IsDamage false keys site number → block ≡ damages.block_of site
+    by : (site : Site (index_of pages)) → IsDamage false keys site number → block ≡ damages.site_block site
         → ((other : Site (index_of pages)) (n : ℕ) → IsDamage false keys other n → ComesBefore (rank other n) (rank site number) → ⊥) → IsFirstDamage true keys pages number block
     by (on_way d s e) damage is first = record { site = on_way d s e; is = damage; block_is = is; first = later }
       where
@@ -131,7 +131,12 @@ module _ (pages : List Page) (stops : List Stop) (all : AreAllStops (index_of pa
   abbrev at_of : (h : Here ix) → IsAt stops (index h).index h
   at_of h =
       let x = index h in
-      record { stop = x.stop; there = x.there; is = stop_moved ix h.depth (idx.depth_of x.index) h.place (idx.place_of x.index) x.stop (sym x.depth_is) (sym x.place_is) (idx.is x.index x.stop x.there) }
+      record {
+        stop = x.stop;
+        there = x.there;
+        is =
+            stop_moved ix h.depth (idx.depth_of x.index) h.place (idx.place_of x.index) x.stop (sym x.depth_is) (sym x.place_is) (idx.is x.index x.stop x.there);
+      }
 
   block_at : (h : Here ix) (k : ℕ) (a : IsAt stops k h) → h.block ≡ a.stop.block
   block_at h k a = some_is h.block a.stop.block (sym h.is ∙ ap (λ (p : Place). p.block) a.is)
@@ -192,7 +197,7 @@ module _ (pages : List Page) (stops : List Stop) (all : AreAllStops (index_of pa
           let h = here_at k t f in
           not_same o h (earlier o h j k (at_here j s e) (at_here k t f) lt) (same_depth o h same) (same_place o h same)
 
-  pub stops_in_use : AreInUse (length pages) stops
+  pub stops_in_use : StopsAreInUse (length pages) stops
   stops_in_use k s there = (let on = idx.on_level k s there in (on.after_meta, on.in_use))
 
   -- the stop of a place
@@ -312,7 +317,8 @@ module _ (pages : List Page) (stops : List Stop) (all : AreAllStops (index_of pa
         (let l = level_at h a in let b = w.below in omega (arith, l, b)),
         λ u. w.may (unlinked_skipped h a u),
         λ above i lt same.
-            let marked = marks.all s.block (record { page = above; item = i; index = (index above).index; before = index_before above h k a (inl lt); at = at_of above; leads = same ∙ block_is h a }) in
+            let marked = marks.all s.block
+            (record { page = above; item = i; index = (index above).index; before = index_before above h k a (inl lt); at = at_of above; leads = same ∙ block_is h a }) in
             differ (sym marked ∙ w.none),
       )
 
@@ -359,7 +365,8 @@ module _ (pages : List Page) (stops : List Stop) (all : AreAllStops (index_of pa
       is_extra h a i w = record { item = i.item; link = i.link; there = item_get h a i; wrong = by w }
         where
           marked : (o : Here ix) → Precedes o h → (j : Item o) → j.link.child ≡ i.link.child → IsExtra at stops linked i.link.child
-          marked o before j same = record { is = inr (inr (marks.all i.link.child (record { page = o; item = j; index = (index o).index; before = index_before o h k a before; at = at_of o; leads = same }))) }
+          marked o before j same =
+              record { is = inr (inr (marks.all i.link.child (record { page = o; item = j; index = (index o).index; before = index_before o h k a before; at = at_of o; leads = same }))) }
 
           second : (o : Here ix) (j : Item o) → ComesBefore (o.depth ∷ o.place ∷ j.item ∷ []) (h.depth ∷ h.place ∷ i.item ∷ []) → j.link.child ≡ i.link.child
               → IsExtra at stops linked i.link.child ⊎ LeadsBefore links i.item i.link.child
@@ -385,7 +392,8 @@ module _ (pages : List Page) (stops : List Stop) (all : AreAllStops (index_of pa
       damage_is : (h : Here ix) (n : ℕ) → IsAt stops k h → Wrong n → IsOfParents h n
       damage_is h n a w = by w.is
         where
-          by : ((n ≡ 7) × HasWrongBound at stops links) ⊎ ((n ≡ 8) × LacksLink ix.top (at s.block) s.behind (get_or linked s.block false)) ⊎ ((n ≡ 9) × HasExtra at stops linked links) → IsOfParents h n
+          by : ((n ≡ 7) × HasWrongBound at stops links) ⊎ ((n ≡ 8) × LacksLink ix.top (at s.block) s.behind (get_or linked s.block false))
+              ⊎ ((n ≡ 9) × HasExtra at stops linked links) → IsOfParents h n
           by (inl x) = (let r = bound_wrong h a x.1 in inl (x.0, r.0, r.1, r.2, r.3))
           by (inr (inl x)) = (let r = link_lacks h a x.1 in inr (inl (x.0, r.0, r.1, r.2)))
           by (inr (inr x)) = (let r = extra_is h a x.1 in inr (inr (x.0, r.0, r.1)))
@@ -411,11 +419,18 @@ module _ (pages : List Page) (stops : List Stop) (all : AreAllStops (index_of pa
       page_clear children least = record { children = children; page = λ h n a damage. least n (wrong_is h n a damage) }
 
       -- the marks behind this stop
-      pub marked_more : (after : List Bool) (count : ℕ) → count ≡ length (at s.block).links → AreNoted links count linked after → AreMarked ix stops (suc k) after
+      pub marked_more : (after : List Bool) (count : ℕ) → count ≡ length (at s.block).links → DownlinksAreNoted links count linked after → AreMarked ix stops (suc k) after
       marked_more after count is noted = record {
         from = λ b e. elim (noted.from b e) [
           | inl old ↦ let led = marks.from b old in let lt = led.before in record { page = led.page; item = led.item; index = led.index; before = omega (arith, lt); at = led.at; leads = led.leads }
-          | inr new ↦ record { page = here_at k s there; item = item_make (here_at k s there) (at_here k s there) new.earlier new.link new.there; index = k; before = omega arith; at = at_here k s there; leads = new.leads }
+          | inr new ↦ record {
+            page = here_at k s there;
+            item = item_make (here_at k s there) (at_here k s there) new.earlier new.link new.there;
+            index = k;
+            before = omega arith;
+            at = at_here k s there;
+            leads = new.leads;
+          }
         ];
         all = λ b led. elim (cases_eq led.index k) [
           | inl same ↦
@@ -445,7 +460,8 @@ module _ (pages : List Page) (stops : List Stop) (all : AreAllStops (index_of pa
     page_before : (h o : Here ix) → IsAt stops k h → Precedes o h → (n : ℕ) → IsOfParents o n → ⊥
     page_before h o a before n damage = (clear (index o).index (index_before o h k a before)).page o n (at_of o) damage
 
-    child_first : (f : IsFirstChild ix stops k number block) (other : Site ix) (n : ℕ) → IsDamage true false other n → ComesBefore (rank other n) (1 ∷ f.here.depth ∷ f.here.place ∷ number ∷ f.item.item ∷ []) → ⊥
+    child_first : (f : IsFirstChild ix stops k number block) (other : Site ix) (n : ℕ) → IsDamage true false other n
+        → ComesBefore (rank other n) (1 ∷ f.here.depth ∷ f.here.place ∷ number ∷ f.item.item ∷ []) → ⊥
     child_first f (on_way d s e) n damage before = sound (on_way d s e) n damage
     child_first f (on_chain h) n damage before = sound (on_chain h) n damage
     child_first f (at_child o i) n damage (inl lt) = omega (arith, lt)
@@ -462,7 +478,8 @@ module _ (pages : List Page) (stops : List Stop) (all : AreAllStops (index_of pa
     child_first f (nowhere b) n damage (inl lt) = omega (arith, lt)
     child_first f (nowhere b) n damage (inr (same, more)) = omega (arith, same)
 
-    page_first_of : (f : IsFirstOfPage ix stops k number block) (other : Site ix) (n : ℕ) → IsDamage true false other n → ComesBefore (rank other n) (1 ∷ f.here.depth ∷ f.here.place ∷ number ∷ 0 ∷ []) → ⊥
+    page_first_of : (f : IsFirstOfPage ix stops k number block) (other : Site ix) (n : ℕ) → IsDamage true false other n
+        → ComesBefore (rank other n) (1 ∷ f.here.depth ∷ f.here.place ∷ number ∷ 0 ∷ []) → ⊥
     page_first_of f (on_way d s e) n damage before = sound (on_way d s e) n damage
     page_first_of f (on_chain h) n damage before = sound (on_chain h) n damage
     page_first_of f (at_child o i) n damage (inl lt) = omega (arith, lt)
@@ -497,8 +514,8 @@ module _ (pages : List Page) (stops : List Stop) (all : AreAllStops (index_of pa
     not_stray (at_page h) n damage = absurd ((clear_of h).page h n (at_of h) damage.1)
     not_stray (nowhere b) n damage = (b, damage.1, damage.2, refl)
 
-    module _ (met : List ℕ) (met_is : met ≡ blocks_of stops) where
-      stray_there : (b : ℕ) → damages.IsStray ix b → IsStray pages met b
+    module _ (met : List ℕ) (met_is : met ≡ stop_blocks stops) where
+      stray_there : (b : ℕ) → damages.IsStray ix b → IsNotMet pages met b
       stray_there b w = record {
         after_meta = w.0;
         in_use = w.1;
@@ -509,7 +526,7 @@ module _ (pages : List Page) (stops : List Stop) (all : AreAllStops (index_of pa
             w.3 (record { depth = h.depth; place = h.place; deep = h.deep; is = h.is ∙ ap Some (sym t.is) });
       }
 
-      stray_back : (b : ℕ) → IsStray pages met b → damages.IsStray ix b
+      stray_back : (b : ℕ) → IsNotMet pages met b → damages.IsStray ix b
       stray_back b w = (
         w.after_meta,
         w.in_use,
@@ -517,13 +534,13 @@ module _ (pages : List Page) (stops : List Stop) (all : AreAllStops (index_of pa
         λ on.
             let h : Here ix = record { depth = on.depth; place = on.place; block = b; deep = on.deep; is = on.is } in
             let f = stop_for h b refl in
-            w.unmet (subst (IsIn b) (sym met_is) (subst (λ (c : ℕ). IsIn c (blocks_of stops)) f.is (in_blocks stops f.place (index h).stop f.there))),
+            w.unmet (subst (IsIn b) (sym met_is) (subst (λ (c : ℕ). IsIn c (stop_blocks stops)) f.is (in_blocks stops f.place (index h).stop f.there))),
       )
 
-      pub all_sound : ((b : ℕ) → IsStray pages met b → ⊥) → IsSound true false pages
+      pub all_sound : ((b : ℕ) → IsNotMet pages met b → ⊥) → IsSound true false pages
       all_sound none site n damage = (let r = not_stray site n damage in none r.0 (stray_there r.0 r.2))
 
-      pub first_stray : (b : ℕ) → IsStray pages met b → ((c : ℕ) → c < b → IsStray pages met c → ⊥) → IsFirstDamage true false pages 11 b
+      pub first_stray : (b : ℕ) → IsNotMet pages met b → ((c : ℕ) → c < b → IsNotMet pages met c → ⊥) → IsFirstDamage true false pages 11 b
       first_stray b stray least = record {
         site = nowhere b;
         is = (refl, refl, stray_back b stray);

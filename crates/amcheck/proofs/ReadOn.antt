@@ -5,10 +5,10 @@ use Rattle.index_model.specs.Faults.{HasCause}
 use Rattle.index_model.specs.declared.fault.Fault.{Fault}
 use Rattle.index_model.specs.declared.fault.Fault.TheVariants.{NoMemory, Io, Stopped, NoFrame, PageDamaged}
 use Rattle.latch_table.specs.Holdings.{has_pin}
-use Rattle.page_action.specs.Causes.{where_read, count_apart, pinned_blocks}
+use Rattle.page_action.specs.Causes.{causes_of_read, count_apart, pinned_blocks}
 use Rattle.page_action.specs.Room.{KeepsRoom}
 use Rattle.page_action.specs.States.{State, Backing, IsLater}
-use Rattle.amcheck.specs.Checks.{where_checked}
+use Rattle.amcheck.specs.Checks.{causes_of_checked}
 
 pub kept_on : (st : State) (first mid last : Backing) → KeepsRoom st first mid → KeepsRoom st mid last → IsLater first mid → mid.durable ≤ st.acts → KeepsRoom st first last
 kept_on st first mid last a b later few = record {
@@ -32,8 +32,9 @@ damaged true false past e h = refl
 damaged false honest past e h = absurd (let k : false ≡ true = h in cc)
 
 -- a page isn't read: that is a cause for the whole
-pub cause_on : (st : State) (first mid last : Backing) (block : ℕ) (fault : Fault) → first.failures ≤ mid.failures → (mid.stopped ≡ true → first.stopped ≡ true) → nat_le (length st.pages) block ≡ false
-    → HasCause (where_read st mid last block) fault → HasCause (where_checked st first last) fault
+pub cause_on : (st : State) (first mid last : Backing) (block : ℕ) (fault : Fault) → first.failures ≤ mid.failures
+    → (mid.stopped ≡ true → first.stopped ≡ true) → nat_le (length st.pages) block ≡ false
+    → HasCause (causes_of_read st mid last block) fault → HasCause (causes_of_checked st first last) fault
 cause_on st first mid last block NoMemory le alive within h = refl
 cause_on st first mid last block Io le alive within h = (let k : mid.failures < last.failures = ltb-true mid.failures last.failures h in lt-ltb first.failures last.failures (omega (arith, le, k)))
 cause_on st first mid last block Stopped le alive within h = alive h
@@ -53,5 +54,5 @@ not_so : false ≡ true → ⊥
 not_so e = cc
 
 -- a read takes no memory
-pub never_memory : (st : State) (old new : Backing) (block : ℕ) (fault : Fault) → HasCause (where_read st old new block) fault → fault ≢ NoMemory
-never_memory st old new block fault h same = not_so (subst (HasCause (where_read st old new block)) same h)
+pub never_memory : (st : State) (old new : Backing) (block : ℕ) (fault : Fault) → HasCause (causes_of_read st old new block) fault → fault ≢ NoMemory
+never_memory st old new block fault h same = not_so (subst (HasCause (causes_of_read st old new block)) same h)

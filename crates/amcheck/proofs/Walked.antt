@@ -8,22 +8,22 @@ use Rattle.damages.specs.Damages.{Index, index_of, head, Place, next_place, plac
 use Rattle.damages.proofs.Decided.{no_link, some_is}
 use Rattle.damages.proofs.Places.{one_place}
 use Rattle.amcheck.specs.Marks.{IsMet}
-use Rattle.amcheck.specs.Stops.{spot_at, blocks_of, IsStop, AreStops}
-use Rattle.amcheck.specs.Ends.{IsEnd, IsEarlier}
+use Rattle.amcheck.specs.Stops.{spot_at, stop_blocks, IsStop, AreStops}
+use Rattle.amcheck.specs.Ends.{IsChainEnd, IsEarlier}
 use Rattle.amcheck.specs.declared.marks.Met.{Met}
 use Rattle.amcheck.specs.declared.stops.Stop.{Stop}
 use Rattle.amcheck.specs.declared.walks.End.TheVariants as ends
 use Rattle.tree_shape.proofs.Few.{few_blocks}
 
-pub blocks_more : (ss : List Stop) (s : Stop) → blocks_of (ss ++ s ∷ []) ≡ blocks_of ss ++ s.block ∷ []
+pub blocks_more : (ss : List Stop) (s : Stop) → stop_blocks (ss ++ s ∷ []) ≡ stop_blocks ss ++ s.block ∷ []
 blocks_more [] s = refl
 blocks_more (x ∷ ss) s = ap (λ (bs : List ℕ). x.block ∷ bs) (blocks_more ss s)
 
-pub blocks_length : (ss : List Stop) → length (blocks_of ss) ≡ length ss
+pub blocks_length : (ss : List Stop) → length (stop_blocks ss) ≡ length ss
 blocks_length [] = refl
 blocks_length (x ∷ ss) = (let r = blocks_length ss in omega (arith, r))
 
-block_there : (ss : List Stop) (k : ℕ) (s : Stop) → slice_get ss k ≡ Some s → slice_get (blocks_of ss) k ≡ Some s.block
+block_there : (ss : List Stop) (k : ℕ) (s : Stop) → slice_get ss k ≡ Some s → slice_get (stop_blocks ss) k ≡ Some s.block
 block_there [] k s e = absurd (no_link e)
 block_there (x ∷ ss) zero s e = ap (λ (t : Stop). Some t.block) (some_is x s e)
 block_there (x ∷ ss) (suc k) s e = block_there ss k s e
@@ -36,7 +36,7 @@ pub record HasStop (ss : List Stop) (b : ℕ) : Type 0 where
   pub is : b ≡ stop.block
   pub inside : place < length ss
 
-pub stop_of : (ss : List Stop) (b : ℕ) → IsIn b (blocks_of ss) → HasStop ss b
+pub stop_of : (ss : List Stop) (b : ℕ) → IsIn b (stop_blocks ss) → HasStop ss b
 stop_of [] b i = absurd i
 stop_of (x ∷ ss) b (inl e) = record { place = 0; stop = x; there = refl; is = e; inside = omega arith }
 stop_of (x ∷ ss) b (inr i) = (let r = stop_of ss b i in let lt = r.inside in record { place = suc r.place; stop = r.stop; there = r.there; is = r.is; inside = omega arith })
@@ -59,17 +59,18 @@ more_cases (x ∷ ss) t (suc k) s e = elim (more_cases ss t k s e) [
 -- how far a walk has come: the blocks of its stops were met behind those that were before, and this stop is next
 pub record HasWalked (pages : List Page) (depth : ℕ) (before : List ℕ) (met : Met) (stops : List Stop) (stop : Stop) (step : ℕ) : Type 0 where
   pub met_is : IsMet met (length pages)
-  pub added : met.blocks.items ≡ before ++ blocks_of stops
+  pub added : met.blocks.items ≡ before ++ stop_blocks stops
   pub placed : (k : ℕ) (s : Stop) → slice_get stops k ≡ Some s → IsStop (index_of pages) depth k s
   pub on_level : (k : ℕ) (s : Stop) → slice_get stops k ≡ Some s → IsOnLevel (index_of pages) depth s.block
   pub count : length stops ≡ step
   pub here : IsStop (index_of pages) depth step stop
 
-pub walk_begins : (pages : List Page) (depth : ℕ) (met : Met) (stops : List Stop) (stop : Stop) → IsMet met (length pages) → stops ≡ [] → stop ≡ record { block = head (index_of pages) depth; low_at = None; left = None; behind = false }
+pub walk_begins : (pages : List Page) (depth : ℕ) (met : Met) (stops : List Stop) (stop : Stop) → IsMet met (length pages) → stops ≡ []
+    → stop ≡ record { block = head (index_of pages) depth; low_at = None; left = None; behind = false }
     → HasWalked pages depth met.blocks.items met stops stop 0
 walk_begins pages depth met stops stop is none' stop_is = record {
   met_is = is;
-  added = sym (append-nil met.blocks.items) ∙ ap (λ (ss : List Stop). met.blocks.items ++ blocks_of ss) (sym none');
+  added = sym (append-nil met.blocks.items) ∙ ap (λ (ss : List Stop). met.blocks.items ++ stop_blocks ss) (sym none');
   placed = λ k s e. absurd (no_link (sym (ap (λ (ss : List Stop). slice_get ss k) none') ∙ e));
   on_level = λ k s e. absurd (no_link (sym (ap (λ (ss : List Stop). slice_get ss k) none') ∙ e));
   count = ap length none';
@@ -85,37 +86,38 @@ module _ (pages : List Page) (depth : ℕ) (before : List ℕ) (met : Met) (stop
     placed = far.placed;
     on_level = far.on_level;
     once = λ j k s t lt e f same.
-        let distinct = apart_back before (blocks_of stops) (subst AreDistinct far.added far.met_is.distinct) in
-        let one = one_place (blocks_of stops) j k t.block distinct (block_there stops j s e ∙ ap Some same) (block_there stops k t f) in
+        let distinct = apart_back before (stop_blocks stops) (subst AreDistinct far.added far.met_is.distinct) in
+        let one = one_place (stop_blocks stops) j k t.block distinct (block_there stops j s e ∙ ap Some same) (block_there stops k t f) in
         absurd (omega (arith, one));
   }
 
   at_end : place_at ix depth (length stops) ≡ record { spot = spot_at (nodes_of pages) stop; block = Some stop.block }
   at_end = ap (place_at ix depth) far.count ∙ far.here
 
-  pub ends_off : (IsOnLevel ix depth stop.block → ⊥) → IsEnd ix depth (length stops) (ends.Off stop.block)
+  pub ends_off : (IsOnLevel ix depth stop.block → ⊥) → IsChainEnd ix depth (length stops) (ends.Off stop.block)
   ends_off off = (ap (λ (p : Place). p.block) at_end, off)
 
-  pub ends_met : ((b : ℕ) → IsIn b before → IsOnLevel ix depth b → ⊥) → IsOnLevel ix depth stop.block → IsIn stop.block met.blocks.items → IsEnd ix depth (length stops) (ends.Met stop)
-  ends_met apart on i = (at_end, on, by (in_append_cases stop.block before (blocks_of stops) (subst (IsIn stop.block) far.added i)))
+  pub ends_met : ((b : ℕ) → IsIn b before → IsOnLevel ix depth b → ⊥) → IsOnLevel ix depth stop.block → IsIn stop.block met.blocks.items → IsChainEnd ix depth (length stops) (ends.Met stop)
+  ends_met apart on i = (at_end, on, by (in_append_cases stop.block before (stop_blocks stops) (subst (IsIn stop.block) far.added i)))
     where
-      by : IsIn stop.block before ⊎ IsIn stop.block (blocks_of stops) → IsEarlier ix depth (length stops) stop.block
+      by : IsIn stop.block before ⊎ IsIn stop.block (stop_blocks stops) → IsEarlier ix depth (length stops) stop.block
       by (inl old) = absurd (apart stop.block old on)
-      by (inr new) = (let s = stop_of stops stop.block new in record { earlier = s.place; before = s.inside; is = ap (λ (p : Place). p.block) (far.placed s.place s.stop s.there) ∙ ap Some (sym s.is) })
+      by (inr new) = (let s = stop_of stops stop.block new in
+          record { earlier = s.place; before = s.inside; is = ap (λ (p : Place). p.block) (far.placed s.place s.stop s.there) ∙ ap Some (sym s.is) })
 
   -- there are fewer stops than pages
   pub stops_few : 0 < length pages → length stops < length pages
   stops_few some =
       let few = few_blocks (length pages) met.blocks.items some far.met_is.distinct far.met_is.in_use in
-      omega (arith, few, ap length far.added, length-append before (blocks_of stops), blocks_length stops)
+      omega (arith, few, ap length far.added, length-append before (stop_blocks stops), blocks_length stops)
 
   -- a page more
   module _ (after : Met) (after_is : IsMet after (length pages)) (after_added : after.blocks.items ≡ met.blocks.items ++ stop.block ∷ []) (on : IsOnLevel ix depth stop.block)
       (more : List Stop) (more_is : more ≡ stops ++ stop ∷ []) where
-    added_more : after.blocks.items ≡ before ++ blocks_of more
+    added_more : after.blocks.items ≡ before ++ stop_blocks more
     added_more =
-        after_added ∙ ap (λ (bs : List ℕ). bs ++ stop.block ∷ []) far.added ∙ append_assoc before (blocks_of stops) (stop.block ∷ [])
-        ∙ ap (λ (bs : List ℕ). before ++ bs) (sym (blocks_more stops stop) ∙ ap blocks_of (sym more_is))
+        after_added ∙ ap (λ (bs : List ℕ). bs ++ stop.block ∷ []) far.added ∙ append_assoc before (stop_blocks stops) (stop.block ∷ [])
+        ∙ ap (λ (bs : List ℕ). before ++ bs) (sym (blocks_more stops stop) ∙ ap stop_blocks (sym more_is))
 
     placed_more : (k : ℕ) (s : Stop) → slice_get more k ≡ Some s → IsStop ix depth k s
     placed_more k s e = elim (more_cases stops stop k s (ap (λ (ss : List Stop). slice_get ss k) (sym more_is) ∙ e)) [
@@ -149,7 +151,7 @@ module _ (pages : List Page) (depth : ℕ) (before : List ℕ) (met : Met) (stop
       });
     })
 
-    pub ends_whole : (nodes_of pages stop.block).right ≡ None → IsEnd ix depth (length more) ends.Whole
+    pub ends_whole : (nodes_of pages stop.block).right ≡ None → IsChainEnd ix depth (length more) ends.Whole
     ends_whole none' = ap (λ (k : ℕ). (place_at ix depth k).block) count_more ∙ ap (λ (p : Place). p.block) next_place_is ∙ none'
 
     pub are_stops_more : AreStops ix depth more
@@ -157,10 +159,10 @@ module _ (pages : List Page) (depth : ℕ) (before : List ℕ) (met : Met) (stop
       placed = placed_more;
       on_level = on_level_more;
       once = λ j k s t lt e f same.
-          let distinct = apart_back before (blocks_of more) (subst AreDistinct added_more after_is.distinct) in
-          let one = one_place (blocks_of more) j k t.block distinct (block_there more j s e ∙ ap Some same) (block_there more k t f) in
+          let distinct = apart_back before (stop_blocks more) (subst AreDistinct added_more after_is.distinct) in
+          let one = one_place (stop_blocks more) j k t.block distinct (block_there more j s e ∙ ap Some same) (block_there more k t f) in
           absurd (omega (arith, one));
     }
 
-    pub added_all : after.blocks.items ≡ before ++ blocks_of more
+    pub added_all : after.blocks.items ≡ before ++ stop_blocks more
     added_all = added_more

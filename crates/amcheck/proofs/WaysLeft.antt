@@ -6,28 +6,28 @@ use Rattle.page_codec.specs.declared.page.Page.{Page}
 use Rattle.tree_shape.specs.Nodes.{Node, nodes_of}
 use Rattle.tree_shape.specs.Chains.{IsIn, AreDistinct}
 use Rattle.tree_shape.proofs.Members.{not_in_from}
-use Rattle.damages.specs.Damages.{Index, index_of, or_block, start, way_left, IsOnLevel, IsOfWay}
+use Rattle.damages.specs.Damages.{Index, index_of, or_block, start, left_after_steps, IsOnLevel, IsOfWay}
 use Rattle.tree_shape.proofs.Few.{few_blocks}
 use Rattle.damages.proofs.Decided.{no_link, on_level_so}
 use Rattle.amcheck.specs.Places as places
 use Rattle.amcheck.specs.Ways.{IsClearWay, IsFirstOfWay}
 
 -- a level by its number, and by its depth below the root's
-pub level_there : (pages : List Page) (level depth block : ℕ) → level + depth ≡ (index_of pages).top → places.IsOnLevel pages level block → IsOnLevel (index_of pages) depth block
+pub level_there : (pages : List Page) (level depth block : ℕ) → level + depth ≡ (index_of pages).top → places.PageIsOnLevel pages level block → IsOnLevel (index_of pages) depth block
 level_there pages level depth block sum on = record { after_meta = on.after_meta; in_use = on.in_use; level_is = (let l = on.level_is in omega arith) }
 
-pub level_back : (pages : List Page) (level depth block : ℕ) → level + depth ≡ (index_of pages).top → IsOnLevel (index_of pages) depth block → places.IsOnLevel pages level block
+pub level_back : (pages : List Page) (level depth block : ℕ) → level + depth ≡ (index_of pages).top → IsOnLevel (index_of pages) depth block → places.PageIsOnLevel pages level block
 level_back pages level depth block sum on = record { after_meta = on.after_meta; in_use = on.in_use; level_is = (let l = on.level_is in omega arith) }
 
 -- the blocks of the first so many steps
 abbrev blocks : Index → ℕ → ℕ → List ℕ
 blocks ix depth zero = []
-blocks ix depth (suc n) = way_left ix depth n ∷ blocks ix depth n
+blocks ix depth (suc n) = left_after_steps ix depth n ∷ blocks ix depth n
 
 pub record IsCome (ix : Index) (depth n block : ℕ) : Type 0 where
   pub step : ℕ
   pub earlier : step < n
-  pub is : block ≡ way_left ix depth step
+  pub is : block ≡ left_after_steps ix depth step
 
 come : (ix : Index) (depth n block : ℕ) → IsIn block (blocks ix depth n) → IsCome ix depth n block
 come ix depth zero block i = absurd i
@@ -40,11 +40,11 @@ size ix depth (suc n) = (let r = size ix depth n in omega (arith, r))
 
 -- how far the way was gone: nothing is damaged so far, it goes on, and its pages are marked beside those that were before
 pub record HasGone (pages : List Page) (depth : ℕ) (before seen : List Bool) (block step : ℕ) : Type 0 where
-  pub block_is : block ≡ way_left (index_of pages) depth step
+  pub block_is : block ≡ left_after_steps (index_of pages) depth step
   pub size : length seen ≡ length pages
   pub clear : (m n : ℕ) → m < step → IsOfWay (index_of pages) depth m n → ⊥
-  pub on : (m : ℕ) → m < step → (nodes_of pages (way_left (index_of pages) depth m)).left ≢ None
-  pub marked : (m : ℕ) → m < step → get_or seen (way_left (index_of pages) depth m) false ≡ true
+  pub on : (m : ℕ) → m < step → (nodes_of pages (left_after_steps (index_of pages) depth m)).left ≢ None
+  pub marked : (m : ℕ) → m < step → get_or seen (left_after_steps (index_of pages) depth m) false ≡ true
   pub from : (b : ℕ) → get_or seen b false ≡ true → (get_or before b false ≡ true) ⊎ IsCome (index_of pages) depth step b
 
 pub begin_way : (pages : List Page) (depth begin : ℕ) (seen : List Bool) → length seen ≡ length pages → begin ≡ start (index_of pages) depth → HasGone pages depth seen seen begin 0
@@ -65,8 +65,8 @@ module _ (pages : List Page) (depth : ℕ) (before seen : List Bool) (block step
   abbrev at : ℕ → Node
   at = nodes_of pages
 
-  on_before : (m : ℕ) → m < step → IsOnLevel ix depth (way_left ix depth m)
-  on_before m lt = on_level_so ix depth (way_left ix depth m) (λ fails. gone.clear m 1 lt (inl (refl, fails)))
+  on_before : (m : ℕ) → m < step → IsOnLevel ix depth (left_after_steps ix depth m)
+  on_before m lt = on_level_so ix depth (left_after_steps ix depth m) (λ fails. gone.clear m 1 lt (inl (refl, fails)))
 
   -- it comes to a block that isn't on the level
   pub way_off : (IsOnLevel ix depth block → ⊥) → IsFirstOfWay ix depth 1 block
@@ -87,7 +87,7 @@ module _ (pages : List Page) (depth : ℕ) (before seen : List Bool) (block step
   pub way_back : IsOnLevel ix depth block → get_or seen block false ≡ true → IsFirstOfWay ix depth 3 block
   way_back on mark = by (gone.from block mark)
     where
-      back : (earlier : ℕ) → earlier < step → block ≡ way_left ix depth earlier → IsFirstOfWay ix depth 3 block
+      back : (earlier : ℕ) → earlier < step → block ≡ left_after_steps ix depth earlier → IsFirstOfWay ix depth 3 block
       back earlier lt same = at_step step refl
         where
           at_step : (n : ℕ) → step ≡ n → IsFirstOfWay ix depth 3 block
@@ -99,7 +99,7 @@ module _ (pages : List Page) (depth : ℕ) (before seen : List Bool) (block step
             first = λ s n damage earlier. elim earlier [
               | inl lt ↦ gone.clear s n lt damage
               | inr same ↦ elim damage [
-                | inl one ↦ one.1 (subst (IsOnLevel ix depth) (gone.block_is ∙ ap (way_left ix depth) (sym same.0)) on)
+                | inl one ↦ one.1 (subst (IsOnLevel ix depth) (gone.block_is ∙ ap (left_after_steps ix depth) (sym same.0)) on)
                 | inr three ↦ let k = three.0 in let lt = same.1 in absurd (omega arith)
               ]
             ];
@@ -111,7 +111,7 @@ module _ (pages : List Page) (depth : ℕ) (before seen : List Bool) (block step
 
   -- a page that wasn't met: nothing is damaged at this step
   module _ (on : IsOnLevel ix depth block) (unmarked : get_or seen block false ≡ true → ⊥) where
-    new_here : (m : ℕ) → m < step → way_left ix depth m ≢ way_left ix depth step
+    new_here : (m : ℕ) → m < step → left_after_steps ix depth m ≢ left_after_steps ix depth step
     new_here m lt same = unmarked (subst (λ (b : ℕ). get_or seen b false ≡ true) (same ∙ sym gone.block_is) (gone.marked m lt))
 
     clear_here : (n : ℕ) → IsOfWay ix depth step n → ⊥
@@ -140,26 +140,26 @@ module _ (pages : List Page) (depth : ℕ) (before seen : List Bool) (block step
       size = length-set seen block true ∙ gone.size;
       clear = clear_to;
       on = λ m lt e. elim (cases_eq m step) [
-        | inl same ↦ no_link (sym e ∙ ap (λ (b : ℕ). (at b).left) (ap (way_left ix depth) same ∙ sym gone.block_is) ∙ is)
+        | inl same ↦ no_link (sym e ∙ ap (λ (b : ℕ). (at b).left) (ap (left_after_steps ix depth) same ∙ sym gone.block_is) ∙ is)
         | inr differs ↦ gone.on m (omega arith) e
       ];
       marked = λ m lt. elim (cases_eq m step) [
-        | inl same ↦ subst (λ (b : ℕ). get_or (slice_set seen block true) b false ≡ true) (gone.block_is ∙ ap (way_left ix depth) (sym same))
+        | inl same ↦ subst (λ (b : ℕ). get_or (slice_set seen block true) b false ≡ true) (gone.block_is ∙ ap (left_after_steps ix depth) (sym same))
             (get_or-set_same seen block true false (let i = on.in_use in let s = gone.size in omega arith))
-        | inr differs ↦ get_or-set_other seen block (way_left ix depth m) true false (λ k. new_here m (omega arith) (k ∙ gone.block_is)) ∙ gone.marked m (omega arith)
+        | inr differs ↦ get_or-set_other seen block (left_after_steps ix depth m) true false (λ k. new_here m (omega arith) (k ∙ gone.block_is)) ∙ gone.marked m (omega arith)
       ];
       from = from_more;
     })
 
     -- ... or ends here
-    stays : (at block).left ≡ None → (n : ℕ) → step ≤ n → way_left ix depth n ≡ block
-    stays is zero le = ap (way_left ix depth) (let e : 0 ≡ step = omega arith in e) ∙ sym gone.block_is
+    stays : (at block).left ≡ None → (n : ℕ) → step ≤ n → left_after_steps ix depth n ≡ block
+    stays is zero le = ap (left_after_steps ix depth) (let e : 0 ≡ step = omega arith in e) ∙ sym gone.block_is
     stays is (suc n) le = elim (cases_eq step (suc n)) [
-      | inl same ↦ ap (way_left ix depth) (sym same) ∙ sym gone.block_is
+      | inl same ↦ ap (left_after_steps ix depth) (sym same) ∙ sym gone.block_is
       | inr differs ↦ let r = stays is n (omega arith) in ap (λ (b : ℕ). or_block (at b).left b) r ∙ ap (λ (o : Option ℕ). or_block o block) is
     ]
 
-    pub way_ends : (at block).left ≡ None → step ≤ length pages → (block ≡ way_left ix depth (length pages)) × IsClearWay ix depth
+    pub way_ends : (at block).left ≡ None → step ≤ length pages → (block ≡ left_after_steps ix depth (length pages)) × IsClearWay ix depth
     way_ends is le = (
       sym (stays is (length pages) le),
       λ s n damage. elim (cases_lt step s) [
@@ -175,7 +175,7 @@ module _ (pages : List Page) (depth : ℕ) (before seen : List Bool) (block step
     kept_more b e = elim (from_more b e) [
       | inl old ↦ inl old
       | inr c ↦ elim (cases_eq c.step step) [
-        | inl same ↦ inr (subst (IsOnLevel ix depth) (gone.block_is ∙ ap (way_left ix depth) (sym same) ∙ sym c.is) on)
+        | inl same ↦ inr (subst (IsOnLevel ix depth) (gone.block_is ∙ ap (left_after_steps ix depth) (sym same) ∙ sym c.is) on)
         | inr differs ↦ let lt = c.earlier in inr (subst (IsOnLevel ix depth) (sym c.is) (on_before c.step (omega arith)))
       ]
     ]
@@ -189,14 +189,14 @@ module _ (pages : List Page) (depth : ℕ) (before seen : List Bool) (block step
   distinct : (n : ℕ) → n ≤ step → AreDistinct (blocks ix depth n)
   distinct zero le = tt
   distinct (suc n) le = (
-    not_in_from (way_left ix depth n) (blocks ix depth n) (λ c i same.
+    not_in_from (left_after_steps ix depth n) (blocks ix depth n) (λ c i same.
         let r = come ix depth n c i in
         let lt = r.earlier in
         twice n r.step r.earlier (omega arith) (sym (same ∙ r.is))),
     distinct n (omega arith),
   )
     where
-      twice : (n m : ℕ) → m < n → n < step → way_left ix depth m ≡ way_left ix depth n → ⊥
+      twice : (n m : ℕ) → m < n → n < step → left_after_steps ix depth m ≡ left_after_steps ix depth n → ⊥
       twice zero m lt in_step same = absurd (omega arith)
       twice (suc k) m lt in_step same =
           gone.clear (suc k) 3 in_step (inr (refl, record { before = k; comes = refl; goes_on = gone.on k (omega arith); met = m; earlier = omega arith; same = same }))

@@ -5,7 +5,7 @@ use Rattle.amcheck.specs.Stops.{IsStop, AreStops}
 use Rattle.amcheck.specs.declared.stops.Stop.{Stop}
 
 -- the stops are all places of the chain of a level
-pub record AreWhole (ix : Index) (depth : ℕ) (stops : List Stop) : Type 0 where
+pub record StopsAreAll (ix : Index) (depth : ℕ) (stops : List Stop) : Type 0 where
   pub are : AreStops ix depth stops
   pub ends : (place_at ix depth (length stops)).block ≡ None
 
@@ -13,7 +13,7 @@ pub record AreWhole (ix : Index) (depth : ℕ) (stops : List Stop) : Type 0 wher
 abbrev pub AreAllStops : Index → ℕ → List Stop → Type 0
 AreAllStops ix zero stops = stops ≡ []
 AreAllStops ix (suc depth) stops = (front : List Stop) × (back : List Stop) × (stops ≡ front ++ back)
-    × AreAllStops ix depth front × AreWhole ix depth back
+    × AreAllStops ix depth front × StopsAreAll ix depth back
 
 -- this place of a chain is the stop there
 pub record IsAt {ix : Index} (stops : List Stop) (k : ℕ) (h : Here ix) : Type 0 where
@@ -27,7 +27,7 @@ HaveBlocksOnce stops = (j k : ℕ) (s t : Stop) → slice_get stops j ≡ Some s
     → j ≡ k
 
 -- for each block the stop that has it is known by its place, if there is one
-pub record ArePlaces (stops : List Stop) (places : List (Option ℕ)) : Type 0 where
+pub record PlacesAreOfStops (stops : List Stop) (places : List (Option ℕ)) : Type 0 where
   pub there : (b k : ℕ) → get_or places b None ≡ Some k → (s : Stop) × (slice_get stops k ≡ Some s) × (s.block ≡ b)
   pub none : (b k : ℕ) (s : Stop) → get_or places b None ≡ None → slice_get stops k ≡ Some s → s.block ≢ b
 

@@ -8,8 +8,8 @@ use Rattle.amcheck.specs.declared.report.CheckFault.TheVariants.{Damage, Refused
 
 -- every page is read, in room that is made for it; a page is damaged only where the device did not keep
 -- its model
-abbrev pub where_checked : State → Backing → Backing → Circumstances
-where_checked st old new = record nothing_wrong {
+abbrev pub causes_of_checked : State → Backing → Backing → Circumstances
+causes_of_checked st old new = record nothing_wrong {
   growth_refused = true;
   device_failed = has_failed old new;
   is_stopped = old.stopped;
@@ -21,4 +21,4 @@ where_checked st old new = record nothing_wrong {
 -- and what is refused has its cause.
 abbrev pub IsCheckFault : State → Backing → Backing → Type 0 → CheckFault → Type 0
 IsCheckFault st old new sound (Damage number block) = new.honest ≡ true → sound → ⊥
-IsCheckFault st old new sound (Refused fault) = HasCause (where_checked st old new) fault
+IsCheckFault st old new sound (Refused fault) = HasCause (causes_of_checked st old new) fault

@@ -12,7 +12,7 @@ pub record IsEarlier (ix : Index) (depth place block : ℕ) : Type 0 where
   pub is : (place_at ix depth earlier).block ≡ Some block
 
 -- at this place: the chain is not so long, or has a block that is on another level or on none, or comes back to a page
-abbrev pub IsEnd : Index → ℕ → ℕ → End → Type 0
-IsEnd ix depth place Whole = (place_at ix depth place).block ≡ None
-IsEnd ix depth place (Off block) = ((place_at ix depth place).block ≡ Some block) × (IsOnLevel ix depth block → ⊥)
-IsEnd ix depth place (Met stop) = IsStop ix depth place stop × IsOnLevel ix depth stop.block × IsEarlier ix depth place stop.block
+abbrev pub IsChainEnd : Index → ℕ → ℕ → End → Type 0
+IsChainEnd ix depth place Whole = (place_at ix depth place).block ≡ None
+IsChainEnd ix depth place (Off block) = ((place_at ix depth place).block ≡ Some block) × (IsOnLevel ix depth block → ⊥)
+IsChainEnd ix depth place (Met stop) = IsStop ix depth place stop × IsOnLevel ix depth stop.block × IsEarlier ix depth place stop.block

@@ -7,10 +7,10 @@ use Rattle.amcheck.specs.declared.report.CheckFault.TheVariants.{Damage, Refused
 use Rattle.amcheck.specs.declared.report.Report.{Report}
 
 -- a damage is answered
-abbrev pub IsDamaged : Result Report CheckFault → Type 0
-IsDamaged (Ok report) = ⊥
-IsDamaged (Err (Damage number block)) = ⊤
-IsDamaged (Err (Refused fault)) = ⊥
+abbrev pub AnswersDamage : Result Report CheckFault → Type 0
+AnswersDamage (Ok report) = ⊥
+AnswersDamage (Err (Damage number block)) = ⊤
+AnswersDamage (Err (Refused fault)) = ⊥
 
 -- a report is, or a damage
 abbrev pub IsAnswered : Result Report CheckFault → Type 0
@@ -27,4 +27,4 @@ AnswersAreOne = (parents keys : Bool) (pages : List Page) (one other : Result Re
 abbrev pub ParentsSeeMore : Type 0
 ParentsSeeMore = (keys : Bool) (pages : List Page) (one other : Result Report CheckFault)
     → IsAnswer false keys pages one → IsAnswer true keys pages other → IsAnswered one → IsAnswered other
-    → (one ≡ other) ⊎ ((IsDamaged one → ⊥) × IsDamaged other)
+    → (one ≡ other) ⊎ ((AnswersDamage one → ⊥) × AnswersDamage other)

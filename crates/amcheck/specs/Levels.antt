@@ -14,7 +14,7 @@ pub record NamesRoot (pages : List Page) (root top : ℕ) : Type 0 where
   pub top_is : top ≡ meta.level
 
 -- a page in use, neither deleted nor the metapage, is none of those that were met
-pub record IsStray (pages : List Page) (met : List ℕ) (block : ℕ) : Type 0 where
+pub record IsNotMet (pages : List Page) (met : List ℕ) (block : ℕ) : Type 0 where
   pub after_meta : 0 < block
   pub in_use : block < length pages
   pub stands : (nodes_of pages block).state ≢ Deleted

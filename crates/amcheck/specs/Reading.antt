@@ -2,14 +2,14 @@
 use Rattle.std.specs.Prelude.{◌≡◌, ℕ, zero, suc, ◌≤◌, true, false, None, List, [], ◌∷◌, ◌++◌, length, replicate, filter, take, drop, vec_capacity}
 use Rattle.latch_table.specs.Holdings.{pinned_blocks}
 use Rattle.page_codec.specs.declared.page.Page.{Page}
-use Rattle.page_action.specs.Frames.{Memory, is_among, TakesFrames}
+use Rattle.page_action.specs.Frames.{Memory, is_block_among, TakesFrames}
 use Rattle.page_action.specs.States.{State, Backing}
 use Rattle.page_action.specs.Stored.{AreStored}
 use Rattle.amcheck.specs.Marks.{IsMet}
 use Rattle.amcheck.specs.declared.reading.Room.{Room}
 
 -- there is room to check so many pages, and no block was seen or met
-pub record HasRoom (room : Room) (used : ℕ) : Type 0 where
+pub record RoomIsReady (room : Room) (used : ℕ) : Type 0 where
   pub met : IsMet room.met used
   pub none : room.met.blocks.items ≡ []
   pub seen : room.seen.items ≡ replicate used false
@@ -21,7 +21,7 @@ pub record HasRoom (room : Room) (used : ℕ) : Type 0 where
 
 -- these were read, one for each block in use: pages as the format demands, and where the device kept its
 -- model those of the store
-pub record AreRead (st : State) (backing : Backing) (pages : List Page) : Type 0 where
+pub record PagesAreRead (st : State) (backing : Backing) (pages : List Page) : Type 0 where
   pub count : length pages ≡ length st.pages
   pub stored : AreStored st.limits 0 pages
   pub same : backing.honest ≡ true → pages ≡ st.pages
@@ -37,7 +37,7 @@ AreFetched st m m' old new = TakesFrames st.frames (pinned_blocks st.table) (blo
 
 -- these blocks without the first so many, but for those of them that are pinned
 abbrev pub without_first : List ℕ → ℕ → List ℕ → List ℕ
-without_first pinned count blocks = filter (is_among pinned) (take count blocks) ++ drop count blocks
+without_first pinned count blocks = filter (is_block_among pinned) (take count blocks) ++ drop count blocks
 
 -- of the blocks that wait some first ones don't any more, but for pinned ones; the others wait in their order
 pub record IsRestBut (pinned rest blocks : List ℕ) : Type 0 where

@@ -7,13 +7,13 @@ use Rattle.page_action.specs.Contents.{live_entries}
 use Rattle.amcheck.specs.declared.report.Report.{Report}
 
 -- the sum of this number over the pages
-abbrev pub total : (Page → ℕ) → List Page → ℕ
-total number [] = 0
-total number (page ∷ pages) = number page + total number pages
+abbrev pub sum_of_all : (Page → ℕ) → List Page → ℕ
+sum_of_all number [] = 0
+sum_of_all number (page ∷ pages) = number page + sum_of_all number pages
 
 -- how many entries stand on the page, if it is a live leaf
-abbrev pub entry_count : Page → ℕ
-entry_count page = length (live_entries page.state page.items)
+abbrev pub count_entries_on : Page → ℕ
+count_entries_on page = length (live_entries page.state page.items)
 
 abbrev pub one_if_half_dead : PageState → ℕ
 one_if_half_dead Live = 0
@@ -35,10 +35,10 @@ abbrev pub report_of : ℕ → List Page → Report
 report_of levels pages = record {
   levels = levels;
   pages = length pages;
-  entries = total entry_count pages;
-  half_dead = total (λ p. one_if_half_dead p.state) pages;
-  deleted = total (λ p. one_if_deleted p.state) pages;
-  unfinished = total (λ p. one_if_flagged p.split) pages;
+  entries = sum_of_all count_entries_on pages;
+  half_dead = sum_of_all (λ p. one_if_half_dead p.state) pages;
+  deleted = sum_of_all (λ p. one_if_deleted p.state) pages;
+  unfinished = sum_of_all (λ p. one_if_flagged p.split) pages;
 }
 
 -- the numbers of a report are those of the pages, whose levels the metapage tells

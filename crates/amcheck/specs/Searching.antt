@@ -4,13 +4,13 @@ use Rattle.std.specs.Borrow.{Bor}
 use Rattle.page_codec.specs.declared.page.Page.{Page}
 use Rattle.tree_shape.specs.Nodes.{nodes_of}
 use Rattle.amcheck.specs.Places.{StandAtTheirBlocks}
-use Rattle.amcheck.specs.Stops.{IsBad, IsFirstPlace, AreInUse}
+use Rattle.amcheck.specs.Stops.{IsBad, IsFirstPlace, StopsAreInUse}
 use Rattle.amcheck.specs.declared.stops.Stop.{Stop}
 
 -- what it asks: pages of the format, and stops at pages in use, no more than there can be blocks
 pub record AreSearchable (pages : List Page) (stops : List Stop) : Type 0 where
   pub stand : StandAtTheirBlocks pages
-  pub in_use : AreInUse (length pages) stops
+  pub in_use : StopsAreInUse (length pages) stops
   pub few : length stops ≤ 65536
 
 -- it may be made there, keys seen or not, for any root

@@ -7,7 +7,7 @@ use Rattle.page_codec.specs.declared.page.Downlink.{Downlink}
 use Rattle.page_codec.specs.declared.page.Page.{Page}
 use Rattle.tree_shape.specs.KeyPages.{KeyBefore, IsUniqueNode}
 use Rattle.tree_shape.specs.Nodes.{Node, node_of, node_from}
-use Rattle.amcheck.specs.Reports.{entry_count}
+use Rattle.amcheck.specs.Reports.{count_entries_on}
 use Rattle.amcheck.specs.declared.sketches.Sketch.{Sketch}
 
 -- the bound of the second of these downlinks, if there are two and it has one
@@ -22,9 +22,9 @@ least_bound [] links = second_bound links
 least_bound (e ∷ es) links = Some (bound_of e)
 
 -- the entry's key is less than that of the first of these, if there is one
-abbrev pub IsBelowFirst : Entry → List Entry → Type 0
-IsBelowFirst e [] = Unit {0}
-IsBelowFirst e (x ∷ xs) = KeyBefore e x
+abbrev pub EntryIsBelowFirst : Entry → List Entry → Type 0
+EntryIsBelowFirst e [] = Unit {0}
+EntryIsBelowFirst e (x ∷ xs) = KeyBefore e x
 
 -- the sketch of a page, as the tree sees it
 pub record IsSketch (node : Node) (sketch : Sketch) : Type 0 where
@@ -43,9 +43,9 @@ links_at whole None = []
 links_at whole (Some place) = (node_from (slice_get whole place)).links
 
 -- the sketch is that of the page, and leads to its downlinks among the pages that are kept whole
-pub record Keeps (whole : List Page) (page : Page) (sketch : Sketch) : Type 0 where
+pub record KeepsSketch (whole : List Page) (page : Page) (sketch : Sketch) : Type 0 where
   pub is : IsSketch (node_of page) sketch
-  pub entries : sketch.entries ≡ entry_count page
+  pub entries : sketch.entries ≡ count_entries_on page
   pub few : sketch.entries ≤ 50
   pub links : links_at whole sketch.place ≡ (node_of page).links
   pub inside : (place : ℕ) → sketch.place ≡ Some place → place < length whole
@@ -55,7 +55,7 @@ pub record AreKept (pages whole : List Page) (sketches : List Sketch) : Type 0 w
   pub count : length sketches ≡ length pages
   pub fewer : length whole ≤ length pages
   pub each : (block : ℕ) (page : Page) (sketch : Sketch) → slice_get pages block ≡ Some page → slice_get sketches block ≡ Some sketch
-      → Keeps whole page sketch
+      → KeepsSketch whole page sketch
 
 -- one page more is kept whole, or none
 pub record HasGrown (before after : List Page) : Type 0 where

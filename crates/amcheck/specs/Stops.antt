@@ -18,9 +18,9 @@ abbrev pub spot_at : (ℕ → Node) → Stop → Spot
 spot_at at s = record { low = high_at at s.low_at; left = s.left; behind = s.behind }
 
 -- the blocks of these stops
-abbrev pub blocks_of : List Stop → List ℕ
-blocks_of [] = []
-blocks_of (s ∷ ss) = s.block ∷ blocks_of ss
+abbrev pub stop_blocks : List Stop → List ℕ
+stop_blocks [] = []
+stop_blocks (s ∷ ss) = s.block ∷ stop_blocks ss
 
 -- the stop is at this place of the chain of a level
 abbrev pub IsStop : Index → ℕ → ℕ → Stop → Type 0
@@ -80,5 +80,5 @@ IsFirstPlace P None = (k : ℕ) → P k → ⊥
 IsFirstPlace P (Some k) = P k × ((j : ℕ) → j < k → P j → ⊥)
 
 -- the page of each stop is in use
-abbrev pub AreInUse : ℕ → List Stop → Type 0
-AreInUse used stops = (k : ℕ) (s : Stop) → slice_get stops k ≡ Some s → (0 < s.block) × (s.block < used)
+abbrev pub StopsAreInUse : ℕ → List Stop → Type 0
+StopsAreInUse used stops = (k : ℕ) (s : Stop) → slice_get stops k ≡ Some s → (0 < s.block) × (s.block < used)

@@ -1,6 +1,6 @@
 -- The way to the leftmost page of a level, and its first damage.
 use Rattle.std.specs.Prelude.{◌≡◌, ◌⊎◌, ℕ, ◌<◌}
-use Rattle.damages.specs.Damages.{Index, way_left, IsOfWay}
+use Rattle.damages.specs.Damages.{Index, left_after_steps, IsOfWay}
 
 -- on the way to the leftmost page of this level nothing is damaged
 abbrev pub IsClearWay : Index → ℕ → Type 0
@@ -10,5 +10,5 @@ IsClearWay ix depth = (step number : ℕ) → IsOfWay ix depth step number → �
 pub record IsFirstOfWay (ix : Index) (depth number block : ℕ) : Type 0 where
   pub step : ℕ
   pub is : IsOfWay ix depth step number
-  pub block_is : block ≡ way_left ix depth step
+  pub block_is : block ≡ left_after_steps ix depth step
   pub first : (s n : ℕ) → IsOfWay ix depth s n → (s < step) ⊎ ((s ≡ step) × (n < number)) → ⊥

@@ -4,7 +4,7 @@ ghost use Rattle.std.specs.Prelude.{◌≡◌, ◌≢◌, ◌⊎◌, ◌<◌, �
 ghost use Rattle.tree_shape.specs.Nodes.{nodes_of};
 ghost use Rattle.damages.specs.Damages.{index_of};
 ghost use Rattle.amcheck.specs.Chains.{IsClearChain, IsFirstOfChain};
-ghost use Rattle.amcheck.specs.Ends.{IsEnd};
+ghost use Rattle.amcheck.specs.Ends.{IsChainEnd};
 ghost use Rattle.amcheck.specs.Places.{StandAtTheirBlocks};
 ghost use Rattle.amcheck.specs.Searching.{AreSearchable, MaySearch, FindsFirst};
 ghost use Rattle.amcheck.specs.Stops.{AreStops, IsRootAt, IsLeastNumber, IsWrongAt, IsBad, IsFirstPlace};
@@ -111,7 +111,7 @@ fn damage_at_end(
     requires deep { depth ≤ (index_of pages.now).top }
     requires root { IsRootAt (index_of pages.now) depth root }
     requires stops { AreStops (index_of pages.now) depth stops.now }
-    requires end { IsEnd (index_of pages.now) depth (length stops.now) end }
+    requires end { IsChainEnd (index_of pages.now) depth (length stops.now) end }
     requires right { IsFirstPlace (IsBad (nodes_of pages.now) keys root stops.now) None }
     ensures none { IfNone result (IsClearChain (index_of pages.now) keys depth) }
     ensures some { IfSome result
@@ -144,7 +144,7 @@ pub(crate) fn first_in_chain<F: Fn(&Pages, bool, Option<u32>, &[Stop]) -> Option
     requires deep { depth ≤ (index_of pages.now).top }
     requires root { IsRootAt (index_of pages.now) depth root }
     requires stops { AreStops (index_of pages.now) depth stops.now }
-    requires end { IsEnd (index_of pages.now) depth (length stops.now) end }
+    requires end { IsChainEnd (index_of pages.now) depth (length stops.now) end }
     ensures none { IfNone result (IsClearChain (index_of pages.now) keys depth) }
     ensures some { IfSome result
         (λ d. IsFirstOfChain (index_of pages.now) keys depth d.number d.block) }

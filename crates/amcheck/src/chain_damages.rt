@@ -3,12 +3,12 @@
 ghost use Rattle.std.specs.Prelude.{◌≡◌, ◌+◌, ◌++◌, ◌<◌, ◌≤◌, [], suc, false, IfNone, IfSome, IfOk, OnOk, IfErr, length, replicate, vec_capacity};
 ghost use Rattle.tree_shape.specs.Nodes.{nodes_of};
 ghost use Rattle.damages.specs.Damages.{index_of, head, start, first_child, IsSound, IsFirstDamage};
-ghost use Rattle.amcheck.specs.AllStops.{AreWhole, AreAllStops};
+ghost use Rattle.amcheck.specs.AllStops.{StopsAreAll, AreAllStops};
 ghost use Rattle.amcheck.specs.LevelDamages.{IsClearLevel, IsFirstOfLevel, AreOfUpper};
 ghost use Rattle.amcheck.specs.Marks.{IsMet};
 ghost use Rattle.amcheck.specs.Places.{StandAtTheirBlocks};
 ghost use Rattle.amcheck.specs.Searching.{MaySearch, FindsFirst};
-ghost use Rattle.amcheck.specs.Stops.{blocks_of, IsRootAt};
+ghost use Rattle.amcheck.specs.Stops.{stop_blocks, IsRootAt};
 
 use crate::bad_places::first_in_chain;
 use crate::marks::Met;
@@ -67,9 +67,9 @@ fn judge_level<F: Fn(&Pages, bool, Option<u32>, &[Stop]) -> Option<usize>>(
     ensures upper { AreOfUpper (index_of pages.now) (suc depth) seen.new met.new }
     ensures head { IfOk result (λ found. found ≡ head (index_of pages.now) depth) }
     ensures clear { OnOk result (IsClearLevel (index_of pages.now) keys depth) }
-    ensures whole { OnOk result (AreWhole (index_of pages.now) depth stops.new.items) }
+    ensures whole { OnOk result (StopsAreAll (index_of pages.now) depth stops.new.items) }
     ensures added { OnOk result (met.new.blocks.items
-        ≡ met.old.blocks.items ++ blocks_of stops.new.items) }
+        ≡ met.old.blocks.items ++ stop_blocks stops.new.items) }
     ensures first { IfErr result
         (λ d. IsFirstOfLevel (index_of pages.now) keys depth d.number d.block) }
 {
@@ -127,7 +127,7 @@ pub(crate) fn find_chain_damage<F: Fn(&Pages, bool, Option<u32>, &[Stop]) -> Opt
     ensures none { IfNone result (IsSound false keys pages.now) }
     ensures chains { IfNone result
         (AreAllStops (index_of pages.now) (suc (index_of pages.now).top) chains.new.items) }
-    ensures added { IfNone result (met.new.blocks.items ≡ blocks_of chains.new.items) }
+    ensures added { IfNone result (met.new.blocks.items ≡ stop_blocks chains.new.items) }
     ensures some { IfSome result (λ d. IsFirstDamage false keys pages.now d.number d.block) }
 {
     let mut begin = root;

@@ -1,8 +1,8 @@
 //! Where each block stands on the chains of all levels.
 
 ghost use Rattle.std.specs.Prelude.{◌≡◌, ◌≤◌, ℕ, None, IfNone, IfSome, length, get_or};
-ghost use Rattle.amcheck.specs.AllStops.{ArePlaces, IsStopOf, HasNoStop};
-ghost use Rattle.amcheck.specs.Stops.{AreInUse};
+ghost use Rattle.amcheck.specs.AllStops.{PlacesAreOfStops, IsStopOf, HasNoStop};
+ghost use Rattle.amcheck.specs.Stops.{StopsAreInUse};
 
 use crate::stops::Stop;
 
@@ -19,7 +19,7 @@ fn place_of(places: &[Option<u32>], block: u32) -> Option<u32>
 /// The stop of a block, if it is on a chain.
 pub(crate) fn find_stop(stops: &[Stop], places: &[Option<u32>], block: u32) -> Option<Stop>
     requires few { length stops.now ≤ 65536 }
-    requires places { ArePlaces stops.now places.now }
+    requires places { PlacesAreOfStops stops.now places.now }
     ensures none { IfNone result (HasNoStop stops.now block) }
     ensures some { IfSome result (IsStopOf stops.now block) }
 {
@@ -32,10 +32,10 @@ pub(crate) fn find_stop(stops: &[Stop], places: &[Option<u32>], block: u32) -> O
 /// Notes for each block on a chain the place of its stop. None was noted before.
 pub(crate) fn note_places(stops: &[Stop], places: &mut [Option<u32>])
     requires few { length stops.now ≤ 65536 }
-    requires in_use { AreInUse (length places.old) stops.now }
+    requires in_use { StopsAreInUse (length places.old) stops.now }
     requires none { (b : ℕ) → get_or places.old b None ≡ None }
     ensures size { length places.new ≡ length places.old }
-    ensures placed { ArePlaces stops.now places.new }
+    ensures placed { PlacesAreOfStops stops.now places.new }
 {
     for place in 0..stops.len() {
         places[stops[place].block as usize] = Some(place as u32);

@@ -5,8 +5,8 @@ ghost use Rattle.page_codec.specs.declared.page.Downlink.{Downlink};
 ghost use Rattle.tree_shape.specs.Chains.{from_low};
 ghost use Rattle.tree_shape.specs.Nodes.{nodes_of};
 ghost use Rattle.damages.specs.Damages.{index_of, IsOnLevel};
-ghost use Rattle.amcheck.specs.AllStops.{ArePlaces, HaveBlocksOnce};
-ghost use Rattle.amcheck.specs.Downlinks.{IsOff, AreBelow, HasOtherLow, HasWrongBound, IsSkipped, LacksLink, IsExtra, HasExtra, AreNoted, IsWrongAmong};
+ghost use Rattle.amcheck.specs.AllStops.{PlacesAreOfStops, HaveBlocksOnce};
+ghost use Rattle.amcheck.specs.Downlinks.{IsOff, AreBelow, HasOtherLow, HasWrongBound, IsSkipped, LacksLink, IsExtra, HasExtra, DownlinksAreNoted, IsWrongAmong};
 ghost use Rattle.amcheck.specs.Stops.{IsLeastNumber};
 
 use crate::chain_places::find_stop;
@@ -75,7 +75,7 @@ fn is_same(one: &Option<Bound>, other: &Option<Bound>) -> bool
 /// Whether the bound of a downlink isn't the low of its child, which is on a chain.
 fn has_other_low(pages: &Pages, stops: &[Stop], places: &[Option<u32>], link: &Downlink) -> bool
     requires few { length stops.now ≤ 65536 }
-    requires places { ArePlaces stops.now places.now }
+    requires places { PlacesAreOfStops stops.now places.now }
     requires once { HaveBlocksOnce stops.now }
     ensures { IsTrue result ↔ HasOtherLow (nodes_of pages.now) stops.now link.now }
 {
@@ -94,7 +94,7 @@ fn has_wrong_bound(
     links: &[Downlink],
 ) -> bool
     requires few { length stops.now ≤ 65536 }
-    requires places { ArePlaces stops.now places.now }
+    requires places { PlacesAreOfStops stops.now places.now }
     requires once { HaveBlocksOnce stops.now }
     ensures { IsTrue result
         ↔ HasWrongBound (nodes_of pages.now) stops.now (from_low low.now links.now) }
@@ -142,7 +142,7 @@ fn is_extra(
     child: u32,
 ) -> bool
     requires few { length stops.now ≤ 65536 }
-    requires places { ArePlaces stops.now places.now }
+    requires places { PlacesAreOfStops stops.now places.now }
     requires once { HaveBlocksOnce stops.now }
     requires size { length linked.now ≡ length pages.now }
     requires child { child < length pages.now }
@@ -168,7 +168,7 @@ fn has_extra(
     links: &[Downlink],
 ) -> bool
     requires few { length stops.now ≤ 65536 }
-    requires places { ArePlaces stops.now places.now }
+    requires places { PlacesAreOfStops stops.now places.now }
     requires once { HaveBlocksOnce stops.now }
     requires size { length linked.old ≡ length pages.now }
     requires in_use { (item : ℕ) (link : Downlink)
@@ -178,7 +178,7 @@ fn has_extra(
     ensures extra { IsTrue result
         ↔ HasExtra (nodes_of pages.now) stops.now linked.old (from_low low.now links.now) }
     ensures noted { result ≡ false
-        → AreNoted (from_low low.now links.now) (length links.now) linked.old linked.new }
+        → DownlinksAreNoted (from_low low.now links.now) (length links.now) linked.old linked.new }
 {
     for item in 0..links.len() {
         let link = link_at(low, links, item);
@@ -202,7 +202,7 @@ pub(crate) fn find_parent_number(
     stop: &Stop,
 ) -> Option<u8>
     requires few { length stops.now ≤ 65536 }
-    requires places { ArePlaces stops.now places.now }
+    requires places { PlacesAreOfStops stops.now places.now }
     requires once { HaveBlocksOnce stops.now }
     requires size { length linked.old ≡ length pages.now }
     requires stop { stop.now.block < length pages.now }
@@ -214,7 +214,7 @@ pub(crate) fn find_parent_number(
         (from_low low.now (nodes_of pages.now stop.now.block).links) top
         (nodes_of pages.now stop.now.block) stop.now) result }
     ensures noted { IfNone result
-        (AreNoted (from_low low.now (nodes_of pages.now stop.now.block).links)
+        (DownlinksAreNoted (from_low low.now (nodes_of pages.now stop.now.block).links)
         (length (nodes_of pages.now stop.now.block).links) linked.old linked.new) }
 {
     let links = pages.links(stop.block);

@@ -12,7 +12,7 @@ ghost use Rattle.amcheck.specs.Places.{StandAtTheirBlocks};
 ghost use Rattle.amcheck.specs.Reports.{IsReport};
 ghost use Rattle.amcheck.specs.Sound.{IsSoundTree};
 ghost use Rattle.amcheck.specs.Searching.{MaySearch, FindsFirst};
-ghost use Rattle.amcheck.specs.Stops.{blocks_of};
+ghost use Rattle.amcheck.specs.Stops.{stop_blocks};
 
 use crate::chain_damages::find_chain_damage;
 use crate::chain_places::note_places;
@@ -72,7 +72,7 @@ fn judge_parents(
     requires top { top ≡ (index_of pages.now).top }
     requires met { IsMet met.now (length pages.now) }
     requires chains { AreAllStops (index_of pages.now) (suc (index_of pages.now).top) chains.now }
-    requires added { met.now.blocks.items ≡ blocks_of chains.now }
+    requires added { met.now.blocks.items ≡ stop_blocks chains.now }
     requires sound { IsSound false false pages.now }
     requires places { places.old ≡ replicate (length pages.now) None }
     requires linked { linked.old ≡ replicate (length pages.now) false }

@@ -3,7 +3,7 @@
 ghost use Rattle.std.specs.Prelude.{◌≡◌, ◌<◌, ◌≤◌, Some, length, slice_get};
 ghost use Rattle.page_codec.specs.declared.page.Page.{Page as PageValue};
 ghost use Rattle.tree_shape.specs.Nodes.{nodes_of};
-ghost use Rattle.amcheck.specs.Reports.{entry_count};
+ghost use Rattle.amcheck.specs.Reports.{count_entries_on};
 ghost use Rattle.amcheck.specs.Sketches.{IsSketch};
 
 use crate::page_list::PageList;
@@ -63,7 +63,7 @@ impl Pages {
         requires { block < length self.now }
         ensures is { IsSketch (nodes_of self.now block) result.now }
         ensures entries { (page : PageValue) → slice_get self.now block ≡ Some page
-            → result.now.entries ≡ entry_count page }
+            → result.now.entries ≡ count_entries_on page }
         ensures few { result.now.entries ≤ 50 }
     {
         &self.sketches[block as usize]

@@ -2,7 +2,7 @@
 
 ghost use Rattle.std.specs.Prelude.{◌≡◌, ◌<◌, ◌≤◌, ℕ, suc, true, false, IfNone, IfSome, length};
 ghost use Rattle.damages.specs.Damages.{index_of, IsSound, IsFirstDamage};
-ghost use Rattle.amcheck.specs.AllStops.{AreAllStops, ArePlaces};
+ghost use Rattle.amcheck.specs.AllStops.{AreAllStops, PlacesAreOfStops};
 ghost use Rattle.amcheck.specs.ParentDamages.{IsClearAt, IsFirstAt, AreMarked};
 
 use crate::downlinks::{find_off, find_parent_number};
@@ -24,7 +24,7 @@ fn damage_at(
     requires top { top ≡ (index_of pages.now).top }
     requires stops { AreAllStops (index_of pages.now) (suc (index_of pages.now).top) stops.now }
     requires sound { IsSound false false pages.now }
-    requires places { ArePlaces stops.now places.now }
+    requires places { PlacesAreOfStops stops.now places.now }
     requires size { length linked.old ≡ length pages.now }
     requires inside { place < length stops.now }
     requires clear { (k : ℕ) → k < place → IsClearAt (index_of pages.now) stops.now k }
@@ -67,7 +67,7 @@ pub(crate) fn find_parent_damage(
     requires top { top ≡ (index_of pages.now).top }
     requires stops { AreAllStops (index_of pages.now) (suc (index_of pages.now).top) stops.now }
     requires sound { IsSound false false pages.now }
-    requires places { ArePlaces stops.now places.now }
+    requires places { PlacesAreOfStops stops.now places.now }
     requires size { length linked.old ≡ length pages.now }
     requires marked { AreMarked (index_of pages.now) stops.now 0 linked.old }
     ensures none { IfNone result

@@ -2,14 +2,14 @@
 
 ghost use Rattle.std.specs.Prelude.{◌≡◌, ◌↔◌, IsTrue};
 ghost use Rattle.tree_shape.specs.Chains.{IsBeyond, Rises};
-ghost use Rattle.amcheck.specs.Places.{IsOnLevel, IsNoneOrBeyond};
+ghost use Rattle.amcheck.specs.Places.{PageIsOnLevel, IsNoneOrBeyond};
 
 use crate::pages::Pages;
 use index_model::Bound;
 
 /// Whether the block is in use, and its page is of this level. Block 0 is on no level.
 pub(crate) fn is_on_level(pages: &Pages, level: u8, block: u32) -> bool
-    ensures { IsTrue result ↔ IsOnLevel pages.now level block }
+    ensures { IsTrue result ↔ PageIsOnLevel pages.now level block }
 {
     block != 0 && (block as usize) < pages.len() && pages.sketch(block).level == level
 }

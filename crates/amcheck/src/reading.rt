@@ -4,9 +4,9 @@ ghost use Rattle.std.specs.Prelude.{◌≡◌, ◌≢◌, [], true, IfOk, IfErr,
 ghost use Rattle.index_model.specs.Faults.{HasCause};
 ghost use Rattle.page_action.specs.Room.{KeepsRoom};
 ghost use Rattle.page_action.specs.States.{Continues};
-ghost use Rattle.amcheck.specs.Checks.{where_checked};
+ghost use Rattle.amcheck.specs.Checks.{causes_of_checked};
 ghost use Rattle.amcheck.specs.PageRooms.{HasPageRoom};
-ghost use Rattle.amcheck.specs.Reading.{HasRoom, AreRead, AreFetched};
+ghost use Rattle.amcheck.specs.Reading.{RoomIsReady, PagesAreRead, AreFetched};
 
 use crate::marks::Met;
 use crate::page_room::PageRoom;
@@ -35,7 +35,7 @@ pub(crate) struct Room {
 impl Room {
     /// The room to check so many pages. Refused with `NoMemory`.
     pub(crate) fn new(alloc: Global, used: u32) -> Result<Room, Fault>
-        ensures made { IfOk result (λ room. HasRoom room used) }
+        ensures made { IfOk result (λ room. RoomIsReady room used) }
         ensures fault { IfErr result (λ f. f ≡ Fault.NoMemory) }
     {
         let Ok(places) = vec![in alloc; None; used as usize] else {
@@ -71,7 +71,7 @@ pub(crate) fn read_pages<S: PageStore>(store: &mut S, room: PageRoom) -> Result<
     requires room { HasPageRoom room (length (S.state store.old).pages) }
     ensures steps { Continues S.follows store.old store.new }
     ensures state { S.state store.new ≡ S.state store.old }
-    ensures read { IfOk result (AreRead (S.state store.old) (S.backing store.new)) }
+    ensures read { IfOk result (PagesAreRead (S.state store.old) (S.backing store.new)) }
     ensures room { KeepsRoom (S.state store.old) (S.backing store.old) (S.backing store.new) }
     ensures frames { AreFetched (S.state store.old) (S.memory store.old) (S.memory store.new)
         (S.backing store.old) (S.backing store.new) }
@@ -79,7 +79,7 @@ pub(crate) fn read_pages<S: PageStore>(store: &mut S, room: PageRoom) -> Result<
         ((S.backing store.new).stopped ≡ true → (S.backing store.old).stopped ≡ true) }
     ensures memory { IfErr result (λ fault. fault ≢ Fault.NoMemory) }
     ensures cause { IfErr result (HasCause
-        (where_checked (S.state store.old) (S.backing store.old) (S.backing store.new))) }
+        (causes_of_checked (S.state store.old) (S.backing store.old) (S.backing store.new))) }
 {
     let mut room = room;
     let used = store.used();

@@ -3,7 +3,7 @@
 ghost use Rattle.std.specs.Prelude.{◌≡◌, ◌≤◌};
 ghost use Rattle.page_codec.specs.Grammar.{IsPage};
 ghost use Rattle.tree_shape.specs.Nodes.{node_of};
-ghost use Rattle.amcheck.specs.Reports.{entry_count};
+ghost use Rattle.amcheck.specs.Reports.{count_entries_on};
 ghost use Rattle.amcheck.specs.Sketches.{IsSketch, second_bound, least_bound};
 
 use crate::unique_pages::is_unique;
@@ -33,7 +33,7 @@ pub(crate) struct Sketch {
 /// How many entries stand on the page, if it is a live leaf: 50 at most.
 fn count_entries(page: &Page) -> u32
     requires { IsPage page.now }
-    ensures count { result ≡ entry_count page.now }
+    ensures count { result ≡ count_entries_on page.now }
     ensures few { result ≤ 50 }
 {
     match page.state {
@@ -66,7 +66,7 @@ fn least_bound(entries: &[Entry], links: &[Downlink]) -> Option<Bound>
 pub(crate) fn sketch_of(page: &Page, place: Option<u32>) -> Sketch
     requires { IsPage page.now }
     ensures is { IsSketch (node_of page.now) result }
-    ensures entries { result.entries ≡ entry_count page.now }
+    ensures entries { result.entries ≡ count_entries_on page.now }
     ensures few { result.entries ≤ 50 }
     ensures place { result.place ≡ place }
 {

@@ -5,7 +5,7 @@ ghost use Rattle.std.specs.List.{AllByRecursion};
 ghost use Rattle.page_codec.specs.Grammar.{IsPage, Ascends};
 ghost use Rattle.tree_shape.specs.KeyBounds.{IsKeyBound};
 ghost use Rattle.tree_shape.specs.KeyPages.{KeyBefore, IsKeyLink, IsUniquePage};
-ghost use Rattle.amcheck.specs.Sketches.{IsBelowFirst};
+ghost use Rattle.amcheck.specs.Sketches.{EntryIsBelowFirst};
 
 use index_model::{Bound, Entry};
 use page_codec::{Downlink, Page};
@@ -37,7 +37,7 @@ fn are_key_links(links: &[Downlink]) -> bool
 
 /// Whether the entry's key is less than that of the first of these, if there is one.
 fn is_below_first(entry: &Entry, more: &[Entry]) -> bool
-    ensures { IsTrue result ↔ IsBelowFirst entry.now more.now }
+    ensures { IsTrue result ↔ EntryIsBelowFirst entry.now more.now }
 {
     match more.first() {
         None => true,

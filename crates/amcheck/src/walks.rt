@@ -4,8 +4,8 @@ ghost use Rattle.std.specs.Prelude.{◌≡◌, ◌+◌, ◌++◌, ◌<◌, ◌�
 ghost use Rattle.tree_shape.specs.Chains.{IsIn};
 ghost use Rattle.damages.specs.Damages.{index_of, head, IsOnLevel};
 ghost use Rattle.amcheck.specs.Marks.{IsMet};
-ghost use Rattle.amcheck.specs.Stops.{blocks_of, AreStops};
-ghost use Rattle.amcheck.specs.Ends.{IsEnd};
+ghost use Rattle.amcheck.specs.Stops.{stop_blocks, AreStops};
+ghost use Rattle.amcheck.specs.Ends.{IsChainEnd};
 
 use crate::marks::Met;
 use crate::pages::Pages;
@@ -43,9 +43,9 @@ pub(crate) fn walk(
         → IsOnLevel (index_of pages.now) depth b → ⊥ }
     ensures met { IsMet met.new (length pages.now) }
     ensures added { met.new.blocks.items
-        ≡ met.old.blocks.items ++ blocks_of stops.new.items }
+        ≡ met.old.blocks.items ++ stop_blocks stops.new.items }
     ensures stops { AreStops (index_of pages.now) depth stops.new.items }
-    ensures end { IsEnd (index_of pages.now) depth (length stops.new.items) result }
+    ensures end { IsChainEnd (index_of pages.now) depth (length stops.new.items) result }
     ensures room { vec_capacity stops.new ≡ vec_capacity stops.old }
 {
     stops.clear();

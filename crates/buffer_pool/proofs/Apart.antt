@@ -10,9 +10,9 @@ use Rattle.std.proofs.lemmas.List.Folds.{Any-from_list_any, list_any_none}
 use Rattle.std.proofs.lemmas.List.Quantifiers.{all_pairs_remove}
 use Rattle.page_codec.specs.declared.page.Page.{Page}
 use Rattle.buffer_pool.specs.declared.pool.Pool.{Pool}
-use Rattle.buffer_pool.specs.Frames.{blocks_in, has_block, AreApart}
+use Rattle.buffer_pool.specs.Frames.{blocks_in, has_block, BlocksAreApart}
 use Rattle.buffer_pool.specs.Pools.{frame_of}
-use Rattle.buffer_pool.specs.Choices.{count_apart}
+use Rattle.buffer_pool.specs.Choices.{count_distinct}
 use Rattle.buffer_pool.proofs.Changing.{none_of, has_block-remove_same}
 use Rattle.buffer_pool.proofs.Putting.{no_place_from}
 
@@ -25,13 +25,13 @@ among_rest block b blocks other is =
     ]
 
 -- different blocks, each among these, are no more than there are different ones among these
-pub few_apart : (others blocks : List ℕ) → AreApart blocks → All (λ b. has_block others b ≡ true) blocks → length blocks ≤ count_apart others
+pub few_apart : (others blocks : List ℕ) → BlocksAreApart blocks → All (λ b. has_block others b ≡ true) blocks → length blocks ≤ count_distinct others
 few_apart [] [] apart among = omega arith
 few_apart [] (b ∷ blocks) apart among = let both : false ≡ true = among 0 b (omega arith) in absurd cc
 few_apart (other ∷ others) blocks apart among =
     elim (cases_Bool (has_block others other)) [
       | inl there ↦
-          let same = cond-true (has_block others other) (count_apart others) (suc (count_apart others)) there in
+          let same = cond-true (has_block others other) (count_distinct others) (suc (count_distinct others)) there in
           omega (
             arith,
             same,
@@ -42,7 +42,7 @@ few_apart (other ∷ others) blocks apart among =
                 ]),
           )
       | inr once ↦
-          let more = cond-false (has_block others other) (count_apart others) (suc (count_apart others)) once in
+          let more = cond-false (has_block others other) (count_distinct others) (suc (count_distinct others)) once in
           elim (cases_Bool (has_block blocks other)) [
             | inl among_them ↦
                 let at = Any-from_list_any (λ b. eqb b other) blocks among_them in
@@ -63,7 +63,7 @@ few_apart (other ∷ others) blocks apart among =
     ]
 
 -- a block that isn't among different ones is different from them
-apart_cons : (block : ℕ) (blocks : List ℕ) → has_block blocks block ≡ false → AreApart blocks → AreApart (block ∷ blocks)
+apart_cons : (block : ℕ) (blocks : List ℕ) → has_block blocks block ≡ false → BlocksAreApart blocks → BlocksAreApart (block ∷ blocks)
 apart_cons block blocks off apart zero zero d less within = absurd (omega (arith, less))
 apart_cons block blocks off apart zero (suc j) d less within = λ same. none_of blocks block j d off (omega (arith, within)) (sym same)
 apart_cons block blocks off apart (suc i) zero d less within = absurd (omega (arith, less))
@@ -77,8 +77,8 @@ absent_apart pool block none =
     omega (arith, no_place_from pool block none, pool.placed.told k less, ap (λ (b : ℕ). get_or pool.places.items b 0) (get_or_default blocks k 0 d less ∙ same))))
 
 -- where each held block is pinned, it and another that isn't held are more than are held
-pub pinned_more : (pool : Pool) (pinned : List ℕ) (block : ℕ) → frame_of pool block ≡ None → AreApart (blocks_in pool.pages.items)
-    → All (λ b. has_block pinned b ≡ true) (blocks_in pool.pages.items) → length pool.pages.items < count_apart (block ∷ pinned)
+pub pinned_more : (pool : Pool) (pinned : List ℕ) (block : ℕ) → frame_of pool block ≡ None → BlocksAreApart (blocks_in pool.pages.items)
+    → All (λ b. has_block pinned b ≡ true) (blocks_in pool.pages.items) → length pool.pages.items < count_distinct (block ∷ pinned)
 pinned_more pool pinned block none apart every =
     let blocks = blocks_in pool.pages.items in
     omega (

@@ -8,7 +8,7 @@ use Rattle.std.proofs.lemmas.List.Quantifiers.{position-Some, all_pairs_push, al
 use Rattle.std.proofs.lemmas.List.Sums.{sum_by-set, count_by-le-length}
 use Rattle.std.specs.List.{remove, count_by}
 use Rattle.std.specs.Option.{option_map_or}
-use Rattle.buffer_pool.specs.Frames.{has_block, AreApart, frame_in, act_in, ArePlaces, AreChanged}
+use Rattle.buffer_pool.specs.Frames.{has_block, BlocksAreApart, frame_in, act_in, ArePlaces, AreChanged}
 use Rattle.buffer_pool.proofs.Placing.{as_frame, frame_is}
 
 pub frame_cases : (o : Option ℕ) → (o ≡ None) ⊎ ((at : ℕ) × (o ≡ Some at))
@@ -71,7 +71,7 @@ pub has_block-at : (blocks : List ℕ) (k d : ℕ) → k < length blocks → has
 has_block-at blocks k d less = list_any_at (λ b. eqb b (get_or blocks k d)) blocks k d less (eq-eqb (get_or blocks k d) (get_or blocks k d) refl)
 
 -- where one stands once, it isn't among the others
-pub has_block-remove_same : (blocks : List ℕ) (at : ℕ) → AreApart blocks → at < length blocks → has_block (remove blocks at) (get_or blocks at 0) ≡ false
+pub has_block-remove_same : (blocks : List ℕ) (at : ℕ) → BlocksAreApart blocks → at < length blocks → has_block (remove blocks at) (get_or blocks at 0) ≡ false
 has_block-remove_same blocks at apart less =
     let block = get_or blocks at 0 in
     let short = length-remove blocks at less in

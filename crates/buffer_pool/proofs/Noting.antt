@@ -8,8 +8,8 @@ use Rattle.std.proofs.lemmas.List.Folds.{list_any-append, Any-from_list_any}
 use Rattle.page_codec.specs.declared.page.Page.{Page}
 use Rattle.buffer_pool.specs.Orders.{waiting_in}
 use Rattle.buffer_pool.specs.declared.pool.Pool.{Pool}
-use Rattle.buffer_pool.specs.Frames.{blocks_in, has_block, AreApart, frame_in, act_in, AreChanged}
-use Rattle.buffer_pool.specs.Pools.{most_of, reach_of, count_of, blocks_of, page_at, frame_of, held_page, act_of, changed_of, HasSamePages, HasSameChanges, IsChanged, IsWritten, AreWritten}
+use Rattle.buffer_pool.specs.Frames.{blocks_in, has_block, BlocksAreApart, frame_in, act_in, AreChanged}
+use Rattle.buffer_pool.specs.Pools.{most_of, reach_of, pool_count, pool_blocks, page_at, frame_of, held_page, act_of, changed_of, HasSamePages, HasSameChanges, IsChanged, IsWritten, AreWritten}
 use Rattle.buffer_pool.proofs.Placing.{placed_within, as_frame, frame_is}
 use Rattle.buffer_pool.proofs.Changing.{frame_cases, act_at, act_none, act_same, act_other, changed_first, changed_again, changed_act, has_block-at}
 use Rattle.buffer_pool.proofs.Lists.{slice_get-set_same, slice_get-set_other}
@@ -87,7 +87,7 @@ changed_either changed blocks acts block at act before h is less before_is some 
 
 -- pages and places as they were hold the same
 pub same_pages : (old new : Pool) → new.most ≡ old.most → new.pages.items ≡ old.pages.items → new.places.items ≡ old.places.items → HasSamePages old new
-unfolding most_of reach_of count_of blocks_of page_at frame_of held_page
+unfolding most_of reach_of pool_count pool_blocks page_at frame_of held_page
 same_pages old new most pages places = record {
   most = most;
   reach = ap (λ (ps : List ℕ). length ps) places;
@@ -117,7 +117,7 @@ changes_both a b c f s = record { order = s.order ∙ f.order; acts = λ block. 
 pub changed_is : (old new : Pool) (page : Page) (act at before : ℕ) → frame_of old page.block ≡ Some at → before ≡ get_or old.acts.items at 0 → 0 < act
     → new.most ≡ old.most → new.pages.items ≡ set old.pages.items at page → new.acts.items ≡ set old.acts.items at act → new.places.items ≡ old.places.items
     → (waiting_in new.changed) ≡ cond (ltb 0 before) (waiting_in old.changed) ((waiting_in old.changed) ++ page.block ∷ []) → IsChanged old new page act
-unfolding most_of reach_of count_of page_at act_of changed_of
+unfolding most_of reach_of pool_count page_at act_of changed_of
 changed_is old new page act at before is before_is some most pages acts places changed =
     let blocks = blocks_in old.pages.items in
     let within = frame_within old page.block at is in
@@ -160,7 +160,7 @@ written_is old new place at less is most pages places acts changed =
     }
 
 -- a block that stands once isn't both among the first so many and behind them
-pub take_drop_apart : (blocks : List ℕ) (n block : ℕ) → AreApart blocks → has_block (take n blocks) block ≡ true → has_block (drop n blocks) block ≡ false
+pub take_drop_apart : (blocks : List ℕ) (n block : ℕ) → BlocksAreApart blocks → has_block (take n blocks) block ≡ true → has_block (drop n blocks) block ≡ false
 take_drop_apart blocks n block apart first =
     false_from_ne_true (has_block (drop n blocks) block) (λ second.
     let a = Any-from_list_any (λ b. eqb b block) (take n blocks) first in

@@ -8,7 +8,7 @@ use Rattle.page_codec.specs.declared.page.Page.{Page}
 use Rattle.buffer_pool.specs.Orders.{waiting_in}
 use Rattle.buffer_pool.specs.declared.pool.Pool.{Pool}
 use Rattle.buffer_pool.specs.Frames.{blocks_in, act_in, ArePlaces, AreChanged}
-use Rattle.buffer_pool.specs.Pools.{most_of, reach_of, count_of, blocks_of, page_at, frame_of, held_page, act_of, changed_of, HasSameChanges, CanBeTaken, IsPut}
+use Rattle.buffer_pool.specs.Pools.{most_of, reach_of, pool_count, pool_blocks, page_at, frame_of, held_page, act_of, changed_of, HasSameChanges, CanBeTaken, IsPut}
 use Rattle.buffer_pool.proofs.Placing.{as_frame, act_by, act_is, frame_is, place_cases, place_of_frame, place_of_none, placed_push, placed_set, placed_within}
 use Rattle.buffer_pool.proofs.Changing.{frame_cases, act_at, act_none}
 use Rattle.buffer_pool.proofs.Lists.{block_of_page, slice_get-set_same, slice_get-set_other, slice_get-push_same, slice_get-push_other}
@@ -83,7 +83,7 @@ pub put_from : (old new : Pool) (at : ℕ) (page : Page)
     → (at < length old.pages.items → blocks_in new.pages.items ≡ set (blocks_in old.pages.items) at page.block)
     → (at ≡ length old.pages.items → blocks_in new.pages.items ≡ blocks_in old.pages.items ++ page.block ∷ [])
     → HasSameChanges old new → IsPut old new at page
-unfolding most_of reach_of count_of blocks_of page_at
+unfolding most_of reach_of pool_count pool_blocks page_at
 put_from old new at page most reach count there pages came left stayed absent taken over behind changes =
     let elsewhere = λ (block : ℕ) (other : block ≢ page.block) (not : frame_of old block ≢ Some at).
     same_frame old new block (stayed block other (λ is. not (frame_from old block at is))) in

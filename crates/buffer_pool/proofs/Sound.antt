@@ -13,9 +13,9 @@ use Rattle.std.proofs.lemmas.Option.{slice_get_within, get_or_from_slice_get}
 use Rattle.page_codec.specs.declared.page.Page.{Page}
 use Rattle.buffer_pool.specs.Orders.{waiting_in}
 use Rattle.buffer_pool.specs.declared.pool.Pool.{Pool}
-use Rattle.buffer_pool.specs.Frames.{blocks_in, has_block, AreApart}
-use Rattle.buffer_pool.specs.Pools.{most_of, reach_of, count_of, blocks_of, page_at, frame_of, held_page, act_of, changed_of, HasSameChanges, HasSamePages, IsPool}
-use Rattle.buffer_pool.specs.Choices.{AreCleanPinned, IsFree, IsOldest, AreAllPinned}
+use Rattle.buffer_pool.specs.Frames.{blocks_in, has_block, BlocksAreApart}
+use Rattle.buffer_pool.specs.Pools.{most_of, reach_of, pool_count, pool_blocks, page_at, frame_of, held_page, act_of, changed_of, HasSameChanges, HasSamePages, IsPool}
+use Rattle.buffer_pool.specs.Choices.{AreCleanPinned, IsFreeFrame, IsOldest, AreAllPinned}
 use Rattle.buffer_pool.proofs.Placing.{placed_within}
 use Rattle.buffer_pool.proofs.Changing.{frame_cases, has_block-at, all_changed}
 use Rattle.buffer_pool.proofs.Putting.{no_act, held_at, held_none, frame_from, place_from, place_of_page}
@@ -55,8 +55,8 @@ held_within pool block page is =
     let h = frame_of_held pool block page is in
     placed_within pool.places.items block h.0 (place_from pool block h.0 h.1)
 
-held_among : (pool : Pool) (block : ℕ) (page : Page) → held_page pool block ≡ Some page → has_block (blocks_of pool) block ≡ true
-unfolding blocks_of
+held_among : (pool : Pool) (block : ℕ) (page : Page) → held_page pool block ≡ Some page → has_block (pool_blocks pool) block ≡ true
+unfolding pool_blocks
 held_among pool block page is =
     let h = frame_of_held pool block page is in
     let blocks = blocks_in pool.pages.items in
@@ -72,7 +72,7 @@ changed_kept pool block some =
     ]
 
 -- no two frames hold one block
-blocks_apart : (pool : Pool) → AreApart (blocks_in pool.pages.items)
+blocks_apart : (pool : Pool) → BlocksAreApart (blocks_in pool.pages.items)
 blocks_apart pool = λ i j d less within same.
     let blocks = blocks_in pool.pages.items in
     let zero_i = get_or_default blocks i d 0 (omega (arith, less, within)) in
@@ -91,8 +91,8 @@ among_framed pool block among =
     get_or_default (blocks_in pool.pages.items) there.0 0 there.1 there.2 ∙ (there.3 ∙ eqb-true there.1 block there.4) in
     (there.0, ap (frame_of pool) (sym is) ∙ frame_of_block pool there.0 (omega (arith, there.2, many_blocks pool)))
 
-framed_there : (pool : Pool) (block : ℕ) → has_block (blocks_of pool) block ≡ is_some (frame_of pool block)
-unfolding blocks_of
+framed_there : (pool : Pool) (block : ℕ) → has_block (pool_blocks pool) block ≡ is_some (frame_of pool block)
+unfolding pool_blocks
 framed_there pool block =
     let blocks = blocks_in pool.pages.items in
     elim (frame_cases (frame_of pool block)) [
@@ -108,7 +108,7 @@ framed_there pool block =
     ]
 
 pub pool_is : (pool : Pool) → IsPool pool
-unfolding most_of count_of blocks_of act_of changed_of
+unfolding most_of pool_count pool_blocks act_of changed_of
 pool_is pool = record {
   few = pool.few;
   count = many_blocks pool;
@@ -128,13 +128,13 @@ pool_is pool = record {
 }
 
 -- what is true of the block of each frame in use
-pub all_blocks : (pool : Pool) (P : ℕ → Type 0) → ((at : ℕ) → at < length pool.pages.items → P (get_or (blocks_in pool.pages.items) at 0)) → All P (blocks_of pool)
-unfolding blocks_of
+pub all_blocks : (pool : Pool) (P : ℕ → Type 0) → ((at : ℕ) → at < length pool.pages.items → P (get_or (blocks_in pool.pages.items) at 0)) → All P (pool_blocks pool)
+unfolding pool_blocks
 all_blocks pool P each = All-from_get_or P (blocks_in pool.pages.items) 0 (λ at less. each at (omega (arith, less, many_blocks pool)))
 
 -- the next unused frame is free
-pub unused_free : (pool : Pool) (pinned : List ℕ) (at : ℕ) → at ≡ length pool.pages.items → at < pool.most → IsFree pool pinned at
-unfolding most_of count_of
+pub unused_free : (pool : Pool) (pinned : List ℕ) (at : ℕ) → at ≡ length pool.pages.items → at < pool.most → IsFreeFrame pool pinned at
+unfolding most_of pool_count
 unused_free pool pinned at is less = record {
   taken = record {
     next = omega (arith, is);
@@ -146,8 +146,8 @@ unused_free pool pinned at is less = record {
 
 -- a frame with a clean page that isn't pinned is free
 pub clean_free : (pool : Pool) (pinned : List ℕ) (at : ℕ) → at < length pool.pages.items → get_or pool.acts.items at 0 ≡ 0
-    → has_block pinned (get_or (blocks_in pool.pages.items) at 0) ≡ false → IsFree pool pinned at
-unfolding most_of count_of
+    → has_block pinned (get_or (blocks_in pool.pages.items) at 0) ≡ false → IsFreeFrame pool pinned at
+unfolding most_of pool_count
 clean_free pool pinned at less clean off = record {
   taken = record {
     next = omega (arith, less);
@@ -190,8 +190,8 @@ none_passes p blocks block none is =
 
 -- where each clean page is pinned, and each changed one, each is
 pub all_pinned : (pool : Pool) (pinned : List ℕ) → AreCleanPinned pool pinned
-    → position (λ b. not (has_block pinned b)) (waiting_in pool.changed) ≡ None → All (λ b. has_block pinned b ≡ true) (blocks_of pool)
-unfolding blocks_of act_of
+    → position (λ b. not (has_block pinned b)) (waiting_in pool.changed) ≡ None → All (λ b. has_block pinned b ≡ true) (pool_blocks pool)
+unfolding pool_blocks act_of
 all_pinned pool pinned clean none = λ k d less.
     let blocks = blocks_in pool.pages.items in
     let block = get_or blocks k d in
@@ -203,7 +203,7 @@ all_pinned pool pinned clean none = λ k d less.
     ]
 
 -- a frame stays free where only the hand moves
-pub free_stays : (old new : Pool) (pinned : List ℕ) (at : ℕ) → HasSamePages old new → HasSameChanges old new → IsFree old pinned at → IsFree new pinned at
+pub free_stays : (old new : Pool) (pinned : List ℕ) (at : ℕ) → HasSamePages old new → HasSameChanges old new → IsFreeFrame old pinned at → IsFreeFrame new pinned at
 free_stays old new pinned at pages changes h = record {
   taken = record {
     next = omega (arith, h.taken.next, pages.count);
@@ -216,7 +216,7 @@ free_stays old new pinned at pages changes h = record {
 -- what was found in the frames is free
 pub found_free : (pool : Pool) (pinned acts : List ℕ) (pages : List Page) (found : Option ℕ) → acts ≡ pool.acts.items → pages ≡ pool.pages.items
     → IfSome found (λ at. at < length acts) → IfSome found (λ at. get_or acts at 0 ≡ 0)
-    → IfSome found (λ at. has_block pinned (get_or (blocks_in pages) at 0) ≡ false) → IfSome found (IsFree pool pinned)
+    → IfSome found (λ at. has_block pinned (get_or (blocks_in pages) at 0) ≡ false) → IfSome found (IsFreeFrame pool pinned)
 found_free pool pinned acts pages None same_acts same within clean off = tt
 found_free pool pinned acts pages (Some at) same_acts same within clean off =
     clean_free pool pinned at (omega (arith, within, pool.many_acts, ap (λ (xs : List ℕ). length xs) same_acts))
@@ -233,8 +233,8 @@ found_none pool pinned acts pages None same_acts same none =
     ap (λ (ps : List Page). has_block pinned (get_or (blocks_in ps) at 0)) (sym same)
     ∙ none at (omega (arith, less, pool.many_acts, ap (λ (xs : List ℕ). length xs) same_acts)) (ap (λ (xs : List ℕ). get_or xs at 0) same_acts ∙ clean))
 
-full_is : (pool : Pool) → pool.most ≤ length pool.pages.items → count_of pool ≡ most_of pool
-unfolding count_of most_of
+full_is : (pool : Pool) → pool.most ≤ length pool.pages.items → pool_count pool ≡ most_of pool
+unfolding pool_count most_of
 full_is pool many = omega (arith, many, pool.few)
 
 -- the first of the changed blocks that isn't pinned
@@ -264,7 +264,7 @@ oldest_is pool pinned changed place block act same first is act_is many clean =
 
 pub none_free : (pool : Pool) (pinned changed : List ℕ) → changed ≡ (waiting_in pool.changed) → position (λ b. not (has_block pinned b)) changed ≡ None
     → pool.most ≤ length pool.pages.items → AreCleanPinned pool pinned → AreAllPinned pool pinned
-unfolding most_of blocks_of
+unfolding most_of pool_blocks
 none_free pool pinned changed same none many clean =
     let every = all_pinned pool pinned clean (ap (λ (xs : List ℕ). position (λ b. not (has_block pinned b)) xs) (sym same) ∙ none) in
     record {
@@ -274,8 +274,8 @@ none_free pool pinned changed same none many clean =
     }
 
 -- what a look finds is a frame in use, with the held page
-pub found_within : (pool : Pool) (block : ℕ) (found : Option ℕ) → found ≡ frame_of pool block → IfSome found (λ at. at < count_of pool)
-unfolding count_of
+pub found_within : (pool : Pool) (block : ℕ) (found : Option ℕ) → found ≡ frame_of pool block → IfSome found (λ at. at < pool_count pool)
+unfolding pool_count
 found_within pool block None is = tt
 found_within pool block (Some at) is = frame_within pool block at (sym is)
 

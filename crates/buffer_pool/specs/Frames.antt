@@ -13,8 +13,8 @@ abbrev pub has_block : List ℕ → ℕ → Bool
 has_block blocks block = list_any (λ b. b == block) blocks
 
 -- no block stands there twice
-abbrev pub AreApart : List ℕ → Type 0
-AreApart blocks = AllPairs (λ a b. a ≢ b) blocks
+abbrev pub BlocksAreApart : List ℕ → Type 0
+BlocksAreApart blocks = AllPairs (λ a b. a ≢ b) blocks
 
 -- the frame that holds the block, if one does: these are the blocks, frame by frame
 abbrev pub frame_in : List ℕ → ℕ → Option ℕ
@@ -33,5 +33,5 @@ pub record ArePlaces (places blocks : List ℕ) : Type 0 where
 -- these are the blocks that an act changed, each once
 pub record AreChanged (changed blocks acts : List ℕ) : Type 0 where
   pub told : (block : ℕ) → has_block changed block ≡ nat_lt 0 (act_in blocks acts block)
-  pub apart : AreApart changed
+  pub apart : BlocksAreApart changed
   pub counted : length changed ≡ count_by (nat_lt 0) acts

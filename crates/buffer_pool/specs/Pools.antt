@@ -2,7 +2,7 @@
 use Rattle.std.specs.Prelude.{◌≡◌, ◌≢◌, ℕ, suc, max, ◌<◌, ◌≤◌, true, false, nat_lt, if◌then◌else◌, Option, Some, None, IsSome, is_some, List, [], ◌∷◌, ◌++◌, length, take, drop, remove, slice_get, slice_index, slice_set}
 use Rattle.std.specs.Option.{option_and_then}
 use Rattle.page_codec.specs.declared.page.Page.{Page}
-use Rattle.buffer_pool.specs.Frames.{blocks_in, has_block, AreApart, frame_in, act_in}
+use Rattle.buffer_pool.specs.Frames.{blocks_in, has_block, BlocksAreApart, frame_in, act_in}
 use Rattle.buffer_pool.specs.Orders.{waiting_in}
 use Rattle.buffer_pool.specs.declared.pool.Pool.{Pool}
 
@@ -11,16 +11,16 @@ unfoldable pub most_of : Pool → ℕ
 most_of pool = pool.most
 
 -- how many pages are held
-unfoldable pub count_of : Pool → ℕ
-count_of pool = length pool.pages.items
+unfoldable pub pool_count : Pool → ℕ
+pool_count pool = length pool.pages.items
 
 -- pages of the blocks below this number may be held
 unfoldable pub reach_of : Pool → ℕ
 reach_of pool = length pool.places.items
 
 -- the blocks of the held pages, frame by frame
-unfoldable pub blocks_of : Pool → List ℕ
-blocks_of pool = blocks_in pool.pages.items
+unfoldable pub pool_blocks : Pool → List ℕ
+pool_blocks pool = blocks_in pool.pages.items
 
 -- the page in the frame, if one is
 unfoldable pub page_at : Pool → ℕ → Option Page
@@ -47,8 +47,8 @@ changed_of pool = waiting_in pool.changed
 pub record HasSamePages (old new : Pool) : Type 0 where
   pub most : most_of new ≡ most_of old
   pub reach : reach_of new ≡ reach_of old
-  pub count : count_of new ≡ count_of old
-  pub blocks : blocks_of new ≡ blocks_of old
+  pub count : pool_count new ≡ pool_count old
+  pub blocks : pool_blocks new ≡ pool_blocks old
   pub frames : (at : ℕ) → page_at new at ≡ page_at old at
   pub places : (block : ℕ) → frame_of new block ≡ frame_of old block
   pub held : (block : ℕ) → held_page new block ≡ held_page old block
@@ -60,7 +60,7 @@ pub record HasSameChanges (old new : Pool) : Type 0 where
 
 -- the frame is the next unused one, or has a page that isn't changed
 pub record CanBeTaken (pool : Pool) (at : ℕ) : Type 0 where
-  pub next : at ≤ count_of pool
+  pub next : at ≤ pool_count pool
   pub within : at < most_of pool
   pub clean : (block : ℕ) → 0 < act_of pool block → frame_of pool block ≢ Some at
 
@@ -68,9 +68,9 @@ pub record CanBeTaken (pool : Pool) (at : ℕ) : Type 0 where
 pub record IsPut (old new : Pool) (at : ℕ) (page : Page) : Type 0 where
   pub most : most_of new ≡ most_of old
   pub reach : reach_of new ≡ reach_of old
-  pub count : count_of new ≡ max (count_of old) (suc at)
-  pub over : at < count_of old → blocks_of new ≡ slice_set (blocks_of old) at page.block
-  pub behind : at ≡ count_of old → blocks_of new ≡ blocks_of old ++ page.block ∷ []
+  pub count : pool_count new ≡ max (pool_count old) (suc at)
+  pub over : at < pool_count old → pool_blocks new ≡ slice_set (pool_blocks old) at page.block
+  pub behind : at ≡ pool_count old → pool_blocks new ≡ pool_blocks old ++ page.block ∷ []
   pub frame : frame_of new page.block ≡ Some at
   pub there : page_at new at ≡ Some page
   pub held : held_page new page.block ≡ Some page
@@ -89,7 +89,7 @@ pub record IsPut (old new : Pool) (at : ℕ) (page : Page) : Type 0 where
 pub record IsChanged (old new : Pool) (page : Page) (act : ℕ) : Type 0 where
   pub most : most_of new ≡ most_of old
   pub reach : reach_of new ≡ reach_of old
-  pub count : count_of new ≡ count_of old
+  pub count : pool_count new ≡ pool_count old
   pub places : (block : ℕ) → frame_of new block ≡ frame_of old block
   pub held : held_page new page.block ≡ Some page
   pub others : (block : ℕ) → block ≢ page.block → held_page new block ≡ held_page old block
@@ -117,19 +117,19 @@ pub record AreWritten (old new : Pool) (count : ℕ) : Type 0 where
 
 -- what is true of every pool
 pub record IsPool (pool : Pool) : Type 0 where
-  pub few : count_of pool ≤ most_of pool
-  pub count : length (blocks_of pool) ≡ count_of pool
-  pub apart : AreApart (blocks_of pool)
+  pub few : pool_count pool ≤ most_of pool
+  pub count : length (pool_blocks pool) ≡ pool_count pool
+  pub apart : BlocksAreApart (pool_blocks pool)
   pub own : (at : ℕ) (page : Page) → page_at pool at ≡ Some page → frame_of pool page.block ≡ Some at
-  pub in_use : (block at : ℕ) → frame_of pool block ≡ Some at → at < count_of pool
+  pub in_use : (block at : ℕ) → frame_of pool block ≡ Some at → at < pool_count pool
   pub held : (block at : ℕ) → frame_of pool block ≡ Some at → held_page pool block ≡ page_at pool at
   pub absent : (block : ℕ) → frame_of pool block ≡ None → held_page pool block ≡ None
   pub same : (block : ℕ) (page : Page) → held_page pool block ≡ Some page → page.block ≡ block
   pub within : (block : ℕ) (page : Page) → held_page pool block ≡ Some page → block < reach_of pool
   pub among : (block : ℕ) (page : Page) → held_page pool block ≡ Some page
-      → has_block (blocks_of pool) block ≡ true
-  pub frames : (at : ℕ) → at < count_of pool → frame_of pool (slice_index (blocks_of pool) at) ≡ Some at
-  pub there : (block : ℕ) → has_block (blocks_of pool) block ≡ is_some (frame_of pool block)
+      → has_block (pool_blocks pool) block ≡ true
+  pub frames : (at : ℕ) → at < pool_count pool → frame_of pool (slice_index (pool_blocks pool) at) ≡ Some at
+  pub there : (block : ℕ) → has_block (pool_blocks pool) block ≡ is_some (frame_of pool block)
   pub changed : (block : ℕ) → has_block (changed_of pool) block ≡ nat_lt 0 (act_of pool block)
   pub kept : (block : ℕ) → 0 < act_of pool block → IsSome (held_page pool block)
-  pub once : AreApart (changed_of pool)
+  pub once : BlocksAreApart (changed_of pool)

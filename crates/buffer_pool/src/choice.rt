@@ -112,7 +112,7 @@ fn unpinned_place(changed: &[u32], pinned: &[u32]) -> Option<usize>
 
 impl Pool {
     ghost use Rattle.buffer_pool.specs.Pools.{HasSamePages, HasSameChanges};
-    ghost use Rattle.buffer_pool.specs.Choices.{AreCleanPinned, IsFree, IsChoice};
+    ghost use Rattle.buffer_pool.specs.Choices.{AreCleanPinned, IsFreeFrame, IsChoice};
 
     /// Which frame may be taken for another page where the pages of these blocks are pinned, or which page is to be written
     /// first. No page is taken from its frame yet: only the hand moves, which goes round over the frames.
@@ -141,7 +141,7 @@ impl Pool {
     // A frame whose page is clean and isn't pinned: the first from the hand on that nobody looked at since the hand passed
     // it, where there is one.
     fn free_frame(&mut self, pinned: &[u32]) -> Option<usize>
-        ensures found { IfSome result (IsFree self.new pinned.now) }
+        ensures found { IfSome result (IsFreeFrame self.new pinned.now) }
         ensures none { IfNone result (AreCleanPinned self.new pinned.now) }
         ensures pages { HasSamePages self.old self.new }
         ensures changes { HasSameChanges self.old self.new }
@@ -157,7 +157,7 @@ impl Pool {
 
     // The first frame from the hand on whose page is clean, isn't pinned, and wasn't looked at since the hand passed it.
     fn unused_frame(&mut self, pinned: &[u32]) -> Option<usize>
-        ensures found { IfSome result (IsFree self.new pinned.now) }
+        ensures found { IfSome result (IsFreeFrame self.new pinned.now) }
         ensures pages { HasSamePages self.old self.new }
         ensures changes { HasSameChanges self.old self.new }
     {
@@ -172,7 +172,7 @@ impl Pool {
 
     // A frame whose page is clean and isn't pinned, the first from the hand on.
     fn clean_frame(&self, pinned: &[u32]) -> Option<usize>
-        ensures found { IfSome result (IsFree self.now pinned.now) }
+        ensures found { IfSome result (IsFreeFrame self.now pinned.now) }
         ensures none { IfNone result (AreCleanPinned self.now pinned.now) }
     {
         clean_from(

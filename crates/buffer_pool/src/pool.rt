@@ -39,15 +39,15 @@ pub struct Pool {
 
 impl Pool {
     ghost use Rattle.std.specs.Prelude.{[], ℕ, ◌<◌, None, Some, IfSome, IfNone, IfOk, IfErr, is_some};
-    ghost use Rattle.buffer_pool.specs.Pools.{most_of, reach_of, count_of, page_at, frame_of, held_page, changed_of, CanBeTaken, HasSamePages, HasSameChanges, IsPut, IsPool};
+    ghost use Rattle.buffer_pool.specs.Pools.{most_of, reach_of, pool_count, page_at, frame_of, held_page, changed_of, CanBeTaken, HasSamePages, HasSameChanges, IsPut, IsPool};
 
     /// A pool of so many frames, for pages of the blocks below `pages`, that holds none. Refused with `NoMemory` where
     /// the room cannot be had.
-    #[tactic(auto, unfolding(crate::specs::Pools::most_of, crate::specs::Pools::reach_of, crate::specs::Pools::count_of, crate::specs::Pools::held_page, crate::specs::Pools::changed_of))]
+    #[tactic(auto, unfolding(crate::specs::Pools::most_of, crate::specs::Pools::reach_of, crate::specs::Pools::pool_count, crate::specs::Pools::held_page, crate::specs::Pools::changed_of))]
     pub fn new(alloc: Global, frames: u32, pages: u32) -> Result<Pool, Fault>
         ensures most { IfOk result (λ pool. most_of pool ≡ frames) }
         ensures reach { IfOk result (λ pool. reach_of pool ≡ pages) }
-        ensures empty { IfOk result (λ pool. count_of pool ≡ 0) }
+        ensures empty { IfOk result (λ pool. pool_count pool ≡ 0) }
         ensures held { IfOk result (λ pool. (block : ℕ) → held_page pool block ≡ None) }
         ensures clean { IfOk result (λ pool. changed_of pool ≡ []) }
         ensures cause { IfErr result (λ fault. fault ≡ Fault.NoMemory) }
@@ -83,9 +83,9 @@ impl Pool {
     {}
 
     /// How many pages are held.
-    #[tactic(auto, unfolding(crate::specs::Pools::count_of))]
+    #[tactic(auto, unfolding(crate::specs::Pools::pool_count))]
     pub fn held(&self) -> usize
-        ensures { result ≡ count_of self.now }
+        ensures { result ≡ pool_count self.now }
     {
         self.pages.len()
     }
@@ -109,7 +109,7 @@ impl Pool {
     /// The frame that holds the page of the block, by one look; none where that isn't held. Any number may be asked for.
     pub fn find(&self, block: u32) -> Option<usize>
         ensures frame { result ≡ frame_of self.now block }
-        ensures within { IfSome result (λ at. at < count_of self.now) }
+        ensures within { IfSome result (λ at. at < pool_count self.now) }
         ensures held { IfSome result (λ at. page_at self.now at ≡ held_page self.now block) }
         ensures none { IfNone result (held_page self.now block ≡ None) }
     {
@@ -138,9 +138,9 @@ impl Pool {
     }
 
     /// The page in a frame that is in use.
-    #[tactic(auto, unfolding(crate::specs::Pools::count_of, crate::specs::Pools::page_at))]
+    #[tactic(auto, unfolding(crate::specs::Pools::pool_count, crate::specs::Pools::page_at))]
     pub fn page(&self, at: usize) -> &Page
-        requires { at < count_of self.now }
+        requires { at < pool_count self.now }
         ensures { page_at self.now at ≡ Some result.now }
     {
         &self.pages[at]
@@ -148,7 +148,7 @@ impl Pool {
 
     /// Takes a frame, the next unused one or one whose page is clean, for a copy of a page whose block isn't held, which is
     /// clean then. What the frame held is held no more; all else is held as before.
-    #[tactic(auto, unfolding(crate::specs::Pools::count_of, crate::specs::Pools::most_of))]
+    #[tactic(auto, unfolding(crate::specs::Pools::pool_count, crate::specs::Pools::most_of))]
     pub fn put(&mut self, at: usize, page: &Page)
         requires taken { CanBeTaken self.old at }
         requires reach { page.now.block < reach_of self.old }
@@ -163,10 +163,10 @@ impl Pool {
     }
 
     // Copies the page into a frame in use.
-    #[tactic(auto, unfolding(crate::specs::Pools::count_of, crate::specs::Pools::reach_of, crate::specs::Pools::most_of))]
+    #[tactic(auto, unfolding(crate::specs::Pools::pool_count, crate::specs::Pools::reach_of, crate::specs::Pools::most_of))]
     fn replace(&mut self, at: usize, page: &Page)
         requires taken { CanBeTaken self.old at }
-        requires used { at < count_of self.old }
+        requires used { at < pool_count self.old }
         requires reach { page.now.block < reach_of self.old }
         requires absent { frame_of self.old page.now.block ≡ None }
         ensures { IsPut self.old self.new at page.now }
@@ -180,12 +180,12 @@ impl Pool {
     }
 
     // Copies the page into the next unused frame.
-    #[tactic(auto, unfolding(crate::specs::Pools::count_of, crate::specs::Pools::reach_of, crate::specs::Pools::most_of))]
+    #[tactic(auto, unfolding(crate::specs::Pools::pool_count, crate::specs::Pools::reach_of, crate::specs::Pools::most_of))]
     fn add(&mut self, page: &Page)
-        requires room { count_of self.old < most_of self.old }
+        requires room { pool_count self.old < most_of self.old }
         requires reach { page.now.block < reach_of self.old }
         requires absent { frame_of self.old page.now.block ≡ None }
-        ensures { IsPut self.old self.new (count_of self.old) page.now }
+        ensures { IsPut self.old self.new (pool_count self.old) page.now }
     {
         self.places[page.block as usize] = self.pages.len() as u32 + 1;
         self.pages.push_reserved(page.copy());

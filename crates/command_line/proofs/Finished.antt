@@ -10,7 +10,7 @@ use Rattle.schedule.specs.declared.event.Event.TheVariants.{Checkpoint}
 use Rattle.session_calls.specs.declared.answer.Answer.{Answer}
 use Rattle.session_calls.specs.declared.answer.Answer.TheVariants.{Refused as NotMade}
 use Rattle.page_store.specs.declared.store.Store.{Store}
-use Rattle.sessions.specs.Doing.{IsDone}
+use Rattle.sessions.specs.Doing.{IsEventDone}
 use Rattle.sessions.specs.declared.job.Job.{Job}
 use Rattle.sessions.specs.declared.outcome.Finished.{Finished}
 use Rattle.world.specs.Worlds.{inside}
@@ -29,7 +29,7 @@ not_refused answer h = (refl, refl)
 
 -- unless the print failed, the run is printed
 pub prints_done : {S T E : Type 0} (g : Ghosts S) (rows : SetGhosts T) (done : Finished S T) (after : World S T) (old new : Option (List ℕ)) (r : Result End E) (answer : Answer)
-    → IsDone g Checkpoint answer (inside rows done.world) (inside rows after) → IfOk r (λ end. end ≡ end_behind answer)
+    → IsEventDone g Checkpoint answer (inside rows done.world) (inside rows after) → IfOk r (λ end. end ≡ end_behind answer)
     → OnOk r (Appends old new (run_text done.history.items done.receipts.items done.calls.items ++ last_text answer)) → IfOk r (PrintsDone g rows done after old new)
 prints_done g rows done after old new (Ok end) answer made is printed = record { answer = answer; checkpointed = made; printed = printed; end_is = is }
 prints_done g rows done after old new (Err fault) answer made is printed = tt

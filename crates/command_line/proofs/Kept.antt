@@ -14,7 +14,7 @@ use Rattle.page_store.specs.declared.store.Store.{Store}
 use Rattle.world.specs.declared.world.World.{World}
 use Rattle.command_line.specs.Commands.{DoesCommand, Named, PrintsCheck, PrintsCommand, PrintsCreation, PrintsDump, PrintsPlay, PrintsRunning}
 use Rattle.command_line.specs.Left.{IfNotRun}
-use Rattle.command_line.specs.Listing.{Lists, ListsFirst}
+use Rattle.command_line.specs.Listing.{PrintsPages, ListsFirst}
 use Rattle.command_line.specs.Reporting.{TellsReport, TellsDamage}
 use Rattle.command_line.specs.RunningFiles.{PrintsRunOfJobFile}
 use Rattle.command_line.specs.declared.dead.DeadList.{DeadList}
@@ -92,7 +92,7 @@ module _ (old mid new : Option (List ℕ)) (kept : Keeps mid new) where
     unsound = told.unsound;
   }
 
-  lists_kept : (honest : Bool) (pages : List Page) → Lists honest pages old mid → Lists honest pages old new
+  lists_kept : (honest : Bool) (pages : List Page) → PrintsPages honest pages old mid → PrintsPages honest pages old new
   lists_kept honest pages listed is = appends_kept _ _ _ _ kept (listed is)
 
   first_kept : (honest : Bool) (pages : List Page) → ListsFirst honest pages old mid → ListsFirst honest pages old new

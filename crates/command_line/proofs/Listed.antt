@@ -7,7 +7,7 @@ use Rattle.std.specs.Io.KnownBytes.{Appends}
 use Rattle.std.specs.Prelude.{Option, Bool, get_or}
 use Rattle.page_codec.specs.declared.page.Page.{Page}
 use Rattle.text_forms.specs.Dumping.{page_text, pages_text}
-use Rattle.command_line.specs.Listing.{Lists}
+use Rattle.command_line.specs.Listing.{PrintsPages}
 
 -- the lines of a page stand behind those of the pages before it
 next_lines : (pages : List Page) (i : ℕ) (page : Page) → slice_get pages i ≡ Some page
@@ -19,7 +19,7 @@ next_lines pages i page found =
 
 -- one page more is printed
 pub lists_on : (before now : Bool) (pages : List Page) (i : ℕ) (page : Page) (a b c : Option (List ℕ)) → (now ≡ true → before ≡ true)
-    → Lists before (take i pages) a b → (now ≡ true → slice_get pages i ≡ Some page) → Appends b c (page_text page) → Lists now (take (i + 1) pages) a c
+    → PrintsPages before (take i pages) a b → (now ≡ true → slice_get pages i ≡ Some page) → Appends b c (page_text page) → PrintsPages now (take (i + 1) pages) a c
 lists_on before now pages i page a b c was lists found printed = λ honest.
     subst (Appends a c) (next_lines pages i page (found honest))
     (Appends-trans a b c (pages_text (take i pages)) (page_text page) (lists (was honest)) printed)

@@ -1,6 +1,6 @@
 -- What is told of the pages of a store whose state has stayed.
 use Rattle.std.proofs.Common.{◌≡◌, ℕ, Bool, List, Option, sym, subst}
-use Rattle.amcheck.specs.Checks.{where_checked}
+use Rattle.amcheck.specs.Checks.{causes_of_checked}
 use Rattle.device.specs.declared.device.Device.{Ghosts as DeviceGhosts}
 use Rattle.index_model.specs.Faults.{HasCause}
 use Rattle.index_model.specs.declared.fault.Fault.{Fault}
@@ -8,7 +8,7 @@ use Rattle.page_action.specs.States.{State}
 use Rattle.page_action.specs.declared.page_store.PageStore.{Ghosts}
 use Rattle.page_store.specs.declared.store.Store.{Store}
 use Rattle.command_line.specs.Files.{IsOpenedFromFile, IsLookedAt, IsCheckRefused}
-use Rattle.command_line.specs.Listing.{Lists, ListsFirst}
+use Rattle.command_line.specs.Listing.{PrintsPages, ListsFirst}
 use Rattle.command_line.specs.Reporting.{TellsReport, TellsDamage}
 
 module _ (now was : State) (same : now ≡ was) (honest : Bool) (old new : Option (List ℕ)) where
@@ -18,8 +18,8 @@ module _ (now was : State) (same : now ≡ was) (honest : Bool) (old new : Optio
   pub damage_stays : (parents : Bool) → TellsDamage honest parents was old new → TellsDamage honest parents now old new
   damage_stays parents told = subst (λ (st : State). TellsDamage honest parents st old new) (sym same) told
 
-  pub list_stays : Lists honest was.pages old new → Lists honest now.pages old new
-  list_stays told = subst (λ (st : State). Lists honest st.pages old new) (sym same) told
+  pub list_stays : PrintsPages honest was.pages old new → PrintsPages honest now.pages old new
+  list_stays told = subst (λ (st : State). PrintsPages honest st.pages old new) (sym same) told
 
   pub first_stay : ListsFirst honest was.pages old new → ListsFirst honest now.pages old new
   first_stay told = subst (λ (st : State). ListsFirst honest st.pages old new) (sym same) told
@@ -27,8 +27,8 @@ module _ (now was : State) (same : now ≡ was) (honest : Bool) (old new : Optio
 -- a check that was refused over the store that was opened
 pub check_refused : {D : Type 0} (d : DeviceGhosts D) (g : Ghosts (Store D d)) (bytes : ℕ → List ℕ) (fault : Fault) (first store : Store D d)
     → IsOpenedFromFile d bytes first → g.follows first store → g.state store ≡ g.state first
-    → HasCause (where_checked (g.state first) (g.backing first) (g.backing store)) fault → IsCheckRefused d g bytes fault store
+    → HasCause (causes_of_checked (g.state first) (g.backing first) (g.backing store)) fault → IsCheckRefused d g bytes fault store
 check_refused d g bytes fault first store opened follows same cause = record {
   looked = record { first = first; opened = opened; follows = follows; state_is = same };
-  cause = subst (λ (st : State). HasCause (where_checked st (g.backing first) (g.backing store)) fault) (sym same) cause;
+  cause = subst (λ (st : State). HasCause (causes_of_checked st (g.backing first) (g.backing store)) fault) (sym same) cause;
 }

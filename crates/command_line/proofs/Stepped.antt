@@ -21,7 +21,7 @@ use Rattle.session_calls.specs.declared.answer.Answer.{Answer}
 use Rattle.session_calls.specs.declared.answer.Answer.TheVariants.{Begun, Going, Added, Ready, Done, Finished, Gave, Ended, Forced, Flushed, Checkpointed, Refused}
 use Rattle.whole_calls.specs.Spending.{steps_left}
 use Rattle.whole_calls.proofs.Spending.{steps_few, takes_fewer}
-use Rattle.world.specs.Worlds.{WorldCarries, WorldGoes, WorldRuns, inside, snapshot_in}
+use Rattle.world.specs.Worlds.{ForEachWorldHistory, WorldGoes, WorldRuns, inside, snapshot_in}
 use Rattle.world.specs.declared.world.World.{World}
 use Rattle.command_line.specs.Stepping.{steps_of, answers_to, IsStepped, IsSteppedInsert}
 
@@ -54,7 +54,8 @@ module _ {S T : Type 0} (g : Ghosts S) (laws : Laws g) (rows : SetGhosts T) wher
   -- a run behind a run
   pub runs_then : (events more : List Event) (answers told : List Answer) (a b c : World S T) → Continues g.follows a.store b.store
       → Continues g.follows b.store c.store
-      → (start : Entry → Bool) (history : List Action) (calls : List Call) (r : WorldRuns g rows a b events answers start history calls) → WorldRuns g rows b c more told start r.then_history r.then_calls
+      → (start : Entry → Bool) (history : List Action) (calls : List Call) (r : WorldRuns g rows a b events answers start history calls)
+      → WorldRuns g rows b c more told start r.then_history r.then_calls
       → WorldRuns g rows a c (events ++ more) (answers ++ told) start history calls
   runs_then events more answers told a b c step next start history calls r t = record {
     then_history = t.then_history;
@@ -65,16 +66,17 @@ module _ {S T : Type 0} (g : Ghosts S) (laws : Laws g) (rows : SetGhosts T) wher
 
   module _ (session : ℕ) where
     -- no step
-    pub gone_nowhere : (a : World S T) → WorldCarries g rows a a (HasGone g rows session a a)
+    pub gone_nowhere : (a : World S T) → ForEachWorldHistory g rows a a (HasGone g rows session a a)
     gone_nowhere a honest start history calls fits = record {
       count = 0;
       runs = record { then_history = history; then_calls = calls; ran = none_ran g laws start (snapshot_in rows a history calls) fits };
     }
 
-    module _ (a b c : World S T) (step : Continues g.follows a.store b.store) (next : Continues g.follows b.store c.store) (gone : WorldCarries g rows a b (HasGone g rows session a b)) (answer : Answer)
-        (one : WorldCarries g rows b c (WorldGoes g rows b c (Step session) answer)) where
+    module _ (a b c : World S T) (step : Continues g.follows a.store b.store) (next : Continues g.follows b.store c.store)
+        (gone : ForEachWorldHistory g rows a b (HasGone g rows session a b)) (answer : Answer)
+        (one : ForEachWorldHistory g rows b c (WorldGoes g rows b c (Step session) answer)) where
       -- one step more, which answers this
-      pub gone_then : WorldCarries g rows a c (IsStepped g rows [] [] session answer a c)
+      pub gone_then : ForEachWorldHistory g rows a c (IsStepped g rows [] [] session answer a c)
       gone_then honest start history calls fits =
           let later = laws.follows_later b.store c.store (next b.store (laws.follows_same b.store)) in
           let r = gone (later.honest honest) start history calls fits in
@@ -82,7 +84,7 @@ module _ {S T : Type 0} (g : Ghosts S) (laws : Laws g) (rows : SetGhosts T) wher
           record { count = r.count; runs = runs_then (replicate r.count (Step session)) (Step session ∷ []) (replicate r.count Going) (answer ∷ []) a b c step next start history calls r.runs t }
 
       -- ... and goes on
-      pub gone_more : answer ≡ Going → WorldCarries g rows a c (HasGone g rows session a c)
+      pub gone_more : answer ≡ Going → ForEachWorldHistory g rows a c (HasGone g rows session a c)
       gone_more going honest start history calls fits =
           let r = gone_then honest start history calls fits in
           record {
@@ -94,31 +96,32 @@ module _ {S T : Type 0} (g : Ghosts S) (laws : Laws g) (rows : SetGhosts T) wher
 
       -- ... and leaves fewer steps for the call
       pub within_more : (before behind : ℕ) → before ≤ behind + 1 → answer ≡ Going → (g.state b.store).limits.pages ≤ 65536
-          → WorldCarries g rows a b (λ start history calls. IsWithin g rows session before a b)
-          → WorldCarries g rows a c (λ start history calls. IsWithin g rows session behind a c)
+          → ForEachWorldHistory g rows a b (λ start history calls. IsWithin g rows session before a b)
+          → ForEachWorldHistory g rows a c (λ start history calls. IsWithin g rows session behind a c)
       within_more before behind one_less going low within honest start history calls fits =
           let later = laws.follows_later b.store c.store (next b.store (laws.follows_same b.store)) in
           let most = within (later.honest honest) start history calls fits in
           let r = gone (later.honest honest) start history calls fits in
           let t = one honest start r.runs.then_history r.runs.then_calls r.runs.ran.fits in
-          let fewer = takes_fewer g start session answer (snapshot_in rows b r.runs.then_history r.runs.then_calls) (snapshot_in rows c t.then_history t.then_calls) honest r.runs.ran.fits (goes_does t.goes) low going in
+          let fewer = takes_fewer g start session answer (snapshot_in rows b r.runs.then_history r.runs.then_calls)
+          (snapshot_in rows c t.then_history t.then_calls) honest r.runs.ran.fits (goes_does t.goes) low going in
           omega (arith, most, fewer)
 
     -- so the steps that may be made are never used up
     pub within_some : (a b : World S T) (left : ℕ) → left ≤ 0 → (g.state a.store).limits.pages ≤ 65536
-        → WorldCarries g rows a b (λ start history calls. IsWithin g rows session left a b → ⊥)
+        → ForEachWorldHistory g rows a b (λ start history calls. IsWithin g rows session left a b → ⊥)
     within_some a b left out low honest start history calls fits most =
         let few = steps_few g laws start (snapshot_in rows a history calls) session fits low in
         omega (arith, few, most)
 
 module _ {S T : Type 0} (g : Ghosts S) (laws : Laws g) (rows : SetGhosts T) (session : ℕ) (entry : Entry) (answer : Answer) (a b : World S T)
-    (goes : WorldCarries g rows a b (WorldGoes g rows a b (Insert session entry) answer)) where
-  one : WorldCarries g rows a b (WorldRuns g rows a b (Insert session entry ∷ []) (answer ∷ []))
+    (goes : ForEachWorldHistory g rows a b (WorldGoes g rows a b (Insert session entry) answer)) where
+  one : ForEachWorldHistory g rows a b (WorldRuns g rows a b (Insert session entry ∷ []) (answer ∷ []))
   one = follow_runs g (Insert session entry) answer (inside rows a) (inside rows b) goes
 
   -- an insert that has begun and is stepped to this
   pub put_begun : (last : Answer) (c : World S T) → Continues g.follows a.store b.store → Continues g.follows b.store c.store → answer ≡ Begun
-      → WorldCarries g rows b c (IsStepped g rows [] [] session last b c) → WorldCarries g rows a c (IsSteppedInsert g rows session entry last a c)
+      → ForEachWorldHistory g rows b c (IsStepped g rows [] [] session last b c) → ForEachWorldHistory g rows a c (IsSteppedInsert g rows session entry last a c)
   put_begun last c step next begun stepped honest start history calls fits =
       let later = laws.follows_later b.store c.store (next b.store (laws.follows_same b.store)) in
       let r = one (later.honest honest) start history calls fits in
@@ -130,7 +133,7 @@ module _ {S T : Type 0} (g : Ghosts S) (laws : Laws g) (rows : SetGhosts T) (ses
       })
 
   -- ... or one that is refused as it begins
-  pub put_refused : AnswersBeginning answer → answer ≢ Begun → WorldCarries g rows a b (IsSteppedInsert g rows session entry answer a b)
+  pub put_refused : AnswersBeginning answer → answer ≢ Begun → ForEachWorldHistory g rows a b (IsSteppedInsert g rows session entry answer a b)
   put_refused may not_begun honest start history calls fits = by (begun_or_refused answer may)
     where
       by : (answer ≡ Begun) ⊎ ((fault : Fault) × (answer ≡ Refused fault)) → IsSteppedInsert g rows session entry answer a b start history calls

@@ -4,7 +4,7 @@ use Rattle.std.specs.Io.KnownBytes.{Appends, Keeps}
 use Rattle.clap.specs.Words.{Row, Text}
 use Rattle.access_method.specs.Files.{IsOpenFault}
 use Rattle.device.specs.declared.device.Device.{Ghosts as DeviceGhosts}
-use Rattle.device_layout.specs.Layout.{needed_length}
+use Rattle.page_codec.specs.Places.{needed_length}
 use Rattle.index_model.specs.Formats.{made}
 use Rattle.index_model.specs.Limits.{AreLimits}
 use Rattle.index_model.specs.declared.dead_rows.DeadRows.{Ghosts as SetGhosts}
@@ -16,7 +16,7 @@ use Rattle.page_store.specs.declared.store.Store.{Store}
 use Rattle.recovery.specs.Fresh.{IsEmptyIndex, LeavesEmpty}
 use Rattle.command_line.specs.CommandLine.{HasFlag, HasLimits, HasRunSizes, HasSetting, said_in}
 use Rattle.command_line.specs.Files.{IsLookedAt, IsCheckRefused}
-use Rattle.command_line.specs.Listing.{Lists, ListsFirst, IsDoneOrRefused}
+use Rattle.command_line.specs.Listing.{PrintsPages, ListsFirst, IsDoneOrRefused}
 use Rattle.command_line.specs.Reporting.{TellsReport, TellsDamage, AreSound, IsCheckEnd}
 use Rattle.command_line.specs.Running.{IsRunEnd}
 use Rattle.command_line.specs.RunningFiles.{PrintsRunOfJobFile}
@@ -67,7 +67,7 @@ pub record PrintsDump {D : Type 0} (d : DeviceGhosts D) (g : Ghosts (Store D d))
   pub ends : IfOk looked.end IsDoneOrRefused
   pub opened : IfSome looked.store (IsLookedAt d g bytes)
   pub listed : looked.end ≡ Ok Done → IsSomeAnd looked.store (λ store.
-      Lists (g.backing store).honest (g.state store).pages old new)
+      PrintsPages (g.backing store).honest (g.state store).pages old new)
   pub refused : (fault : Fault) → looked.end ≡ Ok (Refused fault)
       → MatchOption looked.store (IsOpenFault fault) (λ store.
       ListsFirst (g.backing store).honest (g.state store).pages old new)

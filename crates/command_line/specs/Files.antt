@@ -1,7 +1,7 @@
 -- Files with an index.
 use Rattle.std.specs.Prelude.{◌≡◌, ℕ, IsTrue, List}
 use Rattle.access_method.specs.Files.{bytes_before}
-use Rattle.amcheck.specs.Checks.{where_checked}
+use Rattle.amcheck.specs.Checks.{causes_of_checked}
 use Rattle.device.specs.declared.device.Device.{Ghosts as DeviceGhosts}
 use Rattle.index_model.specs.Faults.{HasCause}
 use Rattle.index_model.specs.declared.fault.Fault.{Fault}
@@ -36,4 +36,4 @@ pub record IsLookedAt {D : Type 0} (d : DeviceGhosts D) (g : Ghosts (Store D d))
 pub record IsCheckRefused {D : Type 0} (d : DeviceGhosts D) (g : Ghosts (Store D d)) (bytes : ℕ → List ℕ) (fault : Fault)
     (store : Store D d) : Type 0 where
   pub looked : IsLookedAt d g bytes store
-  pub cause : HasCause (where_checked (g.state store) (g.backing looked.first) (g.backing store)) fault
+  pub cause : HasCause (causes_of_checked (g.state store) (g.backing looked.first) (g.backing store)) fault

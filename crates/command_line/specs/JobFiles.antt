@@ -21,14 +21,14 @@ job_words Checkpoint = codes "checkpoint" ∷ []
 abbrev pub IsRoom : ℕ → Type 0
 IsRoom room = (1 ≤ room) × (room ≤ 1048576)
 
-abbrev pub HasRoom : JobLine → Type 0
-HasRoom (Scan range room) = IsRoom room
-HasRoom line = ⊤
+abbrev pub HasScanRoom : JobLine → Type 0
+HasScanRoom (Scan range room) = IsRoom room
+HasScanRoom line = ⊤
 
 -- ... of a range whose keys there are; and the entries and rows of the other lines are such
 abbrev pub HasJobValues : JobLine → Type 0
 HasJobValues (Insert entry) = IsEntryOfBytes entry
-HasJobValues (Scan range room) = IsRangeOfBytes range × HasRoom (Scan range room)
+HasJobValues (Scan range room) = IsRangeOfBytes range × HasScanRoom (Scan range room)
 HasJobValues (Bulk rows) = AreRows rows
 HasJobValues Cleanup = ⊤
 HasJobValues Commit = ⊤
@@ -39,13 +39,13 @@ abbrev pub is_job_alone : List ℕ → Bool
 is_job_alone name = is_one_of name (codes "cleanup" ∷ codes "commit" ∷ codes "checkpoint" ∷ [])
 
 -- the job that a line is; a bulk delete's set has this place among the sets
-abbrev pub job_of : ℕ → JobLine → Job
-job_of set (Insert entry) = InsertJob entry
-job_of set (Scan range room) = ScanJob range room
-job_of set (Bulk rows) = BulkJob set
-job_of set Cleanup = CleanupJob
-job_of set Commit = CommitJob
-job_of set Checkpoint = CheckpointJob
+abbrev pub line_job : ℕ → JobLine → Job
+line_job set (Insert entry) = InsertJob entry
+line_job set (Scan range room) = ScanJob range room
+line_job set (Bulk rows) = BulkJob set
+line_job set Cleanup = CleanupJob
+line_job set Commit = CommitJob
+line_job set Checkpoint = CheckpointJob
 
 -- the sets up to a job, with its own
 abbrev pub sets_with : ℕ → Job → ℕ
@@ -56,8 +56,8 @@ sets_with set job = set
 pub record SpellsJob (set : ℕ) (text : List ℕ) (job : Job) : Type 0 where
   pub line : JobLine
   pub words : words_of text ≡ job_words line
-  pub room : HasRoom line
-  pub is : job ≡ job_of set line
+  pub room : HasScanRoom line
+  pub is : job ≡ line_job set line
 
 -- lines spell jobs, each its own; so many bulk deletes are before them
 abbrev pub SpellJobs : ℕ → List (List ℕ) → List Job → Type 0

@@ -7,14 +7,14 @@ use Rattle.command_line.specs.declared.end.End.{End}
 use Rattle.command_line.specs.declared.end.End.TheVariants.{Done, Damaged, Said, Refused}
 
 -- what was printed is the lines of these pages, in their order, as far as the device kept its model
-abbrev pub Lists : Bool → List Page → Option (List ℕ) → Option (List ℕ) → Type 0
-Lists honest pages old new = honest ≡ true → Appends old new (pages_text pages)
+abbrev pub PrintsPages : Bool → List Page → Option (List ℕ) → Option (List ℕ) → Type 0
+PrintsPages honest pages old new = honest ≡ true → Appends old new (pages_text pages)
 
 -- what was printed is the lines of the first so many of these pages, but not of all
 pub record ListsFirst (honest : Bool) (pages : List Page) (old new : Option (List ℕ)) : Type 0 where
   pub count : ℕ
   pub few : count < length pages
-  pub printed : Lists honest (take count pages) old new
+  pub printed : PrintsPages honest (take count pages) old new
 
 -- all was done, or a refusal is to be said
 abbrev pub IsDoneOrRefused : End → Type 0

@@ -44,10 +44,10 @@ AreSound true st = IsTreeFor st.limits st.pages
 AreSound false st = HasLevelsFor st.limits st.pages
 
 -- what was printed of an answer, and how it ended: the report, the damage, or nothing
-abbrev pub IsTold : Result Report CheckFault → Option (List ℕ) → Option (List ℕ) → End → Type 0
-IsTold (Ok report) old new end = (end ≡ Done) × Appends old new (report_text report ++ 10 ∷ [])
-IsTold (Err (Damage number block)) old new end = (end ≡ Damaged) × Appends old new (damage_text number block ++ 10 ∷ [])
-IsTold (Err (NotChecked fault)) old new end = (end ≡ Refused fault) × (new ≡ old)
+abbrev pub PrintsAnswer : Result Report CheckFault → Option (List ℕ) → Option (List ℕ) → End → Type 0
+PrintsAnswer (Ok report) old new end = (end ≡ Done) × Appends old new (report_text report ++ 10 ∷ [])
+PrintsAnswer (Err (Damage number block)) old new end = (end ≡ Damaged) × Appends old new (damage_text number block ++ 10 ∷ [])
+PrintsAnswer (Err (NotChecked fault)) old new end = (end ≡ Refused fault) × (new ≡ old)
 
 -- a check finds no damage, finds one, or is refused
 abbrev pub IsCheckEnd : End → Type 0

@@ -6,7 +6,7 @@ use Rattle.page_action.specs.declared.page_store.PageStore.{Ghosts}
 use Rattle.schedule.specs.declared.event.Event.TheVariants.{Checkpoint}
 use Rattle.session_calls.specs.declared.answer.Answer.{Answer}
 use Rattle.session_calls.specs.declared.answer.Answer.TheVariants.{Refused as NotMade}
-use Rattle.sessions.specs.Doing.{IsDone}
+use Rattle.sessions.specs.Doing.{IsEventDone}
 use Rattle.sessions.specs.Finishing.{IsFinished}
 use Rattle.sessions.specs.declared.job.Job.{Job}
 use Rattle.sessions.specs.declared.outcome.Finished.{Finished}
@@ -31,7 +31,7 @@ end_behind answer = Done
 -- numbers, and how many each worker has; and what the checkpoint answered.
 pub record PrintsDone {S T : Type 0} (g : Ghosts S) (rows : SetGhosts T) (done : Finished S T) (after : World S T) (old new : Option (List ℕ)) (end : End) : Type 0 where
   pub answer : Answer
-  pub checkpointed : IsDone g Checkpoint answer (inside rows done.world) (inside rows after)
+  pub checkpointed : IsEventDone g Checkpoint answer (inside rows done.world) (inside rows after)
   pub printed : Appends old new (run_text done.history.items done.receipts.items done.calls.items ++ last_text answer)
   pub end_is : end ≡ end_behind answer
 

@@ -36,12 +36,12 @@ line_words (CrashOf crash) = codes "crash" ∷ crash_text crash ∷ []
 line_words Dump = codes "dump" ∷ []
 
 -- an empty line, or a comment
-abbrev pub IsQuiet : List ℕ → Type 0
-IsQuiet text = (text ≡ []) ⊎ (slice_index text 0 ≡ 35)
+abbrev pub IsSilentLine : List ℕ → Type 0
+IsSilentLine text = (text ≡ []) ⊎ (slice_index text 0 ≡ 35)
 
 -- the text spells the line
 abbrev pub Spells : List ℕ → Line → Type 0
-Spells text Nothing = IsQuiet text
+Spells text Nothing = IsSilentLine text
 Spells text line = words_of text ≡ line_words line
 
 -- the number of a session, and that of a device call
@@ -82,8 +82,8 @@ is_counted name = is_one_of name (codes "fail" ∷ codes "stop" ∷ codes "crash
 abbrev pub is_of_session : List ℕ → Bool
 is_of_session name = is_one_of name (codes "cleanup" ∷ codes "step" ∷ codes "run" ∷ codes "next" ∷ codes "end" ∷ [])
 
-abbrev pub has_entry : List ℕ → Bool
-has_entry name = is_one_of name (codes "insert" ∷ codes "put" ∷ [])
+abbrev pub names_entry : List ℕ → Bool
+names_entry name = is_one_of name (codes "insert" ∷ codes "put" ∷ [])
 
 abbrev pub has_range : List ℕ → Bool
 has_range name = is_one_of name (codes "scan" ∷ codes "list" ∷ [])
@@ -93,7 +93,7 @@ has_rows name = is_one_of name (codes "bulk" ∷ [])
 
 -- what a line of this name with these words behind its session is refused with: it has its form, but a key or a row that there isn't
 abbrev pub AreNoValues : Fault → List ℕ → List (List ℕ) → Type 0
-AreNoValues fault name words = ((has_entry name ≡ true) × AreNoEntry fault words [])
+AreNoValues fault name words = ((names_entry name ≡ true) × AreNoEntry fault words [])
     ⊎ (((has_range name ≡ true) × AreNoRange fault words []) ⊎ ((has_rows name ≡ true) × AreNoRows fault words))
 
 -- what a line of these words is refused with

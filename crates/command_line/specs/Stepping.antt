@@ -28,13 +28,15 @@ answers_to answer count = replicate count Going ++ answer ∷ []
 
 -- There is a continuation of the history and of the calls that fits the world now, by a run of these events with these
 -- answers and of steps of the session behind them: the last answers this, and each before it that its call goes on.
-pub record IsStepped {S T : Type 0} (g : Ghosts S) (rows : SetGhosts T) (events : List Event) (answers : List Answer) (session : ℕ) (answer : Answer) (old new : World S T) (start : Entry → Bool) (history : List Action) (calls : List Call) : Type 0 where
+pub record IsStepped {S T : Type 0} (g : Ghosts S) (rows : SetGhosts T) (events : List Event) (answers : List Answer) (session : ℕ) (answer : Answer)
+    (old new : World S T) (start : Entry → Bool) (history : List Action) (calls : List Call) : Type 0 where
   -- how many steps go on
   pub count : ℕ
   pub runs : WorldRuns g rows old new (events ++ steps_of session count) (answers ++ answers_to answer count) start history calls
 
 -- the one event of such a run is the beginning of an insert, which is refused
-pub record IsRefusedInsert {S T : Type 0} (g : Ghosts S) (rows : SetGhosts T) (session : ℕ) (entry : Entry) (answer : Answer) (old new : World S T) (start : Entry → Bool) (history : List Action) (calls : List Call) : Type 0 where
+pub record IsRefusedInsert {S T : Type 0} (g : Ghosts S) (rows : SetGhosts T) (session : ℕ) (entry : Entry) (answer : Answer) (old new : World S T)
+    (start : Entry → Bool) (history : List Action) (calls : List Call) : Type 0 where
   pub fault : Fault
   pub refused : answer ≡ Refused fault
   pub runs : WorldRuns g rows old new (Insert session entry ∷ []) (answer ∷ []) start history calls

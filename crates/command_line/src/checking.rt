@@ -3,9 +3,9 @@
 ghost use Rattle.std.specs.Prelude.{◌≡◌, true, Ok, IfOk};
 ghost use Rattle.index_model.specs.Faults.{HasCause};
 ghost use Rattle.page_action.specs.States.{Continues};
-ghost use Rattle.amcheck.specs.Checks.{where_checked};
+ghost use Rattle.amcheck.specs.Checks.{causes_of_checked};
 ghost use Rattle.text_forms.specs.Printing.{PrintsLine};
-ghost use Rattle.command_line.specs.Reporting.{TellsReport, TellsDamage, AreSound, IsCheckEnd, IsTold, report_text, damage_text};
+ghost use Rattle.command_line.specs.Reporting.{TellsReport, TellsDamage, AreSound, IsCheckEnd, PrintsAnswer, report_text, damage_text};
 
 use crate::end::End;
 use amcheck::{CheckFault, Report, check, check_one, check_parents, check_parents_one};
@@ -37,7 +37,7 @@ pub fn check_pages<R: Threads + Sync, S: PageStore, W: Write>(
     ensures damage { result ≡ Ok End.Damaged → TellsDamage (S.backing store.new).honest parents
         (S.state store.old) (W.contents out.old) (W.contents out.new) }
     ensures refused { (fault : Fault) → result ≡ Ok (End.Refused fault)
-        → HasCause (where_checked (S.state store.old) (S.backing store.old)
+        → HasCause (causes_of_checked (S.state store.old) (S.backing store.old)
         (S.backing store.new)) fault }
     ensures silent { (fault : Fault) → result ≡ Ok (End.Refused fault)
         → W.contents out.new ≡ W.contents out.old }
@@ -67,7 +67,7 @@ pub fn check_pages_one<S: PageStore, W: Write>(
     ensures damage { result ≡ Ok End.Damaged → TellsDamage (S.backing store.new).honest parents
         (S.state store.old) (W.contents out.old) (W.contents out.new) }
     ensures refused { (fault : Fault) → result ≡ Ok (End.Refused fault)
-        → HasCause (where_checked (S.state store.old) (S.backing store.old)
+        → HasCause (causes_of_checked (S.state store.old) (S.backing store.old)
         (S.backing store.new)) fault }
     ensures silent { (fault : Fault) → result ≡ Ok (End.Refused fault)
         → W.contents out.new ≡ W.contents out.old }
@@ -82,7 +82,7 @@ pub fn check_pages_one<S: PageStore, W: Write>(
 
 /// Prints a report, or a damage, and answers how that ends. A refusal isn't printed.
 fn print_checked<W: Write>(out: &mut W, checked: Result<Report, CheckFault>) -> io::Result<End>
-    ensures { IfOk result (IsTold checked (W.contents out.old) (W.contents out.new)) }
+    ensures { IfOk result (PrintsAnswer checked (W.contents out.old) (W.contents out.new)) }
 {
     match checked {
         Ok(report) => {

@@ -14,17 +14,16 @@ ghost use Rattle.page_store.specs.Stores.{state_of, held_by, device_of};
 ghost use Rattle.recovery.specs.Index.{HasIndex};
 ghost use Rattle.tree_acts.specs.TheoremKeys.{IsTreeFor};
 ghost use Rattle.world.specs.Reopening.{BeginsWith, BeginsEmpty, BeginsAfterFirstPart};
-ghost use Rattle.world.specs.Worlds.{WorldFits, WorldKeeps, WorldCarries, WorldGoes};
+ghost use Rattle.world.specs.Worlds.{WorldFits, WorldKeeps, ForEachWorldHistory, WorldGoes};
 ghost use Rattle.command_line.specs.Settings.{IsSetting};
 ghost use Rattle.command_line.specs.Stepping.{IsSteppedInsert, IsStepped};
 
 use crate::dead::DeadList;
 use crate::stepping::{next_or_step, run_call, run_insert};
 use device::{CrashImage, Device, MemDevice};
-use device_layout::needed_len;
 use index_model::{DeadRows, Entry, Fault, Limits, Range};
 use page_action::PageStore;
-use page_codec::Page;
+use page_codec::{Page, needed_len};
 use page_store::Store;
 use recovery::create;
 use schedule::Event;
@@ -102,7 +101,7 @@ impl Engine {
     /// One event.
     pub fn one(&mut self, event: Event) -> Answer
         ensures setting { self.new.setting ≡ self.old.setting }
-        ensures goes { WorldCarries ⟦<Store<MemDevice> as PageStore>⟧ ⟦<DeadList as DeadRows>⟧
+        ensures goes { ForEachWorldHistory ⟦<Store<MemDevice> as PageStore>⟧ ⟦<DeadList as DeadRows>⟧
             self.old.world self.new.world
             (WorldGoes ⟦<Store<MemDevice> as PageStore>⟧ ⟦<DeadList as DeadRows>⟧
             self.old.world self.new.world event result) }
@@ -113,7 +112,7 @@ impl Engine {
     /// Steps of a session's call until one doesn't answer `Going`, and that answer. No checkpoint is made for them.
     pub fn run(&mut self, session: u32) -> Answer
         ensures setting { self.new.setting ≡ self.old.setting }
-        ensures goes { WorldCarries ⟦<Store<MemDevice> as PageStore>⟧ ⟦<DeadList as DeadRows>⟧
+        ensures goes { ForEachWorldHistory ⟦<Store<MemDevice> as PageStore>⟧ ⟦<DeadList as DeadRows>⟧
             self.old.world self.new.world
             (IsStepped ⟦<Store<MemDevice> as PageStore>⟧ ⟦<DeadList as DeadRows>⟧
             [] [] session result self.old.world self.new.world) }
@@ -125,7 +124,7 @@ impl Engine {
     /// An insert, run until a step doesn't answer `Going`, and that answer.
     pub fn put(&mut self, session: u32, entry: &Entry) -> Answer
         ensures setting { self.new.setting ≡ self.old.setting }
-        ensures goes { WorldCarries ⟦<Store<MemDevice> as PageStore>⟧ ⟦<DeadList as DeadRows>⟧
+        ensures goes { ForEachWorldHistory ⟦<Store<MemDevice> as PageStore>⟧ ⟦<DeadList as DeadRows>⟧
             self.old.world self.new.world
             (IsSteppedInsert ⟦<Store<MemDevice> as PageStore>⟧ ⟦<DeadList as DeadRows>⟧
             session entry.now result self.old.world self.new.world) }

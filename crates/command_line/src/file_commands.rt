@@ -3,13 +3,13 @@
 
 ghost use Rattle.std.specs.Prelude.{◌≡◌, ◌⊎◌, ◌∷◌, ◌++◌, [], true, length, Ok, IsSome, IfOk, IfSome, IfNone, IsSomeAnd, MatchOption, codes};
 ghost use Rattle.std.specs.Io.KnownBytes.{Appends};
-ghost use Rattle.device_layout.specs.Layout.{needed_length};
+ghost use Rattle.page_codec.specs.Places.{needed_length};
 ghost use Rattle.index_model.specs.Formats.{made};
 ghost use Rattle.index_model.specs.Limits.{AreLimits};
 ghost use Rattle.recovery.specs.Fresh.{IsEmptyIndex, LeavesEmpty};
 ghost use Rattle.access_method.specs.Files.{IsOpenFault};
 ghost use Rattle.command_line.specs.Files.{IsLookedAt, IsCheckRefused};
-ghost use Rattle.command_line.specs.Listing.{Lists, ListsFirst, IsDoneOrRefused};
+ghost use Rattle.command_line.specs.Listing.{PrintsPages, ListsFirst, IsDoneOrRefused};
 ghost use Rattle.command_line.specs.Reporting.{TellsReport, TellsDamage, AreSound, IsCheckEnd};
 
 use crate::checking::{check_pages, check_pages_one};
@@ -193,7 +193,7 @@ pub fn dump<R: Files<File = File>, S: Start, W: Write>(
         S.Start.bytes) }
     ensures listed { result.end ≡ Ok End.Done → IsSomeAnd result.store (λ store.
         let g = ⟦<Store<FileDevice<S>> as PageStore>⟧ in
-        Lists (g.backing store).honest (g.state store).pages
+        PrintsPages (g.backing store).honest (g.state store).pages
         (W.contents out.old) (W.contents out.new)) }
     ensures refused { (fault : Fault) → result.end ≡ Ok (End.Refused fault)
         → MatchOption result.store (IsOpenFault fault) (λ store.

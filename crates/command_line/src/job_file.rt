@@ -1,7 +1,7 @@
 //! Job files.
 
 ghost use Rattle.std.specs.Prelude.{◌≡◌, ◌+◌, IfOk, vec_len};
-ghost use Rattle.command_line.specs.JobFiles.{SpellJobs, job_of, sets_with, sets_behind};
+ghost use Rattle.command_line.specs.JobFiles.{SpellJobs, line_job, sets_with, sets_behind};
 ghost use Rattle.text_forms.specs.Spelling.{lines_of};
 
 use crate::dead::{DeadList, listed};
@@ -59,7 +59,7 @@ fn add_set(
     line: JobLine<'_>,
     count: u32,
 ) -> Result<u32, JobFileError>
-    ensures count { IfOk result (λ now. now ≡ sets_with count (job_of count line.entry)) }
+    ensures count { IfOk result (λ now. now ≡ sets_with count (line_job count line.entry)) }
     ensures sets { vec_len sets.old ≡ count → IfOk result (λ now. vec_len sets.new ≡ now) }
 {
     match line {
@@ -94,7 +94,7 @@ fn push_set(
 
 // The job that a line is; a bulk delete's set has this place among the sets.
 fn job_of(line: &JobLine<'_>, set: u32) -> Job
-    ensures { result ≡ job_of set line.now }
+    ensures { result ≡ line_job set line.now }
 {
     match line {
         JobLine::Insert(entry) => Job::Insert(*entry),

@@ -6,7 +6,7 @@ ghost use Rattle.index_model.specs.declared.entry.Entry.{Entry as TheEntry};
 ghost use Rattle.index_model.specs.declared.range.Range.{Range as TheRange};
 ghost use Rattle.text_forms.specs.Spelling.{words_of};
 ghost use Rattle.text_forms.specs.Values.{entry_words, range_words, IsEntryOfBytes, IsRangeOfBytes, AreRows, AreNoRange};
-ghost use Rattle.command_line.specs.Script.{line_words, crash_text, IsCount, IsQuiet, Spells, HasValues, AreNoValues, AreRefused, is_plain, is_counted, is_of_session, has_range};
+ghost use Rattle.command_line.specs.Script.{line_words, crash_text, IsCount, IsSilentLine, Spells, HasValues, AreNoValues, AreRefused, is_plain, is_counted, is_of_session, has_range};
 
 use index_model::{Entry, Fault, Range};
 use text_forms::{Rows, Words, all_rows, entry, is_word, number, number_u32, range};
@@ -62,7 +62,7 @@ pub enum LineError {
 /// The line of this text.
 pub fn parse(text: &[u8]) -> Result<Line<'_>, LineError>
     ensures ok { IfOk result (Spells text.now) }
-    ensures quiet { IsQuiet text.now → result ≡ Ok Line.Nothing }
+    ensures quiet { IsSilentLine text.now → result ≡ Ok Line.Nothing }
     ensures only { (line : Line) → HasValues line → Spells text.now line → result ≡ Ok line }
     ensures refused { (fault : Fault) → result ≡ Err (LineError.Refused fault)
         → AreRefused fault (words_of text.now) }

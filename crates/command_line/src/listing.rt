@@ -2,7 +2,7 @@
 
 ghost use Rattle.std.specs.Prelude.{◌≡◌, Ok, IfOk};
 ghost use Rattle.page_action.specs.States.{Continues};
-ghost use Rattle.command_line.specs.Listing.{Lists, ListsFirst, IsDoneOrRefused};
+ghost use Rattle.command_line.specs.Listing.{PrintsPages, ListsFirst, IsDoneOrRefused};
 
 use crate::end::End;
 use index_model::Fault;
@@ -15,7 +15,7 @@ pub fn list_pages<S: PageStore, W: Write>(store: &mut S, out: &mut W) -> io::Res
     ensures steps { Continues S.follows store.old store.new }
     ensures state { S.state store.new ≡ S.state store.old }
     ensures ends { IfOk result IsDoneOrRefused }
-    ensures listed { result ≡ Ok End.Done → Lists (S.backing store.new).honest
+    ensures listed { result ≡ Ok End.Done → PrintsPages (S.backing store.new).honest
         (S.state store.old).pages (W.contents out.old) (W.contents out.new) }
     ensures refused { (fault : Fault) → result ≡ Ok (End.Refused fault)
         → ListsFirst (S.backing store.new).honest

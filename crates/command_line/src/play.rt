@@ -1,7 +1,7 @@
 //! Scripts.
 
 ghost use Rattle.std.specs.Prelude.{◌≡◌, Ok, IsSome, IfOk, IfSome, IfNone};
-ghost use Rattle.command_line.specs.Events.{event_of};
+ghost use Rattle.command_line.specs.Events.{line_event};
 
 use crate::dead::{DeadList, dead_of};
 use crate::end::End;
@@ -222,7 +222,7 @@ fn play_event<W: Write>(
 
 /// The event that a line is, if it is one; a bulk delete's set has this place among the sets.
 fn event_of(line: &Line<'_>, set: u32) -> Option<Event>
-    ensures { result ≡ event_of set line.now }
+    ensures { result ≡ line_event set line.now }
 {
     match line {
         Line::Insert(session, entry) => Some(Event::Insert(*session, *entry)),

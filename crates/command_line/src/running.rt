@@ -2,7 +2,7 @@
 
 ghost use Rattle.std.specs.Prelude.{◌≡◌, ◌++◌, Ok, IfErr, IfOk, OnErr, OnOk, IsSome, IfSome, IfNone};
 ghost use Rattle.std.specs.Io.KnownBytes.{Appends};
-ghost use Rattle.sessions.specs.Finishing.{IsRefusedFor};
+ghost use Rattle.sessions.specs.Finishing.{RunIsRefusedFor};
 ghost use Rattle.command_line.specs.Listing.{IsDoneOrRefused};
 ghost use Rattle.command_line.specs.Receipts.{run_text};
 ghost use Rattle.command_line.specs.Running.{IsRunEnd, PrintsDone, PrintsRun, end_behind, last_text};
@@ -199,7 +199,7 @@ pub fn run_world<
 ) -> Result<Ran<S, T>, NotRun<S, T>>
     ensures given_back { IfErr result (λ not_run. not_run.world ≡ world) }
     ensures refused { IfErr result (λ not_run.
-        IsRefusedFor not_run.fault world.calls.slots.items jobs.now workers) }
+        RunIsRefusedFor not_run.fault world.calls.slots.items jobs.now workers) }
     ensures silent { OnErr result (W.contents out.new ≡ W.contents out.old) }
     ensures ends { IfOk result (λ ran. IfOk ran.end IsDoneOrRefused) }
     ensures printed { IfOk result (λ ran. IfOk ran.end

@@ -3,7 +3,7 @@
 
 ghost use Rattle.std.specs.Prelude.{◌≡◌, ◌≢◌, ◌≤◌, ◌∷◌, []};
 ghost use Rattle.page_action.specs.States.{Continues};
-ghost use Rattle.world.specs.Worlds.{WorldCarries};
+ghost use Rattle.world.specs.Worlds.{ForEachWorldHistory};
 ghost use Rattle.command_line.specs.Stepping.{IsSteppedInsert, IsStepped, KeepsSizes};
 
 use index_model::{DeadRows, Entry, Fault};
@@ -18,7 +18,7 @@ pub fn run_call<S: PageStore, T: DeadRows + Drop>(world: &mut World<S, T>, sessi
     requires pages { (S.state world.old.store).limits.pages ≤ 65536 }
     ensures steps { Continues S.follows world.old.store world.new.store }
     ensures sizes { KeepsSizes S.PageStore world.old world.new }
-    ensures goes { WorldCarries S.PageStore T.DeadRows world.old world.new
+    ensures goes { ForEachWorldHistory S.PageStore T.DeadRows world.old world.new
         (IsStepped S.PageStore T.DeadRows [] [] session result world.old world.new) }
     ensures over { result ≢ Answer.Going }
 {
@@ -42,7 +42,7 @@ pub fn run_insert<S: PageStore, T: DeadRows + Drop>(
 ) -> Answer
     requires pages { (S.state world.old.store).limits.pages ≤ 65536 }
     ensures sizes { KeepsSizes S.PageStore world.old world.new }
-    ensures goes { WorldCarries S.PageStore T.DeadRows world.old world.new
+    ensures goes { ForEachWorldHistory S.PageStore T.DeadRows world.old world.new
         (IsSteppedInsert S.PageStore T.DeadRows session entry result world.old world.new) }
     ensures over { result ≢ Answer.Going }
 {

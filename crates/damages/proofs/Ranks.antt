@@ -4,7 +4,7 @@ use Rattle.std.proofs.lemmas.Bool.{cases_lt}
 use Rattle.page_codec.specs.declared.page.Downlink.{Downlink}
 use Rattle.page_codec.specs.declared.page.Page.{Page}
 use Rattle.tree_shape.specs.Chains.{from_low}
-use Rattle.damages.specs.Damages.{way_left, IsSound, Index, Here, Item, Site, IsDamage, IsFirstDamage, IsOfParents, ComesBefore, rank, block_of, place_at, index_of}
+use Rattle.damages.specs.Damages.{left_after_steps, IsSound, Index, Here, Item, Site, IsDamage, IsFirstDamage, IsOfParents, ComesBefore, rank, site_block, place_at, index_of}
 use Rattle.damages.specs.Damages.Site.{on_way, on_chain, at_child, at_page, nowhere}
 
 -- neither comes before the other
@@ -55,14 +55,14 @@ same_child {ix} h k i j d p t =
 
 -- two damages of which neither comes first have one number, and one block
 one : (parents keys : Bool) (ix : Index) (s t : Site ix) (n m : ℕ) → IsDamage parents keys s n → IsDamage parents keys t m → Level (rank s n) (rank t m)
-    → (n ≡ m) × (block_of s ≡ block_of t)
+    → (n ≡ m) × (site_block s ≡ site_block t)
 one parents keys ix (on_way d k e) (on_way d' k' e') n m a b l =
     let xs = rank {ix = ix} (on_way d k e) n in
     let ys = rank {ix = ix} (on_way d' k' e') m in
     let p = same xs ys refl l in
     let deep : d ≡ d' = number_at 1 xs ys p in
     let far : k ≡ k' = number_at 3 xs ys p in
-    (number_at 4 xs ys p, λ i. way_left ix (deep i) (far i))
+    (number_at 4 xs ys p, λ i. left_after_steps ix (deep i) (far i))
 one parents keys ix (on_way d k e) (on_chain h) n m a b l =
     absurd (let q : 0 ≡ 1 = number_at 2 _ _ (same (rank {ix = ix} (on_way d k e) n) (rank (on_chain h) m) refl l) in omega arith)
 one parents keys ix (on_chain h) (on_way d k e) n m a b l =

@@ -6,7 +6,7 @@ use Rattle.tree_shape.specs.Nodes.{Node, nodes_of}
 use Rattle.tree_shape.specs.Chains.{IsTreeOf, first_spot, due_links, downlinks, IsIn}
 use Rattle.damages.specs.Damages.{Index, index_of, Place, IsOnChain, IsSound}
 use Rattle.damages.specs.Damages.Site.{nowhere}
-use Rattle.damages.specs.Levels.{StandAtTheirBlocks, HasTree}
+use Rattle.damages.specs.Levels.{StandAtTheirBlocks, LevelsHaveTree}
 use Rattle.damages.proofs.Levels.{chain_at, chain_of, right_at, place_told, run_at, distinct_at, on_level_at, rooted, has_meta}
 use Rattle.damages.proofs.Parents.{chain_or, parents_are}
 use Rattle.damages.proofs.Places.{in_from}
@@ -48,7 +48,7 @@ module _ (pages : List Page) (stand : StandAtTheirBlocks pages) (sound : IsSound
     root_level = rooted true pages stand sound (ix.top - ix.top) ix.top (omega arith) (omega arith) (omega arith);
   }
 
-  pub has_tree : HasTree pages
+  pub has_tree : LevelsHaveTree pages
   has_tree =
       let m = has_meta true pages stand sound in
       record {

@@ -4,7 +4,7 @@ use Rattle.page_codec.specs.declared.page.Downlink.{Downlink}
 use Rattle.page_codec.specs.declared.page.Page.{Page}
 use Rattle.tree_shape.specs.Nodes.{Node, nodes_of}
 use Rattle.tree_shape.specs.Chains.{Spot, past, spot_after, first_spot, first_or, LinksWithin, IsPlaced, IsRunOf, IsRootLevel, IsTreeOf, from_low, downlinks}
-use Rattle.damages.specs.Damages.{Index, index_of, gone_left, first_child, head, start, way_left, Place, place_at, Here, node, spot, IsOnLevel, IsBack}
+use Rattle.damages.specs.Damages.{Index, index_of, gone_left, first_child, head, start, left_after_steps, Place, place_at, Here, node, spot, IsOnLevel, IsBack}
 use Rattle.damages.proofs.Ascending.{IsAmong, upper_fits}
 use Rattle.tree_shape.proofs.Few.{few_blocks}
 use Rattle.damages.proofs.Decided.{no_link, some_is}
@@ -98,17 +98,17 @@ module _ (pages : List Page) (chain : ℕ → List ℕ) (t : IsTreeOf (nodes_of 
       record { after_meta = inside.0; in_use = inside.1; level_is = omega arith }
 
   -- the ways to the leftmost pages stay on their levels, and never come back
-  pub way_on : (depth steps : ℕ) → depth ≤ ix.top → IsOnLevel ix depth (way_left ix depth steps)
+  pub way_on : (depth steps : ℕ) → depth ≤ ix.top → IsOnLevel ix depth (left_after_steps ix depth steps)
   way_on depth steps deep =
       let s = starts depth deep in
-      on_level_from depth (s.place - steps) (way_left ix depth steps) deep
+      on_level_from depth (s.place - steps) (left_after_steps ix depth steps) deep
       (gone_to at (ix.top - depth) (chain (ix.top - depth)) (t.runs (ix.top - depth) (omega arith)) (start ix depth) s.place s.is steps)
 
   pub way_not_back : (depth step : ℕ) → depth ≤ ix.top → IsBack ix depth step → ⊥
   way_not_back depth step deep back =
       let s = starts depth deep in
       never_back at (ix.top - depth) (chain (ix.top - depth)) (t.runs (ix.top - depth) (omega arith)) (start ix depth) s.place s.is
-      (t.distinct (ix.top - depth) (omega arith)) back.before back.met back.goes_on back.earlier (back.same ∙ ap (way_left ix depth) back.comes)
+      (t.distinct (ix.top - depth) (omega arith)) back.before back.met back.goes_on back.earlier (back.same ∙ ap (left_after_steps ix depth) back.comes)
 
   -- a place with its page, on the chain
   module _ (h : Here ix) where

@@ -14,7 +14,7 @@ use Rattle.tree_shape.specs.Nodes.{Node, node_of, node_from, nodes_of}
 use Rattle.tree_shape.specs.Chains.{Spot, spot_after, first_spot, IsBeyond, Rises, AscendWithin, LinksWithin, FitsState, IsRootLevel, IsTreeOf, from_low, downlinks}
 use Rattle.damages.specs.Damages.{Index, index_of, or_block, ComesBefore, Place, Here, Item, Site, node, spot, IsOnLevel, IsOnChain, IsMetBefore, HasNotBeyond, IsBehindRoot, IsUnlinked, IsOfWay, IsOfChain, IsOfParents, IsDamage, IsSound}
 use Rattle.damages.specs.Damages.Site.{on_way, on_chain, at_child, at_page, nowhere}
-use Rattle.damages.specs.Levels.{StandAtTheirBlocks, HasTree}
+use Rattle.damages.specs.Levels.{StandAtTheirBlocks, LevelsHaveTree}
 use Rattle.damages.proofs.Ascending.{IsAmong, Ascend, beyond_not, beyond_trans, bounds_in, down_ascend}
 use Rattle.damages.proofs.Decided.{no_link, some_is, bool_so}
 use Rattle.damages.proofs.Fitting.{page_there}
@@ -272,7 +272,8 @@ module _ (pages : List Page) (stand : StandAtTheirBlocks pages) (chain : ℕ →
     first_there = subst (λ (d : ℕ). slice_get (chain (ix.top - d)) page.place ≡ Some page.block) one_depth (there pages chain t page)
 
     first_at : slice_get (from_low (spot_after at first_spot (take page.place upper)).low (at page.block).links) first.item ≡ Some first.link
-    first_at = subst (λ (d : ℕ). slice_get (from_low (spot_after at first_spot (take page.place (chain (ix.top - d)))).low (at page.block).links) first.item ≡ Some first.link) one_depth (item_at page first)
+    first_at = subst (λ (d : ℕ).
+        slice_get (from_low (spot_after at first_spot (take page.place (chain (ix.top - d)))).low (at page.block).links) first.item ≡ Some first.link) one_depth (item_at page first)
 
     one_bound : first.link.bound ≡ i.link.bound
     one_bound =
@@ -283,7 +284,8 @@ module _ (pages : List Page) (stand : StandAtTheirBlocks pages) (chain : ℕ →
 
     ordered : ComesBefore (page.depth ∷ page.place ∷ first.item ∷ []) (h.depth ∷ h.place ∷ i.item ∷ []) → IsBoundBeyond first.link.bound i.link.bound
     ordered (inl lt) = absurd (let d = one_depth in omega arith)
-    ordered (inr (d, inl lt)) = ascend_places at first_spot upper page.place page.block h.place h.block first.item i.item first.link i.link (ascending h i) lt first_there (there pages chain t h) first_at (item_at h i)
+    ordered (inr (d, inl lt)) =
+        ascend_places at first_spot upper page.place page.block h.place h.block first.item i.item first.link i.link (ascending h i) lt first_there (there pages chain t h) first_at (item_at h i)
     ordered (inr (d, inr (p, inl lt))) = ascend_items at first_spot upper h.place h.block first.item i.item first.link i.link (ascending h i) (there pages chain t h) lt
         (subst (λ (b : ℕ). slice_get (from_low (spot_after at first_spot (take h.place upper)).low (at b).links) first.item ≡ Some first.link) block
         (subst (λ (n : ℕ). slice_get (from_low (spot_after at first_spot (take n upper)).low (at page.block).links) first.item ≡ Some first.link) p first_at))
@@ -326,7 +328,7 @@ module _ (pages : List Page) (stand : StandAtTheirBlocks pages) (chain : ℕ →
   all_sound parents keys unique (at_page h) number damage = parents_sound h number damage.1
   all_sound parents keys unique (nowhere b) number damage = damage.2.3 (on_its_chain b damage.2.0 damage.2.1 damage.2.2)
 
-pub tree_is_sound : (parents keys : Bool) (pages : List Page) → StandAtTheirBlocks pages → HasTree pages → (keys ≡ true → AreUnique pages) → IsSound parents keys pages
+pub tree_is_sound : (parents keys : Bool) (pages : List Page) → StandAtTheirBlocks pages → LevelsHaveTree pages → (keys ≡ true → AreUnique pages) → IsSound parents keys pages
 tree_is_sound parents keys pages stand t unique = all_sound pages stand t.chain
     (subst (λ (n : ℕ). IsTreeOf (nodes_of pages) (length pages) n (index_of pages).top t.chain) root_is
     (subst (λ (n : ℕ). IsTreeOf (nodes_of pages) (length pages) t.root n t.chain) top_is t.is)) parents keys unique

@@ -90,7 +90,8 @@ module _ (pages : List Page) (depth level : ℕ)
       let r = run_from n (suc k) (past b (nodes_of pages b) s) (nodes_of pages b).right (ap (λ (p : Place). next_place (nodes_of pages) p.spot p.block) is) (omega arith) in
       let here = (right k b (ap (λ (p : Place). p.block) is)).placed in (
         (
-          subst (λ (o : Option ℕ). IsPlaced (nodes_of pages b) level s o) (sym r.1) (subst (λ (t : Spot). IsPlaced (nodes_of pages b) level t (nodes_of pages b).right) (ap (λ (p : Place). p.spot) is) here),
+          subst (λ (o : Option ℕ). IsPlaced (nodes_of pages b) level s o) (sym r.1)
+              (subst (λ (t : Spot). IsPlaced (nodes_of pages b) level t (nodes_of pages b).right) (ap (λ (p : Place). p.spot) is) here),
           r.0,
         ),
         refl,

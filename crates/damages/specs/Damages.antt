@@ -58,8 +58,8 @@ start ix zero = ix.root
 start ix (suc depth) = first_child (ix.at (head ix depth)).links
 
 -- ... and where it is after so many steps
-abbrev pub way_left : Index → ℕ → ℕ → ℕ
-way_left ix depth steps = gone_left ix.at (start ix depth) steps
+abbrev pub left_after_steps : Index → ℕ → ℕ → ℕ
+left_after_steps ix depth steps = gone_left ix.at (start ix depth) steps
 
 -- a place of a chain: what a walk along right links knows before it, and the block there, if the chain is so long
 pub record Place : Type 0 where
@@ -134,21 +134,21 @@ ComesBefore (x ∷ xs) [] = ⊥
 ComesBefore (x ∷ xs) (y ∷ ys) = (x < y) ⊎ ((x ≡ y) × ComesBefore xs ys)
 
 -- the block that is answered
-abbrev pub block_of : {ix : Index} → Site ix → ℕ
-block_of {ix} (on_way depth step deep) = way_left ix depth step
-block_of (on_chain h) = h.block
-block_of (at_child h i) = i.link.child
-block_of (at_page h) = h.block
-block_of (nowhere block) = block
+abbrev pub site_block : {ix : Index} → Site ix → ℕ
+site_block {ix} (on_way depth step deep) = left_after_steps ix depth step
+site_block (on_chain h) = h.block
+site_block (at_child h i) = i.link.child
+site_block (at_page h) = h.block
+site_block (nowhere block) = block
 
 -- the way left comes back to a page already met
 pub record IsBack (ix : Index) (depth step : ℕ) : Type 0 where
   pub before : ℕ
   pub comes : step ≡ suc before
-  pub goes_on : (ix.at (way_left ix depth before)).left ≢ None
+  pub goes_on : (ix.at (left_after_steps ix depth before)).left ≢ None
   pub met : ℕ
   pub earlier : met ≤ before
-  pub same : way_left ix depth met ≡ way_left ix depth step
+  pub same : left_after_steps ix depth met ≡ left_after_steps ix depth step
 
 -- an earlier place of the chain has the same page
 pub record IsMetBefore {ix : Index} (h : Here ix) : Type 0 where
@@ -181,7 +181,7 @@ pub record IsSecond {ix : Index} {h : Here ix} (i : Item h) : Type 0 where
 -- Number by number, what is damaged on the way to the leftmost page,
 abbrev pub IsOfWay : Index → ℕ → ℕ → ℕ → Type 0
 IsOfWay ix depth step number =
-    ((number ≡ 1) × (IsOnLevel ix depth (way_left ix depth step) → ⊥))
+    ((number ≡ 1) × (IsOnLevel ix depth (left_after_steps ix depth step) → ⊥))
     ⊎ ((number ≡ 3) × IsBack ix depth step)
 
 -- ... of a page at its place in a chain; the last is seen where keys are: a whole entry as its high key or as one of its
@@ -230,6 +230,6 @@ IsSound parents keys pages = (site : Site (index_of pages)) (number : ℕ) → I
 pub record IsFirstDamage (parents keys : Bool) (pages : List Page) (number block : ℕ) : Type 0 where
   pub site : Site (index_of pages)
   pub is : IsDamage parents keys site number
-  pub block_is : block ≡ block_of site
+  pub block_is : block ≡ site_block site
   pub first : (other : Site (index_of pages)) (n : ℕ) → IsDamage parents keys other n
       → ComesBefore (rank other n) (rank site number) → ⊥

@@ -59,7 +59,7 @@ abbrev pub HasUniqueLevels : List Page → Type 0
 HasUniqueLevels pages = (block : ℕ) → IsOnChain (index_of pages) block → IsUniqueNode (nodes_of pages block)
 
 -- the pages are a B-link tree, under the metapage
-pub record HasTree (pages : List Page) : Type 0 where
+pub record LevelsHaveTree (pages : List Page) : Type 0 where
   pub meta : Page
   pub meta_at : slice_get pages 0 ≡ Some meta
   pub root : ℕ

@@ -11,7 +11,7 @@ use Rattle.page_codec.specs.declared.page.Page.{Page}
 use Rattle.page_action.specs.Contents.{entry_on_live_leaf}
 use Rattle.page_action.specs.States.{State, with_table, after_act}
 use Rattle.page_action.specs.Stored.{IsApartFrom}
-use Rattle.tree_acts.specs.Acts.{MayAct, TreeLasts, ContentsStay, ContentsGain}
+use Rattle.tree_acts.specs.Acts.{MayActWith, TreeLasts, ContentsStay, ContentsGain}
 use Rattle.tree_acts.specs.Leaves.{LeavesStay}
 use Rattle.tree_acts.specs.Trees.{HasTree, HasPlace, HasTrail, PlacesLast, TrailsLast}
 use Rattle.tree_acts.proofs.Leaving.{leaves_same}
@@ -46,7 +46,7 @@ numbers_stay old new session start runs places trails = record {
   trails = λ level block moves trail. trails start level block moves (record { session = session; is = runs }) trail;
 }
 
-pub others_rely : (st : State) (session : ℕ) (changed : List Page) → MayAct st changed → TreeLasts st (after_act changed st) → AreFree st session changed
+pub others_rely : (st : State) (session : ℕ) (changed : List Page) → MayActWith st changed → TreeLasts st (after_act changed st) → AreFree st session changed
     → OthersRely session st (after_act changed st)
 others_rely st session changed may lasts free other differ = record {
   held = refl;
@@ -60,7 +60,7 @@ in_order_after : (st : State) (changed : List Page) → IsInOrder st → TreeLas
 in_order_after st changed order lasts = record { tree = lasts.has; apart = order.apart; holdings = order.holdings; calls = order.calls }
 
 -- an act on the shape alone, by which a split is finished
-pub does_finish : (st : State) (session : ℕ) (changed : List Page) → IsInOrder st → MayAct st changed → TreeLasts st (after_act changed st) → ContentsStay st (after_act changed st)
+pub does_finish : (st : State) (session : ℕ) (changed : List Page) → IsInOrder st → MayActWith st changed → TreeLasts st (after_act changed st) → ContentsStay st (after_act changed st)
     → LeavesStay (Some Shape) st (after_act changed st) → FinishesASplit st (after_act changed st) → AreFree st session changed → Does session (Some Shape) st (after_act changed st)
 does_finish st session changed order may lasts stay leaves finishes free = record {
   changes = record { acts = refl; apt = tt; contents = stay };
@@ -82,7 +82,8 @@ said e x was = by (same_entry e x)
     by false = refl
 
 -- a place is one whoever holds what
-pub place_held_else : (st : State) (table : Table) (start level : ℕ) (aim : Bound → Bool) (clear : Bool) (block : ℕ) → HasPlace st start level aim clear block → HasPlace (with_table st table) start level aim clear block
+pub place_held_else : (st : State) (table : Table) (start level : ℕ) (aim : Bound → Bool) (clear : Bool) (block : ℕ)
+    → HasPlace st start level aim clear block → HasPlace (with_table st table) start level aim clear block
 place_held_else st table start level aim clear block place = record { tree = place.tree; in_tree = place.in_tree; place = place.place }
 
 pub trail_held_else : (st : State) (table : Table) (start level block moves : ℕ) → HasTrail st start level block moves → HasTrail (with_table st table) start level block moves
@@ -90,7 +91,7 @@ trail_held_else st table start level block moves trail =
     record { tree = trail.tree; in_tree = trail.in_tree; passed = trail.passed; count = trail.count; distinct = trail.distinct; steps = trail.steps; trail = trail.trail }
 
 -- ... by a session that lets go what it held
-pub others_rely_else : (st : State) (session : ℕ) (changed : List Page) (table : Table) → MayAct st changed → TreeLasts st (after_act changed st)
+pub others_rely_else : (st : State) (session : ℕ) (changed : List Page) (table : Table) → MayActWith st changed → TreeLasts st (after_act changed st)
     → ((other block : ℕ) → other ≢ session → HoldsAlone st.table other block → IsApartFrom block changed)
     → ((other : ℕ) → other ≢ session → holding_of table other ≡ holding_of st.table other)
     → OthersRely session st (with_table (after_act changed st) table)
@@ -115,7 +116,7 @@ tree_held_else : (st : State) (table : Table) → HasTree st → HasTree (with_t
 tree_held_else st table tree = record { tree = tree.tree; stored = tree.stored; counted = tree.counted; within = tree.within; lead = tree.lead; unique = tree.unique }
 
 -- an act that puts an entry which wasn't there, by a session that may let go what it held
-pub does_add : (st : State) (session : ℕ) (e : Entry) (changed : List Page) (table : Table) → IsInOrder st → MayAct st changed → TreeLasts st (after_act changed st)
+pub does_add : (st : State) (session : ℕ) (e : Entry) (changed : List Page) (table : Table) → IsInOrder st → MayActWith st changed → TreeLasts st (after_act changed st)
     → ContentsGain e st (after_act changed st) → LeavesStay (Some (Add e)) st (after_act changed st) → entry_on_live_leaf st.pages e ≡ false → SplitsALeaf st (after_act changed st)
     → ((other block : ℕ) → other ≢ session → HoldsAlone st.table other block → IsApartFrom block changed)
     → AreApart table → length table ≡ 64 → ((other : ℕ) → other ≢ session → holding_of table other ≡ holding_of st.table other)
@@ -154,7 +155,8 @@ holds_else session old new table is order apart many kept = subst (λ (st : Stat
     pages = λ block alone. refl;
     numbers = λ start runs. record {
       places = λ level aim clear block aims place. record { tree = place.tree; in_tree = place.in_tree; place = place.place };
-      trails = λ level block moves trail. record { tree = trail.tree; in_tree = trail.in_tree; passed = trail.passed; count = trail.count; distinct = trail.distinct; steps = trail.steps; trail = trail.trail };
+      trails = λ level block moves trail.
+          record { tree = trail.tree; in_tree = trail.in_tree; passed = trail.passed; count = trail.count; distinct = trail.distinct; steps = trail.steps; trail = trail.trail };
     };
     lows = lows_same old.pages;
   };
@@ -199,7 +201,7 @@ pub one_nothing : (old new : State) → new ≡ old → IsOneStep old new
 one_nothing old new same = one_table old new old.table same
 
 -- an act by which a leaf goes on its way out of the tree
-pub does_delete : (st : State) (session : ℕ) (changed : List Page) → IsInOrder st → MayAct st changed → TreeLasts st (after_act changed st) → ContentsStay st (after_act changed st)
+pub does_delete : (st : State) (session : ℕ) (changed : List Page) → IsInOrder st → MayActWith st changed → TreeLasts st (after_act changed st) → ContentsStay st (after_act changed st)
     → DeletesALeaf st (after_act changed st) → AreFree st session changed → CleansUp session (Some Shape) st (after_act changed st)
 does_delete st session changed order may lasts stay deletes free = record {
   changes = record { acts = refl; apt = tt; contents = stay };

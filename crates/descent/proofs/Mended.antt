@@ -38,7 +38,8 @@ mended_page page left admitted mends block = record {
     by : (items : Items) → page.items ≡ items → IsOfKind page items → IsOfKind (record page { left = Some left }) items
     by Meta is h = absurd (mends.no_meta is)
     by (Entries v) is h = record { block = h.block; level = h.level; count = h.count; rest = leaf page.state refl v.items h.rest }
-    by (Downlinks v) is h = record { block = h.block; level = h.level; state = h.state; high = h.high; split = h.split; cycle = h.cycle; deletion = h.deletion; count = h.count; first = h.first; links = h.links }
+    by (Downlinks v) is h =
+        record { block = h.block; level = h.level; state = h.state; high = h.high; split = h.split; cycle = h.cycle; deletion = h.deletion; count = h.count; first = h.first; links = h.links }
 
 true_false : true ≡ false → ⊥
 true_false h = cc

@@ -54,7 +54,8 @@ apart_with table session holding below apart mine theirs one two block differ al
     elim (cases_eq one session) [
       | inl is_one ↦ (
           let not_two : two ≢ session = λ same. differ (is_one ∙ sym same) in
-          let held : holding_of (with_holding table session holding) one ≡ holding = ap (holding_of (with_holding table session holding)) is_one ∙ holding_of-with_holding table session holding below in
+          let held : holding_of (with_holding table session holding) one ≡ holding = ap (holding_of (with_holding table session holding)) is_one
+          ∙ holding_of-with_holding table session holding below in
           ap (λ (h : Holding). latches_exclude h.latches block Exclusive) (holding_of-with_holding_other table session two holding not_two)
           ∙ mine two block not_two (sym (ap (λ (h : Holding). latches_exclude h.latches block Shared) held) ∙ alone))
       | inr not_one ↦ (
@@ -89,15 +90,18 @@ out_of_table (h ∷ table) zero le = absurd (omega arith)
 out_of_table (h ∷ table) (suc other) le = out_of_table table other (omega arith)
 
 -- where nothing of another's excludes a latch, its latches don't
-pub free_of : (table : Table) (session block : ℕ) (mode : Mode) (other : ℕ) → other ≢ session → is_held_by_another table session block mode ≡ false → latches_exclude (holding_of table other).latches block mode ≡ false
+pub free_of : (table : Table) (session block : ℕ) (mode : Mode) (other : ℕ) → other ≢ session → is_held_by_another table session block mode ≡ false
+    → latches_exclude (holding_of table other).latches block mode ≡ false
 free_of table session block mode other differ free =
     elim (cases_lt other (length table)) [
-      | inl lt ↦ or_left_false (latches_exclude (holding_of table other).latches block mode) (pins_exclude (holding_of table other).pins block mode) (is_held_by_another-free table session block mode other lt differ free)
+      | inl lt ↦ or_left_false (latches_exclude (holding_of table other).latches block mode) (pins_exclude (holding_of table other).pins block mode)
+          (is_held_by_another-free table session block mode other lt differ free)
       | inr ge ↦ ap (λ (h : Holding). latches_exclude h.latches block mode) (out_of_table table other ge)
     ]
 
 -- one latch more, which nothing of the others' excludes
-pub apart_latched : (table : Table) (session block : ℕ) (mode : Mode) → session < length table → AreApart table → is_held_by_another table session block mode ≡ false → AreApart (latched table session block mode)
+pub apart_latched : (table : Table) (session block : ℕ) (mode : Mode) → session < length table → AreApart table
+    → is_held_by_another table session block mode ≡ false → AreApart (latched table session block mode)
 apart_latched table session block mode below apart free =
     let old : List Latch = (holding_of table session).latches in
     let new : Holding = record { latches = record { block = block; mode = mode } ∷ old; pins = (holding_of table session).pins } in
@@ -116,7 +120,8 @@ apart_latched table session block mode below apart free =
     (elim (cases_Bool (block == b)) [
       | inl same ↦ (
           let is : b ≡ block = sym (eqb-true block b same) in
-          let there : latches_exclude (holding_of table other).latches block mode ≡ true = any_excluded (holding_of table other).latches block mode (subst (λ (n : ℕ). HoldsAlone table other n) is alone) in
+          let there : latches_exclude (holding_of table other).latches block mode ≡ true =
+          any_excluded (holding_of table other).latches block mode (subst (λ (n : ℕ). HoldsAlone table other n) is alone) in
           absurd (true_false (sym there ∙ free_of table session block mode other differ free)))
       | inr differs ↦ rw differs refl
     ])

@@ -10,12 +10,12 @@ use Rattle.latch_table.specs.Holdings.{has_pin, is_held_by_another}
 use Rattle.latch_table.specs.declared.mode.Mode.{Mode}
 use Rattle.latch_table.specs.declared.mode.Mode.TheVariants.{Shared, Exclusive}
 use Rattle.page_codec.specs.declared.page.Page.{Page}
-use Rattle.page_action.specs.Causes.{where_read, where_acted, is_at_end, count_apart, pinned_blocks}
+use Rattle.page_action.specs.Causes.{causes_of_read, causes_of_acted, is_at_end, count_apart, pinned_blocks}
 use Rattle.page_action.specs.Order.{with_changed}
 use Rattle.page_action.specs.Room.{KeepsRoom, HasNoRoomFor}
 use Rattle.page_action.specs.Reuse.{IsFresh, IsFull, is_reusable}
 use Rattle.page_action.specs.States.{State, Backing, IsLater}
-use Rattle.descent.specs.Shared.{where_working, where_acting, lacks_room, count_new, frames_for, first_below, fresh_block, any_is_reusable}
+use Rattle.descent.specs.Shared.{causes_of_working, causes_of_acting, lacks_room, count_new, frames_for, first_below, fresh_block, any_is_reusable}
 
 or_left : (a b c : Bool) → (a ≡ true → c ≡ true) → (a || b) ≡ true → (c || b) ≡ true
 or_left true b c f h = rw (f refl) refl
@@ -62,7 +62,7 @@ in_use_read a n false is lt h = absurd cc
 -- why a page that is in use isn't read
 pub read_cause : (st : State) (first second third : Backing) (session : ℕ) (images : List ℕ) (frames : ℕ) (takes splits : Bool) (block : ℕ) (fault : Fault)
     → first.failures ≤ second.failures → (second.stopped ≡ true → first.stopped ≡ true) → third.honest ≡ true → block < length st.pages → 1 ≤ frames
-    → HasCause (where_read st second third block) fault → HasCause (where_working st first third session images frames takes splits) fault
+    → HasCause (causes_of_read st second third block) fault → HasCause (causes_of_working st first third session images frames takes splits) fault
 read_cause st first second third session images frames takes splits block Io le alive honest used some h = later_failed first second third le h
 read_cause st first second third session images frames takes splits block Stopped le alive honest used some h = or_here first.stopped (is_at_end st.acts) (alive h)
 read_cause st first second third session images frames takes splits block NoFrame le alive honest used some h = frames_short st.frames (block ∷ []) (pinned_blocks st.table) frames some h
@@ -126,8 +126,8 @@ length_map f [] = refl
 length_map f (x ∷ xs) = ap suc (length_map f xs)
 
 -- what a store says of an act that it refuses is why it isn't done
-pub acting_cause : (st : State) (old new : Backing) (changed : List Page) (fault : Fault) → (fault ≡ LogFull → HasNoRoomFor new changed) → HasCause (where_acted st old new changed) fault
-    → HasCause (where_acting st old new changed) fault
+pub acting_cause : (st : State) (old new : Backing) (changed : List Page) (fault : Fault) → (fault ≡ LogFull → HasNoRoomFor new changed) → HasCause (causes_of_acted st old new changed) fault
+    → HasCause (causes_of_acting st old new changed) fault
 acting_cause st old new changed LogFull full h =
     let none : length new.waiting + new.room < length (with_changed new.waiting changed) = full refl in
     let few = few_wait new.waiting changed in
@@ -142,8 +142,9 @@ acting_cause st old new changed (Blocked b) full h = h
 acting_cause st old new changed fault full h = h
 
 -- ... whatever it answers
-pub acting_told : (st : State) (old new : Backing) (changed : List Page) (result : Result ℕ Fault) → (result ≡ Err LogFull → HasNoRoomFor new changed) → IfErr result (HasCause (where_acted st old new changed))
-    → IfErr result (HasCause (where_acting st old new changed))
+pub acting_told : (st : State) (old new : Backing) (changed : List Page) (result : Result ℕ Fault) → (result ≡ Err LogFull → HasNoRoomFor new changed)
+    → IfErr result (HasCause (causes_of_acted st old new changed))
+    → IfErr result (HasCause (causes_of_acting st old new changed))
 acting_told st old new changed (Ok number) full h = h
 acting_told st old new changed (Err fault) full h = acting_cause st old new changed fault (λ is. full (ap Err is)) h
 
@@ -151,7 +152,7 @@ acting_told st old new changed (Err fault) full h = acting_cause st old new chan
 pub act_cause : (st : State) (first second third : Backing) (session : ℕ) (images : List ℕ) (frames : ℕ) (takes splits : Bool) (changed : List Page) (fault : Fault)
     → first.failures ≤ second.failures → (second.stopped ≡ true → first.stopped ≡ true) → second.promised ≡ first.promised → map (λ (page : Page). page.block) changed ≡ images
     → count_apart (map (λ (page : Page). page.block) changed ++ pinned_blocks st.table) ≤ frames + count_apart (pinned_blocks st.table)
-    → HasCause (where_acting st second third changed) fault → HasCause (where_working st first third session images frames takes splits) fault
+    → HasCause (causes_of_acting st second third changed) fault → HasCause (causes_of_working st first third session images frames takes splits) fault
 act_cause st first second third session images frames takes splits changed Io le alive promised are short h = later_failed first second third le h
 act_cause st first second third session images frames takes splits changed Stopped le alive promised are short h = or_left second.stopped (is_at_end st.acts) first.stopped alive h
 act_cause st first second third session images frames takes splits changed LogFull le alive promised are short h =
@@ -179,7 +180,7 @@ few_frames (block ∷ images) = omega arith
 -- ... where each of them may need a frame
 pub act_cause_of : (st : State) (first second third : Backing) (session : ℕ) (images : List ℕ) (takes splits : Bool) (changed : List Page) (fault : Fault)
     → first.failures ≤ second.failures → (second.stopped ≡ true → first.stopped ≡ true) → second.promised ≡ first.promised → map (λ (page : Page). page.block) changed ≡ images
-    → HasCause (where_acting st second third changed) fault → HasCause (where_working st first third session images (frames_for images) takes splits) fault
+    → HasCause (causes_of_acting st second third changed) fault → HasCause (causes_of_working st first third session images (frames_for images) takes splits) fault
 act_cause_of st first second third session images takes splits changed fault le alive promised are h =
     act_cause st first second third session images (frames_for images) takes splits changed fault le alive promised are
     (let a = apart_few (map (λ (page : Page). page.block) changed) (pinned_blocks st.table) in
@@ -188,7 +189,7 @@ act_cause_of st first second third session images takes splits changed fault le 
 
 -- another session holds the page
 pub held_cause : (st : State) (first third : Backing) (session : ℕ) (images : List ℕ) (frames : ℕ) (takes splits : Bool) (block : ℕ) (mode : Mode) → (mode ≡ Shared) ⊎ (mode ≡ Exclusive)
-    → is_held_by_another st.table session block mode ≡ true → HasCause (where_working st first third session images frames takes splits) (Blocked block)
+    → is_held_by_another st.table session block mode ≡ true → HasCause (causes_of_working st first third session images frames takes splits) (Blocked block)
 held_cause st first third session images frames takes splits block mode (inl is) h =
     or_here (is_held_by_another st.table session block Shared) _ (subst (λ (m : Mode). is_held_by_another st.table session block m ≡ true) is h)
 held_cause st first third session images frames takes splits block mode (inr is) h =
@@ -199,7 +200,8 @@ none_below st zero none = refl
 none_below st (suc n) none = rw (none n (omega arith), none_below st n (λ b lt. none b (omega arith))) refl
 
 -- no block is free
-pub full_cause : (st : State) (first third : Backing) (session : ℕ) (images : List ℕ) (frames : ℕ) (splits : Bool) → IsFull st → HasCause (where_working st first third session images frames true splits) IndexFull
+pub full_cause : (st : State) (first third : Backing) (session : ℕ) (images : List ℕ) (frames : ℕ) (splits : Bool) → IsFull st
+    → HasCause (causes_of_working st first third session images frames true splits) IndexFull
 full_cause st first third session images frames splits full = rw (le-leb st.limits.pages (length st.pages) full.used, none_below st (length st.pages) full.none) refl
 
 -- the first number that is so, where none below is
@@ -224,11 +226,13 @@ pub fresh_is : (st : State) (block : ℕ) → IsFresh st block → fresh_block s
 fresh_is st block fresh = first_is (is_reusable st) (length st.pages) block fresh.lowest fresh.within fresh.reusable
 
 -- the log had stopped
-pub stopped_cause : (st : State) (first third : Backing) (session : ℕ) (images : List ℕ) (frames : ℕ) (takes splits : Bool) → first.stopped ≡ true → HasCause (where_working st first third session images frames takes splits) Stopped
+pub stopped_cause : (st : State) (first third : Backing) (session : ℕ) (images : List ℕ) (frames : ℕ) (takes splits : Bool) → first.stopped ≡ true
+    → HasCause (causes_of_working st first third session images frames takes splits) Stopped
 stopped_cause st first third session images frames takes splits h = or_here first.stopped (is_at_end st.acts) h
 
 -- what two readings leave of the room
-pub keeps_room_on : (st : State) (first second third : Backing) → first.durable ≤ second.durable → second.durable ≤ st.acts → KeepsRoom st first second → KeepsRoom st second third → KeepsRoom st first third
+pub keeps_room_on : (st : State) (first second third : Backing) → first.durable ≤ second.durable → second.durable ≤ st.acts
+    → KeepsRoom st first second → KeepsRoom st second third → KeepsRoom st first third
 keeps_room_on st first second third up few one two = record {
   promised = two.promised ∙ one.promised;
   idle = λ h. two.idle (omega (arith, h)) ∙ one.idle h;
@@ -237,7 +241,7 @@ keeps_room_on st first second third up few one two = record {
 -- what is a cause where some calls were made before is one from before these
 pub working_later : (st : State) (first second third : Backing) (session : ℕ) (images : List ℕ) (frames : ℕ) (takes splits : Bool) (fault : Fault)
     → first.failures ≤ second.failures → (second.stopped ≡ true → first.stopped ≡ true) → second.promised ≡ first.promised
-    → HasCause (where_working st second third session images frames takes splits) fault → HasCause (where_working st first third session images frames takes splits) fault
+    → HasCause (causes_of_working st second third session images frames takes splits) fault → HasCause (causes_of_working st first third session images frames takes splits) fault
 working_later st first second third session images frames takes splits Io le alive promised h = later_failed first second third le h
 working_later st first second third session images frames takes splits Stopped le alive promised h = or_left second.stopped (is_at_end st.acts) first.stopped alive h
 working_later st first second third session images frames takes splits LogFull le alive promised h = no_room_later first second third images promised h
@@ -257,7 +261,7 @@ apart_pinned block blocks pins pin = subst (λ (c : Bool). (if c then count_apar
 -- ... and a page that is pinned already is read without another frame
 pub read_pinned_cause : (st : State) (first third : Backing) (session : ℕ) (images : List ℕ) (frames : ℕ) (takes splits : Bool) (block : ℕ) (fault : Fault)
     → third.honest ≡ true → block < length st.pages → has_pin (pinned_blocks st.table) block ≡ true
-    → HasCause (where_read st first third block) fault → HasCause (where_working st first third session images frames takes splits) fault
+    → HasCause (causes_of_read st first third block) fault → HasCause (causes_of_working st first third session images frames takes splits) fault
 read_pinned_cause st first third session images frames takes splits block Io honest used pin h = h
 read_pinned_cause st first third session images frames takes splits block Stopped honest used pin h = or_here first.stopped (is_at_end st.acts) h
 read_pinned_cause st first third session images frames takes splits block NoFrame honest used pin h =

@@ -7,7 +7,7 @@ use Rattle.index_model.specs.declared.bound.Bound.{Bound}
 use Rattle.latch_table.specs.Holdings.{holding_of, is_held_by_another}
 use Rattle.latch_table.specs.declared.mode.Mode.TheVariants.{Shared, Exclusive}
 use Rattle.page_codec.specs.declared.page.Page.{Page}
-use Rattle.page_action.specs.Causes.{nothing_wrong, has_failed, is_at_end, where_acted, pinned_blocks, count_apart}
+use Rattle.page_action.specs.Causes.{nothing_wrong, has_failed, is_at_end, causes_of_acted, pinned_blocks, count_apart}
 use Rattle.page_action.specs.Reuse.{is_reusable}
 use Rattle.page_action.specs.States.{State, Backing, with_table}
 use Rattle.tree_shape.specs.Nodes.{nodes_of}
@@ -176,8 +176,8 @@ lacks_room old new blocks =
     nat_le old.promised (length blocks) && nat_lt new.room (count_new new.waiting blocks)
 
 -- why an act of these pages isn't done
-abbrev pub where_acting : State → Backing → Backing → List Page → Circumstances
-where_acting st old new changed = record (where_acted st old new changed) {
+abbrev pub causes_of_acting : State → Backing → Backing → List Page → Circumstances
+causes_of_acting st old new changed = record (causes_of_acted st old new changed) {
   log_is_full = lacks_room old new (map (λ page. page.block) changed);
 }
 
@@ -193,8 +193,8 @@ sibling (Some block) = block ∷ []
 
 -- Why a step is refused that reads pages of a tree, and may do an act that writes these blocks, and needs so many frames beside
 -- those that are pinned; and whether it may take a block, and split the root.
-abbrev pub where_working : State → Backing → Backing → ℕ → List ℕ → ℕ → Bool → Bool → Circumstances
-where_working st old new session images frames takes splits = record nothing_wrong {
+abbrev pub causes_of_working : State → Backing → Backing → ℕ → List ℕ → ℕ → Bool → Bool → Circumstances
+causes_of_working st old new session images frames takes splits = record nothing_wrong {
   device_failed = has_failed old new;
   is_stopped = old.stopped || is_at_end st.acts;
   is_held_by_another = λ b. is_held_by_another st.table session b Shared
@@ -206,8 +206,8 @@ where_working st old new session images frames takes splits = record nothing_wro
 }
 
 -- what may be so where a step is refused that only reads, whatever the pages are
-abbrev pub where_reading_any : Circumstances
-where_reading_any = record nothing_wrong {
+abbrev pub causes_of_reading_any : Circumstances
+causes_of_reading_any = record nothing_wrong {
   device_failed = true;
   is_stopped = true;
   is_held_by_another = λ b. true;
@@ -216,9 +216,9 @@ where_reading_any = record nothing_wrong {
 }
 
 -- ... that may write pages too
-abbrev pub where_writing_any : Circumstances
-where_writing_any = record where_reading_any { log_is_full = true }
+abbrev pub causes_of_writing_any : Circumstances
+causes_of_writing_any = record causes_of_reading_any { log_is_full = true }
 
 -- ... and may split them
-abbrev pub where_splitting_any : Circumstances
-where_splitting_any = record where_writing_any { no_block_is_free = true; root_is_at_31 = true }
+abbrev pub causes_of_splitting_any : Circumstances
+causes_of_splitting_any = record causes_of_writing_any { no_block_is_free = true; root_is_at_31 = true }

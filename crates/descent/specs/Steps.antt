@@ -25,7 +25,7 @@ IsApt was_there (Remove es) = (es ≢ []) × IsAscending es × ((e : Entry) → 
 IsApt was_there Shape = Unit {0}
 
 -- one act was done, with this effect on the contents
-pub record HasActed (effect : Effect) (old new : State) : Type 0 where
+pub record HasDoneAct (effect : Effect) (old new : State) : Type 0 where
   pub acts : new.acts ≡ suc old.acts
   pub apt : IsApt (entry_on_live_leaf old.pages) effect
   pub contents : (e : Entry) → entry_on_live_leaf new.pages e ≡ unwrap_or (said_of effect e) (entry_on_live_leaf old.pages e)
@@ -33,4 +33,4 @@ pub record HasActed (effect : Effect) (old new : State) : Type 0 where
 -- one act was done, with this effect; or, with none, nothing but latches and pins is changed
 abbrev pub Changes : Option Effect → State → State → Type 0
 Changes None old new = new ≡ with_table old new.table
-Changes (Some effect) old new = HasActed effect old new
+Changes (Some effect) old new = HasDoneAct effect old new

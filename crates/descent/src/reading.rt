@@ -6,8 +6,8 @@ ghost use Rattle.latch_table.specs.Holdings.{HasRoom, is_held_by_another};
 ghost use Rattle.page_action.specs.States.{State, Continues};
 ghost use Rattle.page_action.specs.Room.{KeepsRoom};
 ghost use Rattle.page_action.specs.Stored.{IsStored};
-ghost use Rattle.descent.specs.Causes.{where_looked};
-ghost use Rattle.descent.specs.Shared.{where_working, where_reading_any};
+ghost use Rattle.descent.specs.Causes.{causes_of_looked};
+ghost use Rattle.descent.specs.Shared.{causes_of_working, causes_of_reading_any};
 
 use index_model::{Fault, Session};
 use latch_table::Mode;
@@ -29,13 +29,13 @@ pub fn look<S: PageStore>(store: &mut S, session: Session, block: u32) -> Result
     ensures stopped { (S.backing store.old).stopped ≡ true → result ≡ Err Fault.Stopped }
     ensures cause { HasRoom (S.state store.old).table session
         → IfErr result
-        (HasCause (where_looked (S.state store.old) (S.backing store.old)
+        (HasCause (causes_of_looked (S.state store.old) (S.backing store.old)
         (S.backing store.new) session block)) }
-    ensures faults { IfErr result (HasCause where_reading_any) }
+    ensures faults { IfErr result (HasCause causes_of_reading_any) }
     ensures works { (S.backing store.new).honest ≡ true
         → HasRoom (S.state store.old).table session → block < length (S.state store.old).pages
         → (images : List ℕ) (frames : ℕ) (takes splits : Bool) → 1 ≤ frames
-        → IfErr result (HasCause (where_working (S.state store.old) (S.backing store.old)
+        → IfErr result (HasCause (causes_of_working (S.state store.old) (S.backing store.old)
         (S.backing store.new) session images frames takes splits)) }
 {
     if store.is_stopped() {
@@ -86,11 +86,11 @@ pub fn look_to_change<S: PageStore>(
         ((S.backing store.new).stopped ≡ true → (S.backing store.old).stopped ≡ true) }
     ensures room { KeepsRoom (S.state store.old) (S.backing store.old) (S.backing store.new) }
     ensures stopped { (S.backing store.old).stopped ≡ true → result ≡ Err Fault.Stopped }
-    ensures faults { IfErr result (HasCause where_reading_any) }
+    ensures faults { IfErr result (HasCause causes_of_reading_any) }
     ensures cause { (S.backing store.new).honest ≡ true
         → HasRoom (S.state store.old).table session → block < length (S.state store.old).pages
         → (images : List ℕ) (frames : ℕ) (takes splits : Bool) → 1 ≤ frames
-        → IfErr result (HasCause (where_working (S.state store.old) (S.backing store.old)
+        → IfErr result (HasCause (causes_of_working (S.state store.old) (S.backing store.old)
         (S.backing store.new) session images frames takes splits)) }
 {
     if store.is_stopped() {
@@ -129,12 +129,12 @@ pub fn look_at_both<S: PageStore>(
         ((S.backing store.new).stopped ≡ true → (S.backing store.old).stopped ≡ true) }
     ensures room { KeepsRoom (S.state store.old) (S.backing store.old) (S.backing store.new) }
     ensures stopped { (S.backing store.old).stopped ≡ true → result ≡ Err Fault.Stopped }
-    ensures faults { IfErr result (HasCause where_reading_any) }
+    ensures faults { IfErr result (HasCause causes_of_reading_any) }
     ensures cause { (S.backing store.new).honest ≡ true
         → HasRoom (S.state store.old).table session → first < length (S.state store.old).pages
         → second < length (S.state store.old).pages
         → (images : List ℕ) (frames : ℕ) (takes splits : Bool) → 1 ≤ frames
-        → IfErr result (HasCause (where_working (S.state store.old) (S.backing store.old)
+        → IfErr result (HasCause (causes_of_working (S.state store.old) (S.backing store.old)
         (S.backing store.new) session images frames takes splits)) }
 {
     if store.is_stopped() {

@@ -8,7 +8,7 @@ ghost use Rattle.page_action.specs.Reuse.{IsFresh};
 ghost use Rattle.page_action.specs.Room.{KeepsRoom};
 ghost use Rattle.page_action.specs.States.{Continues, after_act};
 ghost use Rattle.page_action.specs.Stored.{AreActable};
-ghost use Rattle.descent.specs.Shared.{where_working, where_acting, where_reading_any, where_writing_any, where_splitting_any};
+ghost use Rattle.descent.specs.Shared.{causes_of_working, causes_of_acting, causes_of_reading_any, causes_of_writing_any, causes_of_splitting_any};
 ghost use Rattle.descent.specs.Splitting.{RightIsMendable, RightIsStored, RightIsFound, if_read};
 
 use crate::reading::ask_for;
@@ -36,11 +36,11 @@ pub fn read_right<S: PageStore>(
     ensures alive { OnOk result
         ((S.backing store.new).stopped ≡ true → (S.backing store.old).stopped ≡ true) }
     ensures room { KeepsRoom (S.state store.old) (S.backing store.old) (S.backing store.new) }
-    ensures faults { IfErr result (HasCause where_reading_any) }
+    ensures faults { IfErr result (HasCause causes_of_reading_any) }
     ensures cause { (S.backing store.new).honest ≡ true
         → HasRoom (S.state store.old).table session → RightIsMendable (S.state store.old) right
         → (images : List ℕ) (frames : ℕ) (takes splits : Bool) → 1 ≤ frames
-        → IfErr result (HasCause (where_working (S.state store.old) (S.backing store.old)
+        → IfErr result (HasCause (causes_of_working (S.state store.old) (S.backing store.old)
         (S.backing store.new) session images frames takes splits)) }
 {
     let Some(block) = right else {
@@ -68,10 +68,10 @@ pub fn take_block<S: PageStore>(store: &mut S, session: Session) -> Result<u32, 
     ensures free { IfOk result (λ block.
         is_held_by_another (S.state store.old).table session block Mode.Exclusive ≡ false) }
     ensures block { 0 < length (S.state store.old).pages → IfOk result IsBlock }
-    ensures faults { IfErr result (HasCause where_splitting_any) }
+    ensures faults { IfErr result (HasCause causes_of_splitting_any) }
     ensures cause { HasRoom (S.state store.old).table session
         → (images : List ℕ) (frames : ℕ) (splits : Bool)
-        → IfErr result (HasCause (where_working (S.state store.old) (S.backing store.old)
+        → IfErr result (HasCause (causes_of_working (S.state store.old) (S.backing store.old)
         (S.backing store.new) session images frames true splits)) }
 {
     let _limits = store.limits();
@@ -95,10 +95,10 @@ pub fn act_on<S: PageStore>(store: &mut S, pages: &[Page]) -> Result<u64, Fault>
     ensures done { OnOk result (S.state store.new ≡ after_act pages.now (S.state store.old)) }
     ensures number { IfOk result (λ n. n ≡ suc (S.state store.old).acts) }
     ensures refused { OnErr result (S.state store.new ≡ S.state store.old) }
-    ensures faults { IfErr result (HasCause where_writing_any) }
+    ensures faults { IfErr result (HasCause causes_of_writing_any) }
     ensures cause { AreActable (S.state store.old).limits
         (length (S.state store.old).pages) pages.now
-        → IfErr result (HasCause (where_acting (S.state store.old) (S.backing store.old)
+        → IfErr result (HasCause (causes_of_acting (S.state store.old) (S.backing store.old)
         (S.backing store.new) pages.now)) }
 {
     if let Some(block) = find_misplaced(pages, store.used(), store.format()) {

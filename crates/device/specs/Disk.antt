@@ -4,18 +4,18 @@ use Rattle.index_model.specs.declared.fault.Fault.{Fault}
 use Rattle.index_model.specs.declared.fault.Fault.TheVariants.{Io}
 
 -- the bytes as a read gives them, and which of them a crash may change
-pub record Moment : Type 0 where
+pub record DiskMoment : Type 0 where
   pub seen : List ℕ
   pub loose : ℕ → Bool
 
 -- a device now, and at each earlier moment, the newest first
 pub record Trace : Type 0 where
-  pub now : Moment
-  pub past : List Moment
+  pub now : DiskMoment
+  pub past : List DiskMoment
 
 -- what a crash at this moment may leave: any bytes where a range was written since the last sync, the
 -- others as read
-pub record MayLeave (m : Moment) (image : List ℕ) : Type 0 where
+pub record MayLeave (m : DiskMoment) (image : List ℕ) : Type 0 where
   pub same_length : length image ≡ length m.seen
   pub same : (i : ℕ) → m.loose i ≡ false → slice_index image i ≡ slice_index m.seen i
 
@@ -28,14 +28,14 @@ abbrev pub is_in : ℕ → ℕ → ℕ → Bool
 is_in at n i = nat_le at i && nat_lt i (at + n)
 
 -- the moment after these bytes were written there
-abbrev pub wrote : ℕ → List ℕ → Moment → Moment
+abbrev pub wrote : ℕ → List ℕ → DiskMoment → DiskMoment
 wrote at bytes m = record {
   seen = put m.seen at bytes;
   loose = λ i. m.loose i || is_in at (length bytes) i;
 }
 
 -- the moment after a sync
-abbrev pub synced : Moment → Moment
+abbrev pub synced : DiskMoment → DiskMoment
 synced m = record { seen = m.seen; loose = λ _. false }
 
 -- a device whose bytes are all synced, before any call
@@ -43,7 +43,7 @@ abbrev pub first : List ℕ → Trace
 first bytes = record { now = record { seen = bytes; loose = λ _. false }; past = [] }
 
 -- one moment more
-abbrev pub next : Moment → Trace → Trace
+abbrev pub next : DiskMoment → Trace → Trace
 next m t = record { now = m; past = t.now ∷ t.past }
 
 -- a read of so many bytes gave those that are there

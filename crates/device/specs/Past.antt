@@ -1,6 +1,6 @@
 -- What was done with a device in memory, and what it has noted of that.
 use Rattle.std.specs.Prelude.{ℕ, List, [], ◌∷◌, ◌++◌}
-use Rattle.device.specs.Record.{Call, Write}
+use Rattle.device.specs.Record.{DeviceCall, Write}
 use Rattle.device.specs.declared.past.Past.{Past}
 use Rattle.device.specs.declared.record.Piece.{Piece}
 
@@ -9,10 +9,10 @@ abbrev pub begun_with : List ℕ → Past → Past
 begun_with bytes past = record past { start = bytes; calls = [] }
 
 -- with one call more
-abbrev pub with_call : Call → Past → Past
+abbrev pub with_call : DeviceCall → Past → Past
 with_call call past = record past { calls = past.calls ++ call ∷ [] }
 
 -- the writes of these pieces
-abbrev pub writes_of : List Piece → List Call
+abbrev pub writes_of : List Piece → List DeviceCall
 writes_of [] = []
 writes_of (piece ∷ pieces) = Write piece.at piece.bytes.items ∷ writes_of pieces

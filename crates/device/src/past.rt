@@ -1,7 +1,7 @@
 //! What was done with a device in memory, as lists that only clauses read.
 ghost use Rattle.std.specs.Prelude.{◌≡◌, ℕ, List, []};
 ghost use Rattle.std.specs.Borrow.{ftrue};
-ghost use Rattle.device.specs.Record.{Call};
+ghost use Rattle.device.specs.Record.{DeviceCall};
 
 use std::marker::{Model, PhantomData};
 
@@ -10,7 +10,7 @@ use std::marker::{Model, PhantomData};
 pub struct Past {
     marker: PhantomData<u8>,
     pub ghost start: { List ℕ },
-    pub ghost calls: { List Call },
+    pub ghost calls: { List DeviceCall },
 }
 
 impl Model for Past {

@@ -17,7 +17,7 @@ abbrev pub AreWinners : ℕ → List (Option ℕ) → Type 0
 AreWinners size tree = (node : ℕ) → 1 ≤ node → node < size → IsWinner tree node
 
 -- the tree of so many blocks, and of their number at most
-pub record IsTree (size : ℕ) (tree : List (Option ℕ)) : Type 0 where
+pub record IsWinnerTree (size : ℕ) (tree : List (Option ℕ)) : Type 0 where
   pub least : size ≤ length tree
   pub most : length tree ≤ 2 * size
   pub winners : AreWinners size tree

@@ -17,13 +17,13 @@ pub struct FreeBlocks {
 
 impl Model for FreeBlocks {
     ghost use Rattle.std.specs.Prelude.{List, Option, ℕ, drop};
-    ghost use Rattle.free_blocks.specs.Tree.{IsTree};
+    ghost use Rattle.free_blocks.specs.Tree.{IsWinnerTree};
 
     ghost Value = { List (Option ℕ) };
 
     ghost view = { λ b. drop b.shape.size b.tree.items };
 
-    ghost invariant = { λ b. IsTree b.shape.size b.tree.items };
+    ghost invariant = { λ b. IsWinnerTree b.shape.size b.tree.items };
 }
 
 impl FreeBlocks {

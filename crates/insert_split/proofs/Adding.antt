@@ -15,7 +15,7 @@ use Rattle.page_codec.specs.Edits.{entries_of}
 use Rattle.page_codec.specs.Grammar.{IsPage}
 use Rattle.page_codec.specs.declared.page.Page.{Page}
 use Rattle.page_codec.specs.declared.page.PageState.TheVariants.{Live}
-use Rattle.page_action.specs.Causes.{pinned_blocks, where_read, with_row}
+use Rattle.page_action.specs.Causes.{pinned_blocks, causes_of_read, with_row}
 use Rattle.page_action.specs.Contents.{entry_on_live_leaf}
 use Rattle.page_action.specs.States.{State, Backing, Continues, after_act}
 use Rattle.page_action.specs.Stored.{AreActable}
@@ -30,14 +30,14 @@ use Rattle.tree_acts.proofs.Flagging.{putting_flags}
 use Rattle.tree_acts.proofs.Weighed.{putting_weighs}
 use Rattle.tree_acts.proofs.Telling.{live_tells, leaf_tells}
 use Rattle.tree_acts.proofs.Uniques.{key_tells}
-use Rattle.descent.specs.Shared.{IsInOrder, Does, is_flagged, where_working}
+use Rattle.descent.specs.Shared.{IsInOrder, Does, is_flagged, causes_of_working}
 use Rattle.descent.specs.Steps.{HoldsAlone}
 use Rattle.descent.proofs.Acting.{does_add, one_act}
 use Rattle.descent.proofs.Tables.{any_excluded}
 use Rattle.descent.proofs.Working.{working_later, read_pinned_cause}
 use Rattle.std.specs.Prelude.{IfOk, IfErr, OnErr}
 use Rattle.split_finish.specs.Targets.{OnlyTargetsAreFlagged, is_among_targets}
-use Rattle.insert_split.specs.Inserts.{leaf_held, IsLeafFor, InsertFits, InsertStands, InsertSteps, IsToCome, blocks_halved, images_at, frames_at, takes_block_at, targets_at, IsLeft, where_inserting}
+use Rattle.insert_split.specs.Inserts.{leaf_held, IsLeafFor, InsertInvariant, InsertStands, InsertSteps, IsToCome, blocks_halved, images_at, frames_at, takes_block_at, targets_at, IsLeft, causes_of_inserting}
 use Rattle.insert_split.specs.Straight.{straight_steps}
 use Rattle.insert_split.specs.Turns.{EntryPut, PutsEntry, PlaceRefused}
 use Rattle.insert_split.specs.declared.insert.InsertAt.{InsertAt}
@@ -53,7 +53,7 @@ true_false : true ≡ false → ⊥
 true_false h = cc
 
 -- what holds of an insert that holds its leaf
-pub leaf_there : (st : State) (op : InsertOp) (block : ℕ) → op.at ≡ Coming (Holds block) → (fits : InsertFits st op)
+pub leaf_there : (st : State) (op : InsertOp) (block : ℕ) → op.at ≡ Coming (Holds block) → (fits : InsertInvariant st op)
     → (holding_of st.table op.session ≡ leaf_held block) × IsLeafFor st fits.start op.entry block
 leaf_there st op block at_is fits = subst (InsertStands st op.session fits.start op.entry) at_is fits.stands
 
@@ -118,25 +118,29 @@ not_the_leaf st session other block order held differ alone =
     true_false (sym (any_excluded (holding_of st.table other).latches block Exclusive alone) ∙ free)
 
 -- how many images and frames a leaf takes that is full, or isn't, and whether a block
-pub full_is : (st : State) (block : ℕ) (page : Page) → slice_get st.pages block ≡ Some page → st.limits.items ≤ length (entries_of page.items) → (images_at st (Coming (Holds block)) ≡ block ∷ blocks_halved st page.right) × (frames_at st (Coming (Holds block)) ≡ length (blocks_halved st page.right)) × (takes_block_at st (Coming (Holds block)) ≡ true)
+pub full_is : (st : State) (block : ℕ) (page : Page) → slice_get st.pages block ≡ Some page → st.limits.items ≤ length (entries_of page.items)
+    → (images_at st (Coming (Holds block)) ≡ block ∷ blocks_halved st page.right)
+    × (frames_at st (Coming (Holds block)) ≡ length (blocks_halved st page.right)) × (takes_block_at st (Coming (Holds block)) ≡ true)
 full_is st block page found le =
     let full = le-leb st.limits.items (length (entries_of page.items)) le in
     (rw (found, full) refl, rw (found, full) refl, rw (found, full) refl)
 
-pub roomy_is : (st : State) (block : ℕ) (page : Page) → slice_get st.pages block ≡ Some page → length (entries_of page.items) < st.limits.items → (images_at st (Coming (Holds block)) ≡ block ∷ []) × (frames_at st (Coming (Holds block)) ≡ 0) × (takes_block_at st (Coming (Holds block)) ≡ false)
+pub roomy_is : (st : State) (block : ℕ) (page : Page) → slice_get st.pages block ≡ Some page → length (entries_of page.items) < st.limits.items
+    → (images_at st (Coming (Holds block)) ≡ block ∷ []) × (frames_at st (Coming (Holds block)) ≡ 0) × (takes_block_at st (Coming (Holds block)) ≡ false)
 roomy_is st block page found lt =
     let roomy = lt-leb st.limits.items (length (entries_of page.items)) lt in
     (rw (found, roomy) refl, rw (found, roomy) refl, rw (found, roomy) refl)
 
 pub holding_cause : (st : State) (old new : Backing) (op : InsertOp) (block : ℕ) (images : List ℕ) (frames : ℕ) (takes : Bool) (fault : Fault) → op.at ≡ Coming (Holds block)
     → (images_at st (Coming (Holds block)) ≡ images) × (frames_at st (Coming (Holds block)) ≡ frames) × (takes_block_at st (Coming (Holds block)) ≡ takes)
-    → HasCause (where_working st old new op.session images frames takes false) fault → HasCause (where_inserting st old new op.session op.entry op.at) fault
+    → HasCause (causes_of_working st old new op.session images frames takes false) fault → HasCause (causes_of_inserting st old new op.session op.entry op.at) fault
 holding_cause st old new op block images frames takes fault at_is counts h =
-    subst (λ (a : InsertAt). HasCause (where_inserting st old new op.session op.entry a) fault) (sym at_is)
-    (as_inserting st old new op.session op.entry (Coming (Holds block)) (images_at st (Coming (Holds block))) (frames_at st (Coming (Holds block))) (takes_block_at st (Coming (Holds block))) false fault refl
-    (subst (λ (blocks : List ℕ). HasCause (where_working st old new op.session blocks (frames_at st (Coming (Holds block))) (takes_block_at st (Coming (Holds block))) false) fault) (sym counts.0)
-    (subst (λ (n : ℕ). HasCause (where_working st old new op.session images n (takes_block_at st (Coming (Holds block))) false) fault) (sym counts.1)
-    (subst (λ (b : Bool). HasCause (where_working st old new op.session images frames b false) fault) (sym counts.2) h))))
+    subst (λ (a : InsertAt). HasCause (causes_of_inserting st old new op.session op.entry a) fault) (sym at_is)
+    (as_inserting st old new op.session op.entry (Coming (Holds block)) (images_at st (Coming (Holds block))) (frames_at st (Coming (Holds block)))
+    (takes_block_at st (Coming (Holds block))) false fault refl
+    (subst (λ (blocks : List ℕ). HasCause (causes_of_working st old new op.session blocks (frames_at st (Coming (Holds block))) (takes_block_at st (Coming (Holds block))) false) fault) (sym counts.0)
+    (subst (λ (n : ℕ). HasCause (causes_of_working st old new op.session images n (takes_block_at st (Coming (Holds block))) false) fault) (sym counts.1)
+    (subst (λ (b : Bool). HasCause (causes_of_working st old new op.session images frames b false) fault) (sym counts.2) h))))
 
 -- what the leaf of an entry is, as it was read
 pub covers_there : (st : State) (start : ℕ) (e : Entry) (block : ℕ) (page : Page) → HasTree st → page.block ≡ block → slice_get st.pages block ≡ Some page → (leaf : IsLeafFor st start e block)
@@ -145,7 +149,8 @@ covers_there st start e block page tree block_is found leaf =
     let same = same_leaf st start e block page found leaf in
     let there : slice_get st.pages page.block ≡ Some page = subst (λ (b : ℕ). slice_get st.pages b ≡ Some page) (sym block_is) found in
     let place = subst (HasPlace st start 0 (entry_aim e) true) (sym block_is) leaf.place in
-    (live_tells st start 0 (entry_aim e) true page tree there place (subst (λ (p : Page). p.state ≡ Live) same leaf.alive)).covers (subst (λ (p : Page). is_within (entry_aim e) p.high ≡ true) same leaf.within)
+    (live_tells st start 0 (entry_aim e) true page tree there place (subst (λ (p : Page). p.state ≡ Live) same leaf.alive)).covers
+    (subst (λ (p : Page). is_within (entry_aim e) p.high ≡ true) same leaf.within)
 
 -- a step that puts the entry
 pub puts : {S : Type 0} (g : Ghosts S) (op : InsertOp) (old mid new : S) (block : ℕ) (page : Page) (result : Result InsertStep Fault)
@@ -154,7 +159,8 @@ pub puts : {S : Type 0} (g : Ghosts S) (op : InsertOp) (old mid new : S) (block 
     → (g.backing old).failures ≤ (g.backing mid).failures → ((g.backing mid).stopped ≡ true → (g.backing old).stopped ≡ true) → (g.backing mid).promised ≡ (g.backing old).promised
     → is_among (entries_of page.items) op.entry ≡ false → KeyMayEnter (g.state old) page op.entry → length (entries_of page.items) < (g.state old).limits.items
     → IfOk result (PutsEntry page op.entry (g.state mid) (g.state new)) → OnErr result (g.state new ≡ g.state mid)
-    → (has_pin (pinned_blocks (g.state mid).table) page.block ≡ true → IfErr result (HasCause (where_working (g.state mid) (g.backing mid) (g.backing new) op.session (page.block ∷ []) 0 false false)))
+    → (has_pin (pinned_blocks (g.state mid).table) page.block ≡ true
+    → IfErr result (HasCause (causes_of_working (g.state mid) (g.backing mid) (g.backing new) op.session (page.block ∷ []) 0 false false)))
     → InsertSteps g op op old new result
 puts g op old mid new block page (Ok Going) steps same alive at_is block_is found le later promised absent alone room told refused cause = absurd told
 puts g op old mid new block page (Ok (Added action unfinished)) steps same alive at_is block_is found le later promised absent alone room told refused cause = record {
@@ -187,7 +193,8 @@ puts g op old mid new block page (Ok (Added action unfinished)) steps same alive
       let lasts = putting_lasts st fits.start op.entry page put.after order.tree is_put in
       let moves = putting_flags st fits.start op.entry page put.after order.tree is_put in
       let weighs = putting_weighs st fits.start op.entry page put.after order.tree is_put in
-      let was : entry_on_live_leaf st.pages op.entry ≡ false = leaf_tells st op.entry page order.tree at_page (covers_there st fits.start op.entry block page order.tree block_is (found honest) leaf) ∙ absent in
+      let was : entry_on_live_leaf st.pages op.entry ≡ false =
+      leaf_tells st op.entry page order.tree at_page (covers_there st fits.start op.entry block page order.tree block_is (found honest) leaf) ∙ absent in
       record {
         effect = Some (Add op.entry);
         does = subst (λ (s : State). Does op.session (Some (Add op.entry)) st s) (sym now)
@@ -222,23 +229,25 @@ puts g op old mid new block page (Err fault) steps same alive at_is block_is fou
     (λ honest order fits.
     let there = leaf_there st op block at_is fits in
     let pin : has_pin (pinned_blocks (g.state mid).table) page.block ≡ true =
-    subst (λ (s : State). has_pin (pinned_blocks s.table) page.block ≡ true) (sym same) (subst (λ (b : ℕ). has_pin (pinned_blocks st.table) b ≡ true) (sym block_is) (pinned_leaf st.table op.session block there.0)) in
+    subst (λ (s : State). has_pin (pinned_blocks s.table) page.block ≡ true) (sym same)
+    (subst (λ (b : ℕ). has_pin (pinned_blocks st.table) b ≡ true) (sym block_is) (pinned_leaf st.table op.session block there.0)) in
     holding_cause st (g.backing old) (g.backing new) op block (block ∷ []) 0 false fault at_is (roomy_is st block page (found honest) room)
     (working_later st (g.backing old) (g.backing mid) (g.backing new) op.session (block ∷ []) 0 false false fault le later promised
-    (subst (λ (b : ℕ). HasCause (where_working st (g.backing mid) (g.backing new) op.session (b ∷ []) 0 false false) fault) block_is
-    (subst (λ (s : State). HasCause (where_working s (g.backing mid) (g.backing new) op.session (page.block ∷ []) 0 false false) fault) same (cause pin)))))
+    (subst (λ (b : ℕ). HasCause (causes_of_working st (g.backing mid) (g.backing new) op.session (b ∷ []) 0 false false) fault) block_is
+    (subst (λ (s : State). HasCause (causes_of_working s (g.backing mid) (g.backing new) op.session (page.block ∷ []) 0 false false) fault) same (cause pin)))))
   where
     st : State
     st = g.state old
 
 -- why the leaf isn't read
-pub reads_leaf : (st : State) (old new : Backing) (op : InsertOp) (block : ℕ) (fault : Fault) → new.honest ≡ true → IsInOrder st → op.at ≡ Coming (Holds block) → InsertFits st op
-    → HasCause (where_read st old new block) fault → HasCause (where_inserting st old new op.session op.entry op.at) fault
+pub reads_leaf : (st : State) (old new : Backing) (op : InsertOp) (block : ℕ) (fault : Fault) → new.honest ≡ true → IsInOrder st → op.at ≡ Coming (Holds block) → InsertInvariant st op
+    → HasCause (causes_of_read st old new block) fault → HasCause (causes_of_inserting st old new op.session op.entry op.at) fault
 reads_leaf st old new op block fault honest order at_is fits h =
     let there = leaf_there st op block at_is fits in
     let used = place_in_use st order.tree fits.start 0 (entry_aim op.entry) true block there.1.place in
     holding_cause st old new op block (images_at st (Coming (Holds block))) (frames_at st (Coming (Holds block))) (takes_block_at st (Coming (Holds block))) fault at_is (refl, refl, refl)
-    (read_pinned_cause st old new op.session (images_at st (Coming (Holds block))) (frames_at st (Coming (Holds block))) (takes_block_at st (Coming (Holds block))) false block fault honest used.1 (pinned_leaf st.table op.session block there.0) h)
+    (read_pinned_cause st old new op.session (images_at st (Coming (Holds block))) (frames_at st (Coming (Holds block)))
+    (takes_block_at st (Coming (Holds block))) false block fault honest used.1 (pinned_leaf st.table op.session block there.0) h)
 
 -- the entry of another row of its key is another entry
 apart_rows : (e : Entry) (r : Row) → r ≢ e.row → same_entry (with_row e r) e ≡ false
@@ -248,8 +257,9 @@ apart_rows e r differ = elim (cases_Bool (same_entry (with_row e r) e)) [
 ]
 
 -- why the leaf gives no place: the entry is there, or on a unique index one of its key
-pub no_place : (st : State) (old new : Backing) (op : InsertOp) (block : ℕ) (page : Page) (fault : Fault) → IsInOrder st → op.at ≡ Coming (Holds block) → InsertFits st op
-    → slice_get st.pages block ≡ Some page → page.block ≡ block → IsPage page → PlaceRefused page op.entry st.limits.unique fault → HasCause (where_inserting st old new op.session op.entry op.at) fault
+pub no_place : (st : State) (old new : Backing) (op : InsertOp) (block : ℕ) (page : Page) (fault : Fault) → IsInOrder st → op.at ≡ Coming (Holds block) → InsertInvariant st op
+    → slice_get st.pages block ≡ Some page → page.block ≡ block → IsPage page → PlaceRefused page op.entry st.limits.unique fault
+    → HasCause (causes_of_inserting st old new op.session op.entry op.at) fault
 no_place st old new op block page fault order at_is fits found block_is admitted (inl damaged) =
     let there = leaf_there st op block at_is fits in
     let leaf = there.1 in
@@ -264,15 +274,16 @@ no_place st old new op block page fault order at_is fits found block_is admitted
 no_place st old new op block page fault order at_is fits found block_is admitted (inr (inl exists)) =
     let there = leaf_there st op block at_is fits in
     let at_page : slice_get st.pages page.block ≡ Some page = subst (λ (b : ℕ). slice_get st.pages b ≡ Some page) (sym block_is) found in
-    let is_there : entry_on_live_leaf st.pages op.entry ≡ true = leaf_tells st op.entry page order.tree at_page (covers_there st fits.start op.entry block page order.tree block_is found there.1) ∙ exists.1 in
-    subst (HasCause (where_inserting st old new op.session op.entry op.at)) (sym exists.0)
-    (subst (λ (a : InsertAt). HasCause (where_inserting st old new op.session op.entry a) Exists) (sym at_is) is_there)
+    let is_there : entry_on_live_leaf st.pages op.entry ≡ true =
+    leaf_tells st op.entry page order.tree at_page (covers_there st fits.start op.entry block page order.tree block_is found there.1) ∙ exists.1 in
+    subst (HasCause (causes_of_inserting st old new op.session op.entry op.at)) (sym exists.0)
+    (subst (λ (a : InsertAt). HasCause (causes_of_inserting st old new op.session op.entry a) Exists) (sym at_is) is_there)
 no_place st old new op block page fault order at_is fits found block_is admitted (inr (inr key)) =
     let there = leaf_there st op block at_is fits in
     let at_page : slice_get st.pages page.block ≡ Some page = subst (λ (b : ℕ). slice_get st.pages b ≡ Some page) (sym block_is) found in
     let x : Entry = record { key = op.entry.key; row = key.row } in
     let is_there : entry_on_live_leaf st.pages x ≡ true =
     key_tells st op.entry x page order.tree key.asked at_page (covers_there st fits.start op.entry block page order.tree block_is found there.1) refl ∙ key.there in
-    subst (HasCause (where_inserting st old new op.session op.entry op.at)) (sym key.is)
-    (subst (λ (a : InsertAt). HasCause (where_inserting st old new op.session op.entry a) (KeyExists key.row)) (sym at_is)
+    subst (HasCause (causes_of_inserting st old new op.session op.entry op.at)) (sym key.is)
+    (subst (λ (a : InsertAt). HasCause (causes_of_inserting st old new op.session op.entry a) (KeyExists key.row)) (sym at_is)
     (rw key.asked (rw (apart_rows op.entry key.row (key.other admitted)) is_there)))

@@ -12,14 +12,14 @@ use Rattle.page_action.specs.States.{State, Backing}
 use Rattle.page_action.specs.declared.page_store.PageStore.{Ghosts}
 use Rattle.descent.specs.Shared.{IsInOrder, Does, is_flagged}
 use Rattle.descent.proofs.Acting.{nothing_else, one_nothing}
-use Rattle.split_finish.specs.Finishes.{FinishSteps, OnlyShapes, images_of, frames_of, takes_block_of, where_finishing}
-use Rattle.split_finish.specs.Targets.{OnlyTargetsAreFlagged, FinishFits, finish_left}
+use Rattle.split_finish.specs.Finishes.{FinishSteps, OnlyShapes, finish_blocks, frames_of, takes_block_of, causes_of_finishing}
+use Rattle.split_finish.specs.Targets.{OnlyTargetsAreFlagged, FinishInvariant, finish_left}
 use Rattle.split_finish.specs.Turns.{splits_root_of}
 use Rattle.split_finish.specs.declared.finish.FinishOp.{FinishOp}
 use Rattle.split_finish.specs.declared.finish.FinishStep.TheVariants.{Going as FinishGoing, Done}
-use Rattle.insert_split.specs.Inserts.{InsertFits, InsertStands, InsertSteps, IsNoted, IsToCome, AnswersStopped, insert_left, targets_at, where_inserting, where_left}
+use Rattle.insert_split.specs.Inserts.{InsertInvariant, InsertStands, InsertSteps, IsNoted, IsToCome, AnswersStopped, insert_left, targets_at, causes_of_inserting, causes_of_left}
 use Rattle.insert_split.specs.Straight.{IsStraight}
-use Rattle.insert_split.specs.Turns.{GoesOn, GoesOnFrom, Leaves, LeavesBy, IsFinishing, IsRefusedRightly, is_blocked}
+use Rattle.insert_split.specs.Turns.{GoesOn, GoesOnFrom, Leaves, LeavesBy, FinishesSplits, IsRefusedRightly, is_blocked}
 use Rattle.insert_split.specs.declared.insert.InsertAt.{InsertAt}
 use Rattle.insert_split.specs.declared.insert.InsertAt.TheVariants.{Coming, Finishing}
 use Rattle.insert_split.specs.declared.insert.Stage.TheVariants.{Start}
@@ -30,7 +30,7 @@ use Rattle.insert_split.proofs.Steps.{refuses, runs_no_more}
 use Rattle.insert_split.proofs.Walking.{as_inserting}
 
 -- what an insert knows of the splits that it finishes
-pub finishing_there : (st : State) (op : InsertOp) (splits : FinishOp) → op.at ≡ Finishing splits → (fits : InsertFits st op) → (splits.session ≡ op.session) × FinishFits st splits
+pub finishing_there : (st : State) (op : InsertOp) (splits : FinishOp) → op.at ≡ Finishing splits → (fits : InsertInvariant st op) → (splits.session ≡ op.session) × FinishInvariant st splits
 finishing_there st op splits at_is fits = subst (InsertStands st op.session fits.start op.entry) at_is fits.stands
 
 -- a step that finishes splits notes nothing
@@ -40,20 +40,22 @@ notes_nothing effect acts e added (inr shape) = subst (λ (x : Option Effect). I
 
 -- the causes of a finishing step are those of an insert there
 pub finishing_cause : (st : State) (old new : Backing) (op : InsertOp) (splits : FinishOp) (fault : Fault) → op.at ≡ Finishing splits → splits.session ≡ op.session
-    → HasCause (where_finishing st old new splits.session splits.target splits.at) fault → HasCause (where_inserting st old new op.session op.entry op.at) fault
+    → HasCause (causes_of_finishing st old new splits.session splits.target splits.at) fault → HasCause (causes_of_inserting st old new op.session op.entry op.at) fault
 finishing_cause st old new op splits fault at_is session h =
-    subst (λ (a : InsertAt). HasCause (where_inserting st old new op.session op.entry a) fault) (sym at_is)
-    (as_inserting st old new op.session op.entry (Finishing splits) (images_of st splits.target splits.at) (frames_of st splits.target splits.at) (takes_block_of st splits.target splits.at) (splits_root_of st splits.target splits.at) fault refl
-    (subst (λ (s : ℕ). HasCause (where_finishing st old new s splits.target splits.at) fault) session h))
+    subst (λ (a : InsertAt). HasCause (causes_of_inserting st old new op.session op.entry a) fault) (sym at_is)
+    (as_inserting st old new op.session op.entry (Finishing splits) (finish_blocks st splits.target splits.at) (frames_of st splits.target splits.at)
+    (takes_block_of st splits.target splits.at) (splits_root_of st splits.target splits.at) fault refl
+    (subst (λ (s : ℕ). HasCause (causes_of_finishing st old new s splits.target splits.at) fault) session h))
 
 -- ... and, but for a page that is blocked, once the entry is logged
 finishing_left : (st : State) (old new : Backing) (op : InsertOp) (splits : FinishOp) (fault : Fault) → op.at ≡ Finishing splits → splits.session ≡ op.session → is_blocked fault ≡ false
-    → HasCause (where_finishing st old new splits.session splits.target splits.at) fault → HasCause (where_left st old new op.session op.entry op.at) fault
+    → HasCause (causes_of_finishing st old new splits.session splits.target splits.at) fault → HasCause (causes_of_left st old new op.session op.entry op.at) fault
 finishing_left st old new op splits fault at_is session free h =
-    subst (λ (a : InsertAt). HasCause (where_left st old new op.session op.entry a) fault) (sym at_is)
-    (by fault free (subst (λ (s : ℕ). HasCause (where_finishing st old new s splits.target splits.at) fault) session h))
+    subst (λ (a : InsertAt). HasCause (causes_of_left st old new op.session op.entry a) fault) (sym at_is)
+    (by fault free (subst (λ (s : ℕ). HasCause (causes_of_finishing st old new s splits.target splits.at) fault) session h))
   where
-    by : (f : Fault) → is_blocked f ≡ false → HasCause (where_finishing st old new op.session splits.target splits.at) f → HasCause (where_left st old new op.session op.entry (Finishing splits)) f
+    by : (f : Fault) → is_blocked f ≡ false → HasCause (causes_of_finishing st old new op.session splits.target splits.at) f
+        → HasCause (causes_of_left st old new op.session op.entry (Finishing splits)) f
     by (Blocked b) free h = absurd cc
     by f free h = h
 
@@ -67,7 +69,9 @@ finish_goes g before splits then_splits old new at_is alive h = record {
   kept = h.kept;
   refused = tt;
   stopped = λ halted. runs_no_more (g.backing old).stopped alive halted;
-  less = λ honest is acts. subst (λ (a : InsertAt). finish_left (g.state new).limits.pages (g.state new).pages then_splits < insert_left (g.state old).limits.pages (g.state old).pages a) (sym at_is) (h.less honest refl acts);
+  less = λ honest is acts.
+      subst (λ (a : InsertAt).
+      finish_left (g.state new).limits.pages (g.state new).pages then_splits < insert_left (g.state old).limits.pages (g.state old).pages a) (sym at_is) (h.less honest refl acts);
   stepped = λ honest order fits.
       let there = finishing_there (g.state old) before splits at_is fits in
       let on = h.stepped honest order there.1 in
@@ -88,11 +92,12 @@ finish_goes g before splits then_splits old new at_is alive h = record {
 }
 
 -- ... that is the last
-pub finish_done : {S : Type 0} (g : Ghosts S) (before after : InsertOp) (splits then_splits : FinishOp) (step : InsertStep) (old new : S) → before.at ≡ Finishing splits → (g.backing old).stopped ≡ false
+pub finish_done : {S : Type 0} (g : Ghosts S) (before after : InsertOp) (splits then_splits : FinishOp) (step : InsertStep) (old new : S)
+    → before.at ≡ Finishing splits → (g.backing old).stopped ≡ false
     → FinishSteps g splits then_splits old new (Ok Done) → GoesOn (record before { at = Finishing then_splits }) after step → InsertSteps g before after old new (Ok step)
 finish_done g before after splits then_splits step old new at_is alive h on = by before.added refl on
   where
-    none_flagged : IsInOrder (g.state old) → (fits : InsertFits (g.state old) before) → (g.backing new).honest ≡ true → OnlyTargetsAreFlagged (g.state old) (targets_at before.at)
+    none_flagged : IsInOrder (g.state old) → (fits : InsertInvariant (g.state old) before) → (g.backing new).honest ≡ true → OnlyTargetsAreFlagged (g.state old) (targets_at before.at)
         → (b : ℕ) → is_flagged (g.state new) b ≡ false
     none_flagged order fits honest only =
         let there = finishing_there (g.state old) before splits at_is fits in
@@ -109,7 +114,8 @@ finish_done g before after splits then_splits step old new at_is alive h on = by
       kept = h.kept;
       refused = tt;
       stopped = λ halted. runs_no_more (g.backing old).stopped alive halted;
-      less = λ honest going acts. subst (λ (a : InsertAt). insert_left (g.state new).limits.pages (g.state new).pages (Coming Start) < insert_left (g.state old).limits.pages (g.state old).pages a) (sym at_is)
+      less = λ honest going acts.
+          subst (λ (a : InsertAt). insert_left (g.state new).limits.pages (g.state new).pages (Coming Start) < insert_left (g.state old).limits.pages (g.state old).pages a) (sym at_is)
           (let over = h.over honest refl acts in let l = ap (λ (x : Format). x.pages) h.kept.limits in rw l (omega (arith, over)));
       stepped = λ honest order fits.
           let there = finishing_there (g.state old) before splits at_is fits in
@@ -129,25 +135,27 @@ finish_done g before after splits then_splits step old new at_is alive h on = by
           };
       straight = λ honest order fits whole on room. absurd (subst (IsStraight (g.state old) before.entry) at_is on);
     }))
-    by (Some action) is on = subst (λ (s : InsertStep). InsertSteps g before after old new (Ok s)) (sym on.0) (subst (λ (o : InsertOp). InsertSteps g before o old new (Ok (Added action None))) (sym on.1) (record {
-      steps = h.steps;
-      session = refl;
-      entry = refl;
-      kept = h.kept;
-      refused = tt;
-      stopped = λ halted. runs_no_more (g.backing old).stopped alive halted;
-      less = λ honest going. absurd cc;
-      stepped = λ honest order fits.
-          let there = finishing_there (g.state old) before splits at_is fits in
-          let last = h.stepped honest order there.1 in
-          record {
-            effect = last.effect;
-            does = subst (λ (s : ℕ). Does s last.effect (g.state old) (g.state new)) there.0 last.does;
-            noted = subst (λ (a : Option ℕ). IsNoted last.effect (g.state old).acts before.entry before.added a) is (notes_nothing last.effect (g.state old).acts before.entry before.added last.shapes);
-            left = none_flagged order fits honest;
-          };
-      straight = λ honest order fits whole on room. absurd (subst (IsStraight (g.state old) before.entry) at_is on);
-    }))
+    by (Some action) is on =
+        subst (λ (s : InsertStep). InsertSteps g before after old new (Ok s)) (sym on.0) (subst (λ (o : InsertOp). InsertSteps g before o old new (Ok (Added action None))) (sym on.1) (record {
+          steps = h.steps;
+          session = refl;
+          entry = refl;
+          kept = h.kept;
+          refused = tt;
+          stopped = λ halted. runs_no_more (g.backing old).stopped alive halted;
+          less = λ honest going. absurd cc;
+          stepped = λ honest order fits.
+              let there = finishing_there (g.state old) before splits at_is fits in
+              let last = h.stepped honest order there.1 in
+              record {
+                effect = last.effect;
+                does = subst (λ (s : ℕ). Does s last.effect (g.state old) (g.state new)) there.0 last.does;
+                noted = subst (λ (a : Option ℕ). IsNoted last.effect (g.state old).acts before.entry before.added a) is
+                    (notes_nothing last.effect (g.state old).acts before.entry before.added last.shapes);
+                left = none_flagged order fits honest;
+              };
+          straight = λ honest order fits whole on room. absurd (subst (IsStraight (g.state old) before.entry) at_is on);
+        }))
 
 -- ... that is refused
 pub finish_refused : {S : Type 0} (g : Ghosts S) (before : InsertOp) (splits then_splits : FinishOp) (fault : Fault) (result : Result InsertStep Fault) (old new : S) → before.at ≡ Finishing splits
@@ -158,14 +166,14 @@ finish_refused g before splits then_splits fault result old new at_is alive h le
     same : (let o : InsertOp = record before { at = Finishing then_splits } in o) ≡ before
     same = ap (λ (a : InsertAt). let o : InsertOp = record before { at = a } in o) (ap Finishing h.refused.op ∙ sym at_is)
 
-    cause : (g.backing new).honest ≡ true → IsInOrder (g.state old) → InsertFits (g.state old) before
-        → HasCause (where_inserting (g.state old) (g.backing old) (g.backing new) before.session before.entry before.at) fault
+    cause : (g.backing new).honest ≡ true → IsInOrder (g.state old) → InsertInvariant (g.state old) before
+        → HasCause (causes_of_inserting (g.state old) (g.backing old) (g.backing new) before.session before.entry before.at) fault
     cause honest order fits =
         let there = finishing_there (g.state old) before splits at_is fits in
         finishing_cause (g.state old) (g.backing old) (g.backing new) before splits fault at_is there.0 (h.stepped honest order there.1)
 
-    left_cause : is_blocked fault ≡ false → (g.backing new).honest ≡ true → IsInOrder (g.state old) → InsertFits (g.state old) before
-        → HasCause (where_left (g.state old) (g.backing old) (g.backing new) before.session before.entry before.at) fault
+    left_cause : is_blocked fault ≡ false → (g.backing new).honest ≡ true → IsInOrder (g.state old) → InsertInvariant (g.state old) before
+        → HasCause (causes_of_left (g.state old) (g.backing old) (g.backing new) before.session before.entry before.at) fault
     left_cause free honest order fits =
         let there = finishing_there (g.state old) before splits at_is fits in
         finishing_left (g.state old) (g.backing old) (g.backing new) before splits fault at_is there.0 free (h.stepped honest order there.1)
@@ -191,7 +199,8 @@ finish_refused g before splits then_splits fault result old new at_is alive h le
       straight = λ honest order fits whole on room. absurd (subst (IsStraight (g.state old) before.entry) at_is on);
     })
 
-    by : (blocked : Bool) → is_blocked fault ≡ blocked → (added : Option ℕ) → before.added ≡ added → LeavesBy blocked added fault result → InsertSteps g before (record before { at = Finishing then_splits }) old new result
+    by : (blocked : Bool) → is_blocked fault ≡ blocked → (added : Option ℕ) → before.added ≡ added → LeavesBy blocked added fault result
+        → InsertSteps g before (record before { at = Finishing then_splits }) old new result
     by blocked held None is leaves = subst (λ (r : Result InsertStep Fault). InsertSteps g before (record before { at = Finishing then_splits }) old new r) (sym leaves) refusal
     by true held (Some action) is leaves = subst (λ (r : Result InsertStep Fault). InsertSteps g before (record before { at = Finishing then_splits }) old new r) (sym leaves) refusal
     by false held (Some action) is leaves = subst (λ (r : Result InsertStep Fault). InsertSteps g before (record before { at = Finishing then_splits }) old new r) (sym leaves) (over held action is)
@@ -211,7 +220,8 @@ past_adding st e (Coming stage) action to_come on = absurd cc
 past_adding st e (Finishing op) action to_come on = on
 
 -- a step on a stopped log
-pub stops : {S : Type 0} (g : Ghosts S) (op : InsertOp) (store : S) (result : Result InsertStep Fault) → (g.backing store).stopped ≡ true → AnswersStopped op.added result → InsertSteps g op op store store result
+pub stops : {S : Type 0} (g : Ghosts S) (op : InsertOp) (store : S) (result : Result InsertStep Fault) → (g.backing store).stopped ≡ true
+    → AnswersStopped op.added result → InsertSteps g op op store store result
 stops g op store result halted told = by op.added refl told
   where
     stopped_cause : (b : Bool) → (g.backing store).stopped || b ≡ true
@@ -247,6 +257,6 @@ stops g op store result halted told = by op.added refl told
     })
 
 -- an insert that finishes has something to finish
-pub has_splits : (at : InsertAt) → IsFinishing at → ((splits : FinishOp) → at ≡ Finishing splits → ⊥) → ⊥
+pub has_splits : (at : InsertAt) → FinishesSplits at → ((splits : FinishOp) → at ≡ Finishing splits → ⊥) → ⊥
 has_splits (Coming stage) finishing none = finishing
 has_splits (Finishing splits) finishing none = none splits refl

@@ -11,7 +11,7 @@ use Rattle.tree_acts.proofs.Sizes.{low_level}
 use Rattle.descent.specs.Onward.{IsOnWay}
 use Rattle.descent.specs.Shared.{MayRely, NumbersStay}
 use Rattle.descent.specs.declared.way.Way.{Way}
-use Rattle.split_finish.specs.Targets.{IsTarget, FinishStands, FinishFits}
+use Rattle.split_finish.specs.Targets.{IsTarget, FinishStands, FinishInvariant}
 use Rattle.split_finish.proofs.Bounds.{finish_bounded}
 use Rattle.descent.proofs.Shortening.{walk_is_long}
 use Rattle.split_finish.specs.declared.finish.FinishAt.{FinishAt}
@@ -43,7 +43,7 @@ finish_stands old new start target (Link way) stay h = (h.0, way_still old new s
 finish_stands old new start target Root stay h = h
 
 -- a call that finishes splits
-pub finish_still : (old new : State) (op : FinishOp) → MayRely op.session old new → FinishFits old op → FinishFits new op
+pub finish_still : (old new : State) (op : FinishOp) → MayRely op.session old new → FinishInvariant old op → FinishInvariant new op
 finish_still old new op rely fits =
     let stay = rely.numbers fits.start fits.running in
     record {
@@ -56,7 +56,8 @@ finish_still old new op rely fits =
       stands = finish_stands old new fits.start op.target op.at stay fits.stands;
     }
 
-stands_still : (old new : State) (session start : ℕ) (e : Entry) (at : InsertAt) → MayRely session old new → NumbersStay start old new → InsertStands old session start e at → InsertStands new session start e at
+stands_still : (old new : State) (session start : ℕ) (e : Entry) (at : InsertAt) → MayRely session old new → NumbersStay start old new
+    → InsertStands old session start e at → InsertStands new session start e at
 stands_still old new session start e (Coming Start) rely stay h = rely.held ∙ h
 stands_still old new session start e (Coming (At way)) rely stay h = (rely.held ∙ h.0, way_still old new start 0 (bound_of e) way stay h.1)
 stands_still old new session start e (Coming (Holds block)) rely stay h = (
@@ -85,7 +86,8 @@ undisturbed old new op rely fits = record {
 pub bounded : FreshInsertsAreBounded
 bounded most pages few = omega arith
 
-left_few : (st : State) (session start : ℕ) (e : Entry) (at : InsertAt) → HasTree st → st.limits.pages ≤ 65536 → InsertStands st session start e at → insert_left st.limits.pages st.pages at < 4398046511104
+left_few : (st : State) (session start : ℕ) (e : Entry) (at : InsertAt) → HasTree st → st.limits.pages ≤ 65536 → InsertStands st session start e at
+    → insert_left st.limits.pages st.pages at < 4398046511104
 left_few st session start e (Coming Start) has few stands = omega arith
 left_few st session start e (Coming (At way)) has few stands =
     let low = low_level st start way.level (entry_aim e) true way.block has stands.1.place in

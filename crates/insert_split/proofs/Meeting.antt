@@ -19,12 +19,12 @@ use Rattle.descent.specs.Shared.{IsInOrder}
 use Rattle.descent.specs.declared.way.Way.{Way}
 use Rattle.latch_table.specs.Holdings.{holding_of, nothing_held}
 use Rattle.descent.specs.Onward.{walk_length}
-use Rattle.split_finish.specs.Targets.{is_as_read, finish_left, is_among_targets, IsTarget, FinishStands, FinishFits}
+use Rattle.split_finish.specs.Targets.{is_as_read, finish_left, is_among_targets, IsTarget, FinishStands, FinishInvariant}
 use Rattle.split_finish.specs.declared.finish.FinishOp.{FinishOp}
 use Rattle.split_finish.specs.declared.finish.FinishAt.TheVariants.{Start as FinishStart}
 use Rattle.split_finish.specs.declared.finish.Target.{Target}
-use Rattle.insert_split.specs.Inserts.{InsertFits, InsertSteps, insert_left, targets_at}
-use Rattle.insert_split.specs.Turns.{Meets}
+use Rattle.insert_split.specs.Inserts.{InsertInvariant, InsertSteps, insert_left, targets_at}
+use Rattle.insert_split.specs.Turns.{MeetsPage}
 use Rattle.insert_split.specs.declared.insert.InsertAt.{InsertAt}
 use Rattle.insert_split.specs.declared.insert.InsertAt.TheVariants.{Coming, Finishing}
 use Rattle.insert_split.specs.declared.insert.Stage.TheVariants.{At}
@@ -63,7 +63,7 @@ pub one_target_fits : (st : State) (start session : ℕ) (aim : Bound → Bool) 
     → holding_of st.table session ≡ nothing_held → slice_get st.running session ≡ Some (Some start)
     → slice_get st.pages way.block ≡ Some page → page.block ≡ way.block → HasPlace st start way.level aim true way.block → page.state ≡ Live
     → target.block ≡ way.block → target.level ≡ way.level → page.high ≡ Some target.separator
-    → op.session ≡ session → op.target ≡ target → op.below.items ≡ [] → op.at ≡ FinishStart → FinishFits st op
+    → op.session ≡ session → op.target ≡ target → op.below.items ≡ [] → op.at ≡ FinishStart → FinishInvariant st op
 one_target_fits st start session aim way page target op tree low free runs found block_is place alive t_block t_level high s_is t_is below at =
     let own : HasPlace st start way.level (bound_aim target.separator) true page.block = high_tells st start way.level aim true page target.separator tree
     (subst (λ (b : ℕ). slice_get st.pages b ≡ Some page) (sym block_is) found) (subst (HasPlace st start way.level aim true) (sym block_is) place) alive high in
@@ -75,14 +75,15 @@ one_target_fits st start session aim way page target op tree low free runs found
       free = subst (λ (s : ℕ). holding_of st.table s ≡ nothing_held) (sym s_is) free;
       start = start;
       running = subst (λ (s : ℕ). slice_get st.running s ≡ Some (Some start)) (sym s_is) runs;
-      newest = subst (λ (n : ℕ). IsTarget st start n op.target) (sym (ap (λ (ts : List Target). length ts) below)) (subst (IsTarget st start 0) (sym t_is) (record { high_enough = omega arith; place = there }));
+      newest = subst (λ (n : ℕ). IsTarget st start n op.target) (sym (ap (λ (ts : List Target). length ts) below))
+          (subst (IsTarget st start 0) (sym t_is) (record { high_enough = omega arith; place = there }));
       below = λ i t got. absurd (none_got i t (sym (ap (λ (ts : List Target). slice_get ts i) below) ∙ got));
       stands = subst (FinishStands st start op.target) (sym at) tt;
     }
 
 -- a step that meets such a page
 pub meets : {S : Type 0} (g : Ghosts S) (before after : InsertOp) (old new : S) (page : Page) (way : Way) (result : Result InsertStep Fault) → Continues g.follows old new → g.state new ≡ g.state old
-    → (g.backing old).stopped ≡ false → before.at ≡ Coming (At way) → Meets page way before after result
+    → (g.backing old).stopped ≡ false → before.at ≡ Coming (At way) → MeetsPage page way before after result
     → page.state ≡ Live → page.split ≡ true → IsPage page → page.block ≡ way.block
     → ((g.backing new).honest ≡ true → slice_get (g.state old).pages way.block ≡ Some page)
     → InsertSteps g before after old new result
@@ -113,11 +114,11 @@ meets g before after old new page way (Ok Going) steps same alive at_is h live f
         subst (λ (a : InsertAt). insert_left st.limits.pages st.pages a < insert_left st.limits.pages st.pages before.at) (sym after_at)
         (subst (λ (a : InsertAt). finish_left st.limits.pages st.pages op < insert_left st.limits.pages st.pages a) (sym at_is) (omega (arith, left)))
 
-    now : slice_get st.pages way.block ≡ Some page → IsInOrder st → InsertFits st before → StandsNow st before after
+    now : slice_get st.pages way.block ≡ Some page → IsInOrder st → InsertInvariant st before → StandsNow st before after
     now there order fits =
         let stands = on_way st before way at_is fits in
         record {
-          fits = subst (InsertFits st) (sym h.finishes.after_is) (record {
+          fits = subst (InsertInvariant st) (sym h.finishes.after_is) (record {
             session = fits.session;
             start = fits.start;
             running = fits.running;
@@ -129,14 +130,16 @@ meets g before after old new page way (Ok Going) steps same alive at_is h live f
             to_come = tt;
           });
           added = ap (λ (o : InsertOp). o.added) h.finishes.after_is;
-          flags = λ only b is. absurd (let none : is_among_targets (targets_at before.at) b ≡ true = only b is in let k : false ≡ true = subst (λ (a : InsertAt). is_among_targets (targets_at a) b ≡ true) at_is none in true_false (sym k));
+          flags = λ only b is.
+              absurd (let none : is_among_targets (targets_at before.at) b ≡ true = only b is in let k : false ≡ true =
+              subst (λ (a : InsertAt). is_among_targets (targets_at a) b ≡ true) at_is none in true_false (sym k));
         }
 meets g before after old new page way (Ok (Added action unfinished)) steps same alive at_is h live flagged admitted block_is found = absurd h
 meets g before after old new page way (Err fault) steps same alive at_is h live flagged admitted block_is found =
     subst (λ (o : InsertOp). InsertSteps g before o old new (Err fault)) (sym h.stays)
     (refuses g before old new fault steps same alive (λ honest order fits. absurd (never honest order fits)))
   where
-    never : (g.backing new).honest ≡ true → IsInOrder (g.state old) → InsertFits (g.state old) before → ⊥
+    never : (g.backing new).honest ≡ true → IsInOrder (g.state old) → InsertInvariant (g.state old) before → ⊥
     never honest order fits =
         let stands = on_way (g.state old) before way at_is fits in
         let there : slice_get (g.state old).pages page.block ≡ Some page = subst (λ (b : ℕ). slice_get (g.state old).pages b ≡ Some page) (sym block_is) (found honest) in

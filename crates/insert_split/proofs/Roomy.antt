@@ -3,7 +3,7 @@ use Rattle.std.proofs.Common.{◌≡◌, ℕ, false, Some, slice_get, refl, sym,
 use Rattle.page_action.proofs.StoredPages.{stored_page}
 use Rattle.page_action.specs.States.{State}
 use Rattle.descent.specs.Shared.{IsInOrder}
-use Rattle.insert_split.specs.Inserts.{InsertFits, takes_block_at, splits_root_at}
+use Rattle.insert_split.specs.Inserts.{InsertInvariant, takes_block_at, splits_root_at}
 use Rattle.insert_split.specs.Straight.{IsStraight, HasRoomFor}
 use Rattle.insert_split.specs.declared.insert.InsertAt.{InsertAt}
 use Rattle.insert_split.specs.declared.insert.InsertAt.TheVariants.{Coming, Finishing}
@@ -12,7 +12,7 @@ use Rattle.insert_split.specs.declared.insert.InsertOp.{InsertOp}
 use Rattle.insert_split.proofs.Adding.{leaf_there, covers_there, roomy_is}
 
 -- no step of it takes a block, or splits the root
-pub straight_takes_none : (st : State) (op : InsertOp) → IsInOrder st → InsertFits st op → IsStraight st op.entry op.at → HasRoomFor st op.entry
+pub straight_takes_none : (st : State) (op : InsertOp) → IsInOrder st → InsertInvariant st op → IsStraight st op.entry op.at → HasRoomFor st op.entry
     → (takes_block_at st op.at ≡ false) × (splits_root_at st op.at ≡ false)
 straight_takes_none st op order fits way room = by op.at refl way
   where

@@ -30,7 +30,7 @@ use Rattle.tree_acts.proofs.Flagging.{leaf_split_flags}
 use Rattle.tree_acts.proofs.Weighed.{leaf_split_weighs}
 use Rattle.tree_acts.proofs.Overlays.{pages_first}
 use Rattle.tree_acts.proofs.Telling.{leaf_tells, neighbour_tells}
-use Rattle.descent.specs.Shared.{Does, is_flagged, level_in, where_working}
+use Rattle.descent.specs.Shared.{Does, is_flagged, level_in, causes_of_working}
 use Rattle.descent.specs.Splitting.{RightIsMendable, RightIsStored, RightIsFound, mended_to}
 use Rattle.descent.specs.Steps.{HoldsAlone, AreApart}
 use Rattle.descent.proofs.Acting.{does_add, one_act_else, apart_from_held}
@@ -39,7 +39,7 @@ use Rattle.split_finish.specs.Targets.{OnlyTargetsAreFlagged, is_among_targets, 
 use Rattle.split_finish.specs.declared.finish.FinishOp.{FinishOp}
 use Rattle.split_finish.specs.declared.finish.Target.{Target}
 use Rattle.split_finish.proofs.Parting.{mends_right}
-use Rattle.insert_split.specs.Inserts.{leaf_held, blocks_halved, InsertFits, InsertSteps, targets_at}
+use Rattle.insert_split.specs.Inserts.{leaf_held, blocks_halved, InsertInvariant, InsertSteps, targets_at}
 use Rattle.insert_split.specs.Turns.{IsSplittable, SplitsLeaf}
 use Rattle.insert_split.specs.declared.insert.InsertAt.{InsertAt}
 use Rattle.insert_split.specs.declared.insert.InsertAt.TheVariants.{Coming}
@@ -81,7 +81,8 @@ many_held table session block = length-unpinned (released table session block) s
 true_false : true ≡ false → ⊥
 true_false h = cc
 
-pub apart_let_go : (table table' : Table) (session : ℕ) → AreApart table → holding_of table' session ≡ nothing_held → ((other : ℕ) → other ≢ session → holding_of table' other ≡ holding_of table other) → AreApart table'
+pub apart_let_go : (table table' : Table) (session : ℕ) → AreApart table → holding_of table' session ≡ nothing_held
+    → ((other : ℕ) → other ≢ session → holding_of table' other ≡ holding_of table other) → AreApart table'
 apart_let_go table table' session apart none kept one two block differ alone =
     elim (cases_eq one session) [
       | inl is_one ↦ absurd (true_false (sym alone ∙ ap (λ (h : Holding). latches_exclude h.latches block Shared) (ap (holding_of table') is_one ∙ none)))
@@ -94,7 +95,8 @@ apart_let_go table table' session apart none kept one two block differ alone =
     ]
 
 -- no other session holds it
-pub right_free : (st : State) (session new other block : ℕ) (link : Option ℕ) (right : Option Page) → other ≢ session → HoldsAlone st.table other block → RightIsStored st session link right → IsApartFrom block (mended_to new right)
+pub right_free : (st : State) (session new other block : ℕ) (link : Option ℕ) (right : Option Page) → other ≢ session
+    → HoldsAlone st.table other block → RightIsStored st session link right → IsApartFrom block (mended_to new right)
 right_free st session new other block None None differ alone stored = tt
 right_free st session new other block None (Some page) differ alone stored = absurd stored
 right_free st session new other block (Some r) None differ alone stored = absurd stored
@@ -117,7 +119,9 @@ pub splits : {S : Type 0} (g : Ghosts S) (before after : InsertOp) (old mid new 
     → IfOk result (λ step. step ≡ Going) → OnOk result (SplitsLeaf (g.backing new).honest page before after (g.state mid) (g.state new))
     → OnErr result (g.state new ≡ g.state mid) → OnErr result (after ≡ before)
     → ((g.backing new).honest ≡ true → HasRoom (g.state mid).table before.session → IsSplittable (g.state mid) page → has_pin (pinned_blocks (g.state mid).table) page.block ≡ true
-    → IfErr result (HasCause (where_working (g.state mid) (g.backing mid) (g.backing new) before.session (page.block ∷ blocks_halved (g.state mid) page.right) (length (blocks_halved (g.state mid) page.right)) true false)))
+    → IfErr result (HasCause
+    (causes_of_working (g.state mid) (g.backing mid) (g.backing new) before.session (page.block ∷ blocks_halved (g.state mid) page.right)
+    (length (blocks_halved (g.state mid) page.right)) true false)))
     → InsertSteps g before after old new result
 splits g before after old mid new block page (Ok Going) steps same alive at_is block_is found stored few le later promised absent alone full going told refused kept cause = record {
   steps = steps;
@@ -154,7 +158,8 @@ splits g before after old mid new block page (Ok Going) steps same alive at_is b
       let lasts = leaf_split_lasts st fits.start before.entry page h.left h.half (mended_to h.half.block h.right) order.tree is_split in
       let moves = leaf_split_flags st fits.start before.entry page h.left h.half (mended_to h.half.block h.right) order.tree is_split in
       let weighs = leaf_split_weighs st fits.start before.entry page h.left h.half (mended_to h.half.block h.right) order.tree is_split in
-      let was : entry_on_live_leaf st.pages before.entry ≡ false = leaf_tells st before.entry page order.tree at_page (covers_there st fits.start before.entry block page order.tree block_is (found honest) leaf) ∙ absent in
+      let was : entry_on_live_leaf st.pages before.entry ≡ false =
+      leaf_tells st before.entry page order.tree at_page (covers_there st fits.start before.entry block page order.tree block_is (found honest) leaf) ∙ absent in
       let low : before.session < length st.table = (let m = order.holdings in let l = fits.session in omega arith) in
       let held_page : holding_of st.table before.session ≡ leaf_held page.block = subst (λ (b : ℕ). holding_of st.table before.session ≡ leaf_held b) (sym block_is) there.0 in
       let free = none_held st.table before.session page.block low held_page in
@@ -170,7 +175,8 @@ splits g before after old mid new block page (Ok Going) steps same alive at_is b
       record {
         effect = Some (Add before.entry);
         does = subst (λ (s : State). Does before.session (Some (Add before.entry)) st s) (sym now)
-            (does_add st before.session before.entry changed table order may lasts.0 lasts.1 (leaf_split_leaves st fits.start before.entry page h.left h.half (mended_to h.half.block h.right) order.tree is_split) was
+            (does_add st before.session before.entry changed table order may lasts.0 lasts.1
+            (leaf_split_leaves st fits.start before.entry page h.left h.half (mended_to h.half.block h.right) order.tree is_split) was
             (record { raised = Some page.block; leaf = (is_split_whole at_page is_split.whole, raised_level left_there left_ground); moves = moves; most = omega (arith, weighs) })
             (λ other b differ alone. (
               λ is_b. not_the_leaf st before.session other block order there.0 differ (subst (HoldsAlone st.table other) (sym is_b ∙ h.left_block ∙ block_is) alone),
@@ -179,14 +185,22 @@ splits g before after old mid new block page (Ok Going) steps same alive at_is b
             (apart_let_go st.table table before.session order.apart free others)
             (many_held st.table before.session page.block ∙ order.holdings) others);
         noted = (refl, none_added before block at_is fits.to_come, ap (λ (o : InsertOp). o.added) h.finishes.after_is ∙ ap (λ (s : State). Some (suc s.acts)) same);
-        fits = subst (λ (s : State). InsertFits s after) (sym now) (subst (InsertFits gone) (sym h.finishes.after_is) (record {
+        fits = subst (λ (s : State). InsertInvariant s after) (sym now) (subst (InsertInvariant gone) (sym h.finishes.after_is) (record {
           session = fits.session;
           start = fits.start;
           running = fits.running;
           stands = (
             h.finishes.session,
             one_target_fits gone fits.start before.session (entry_aim before.entry) (record { block = page.block; level = 0; moves = 0 }) h.left h.target h.finishes.op
-                (record { tree = lasts.0.has.tree; stored = lasts.0.has.stored; counted = lasts.0.has.counted; within = lasts.0.has.within; lead = lasts.0.has.lead; unique = lasts.0.has.unique }) fits.session free fits.running
+                (record {
+                  tree = lasts.0.has.tree;
+                  stored = lasts.0.has.stored;
+                  counted = lasts.0.has.counted;
+                  within = lasts.0.has.within;
+                  lead =
+                      lasts.0.has.lead;
+                  unique = lasts.0.has.unique;
+                }) fits.session free fits.running
                 left_there h.left_block (record { tree = place.tree; in_tree = place.in_tree; place = place.place }) left_live h.block_is (h.level_is ∙ left_ground) h.high_is
                 h.finishes.session h.finishes.target_is h.finishes.below h.finishes.at,
           );
@@ -197,7 +211,8 @@ splits g before after old mid new block page (Ok Going) steps same alive at_is b
       };
   straight = λ honest order fits whole_pages on room.
       let leaf = (leaf_there st before block at_is fits).1 in
-      let lt = room page (subst (λ (b : ℕ). slice_get st.pages b ≡ Some page) (sym block_is) (found honest)) (covers_there st fits.start before.entry block page order.tree block_is (found honest) leaf) in
+      let lt = room page (subst (λ (b : ℕ). slice_get st.pages b ≡ Some page) (sym block_is) (found honest))
+      (covers_there st fits.start before.entry block page order.tree block_is (found honest) leaf) in
       absurd (omega (arith, lt, full));
 }
   where
@@ -234,7 +249,8 @@ splits g before after old mid new block page (Ok Going) steps same alive at_is b
     raised_level : slice_get (after_act changed st).pages page.block ≡ Some h.left → h.left.level ≡ 0 → level_in (after_act changed st) page.block ≡ 0
     raised_level there ground = ap (λ (n : Node). n.level) (read_at (after_act changed st).pages page.block h.left there) ∙ ground
 
-    only_leaf : OnlyTargetsAreFlagged st (targets_at before.at) → FlagsMove (Some page.block) None st (after_act changed st) → (b : ℕ) → is_flagged (with_table (after_act changed st) table) b ≡ true → b ≡ page.block
+    only_leaf : OnlyTargetsAreFlagged st (targets_at before.at) → FlagsMove (Some page.block) None st (after_act changed st) → (b : ℕ)
+        → is_flagged (with_table (after_act changed st) table) b ≡ true → b ≡ page.block
     only_leaf only moves b flagged = elim (cases_eq b page.block) [
       | inl is ↦ is
       | inr differ ↦ absurd (no_targets before block st at_is only b
@@ -243,7 +259,8 @@ splits g before after old mid new block page (Ok Going) steps same alive at_is b
 
     only_target : (b : ℕ) → b ≡ page.block → is_among_targets (targets_of h.finishes.op) b ≡ true
     only_target b is = one_among h.finishes.op h.target b h.finishes.below h.finishes.target_is (h.block_is ∙ sym is)
-splits g before after old mid new block page (Ok (Added action unfinished)) steps same alive at_is block_is found stored few le later promised absent alone full going told refused kept cause = absurd cc
+splits g before after old mid new block page (Ok (Added action unfinished)) steps same alive at_is block_is found stored few le later promised absent
+    alone full going told refused kept cause = absurd cc
 splits g before after old mid new block page (Err fault) steps same alive at_is block_is found stored few le later promised absent alone full going told refused kept cause =
     subst (λ (o : InsertOp). InsertSteps g before o old new (Err fault)) (sym kept)
     (refuses g before old new fault steps (refused ∙ same) alive
@@ -259,8 +276,8 @@ splits g before after old mid new block page (Err fault) steps same alive at_is 
     let pin : has_pin (pinned_blocks st.table) page.block ≡ true = subst (λ (b : ℕ). has_pin (pinned_blocks st.table) b ≡ true) (sym block_is) (pinned_leaf st.table before.session block there.0) in
     holding_cause st (g.backing old) (g.backing new) before block (block ∷ beside st) (length (beside st)) true fault at_is (full_is st block page (found honest) full)
     (working_later st (g.backing old) (g.backing mid) (g.backing new) before.session (block ∷ beside st) (length (beside st)) true false fault le later promised
-    (subst (λ (b : ℕ). HasCause (where_working st (g.backing mid) (g.backing new) before.session (b ∷ beside st) (length (beside st)) true false) fault) block_is
-    (subst (λ (s : State). HasCause (where_working s (g.backing mid) (g.backing new) before.session (page.block ∷ beside s) (length (beside s)) true false) fault) same
+    (subst (λ (b : ℕ). HasCause (causes_of_working st (g.backing mid) (g.backing new) before.session (b ∷ beside st) (length (beside st)) true false) fault) block_is
+    (subst (λ (s : State). HasCause (causes_of_working s (g.backing mid) (g.backing new) before.session (page.block ∷ beside s) (length (beside s)) true false) fault) same
     (cause honest (subst (λ (s : State). HasRoom s.table before.session) (sym same) (room_held st before.session block there.0)) (subst (λ (s : State). IsSplittable s page) (sym same) fits_split)
     (subst (λ (s : State). has_pin (pinned_blocks s.table) page.block ≡ true) (sym same) pin)))))))
   where
@@ -270,7 +287,8 @@ splits g before after old mid new block page (Err fault) steps same alive at_is 
     st : State
     st = g.state old
 
-    right_of : (link : Option ℕ) → page.right ≡ link → slice_get st.pages page.block ≡ Some page → page.state ≡ Live → (start : ℕ) (aim : Bound → Bool) → HasPlace st start 0 aim true page.block → HasTree st
+    right_of : (link : Option ℕ) → page.right ≡ link → slice_get st.pages page.block ≡ Some page → page.state ≡ Live
+        → (start : ℕ) (aim : Bound → Bool) → HasPlace st start 0 aim true page.block → HasTree st
         → RightIsMendable st page.right × (page.right ≢ Some page.block)
     right_of None is there live start aim place tree = (subst (RightIsMendable st) (sym is) tt, λ k. some_is_none (sym is ∙ k))
       where

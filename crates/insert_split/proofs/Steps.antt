@@ -10,7 +10,7 @@ use Rattle.descent.proofs.Acting.{one_nothing, nothing_else}
 use Rattle.tree_acts.specs.Ways.{AreWhole}
 use Rattle.split_finish.specs.Targets.{OnlyTargetsAreFlagged}
 use Rattle.insert_split.specs.Straight.{IsStraight, CountsDown}
-use Rattle.insert_split.specs.Inserts.{InsertFits, InsertSteps, insert_left, targets_at, where_inserting}
+use Rattle.insert_split.specs.Inserts.{InsertInvariant, InsertSteps, insert_left, targets_at, causes_of_inserting}
 use Rattle.insert_split.specs.declared.insert.InsertOp.{InsertOp}
 use Rattle.insert_split.specs.declared.insert.InsertStep.{InsertStep}
 use Rattle.insert_split.specs.declared.insert.InsertStep.TheVariants.{Going, Added}
@@ -21,7 +21,8 @@ runs_no_more b alive stopped = absurd cc
 -- a step that is refused before anything is changed
 pub refuses : {S : Type 0} (g : Ghosts S) (op : InsertOp) (old new : S) (fault : Fault) → Continues g.follows old new → g.state new ≡ g.state old
     → (g.backing old).stopped ≡ false
-    → ((g.backing new).honest ≡ true → IsInOrder (g.state old) → InsertFits (g.state old) op → HasCause (where_inserting (g.state old) (g.backing old) (g.backing new) op.session op.entry op.at) fault)
+    → ((g.backing new).honest ≡ true → IsInOrder (g.state old) → InsertInvariant (g.state old) op
+    → HasCause (causes_of_inserting (g.state old) (g.backing old) (g.backing new) op.session op.entry op.at) fault)
     → InsertSteps g op op old new (Err fault)
 refuses g op old new fault steps same alive cause = record {
   steps = steps;
@@ -37,7 +38,7 @@ refuses g op old new fault steps same alive cause = record {
 
 -- where it stands after such a step
 pub record StandsNow (st : State) (before after : InsertOp) : Type 0 where
-  pub fits : InsertFits st after
+  pub fits : InsertInvariant st after
   pub added : after.added ≡ before.added
   pub flags : OnlyTargetsAreFlagged st (targets_at before.at) → OnlyTargetsAreFlagged st (targets_at after.at)
 
@@ -45,7 +46,7 @@ pub record StandsNow (st : State) (before after : InsertOp) : Type 0 where
 pub goes_on : {S : Type 0} (g : Ghosts S) (before after : InsertOp) (old new : S) → Continues g.follows old new → g.state new ≡ g.state old
     → after.session ≡ before.session → after.entry ≡ before.entry → (g.backing old).stopped ≡ false
     → ((g.backing new).honest ≡ true → insert_left (g.state old).limits.pages (g.state old).pages after.at < insert_left (g.state old).limits.pages (g.state old).pages before.at)
-    → ((g.backing new).honest ≡ true → IsInOrder (g.state old) → InsertFits (g.state old) before → StandsNow (g.state old) before after)
+    → ((g.backing new).honest ≡ true → IsInOrder (g.state old) → InsertInvariant (g.state old) before → StandsNow (g.state old) before after)
     → ((g.backing new).honest ≡ true → IsInOrder (g.state old) → AreWhole (g.state old).pages → IsStraight (g.state old) before.entry before.at
     → CountsDown (g.state old) (g.state old) before after (Ok Going))
     → InsertSteps g before after old new (Ok Going)
@@ -63,7 +64,7 @@ goes_on g before after old new steps same session entry alive less stands straig
         effect = None;
         does = nothing_else before.session (g.state old) (g.state new) same order;
         noted = now.added;
-        fits = subst (λ (st : State). InsertFits st after) (sym same) now.fits;
+        fits = subst (λ (st : State). InsertInvariant st after) (sym same) now.fits;
         flags = λ only. subst (λ (st : State). OnlyTargetsAreFlagged st (targets_at after.at)) (sym same) (now.flags only);
       };
   straight = λ honest order fits whole on room. subst (λ (st : State). CountsDown (g.state old) st before after (Ok Going)) (sym same) (straight honest order whole on);

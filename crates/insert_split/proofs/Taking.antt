@@ -23,7 +23,7 @@ use Rattle.descent.proofs.Tables.{apart_latched, apart_pins}
 use Rattle.descent.proofs.Working.{held_cause}
 use Rattle.split_finish.specs.Targets.{is_among_targets}
 use Rattle.descent.specs.Shared.{is_flagged}
-use Rattle.insert_split.specs.Inserts.{leaf_held, IsLeafFor, InsertFits, InsertSteps, insert_left, targets_at, where_inserting}
+use Rattle.insert_split.specs.Inserts.{leaf_held, IsLeafFor, InsertInvariant, InsertSteps, insert_left, targets_at, causes_of_inserting}
 use Rattle.insert_split.specs.Straight.{IsStraight, straight_steps}
 use Rattle.insert_split.specs.Turns.{IsNotTaken, Takes}
 use Rattle.insert_split.specs.declared.insert.InsertAt.{InsertAt}
@@ -52,7 +52,8 @@ takes_leaf old new session block low order nothing free is =
     let mid_held : holding_of mid session ≡ held_of nothing_held block = holding_of-latched old.table session block Exclusive below ∙ ap (λ (h : Holding). held_of h block) nothing in
     let room : length (holding_of mid session).pins < 2 = subst (λ (h : Holding). length h.pins < 2) (sym mid_held) (omega arith) in
     let end : Table = pinned mid session block in
-    let end_held : holding_of end session ≡ leaf_held block = holding_of-pinned mid session block mid_below room ∙ ap (λ (h : Holding). let k : Holding = record { latches = h.latches; pins = block ∷ h.pins } in k) mid_held in (
+    let end_held : holding_of end session ≡ leaf_held block = holding_of-pinned mid session block mid_below room
+    ∙ ap (λ (h : Holding). let k : Holding = record { latches = h.latches; pins = block ∷ h.pins } in k) mid_held in (
       holds_else session old new end is order
           (apart_pins mid session _ mid_below mid_apart)
           (length-pinned mid session block ∙ mid_many ∙ many)
@@ -67,13 +68,15 @@ true_false h = cc
 pub takes : {S : Type 0} (g : Ghosts S) (before after : InsertOp) (old mid new : S) (page : Page) (way : Way) (result : Result InsertStep Fault)
     → Continues g.follows old new → g.state mid ≡ g.state old → g.backing new ≡ g.backing mid
     → (g.backing old).stopped ≡ false → before.at ≡ Coming (At way)
-    → (InsertFits (g.state old) before → Takes page.block before after (g.state mid) (g.state new) result)
-    → (result ≡ Ok Going → (g.state new ≡ with_table (g.state mid) (pinned (latched (g.state mid).table before.session page.block Exclusive) before.session page.block)) × (after ≡ record before { at = Coming (Holds page.block) }))
+    → (InsertInvariant (g.state old) before → Takes page.block before after (g.state mid) (g.state new) result)
+    → (result ≡ Ok Going
+    → (g.state new ≡ with_table (g.state mid) (pinned (latched (g.state mid).table before.session page.block Exclusive) before.session page.block))
+    × (after ≡ record before { at = Coming (Holds page.block) }))
     → ((fault : Fault) → result ≡ Err fault → (g.state new ≡ g.state mid) × (after ≡ before))
     → ((action : ℕ) (unfinished : Option Fault) → result ≡ Ok (Added action unfinished) → ⊥)
     → page.block ≡ way.block → IsPage page → page.state ≡ Live → page.split ≡ false → is_within (entry_aim before.entry) page.high ≡ true
     → ((g.backing new).honest ≡ true → slice_get (g.state old).pages way.block ≡ Some page)
-    → ((g.backing new).honest ≡ true → IsInOrder (g.state old) → InsertFits (g.state old) before → way.level ≡ 0)
+    → ((g.backing new).honest ≡ true → IsInOrder (g.state old) → InsertInvariant (g.state old) before → way.level ≡ 0)
     → InsertSteps g before after old new result
 takes g before after old mid new page way (Ok Going) steps same backing alive at_is told moved stays none block_is admitted live whole within found ground = record {
   steps = steps;
@@ -97,7 +100,7 @@ takes g before after old mid new page way (Ok Going) steps same backing alive at
         effect = None;
         does = taken.0;
         noted = ap (λ (o : InsertOp). o.added) is;
-        fits = subst (InsertFits (g.state new)) (sym is) (record {
+        fits = subst (InsertInvariant (g.state new)) (sym is) (record {
           session = fits.session;
           start = fits.start;
           running = subst (λ (s : State). slice_get s.running before.session ≡ Some (Some fits.start)) (sym now) fits.running;
@@ -145,7 +148,8 @@ takes g before after old mid new page way (Ok Going) steps same backing alive at
     fewer = subst (λ (s : State). insert_left s.limits.pages s.pages after.at < insert_left st.limits.pages st.pages before.at) (sym now)
         (subst (λ (o : InsertOp). insert_left st.limits.pages st.pages o.at < insert_left st.limits.pages st.pages before.at) (sym is)
         (subst (λ (a : InsertAt). insert_left st.limits.pages st.pages (Coming (Holds page.block)) < insert_left st.limits.pages st.pages a) (sym at_is) less_there))
-takes g before after old mid new page way (Ok (Added action unfinished)) steps same backing alive at_is told moved stays none block_is admitted live whole within found ground = absurd (none action unfinished refl)
+takes g before after old mid new page way (Ok (Added action unfinished)) steps same backing alive at_is told moved stays none block_is admitted live
+    whole within found ground = absurd (none action unfinished refl)
 takes g before after old mid new page way (Err fault) steps same backing alive at_is told moved stays none block_is admitted live whole within found ground =
     let kept = stays fault refl in
     subst (λ (o : InsertOp). InsertSteps g before o old new (Err fault)) (sym kept.1)
@@ -154,16 +158,16 @@ takes g before after old mid new page way (Err fault) steps same backing alive a
     st : State
     st = g.state old
 
-    why : (g.backing new).honest ≡ true → (order : IsInOrder st) → (fits : InsertFits st before) → IsNotTaken page.block before (g.state mid) fault
-        → HasCause (where_inserting st (g.backing old) (g.backing new) before.session before.entry before.at) fault
+    why : (g.backing new).honest ≡ true → (order : IsInOrder st) → (fits : InsertInvariant st before) → IsNotTaken page.block before (g.state mid) fault
+        → HasCause (causes_of_inserting st (g.backing old) (g.backing new) before.session before.entry before.at) fault
     why honest order fits held =
-        subst (HasCause (where_inserting st (g.backing old) (g.backing new) before.session before.entry before.at)) (sym held.0)
+        subst (HasCause (causes_of_inserting st (g.backing old) (g.backing new) before.session before.entry before.at)) (sym held.0)
         (reading_cause st (g.backing old) (g.backing new) before way (Blocked page.block) at_is
         (held_cause st (g.backing old) (g.backing new) before.session [] 1 false false page.block Exclusive (inr refl)
         (subst (λ (s : State). is_held_by_another s.table before.session page.block Exclusive ≡ true) same held.1)))
 
 -- the page that a search ends at may hold the entry
-pub may_be_held : (st : State) (before : InsertOp) (page : Page) (way : Way) → before.at ≡ Coming (At way) → (order : IsInOrder st) → (fits : InsertFits st before)
+pub may_be_held : (st : State) (before : InsertOp) (page : Page) (way : Way) → before.at ≡ Coming (At way) → (order : IsInOrder st) → (fits : InsertInvariant st before)
     → page.block ≡ way.block → IsPage page → page.state ≡ Live → page.split ≡ false → is_within (entry_aim before.entry) page.high ≡ true → slice_get st.pages way.block ≡ Some page → way.level ≡ 0
     → MayHold page before.entry
 may_be_held st before page way at_is order fits block_is admitted live whole within found ground =

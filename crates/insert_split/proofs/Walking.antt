@@ -24,9 +24,9 @@ use Rattle.tree_acts.proofs.Lasting.{deleted_in_use}
 use Rattle.tree_acts.proofs.Words.{place_in}
 use Rattle.descent.specs.Onward.{IsOnWay, LeadsOnward}
 use Rattle.descent.specs.declared.way.Onward.{Onward}
-use Rattle.descent.specs.Shared.{IsInOrder, where_working}
+use Rattle.descent.specs.Shared.{IsInOrder, causes_of_working}
 use Rattle.descent.specs.declared.way.Way.{Way}
-use Rattle.insert_split.specs.Inserts.{InsertFits, InsertStands, IsToCome, where_inserting}
+use Rattle.insert_split.specs.Inserts.{InsertInvariant, InsertStands, IsToCome, causes_of_inserting}
 use Rattle.insert_split.specs.declared.insert.InsertAt.{InsertAt}
 use Rattle.insert_split.specs.declared.insert.InsertAt.TheVariants.{Coming}
 use Rattle.insert_split.specs.declared.insert.Stage.TheVariants.{At}
@@ -47,17 +47,17 @@ room_free st session free = subst (λ (h : Holding). length h.latches < 8) (sym 
 
 -- the causes of a step that only reads are those of an insert there
 pub as_inserting : (st : State) (old new : Backing) (session : ℕ) (e : Entry) (at : InsertAt) (images : List ℕ) (frames : ℕ) (takes splits : Bool) (fault : Fault)
-    → where_inserting st old new session e at ≡ record (where_working st old new session images frames takes splits) {
-      entry_was_there = (where_inserting st old new session e at).entry_was_there;
-      key_was_there = (where_inserting st old new session e at).key_was_there;
+    → causes_of_inserting st old new session e at ≡ record (causes_of_working st old new session images frames takes splits) {
+      entry_was_there = (causes_of_inserting st old new session e at).entry_was_there;
+      key_was_there = (causes_of_inserting st old new session e at).key_was_there;
     }
-    → HasCause (where_working st old new session images frames takes splits) fault → HasCause (where_inserting st old new session e at) fault
+    → HasCause (causes_of_working st old new session images frames takes splits) fault → HasCause (causes_of_inserting st old new session e at) fault
 as_inserting st old new session e at images frames takes splits fault same h = rw same (by fault h)
   where
-    by : (f : Fault) → HasCause (where_working st old new session images frames takes splits) f
-        → HasCause (record (where_working st old new session images frames takes splits) {
-          entry_was_there = (where_inserting st old new session e at).entry_was_there;
-          key_was_there = (where_inserting st old new session e at).key_was_there;
+    by : (f : Fault) → HasCause (causes_of_working st old new session images frames takes splits) f
+        → HasCause (record (causes_of_working st old new session images frames takes splits) {
+          entry_was_there = (causes_of_inserting st old new session e at).entry_was_there;
+          key_was_there = (causes_of_inserting st old new session e at).key_was_there;
         }) f
     by Exists h = absurd cc
     by (KeyExists r) h = absurd cc
@@ -89,7 +89,7 @@ up_to_within None e h = tt
 up_to_within (Some high) e h = not_true (entry_aim e high) h
 
 -- where an insert on its way stands
-pub on_way : (st : State) (op : InsertOp) (way : Way) → op.at ≡ Coming (At way) → (fits : InsertFits st op)
+pub on_way : (st : State) (op : InsertOp) (way : Way) → op.at ≡ Coming (At way) → (fits : InsertInvariant st op)
     → (holding_of st.table op.session ≡ nothing_held) × IsOnWay st fits.start (entry_aim op.entry) true 0 way
 on_way st op way at_is fits = subst (InsertStands st op.session fits.start op.entry) at_is fits.stands
 
@@ -97,7 +97,7 @@ pub to_come_there : (op : InsertOp) (way : Way) → op.at ≡ Coming (At way) �
 to_come_there op way at_is h = subst (λ (a : InsertAt). IsToCome a op.added) at_is h
 
 pub reading_cause : (st : State) (old new : Backing) (op : InsertOp) (way : Way) (fault : Fault) → op.at ≡ Coming (At way)
-    → HasCause (where_working st old new op.session [] 1 false false) fault → HasCause (where_inserting st old new op.session op.entry op.at) fault
+    → HasCause (causes_of_working st old new op.session [] 1 false false) fault → HasCause (causes_of_inserting st old new op.session op.entry op.at) fault
 reading_cause st old new op way fault at_is h = rw at_is (as_inserting st old new op.session op.entry (Coming (At way)) [] 1 false false fault refl h)
 
 true_false : true ≡ false → ⊥
@@ -131,7 +131,7 @@ whole_page page admitted whole = by page.items admitted.kind
     by (Downlinks v) h = whole h.state
 
 -- where a page leads an insert on its way
-pub led : (st : State) (op : InsertOp) (way : Way) (page : Page) (bound : Bound) (most : ℕ) (result : Option Onward) → op.at ≡ Coming (At way) → IsInOrder st → (fits : InsertFits st op)
+pub led : (st : State) (op : InsertOp) (way : Way) (page : Page) (bound : Bound) (most : ℕ) (result : Option Onward) → op.at ≡ Coming (At way) → IsInOrder st → (fits : InsertInvariant st op)
     → slice_get st.pages way.block ≡ Some page → IsPage page → (page.state ≡ Live → page.split ≡ false) → bound ≡ bound_of op.entry → length st.pages ≤ most
     → ((s : State) (start : ℕ) (clear : Bool) → HasTree s → slice_get s.pages way.block ≡ Some page → IsOnWay s start (bound_aim bound) clear 0 way → (clear ≡ true → page.split ≡ false)
     → length s.pages ≤ most → LeadsOnward s start (bound_aim bound) clear 0 way result)

@@ -18,9 +18,9 @@ use Rattle.tree_shape.specs.Walks.{entry_aim, is_within}
 use Rattle.tree_acts.specs.Trees.{HasPlace}
 use Rattle.tree_acts.specs.Ways.{AreWhole}
 use Rattle.descent.specs.Onward.{IsOnWay, walk_length, way_left}
-use Rattle.descent.specs.Shared.{IsInOrder, Does, IsOneStep, is_flagged, fresh_block, sibling, where_working, where_splitting_any}
-use Rattle.split_finish.specs.Finishes.{images_of, frames_of, takes_block_of}
-use Rattle.split_finish.specs.Targets.{targets_of, OnlyTargetsAreFlagged, FinishFits, finish_left}
+use Rattle.descent.specs.Shared.{IsInOrder, Does, IsOneStep, is_flagged, fresh_block, sibling, causes_of_working, causes_of_splitting_any}
+use Rattle.split_finish.specs.Finishes.{finish_blocks, frames_of, takes_block_of}
+use Rattle.split_finish.specs.Targets.{targets_of, OnlyTargetsAreFlagged, FinishInvariant, finish_left}
 use Rattle.split_finish.specs.Turns.{splits_root_of}
 use Rattle.split_finish.specs.declared.finish.Target.{Target}
 use Rattle.insert_split.specs.Straight.{IsStraight, HasRoomFor, CountsDown}
@@ -55,7 +55,7 @@ InsertStands st session start e (Coming (At way)) =
     (holding_of st.table session ≡ nothing_held) × IsOnWay st start (entry_aim e) true 0 way
 InsertStands st session start e (Coming (Holds block)) =
     (holding_of st.table session ≡ leaf_held block) × IsLeafFor st start e block
-InsertStands st session start e (Finishing op) = (op.session ≡ session) × FinishFits st op
+InsertStands st session start e (Finishing op) = (op.session ≡ session) × FinishInvariant st op
 
 -- the entry isn't logged before its leaf is found
 abbrev pub IsToCome : InsertAt → Option ℕ → Type 0
@@ -63,7 +63,7 @@ IsToCome (Coming stage) added = added ≡ None
 IsToCome (Finishing op) added = Unit {0}
 
 -- what an insert knows between its steps
-pub record InsertFits (st : State) (op : InsertOp) : Type 0 where
+pub record InsertInvariant (st : State) (op : InsertOp) : Type 0 where
   pub session : op.session < 64
   pub start : ℕ
   pub running : slice_get st.running op.session ≡ Some (Some start)
@@ -103,7 +103,7 @@ abbrev pub images_at : State → InsertAt → List ℕ
 images_at st (Coming Start) = []
 images_at st (Coming (At way)) = []
 images_at st (Coming (Holds block)) = block ∷ blocks_beside st (slice_get st.pages block)
-images_at st (Finishing op) = images_of st op.target op.at
+images_at st (Finishing op) = finish_blocks st op.target op.at
 
 -- ... and how many frames it needs, beside that of the leaf that it has pinned
 abbrev pub frames_at : State → InsertAt → ℕ
@@ -125,9 +125,9 @@ splits_root_at st (Coming stage) = false
 splits_root_at st (Finishing op) = splits_root_of st op.target op.at
 
 -- why a step of an insert is refused, on pages that are a tree and a device that keeps its model
-abbrev pub where_inserting : State → Backing → Backing → ℕ → Entry → InsertAt → Circumstances
-where_inserting st old new session e at =
-    record (where_working st old new session (images_at st at) (frames_at st at)
+abbrev pub causes_of_inserting : State → Backing → Backing → ℕ → Entry → InsertAt → Circumstances
+causes_of_inserting st old new session e at =
+    record (causes_of_working st old new session (images_at st at) (frames_at st at)
     (takes_block_at st at) (splits_root_at st at)) {
       entry_was_there = entry_on_live_leaf st.pages e;
       key_was_there = other_row_is_there st e;
@@ -135,23 +135,23 @@ where_inserting st old new session e at =
 
 -- ... and why it leaves splits unfinished, once its entry is logged: never that its entry or its key was there, nor that another session
 -- holds a page
-abbrev pub where_left : State → Backing → Backing → ℕ → Entry → InsertAt → Circumstances
-where_left st old new session e at = record (where_inserting st old new session e at) {
+abbrev pub causes_of_left : State → Backing → Backing → ℕ → Entry → InsertAt → Circumstances
+causes_of_left st old new session e at = record (causes_of_inserting st old new session e at) {
   is_held_by_another = λ b. false;
   entry_was_there = false;
   key_was_there = λ r. false;
 }
 
 -- what may be so where a step of an insert is refused, whatever the pages are
-abbrev pub where_inserting_any : Circumstances
-where_inserting_any = record where_splitting_any {
+abbrev pub causes_of_inserting_any : Circumstances
+causes_of_inserting_any = record causes_of_splitting_any {
   entry_was_there = true;
   key_was_there = λ r. true;
 }
 
 -- ... and where it leaves splits unfinished
-abbrev pub where_left_any : Circumstances
-where_left_any = record where_splitting_any { is_held_by_another = λ b. false }
+abbrev pub causes_of_left_any : Circumstances
+causes_of_left_any = record causes_of_splitting_any { is_held_by_another = λ b. false }
 
 -- this holds of the fault that an insert ends with, if it ends with one
 abbrev pub IfUnfinished : Result InsertStep Fault → (Fault → Type 0) → Type 0
@@ -173,7 +173,7 @@ pub record InsertGoesOn (old new : State) (before after : InsertOp) : Type 0 whe
   pub effect : Option Effect
   pub does : Does before.session effect old new
   pub noted : IsNoted effect old.acts before.entry before.added after.added
-  pub fits : InsertFits new after
+  pub fits : InsertInvariant new after
   pub flags : OnlyTargetsAreFlagged old (targets_at before.at)
       → OnlyTargetsAreFlagged new (targets_at after.at)
 
@@ -185,7 +185,7 @@ IsLeft old old_backing new new_backing before effect None =
     OnlyTargetsAreFlagged old (targets_at before.at)
     → (block : ℕ) → is_flagged new block ≡ false
 IsLeft old old_backing new new_backing before effect (Some fault) = (effect ≡ None)
-    × HasCause (where_left old old_backing new_backing before.session before.entry before.at) fault
+    × HasCause (causes_of_left old old_backing new_backing before.session before.entry before.at) fault
 
 -- the last step of an insert whose entry is logged, by the action of this number
 pub record InsertEnds (old : State) (old_backing : Backing) (new : State) (new_backing : Backing)
@@ -203,7 +203,7 @@ InsertStepped old old_backing new new_backing before after (Ok Going) =
 InsertStepped old old_backing new new_backing before after (Ok (Added action unfinished)) =
     InsertEnds old old_backing new new_backing before action unfinished
 InsertStepped old old_backing new new_backing before after (Err fault) = HasCause
-    (where_inserting old old_backing new_backing before.session before.entry before.at) fault
+    (causes_of_inserting old old_backing new_backing before.session before.entry before.at) fault
 
 -- a refused step changes neither the pages, nor who holds what, nor the call
 pub record InsertStays (old new : State) (before after : InsertOp) : Type 0 where
@@ -231,10 +231,10 @@ pub record InsertSteps {S : Type 0} (g : Ghosts S) (before after : InsertOp) (ol
       → insert_left (g.state new).limits.pages (g.state new).pages after.at
       < insert_left (g.state old).limits.pages (g.state old).pages before.at
   pub stepped : (g.backing new).honest ≡ true → IsInOrder (g.state old)
-      → InsertFits (g.state old) before
+      → InsertInvariant (g.state old) before
       → InsertStepped (g.state old) (g.backing old) (g.state new) (g.backing new) before after result
   -- where no page is flagged and its leaf has room, each step is one nearer to the last
   pub straight : (g.backing new).honest ≡ true → IsInOrder (g.state old)
-      → InsertFits (g.state old) before → AreWhole (g.state old).pages
+      → InsertInvariant (g.state old) before → AreWhole (g.state old).pages
       → IsStraight (g.state old) before.entry before.at → HasRoomFor (g.state old) before.entry
       → CountsDown (g.state old) (g.state new) before after result

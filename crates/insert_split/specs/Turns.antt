@@ -56,10 +56,10 @@ pub record MeetsNone (page : Page) (way : Way) (before after : InsertOp) (fault 
   pub stays : after ≡ before
   pub astray : page.level ≡ way.level → page.high ≡ None
 
-abbrev pub Meets : Page → Way → InsertOp → InsertOp → Result InsertStep Fault → Type 0
-Meets page way before after (Ok Going) = MeetsSplit page way before after
-Meets page way before after (Ok (Added action unfinished)) = ⊥
-Meets page way before after (Err fault) = MeetsNone page way before after fault
+abbrev pub MeetsPage : Page → Way → InsertOp → InsertOp → Result InsertStep Fault → Type 0
+MeetsPage page way before after (Ok Going) = MeetsSplit page way before after
+MeetsPage page way before after (Ok (Added action unfinished)) = ⊥
+MeetsPage page way before after (Err fault) = MeetsNone page way before after fault
 
 -- the leaf is taken: latched, and pinned
 pub record TakesLeaf (block : ℕ) (before after : InsertOp) (old new : State) : Type 0 where
@@ -168,9 +168,9 @@ PutsEntry page e old new (Added action unfinished) =
     (unfinished ≡ None) × EntryPut page e old new action
 
 -- it finishes splits
-abbrev pub IsFinishing : InsertAt → Type 0
-IsFinishing (Coming stage) = ⊥
-IsFinishing (Finishing op) = Unit {0}
+abbrev pub FinishesSplits : InsertAt → Type 0
+FinishesSplits (Coming stage) = ⊥
+FinishesSplits (Finishing op) = Unit {0}
 
 -- an insert whose entry is logged is over; one whose entry isn't starts again
 abbrev pub GoesOnFrom : Option ℕ → InsertOp → InsertOp → InsertStep → Type 0

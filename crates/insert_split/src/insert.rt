@@ -4,10 +4,10 @@ ghost use Rattle.std.specs.Prelude.{◌≡◌, Err, Ok, Some, None, IfSome, IfNo
 ghost use Rattle.index_model.specs.Faults.{HasCause};
 ghost use Rattle.latch_table.specs.Holdings.{HasRoom, latched, pinned};
 ghost use Rattle.page_action.specs.States.{Continues, with_table};
-ghost use Rattle.insert_split.specs.Inserts.{InsertSteps, IfUnfinished, AnswersStopped, where_inserting_any, where_left_any};
-ghost use Rattle.insert_split.specs.Turns.{Meets, Takes, IsFinishing, GoesOn, Leaves, IsRefusedRightly};
+ghost use Rattle.insert_split.specs.Inserts.{InsertSteps, IfUnfinished, AnswersStopped, causes_of_inserting_any, causes_of_left_any};
+ghost use Rattle.insert_split.specs.Turns.{MeetsPage, Takes, FinishesSplits, GoesOn, Leaves, IsRefusedRightly};
 
-use crate::room::place_in;
+use crate::leaf_act::place_in;
 use descent::{Onward, Way, lead, look, way_down};
 use index_model::{Entry, Fault, Session};
 use latch_table::Mode;
@@ -108,9 +108,9 @@ impl InsertOp {
         pages: &mut [Page; 3],
     ) -> Result<InsertStep, Fault>
         ensures all { InsertSteps S.PageStore self.old self.new store.old store.new result }
-        ensures faults { IfErr result (HasCause where_inserting_any) }
+        ensures faults { IfErr result (HasCause causes_of_inserting_any) }
         ensures quiet { IfUnfinished result (λ fault. S.state store.new ≡ S.state store.old) }
-        ensures left { IfUnfinished result (HasCause where_left_any) }
+        ensures left { IfUnfinished result (HasCause causes_of_left_any) }
         ensures logged { IsRefusedRightly self.old.added result }
     {
         if store.is_stopped() {
@@ -143,9 +143,9 @@ impl InsertOp {
         requires at { self.old.at ≡ InsertAt.Coming Stage.Start }
         requires alive { (S.backing store.old).stopped ≡ false }
         ensures all { InsertSteps S.PageStore self.old self.new store.old store.new result }
-        ensures faults { IfErr result (HasCause where_inserting_any) }
+        ensures faults { IfErr result (HasCause causes_of_inserting_any) }
         ensures quiet { IfUnfinished result (λ fault. S.state store.new ≡ S.state store.old) }
-        ensures left { IfUnfinished result (HasCause where_left_any) }
+        ensures left { IfUnfinished result (HasCause causes_of_left_any) }
     {
         match look(store, self.session, 0) {
             Ok(()) => {}
@@ -163,9 +163,9 @@ impl InsertOp {
         requires at { self.old.at ≡ InsertAt.Coming (Stage.At way) }
         requires alive { (S.backing store.old).stopped ≡ false }
         ensures all { InsertSteps S.PageStore self.old self.new store.old store.new result }
-        ensures faults { IfErr result (HasCause where_inserting_any) }
+        ensures faults { IfErr result (HasCause causes_of_inserting_any) }
         ensures quiet { IfUnfinished result (λ fault. S.state store.new ≡ S.state store.old) }
-        ensures left { IfUnfinished result (HasCause where_left_any) }
+        ensures left { IfUnfinished result (HasCause causes_of_left_any) }
     {
         match look(store, self.session, way.block) {
             Ok(()) => {}
@@ -193,8 +193,8 @@ impl InsertOp {
 
     // Finishes the split of a page that it met on its way.
     fn meet(&mut self, page: &Page, way: Way) -> Result<InsertStep, Fault>
-        ensures meets { Meets page.now way self.old self.new result }
-        ensures faults { IfErr result (HasCause where_inserting_any) }
+        ensures meets { MeetsPage page.now way self.old self.new result }
+        ensures faults { IfErr result (HasCause causes_of_inserting_any) }
     {
         match target_of(page, way) {
             Some(target) => {
@@ -212,7 +212,7 @@ impl InsertOp {
         ensures takes { HasRoom (S.state store.old).table self.old.session
             → Takes block self.old self.new (S.state store.old) (S.state store.new) result }
         ensures going { IfOk result (λ step. step ≡ InsertStep.Going) }
-        ensures faults { IfErr result (HasCause where_inserting_any) }
+        ensures faults { IfErr result (HasCause causes_of_inserting_any) }
         ensures taken { OnOk result ((S.state store.new ≡ with_table (S.state store.old)
             (pinned (latched (S.state store.old).table self.old.session block Mode.Exclusive)
             self.old.session block))
@@ -241,9 +241,9 @@ impl InsertOp {
         requires at { self.old.at ≡ InsertAt.Coming (Stage.Holding block) }
         requires alive { (S.backing store.old).stopped ≡ false }
         ensures all { InsertSteps S.PageStore self.old self.new store.old store.new result }
-        ensures faults { IfErr result (HasCause where_inserting_any) }
+        ensures faults { IfErr result (HasCause causes_of_inserting_any) }
         ensures quiet { IfUnfinished result (λ fault. S.state store.new ≡ S.state store.old) }
-        ensures left { IfUnfinished result (HasCause where_left_any) }
+        ensures left { IfUnfinished result (HasCause causes_of_left_any) }
     {
         match store.fetch(block) {
             Ok(()) => {}
@@ -270,12 +270,12 @@ impl InsertOp {
         store: &mut S,
         pages: &mut [Page; 3],
     ) -> Result<InsertStep, Fault>
-        requires at { IsFinishing self.old.at }
+        requires at { FinishesSplits self.old.at }
         requires alive { (S.backing store.old).stopped ≡ false }
         ensures all { InsertSteps S.PageStore self.old self.new store.old store.new result }
-        ensures faults { IfErr result (HasCause where_inserting_any) }
+        ensures faults { IfErr result (HasCause causes_of_inserting_any) }
         ensures quiet { IfUnfinished result (λ fault. S.state store.new ≡ S.state store.old) }
-        ensures left { IfUnfinished result (HasCause where_left_any) }
+        ensures left { IfUnfinished result (HasCause causes_of_left_any) }
         ensures logged { IsRefusedRightly self.old.added result }
     {
         let InsertAt::Finishing(op) = &mut self.at else {

@@ -3,7 +3,7 @@
 
 mod insert;
 mod laws;
-mod room;
+mod leaf_act;
 
 pub use insert::{InsertAt, InsertOp, InsertStep, Stage};
 pub use laws::{fresh_inserts_are_bounded, inserts_are_bounded, inserts_are_undisturbed};

@@ -93,7 +93,8 @@ before_all texts (Some bytes) (Some rest) before end =
 -- ---- answers
 
 -- these lines were answered, and this is left of the input
-pub record HasAnswered {D : Type 0} (d : DeviceGhosts D) (g : Ghosts (Store D d)) (is_in : Dead → Row → Bool) (input left : Option (List ℕ)) (old new : Index (Store D d)) (before after : Option (List ℕ)) : Type 0 where
+pub record HasAnswered {D : Type 0} (d : DeviceGhosts D) (g : Ghosts (Store D d)) (is_in : Dead → Row → Bool) (input left : Option (List ℕ))
+    (old new : Index (Store D d)) (before after : Option (List ℕ)) : Type 0 where
   pub texts : List (List ℕ)
   pub lines : AreBefore texts input left
   pub answers : AnswersEach d g is_in texts old new before after

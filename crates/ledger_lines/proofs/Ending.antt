@@ -38,8 +38,10 @@ module _ {D : Type 0} (d : DeviceGhosts D) (g : Ghosts (Store D d)) (last : Inde
   closes ended (Err fault) closed told cause = (last, inr (fault, told, cause))
 
 -- an index was opened, the lines were answered, and it was closed, where both went well
-pub serves_on : {D E : Type 0} (d : DeviceGhosts D) (g : Ghosts (Store D d)) (is_in : Dead → Row → Bool) (bytes : ℕ → List ℕ) (input before after : Option (List ℕ)) (opened last : Index (Store D d)) (device : D)
-    (ended : Result (Unit {0}) Fault) (written : Result ℕ Fault) (answered : Result (Unit {0}) E) → OnOk ended (IsOk written) → OnOk ended (IsOk answered) → OnOk written (IsClosed d g last device) → BeginsFrom d g bytes opened
+pub serves_on : {D E : Type 0} (d : DeviceGhosts D) (g : Ghosts (Store D d)) (is_in : Dead → Row → Bool) (bytes : ℕ → List ℕ)
+    (input before after : Option (List ℕ)) (opened last : Index (Store D d)) (device : D)
+    (ended : Result (Unit {0}) Fault) (written : Result ℕ Fault) (answered : Result (Unit {0}) E) → OnOk ended (IsOk written)
+    → OnOk ended (IsOk answered) → OnOk written (IsClosed d g last device) → BeginsFrom d g bytes opened
     → OnOk answered (AnswersAll d g is_in input opened last before after) → OnOk ended (Serves d g is_in bytes input before after device)
 serves_on d g is_in bytes input before after opened last device ended written answered w t closed begins answers =
     where_both ended written answered (IsClosed d g last device) (AnswersAll d g is_in input opened last before after) (Serves d g is_in bytes input before after device) w t closed answers

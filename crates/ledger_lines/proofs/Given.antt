@@ -22,7 +22,8 @@ pub record HasGiven {S : Type 0} (g : Ghosts S) (token : ScanToken) (count : ℕ
 
 module _ {S : Type 0} (g : Ghosts S) (token : ScanToken) where
   -- one more is given
-  pub gives_more : (given : List Entry) (entry : Entry) (old mid new : Index S) → GivesEach g token given old mid → IsGive g token (Ok (Some entry)) mid new → GivesEach g token (given ++ entry ∷ []) old new
+  pub gives_more : (given : List Entry) (entry : Entry) (old mid new : Index S) → GivesEach g token given old mid
+      → IsGive g token (Ok (Some entry)) mid new → GivesEach g token (given ++ entry ∷ []) old new
   gives_more [] entry old mid new none give = (new, subst (λ (i : Index S). IsGive g token (Ok (Some entry)) i new) none give, refl)
   gives_more (e ∷ given) entry old mid new more give = (more.0, more.1, gives_more given entry more.0 mid new more.2 give)
 

@@ -1,8 +1,8 @@
 -- The calls of an index that a ledger's lines make, each with what it answered.
 use Rattle.std.specs.Prelude.{◌≡◌, ◌≢◌, ◌⊎◌, ℕ, Bool, Option, Some, None, Result, Ok, Err, List, [], ◌∷◌, ◌++◌, length, flat_map, map}
 use Rattle.std.specs.Io.KnownBytes.{Appends}
-use Rattle.access_method.specs.Indexes.{AnswersScan, InsertsOrKeeps, IsCleanedUp, IsSweptOrLess, IndexCarries, IndexGoes, IndexMakes, NotOpenedFor, slots_with}
-use Rattle.access_method.specs.Counted.{kept_came}
+use Rattle.access_method.specs.Indexes.{AnswersScan, InsertsOrKeeps, IsCleanedUp, IsSweptOrLess, ForEachIndexHistory, IndexGoes, IndexMakes, NotOpenedFor, slots_with}
+use Rattle.access_method.specs.Counted.{upkeep_outcome}
 use Rattle.access_method.specs.declared.index.Index.{Index}
 use Rattle.access_method.specs.declared.token.ScanToken.{ScanToken}
 use Rattle.index_model.specs.Row.{Row}
@@ -20,9 +20,9 @@ use Rattle.session_calls.specs.declared.answer.Answer.TheVariants.{Begun}
 use Rattle.session_calls.specs.declared.request.Request.TheVariants.{Scan as ToScan}
 use Rattle.text_forms.specs.Printing.{given_text}
 use Rattle.text_forms.specs.Spelling.{row_text}
-use Rattle.whole_calls.specs.Giving.{give_came}
+use Rattle.whole_calls.specs.Giving.{given_outcome}
 use Rattle.whole_calls.specs.Made.{IsMadeOf, ComesTo, InsertComesTo}
-use Rattle.whole_calls.specs.Sweeping.{swept_came}
+use Rattle.whole_calls.specs.Sweeping.{sweep_outcome}
 use Rattle.whole_calls.specs.Telling.{HasBegun, IsSilent}
 use Rattle.whole_calls.specs.declared.inserted.Inserted.{Inserted}
 use Rattle.ledger_lines.specs.declared.dead.Dead.{Dead}
@@ -34,17 +34,17 @@ use Rattle.ledger_lines.specs.declared.reply.Reply.TheVariants.{Added, Deleted, 
 -- an insert of this entry answered so: whatever the pages are, by the answers of its events; and what that says of the contents
 pub record IsInsert {S : Type 0} (g : Ghosts S) (entry : Entry) (result : Result Inserted Fault) (old new : Index S) : Type 0 where
   pub made : IndexMakes g 63 (InsertComesTo result) old new
-  pub inserts : IndexCarries g old new (λ start history calls. InsertsOrKeeps g entry result old.store new.store)
+  pub inserts : ForEachIndexHistory g old new (λ start history calls. InsertsOrKeeps g entry result old.store new.store)
 
 -- ... a bulk delete of these rows
 pub record IsDelete {S : Type 0} (g : Ghosts S) (dead : Row → Bool) (result : Result VacuumStats Fault) (old new : Index S) : Type 0 where
-  pub made : IsMadeOf g 63 5 (ComesTo (swept_came result)) (slots_with dead old) (slots_with dead new)
-  pub deletes : IndexCarries g old new (λ start history calls. IsSweptOrLess g dead result old.store new.store)
+  pub made : IsMadeOf g 63 5 (ComesTo (sweep_outcome result)) (slots_with dead old) (slots_with dead new)
+  pub deletes : ForEachIndexHistory g old new (λ start history calls. IsSweptOrLess g dead result old.store new.store)
 
 -- ... a cleanup
 pub record IsCleanup {S : Type 0} (g : Ghosts S) (result : Result VacuumStats Fault) (old new : Index S) : Type 0 where
-  pub made : IndexMakes g 63 (ComesTo (swept_came result)) old new
-  pub cleans : IndexCarries g old new (λ start history calls. IsCleanedUp g result old.store new.store)
+  pub made : IndexMakes g 63 (ComesTo (sweep_outcome result)) old new
+  pub cleans : ForEachIndexHistory g old new (λ start history calls. IsCleanedUp g result old.store new.store)
 
 -- what an insert is replied with is what it answered
 abbrev pub InsertReplies : {S : Type 0} → Ghosts S → Entry → Index S → Index S → Reply → Type 0
@@ -76,25 +76,25 @@ VacuumReplies g old new (Refused fault) = IsCleanup g (Err fault) old new
 VacuumReplies g old new reply = ⊥
 
 -- all actions were made durable, by such a call, and so many there are
-pub record IsKept {S : Type 0} (g : Ghosts S) (came : Option Answer) (actions : ℕ) (old new : Index S) : Type 0 where
+pub record IsCommitted {S : Type 0} (g : Ghosts S) (came : Option Answer) (actions : ℕ) (old new : Index S) : Type 0 where
   pub runs : IndexGoes g 0 IsSilent came old new
   pub number : actions ≡ (g.state old.store).acts
 
 abbrev pub CommitReplies : {S : Type 0} → Ghosts S → Index S → Index S → Reply → Type 0
-CommitReplies g old new (Committed actions) = IsKept g (kept_came Forces (Ok actions)) actions old new
-CommitReplies g old new (Refused fault) = IndexGoes g 0 IsSilent (kept_came Forces (Err fault)) old new
+CommitReplies g old new (Committed actions) = IsCommitted g (upkeep_outcome Forces (Ok actions)) actions old new
+CommitReplies g old new (Refused fault) = IndexGoes g 0 IsSilent (upkeep_outcome Forces (Err fault)) old new
 CommitReplies g old new reply = ⊥
 
 abbrev pub CheckpointReplies : {S : Type 0} → Ghosts S → Index S → Index S → Reply → Type 0
-CheckpointReplies g old new (Checkpointed actions) = IsKept g (kept_came Checkpoints (Ok actions)) actions old new
-CheckpointReplies g old new (Refused fault) = IndexGoes g 0 IsSilent (kept_came Checkpoints (Err fault)) old new
+CheckpointReplies g old new (Checkpointed actions) = IsCommitted g (upkeep_outcome Checkpoints (Ok actions)) actions old new
+CheckpointReplies g old new (Refused fault) = IndexGoes g 0 IsSilent (upkeep_outcome Checkpoints (Err fault)) old new
 CheckpointReplies g old new reply = ⊥
 
 -- an open scan was asked for its next entry, and answered so
 pub record IsGive {S : Type 0} (g : Ghosts S) (token : ScanToken) (result : Result (Option Entry) Fault) (old new : Index S) : Type 0 where
-  pub made : op_of old.calls token.session ≢ None → IndexMakes g token.session (ComesTo (give_came result)) old new
+  pub made : op_of old.calls token.session ≢ None → IndexMakes g token.session (ComesTo (given_outcome result)) old new
   pub over : op_of old.calls token.session ≡ None → (result ≡ Ok None) × (new ≡ old)
-  pub answers : IndexCarries g old new (AnswersScan token.session result)
+  pub answers : ForEachIndexHistory g old new (AnswersScan token.session result)
 
 -- it gave these entries, one after the other
 abbrev pub GivesEach : {S : Type 0} → Ghosts S → ScanToken → List Entry → Index S → Index S → Type 0
@@ -119,22 +119,22 @@ pub record PrintsScan {S : Type 0} (g : Ghosts S) (token : ScanToken) (result : 
   pub ends : EndsScan g token (length given) result last new
 
 -- a scan of this range was opened, which runs then
-pub record IsBegun {S : Type 0} (g : Ghosts S) (range : Range) (token : ScanToken) (old opened : Index S) : Type 0 where
+pub record OpensScan {S : Type 0} (g : Ghosts S) (range : Range) (token : ScanToken) (old opened : Index S) : Type 0 where
   pub runs : IndexGoes g token.session (HasBegun token.session (ToScan range)) (Some Begun) old opened
   pub begins : op_of opened.calls token.session ≡ Some (op_before token.session (ToScan range))
 
 -- ... and what was printed is what it gave
-pub record Lists {S : Type 0} (g : Ghosts S) (range : Range) (result : Result ℕ Fault) (old : Index S) (before after : Option (List ℕ)) : Type 0 where
+pub record PrintsGiven {S : Type 0} (g : Ghosts S) (range : Range) (result : Result ℕ Fault) (old : Index S) (before after : Option (List ℕ)) : Type 0 where
   pub token : ScanToken
   pub opened : Index S
   pub closed : Index S
-  pub begun : IsBegun g range token old opened
+  pub begun : OpensScan g range token old opened
   pub prints : PrintsScan g token result opened closed before after
 
 -- what a list is replied with is how many entries were printed, or what refused it; or no scan could be opened, and nothing was printed
 abbrev pub ListReplies : {S : Type 0} → Ghosts S → Range → Index S → Option (List ℕ) → Option (List ℕ) → Reply → Type 0
-ListReplies g range old before after (Listed count) = Lists g range (Ok count) old before after
-ListReplies g range old before after (Refused fault) = Lists g range (Err fault) old before after ⊎ (NotOpenedFor g old fault × (after ≡ before))
+ListReplies g range old before after (Listed count) = PrintsGiven g range (Ok count) old before after
+ListReplies g range old before after (Refused fault) = PrintsGiven g range (Err fault) old before after ⊎ (NotOpenedFor g old fault × (after ≡ before))
 ListReplies g range old before after reply = ⊥
 
 -- what each line is replied with is what its calls answered

@@ -7,35 +7,35 @@ use Rattle.ledger_lines.specs.declared.line.Line.{Line}
 use Rattle.ledger_lines.specs.declared.line.Line.TheVariants.{Insert, Delete, List as ListOf, Vacuum, Checkpoint, Commit}
 
 -- the words of a line
-abbrev pub line_words : Line → List (List ℕ)
-line_words (Insert entry) = codes "insert" ∷ entry_words entry
-line_words (Delete rows) = codes "delete" ∷ rows
-line_words (ListOf range) = codes "list" ∷ range_words range
-line_words Vacuum = codes "vacuum" ∷ []
-line_words Checkpoint = codes "checkpoint" ∷ []
-line_words Commit = codes "commit" ∷ []
+abbrev pub ledger_words : Line → List (List ℕ)
+ledger_words (Insert entry) = codes "insert" ∷ entry_words entry
+ledger_words (Delete rows) = codes "delete" ∷ rows
+ledger_words (ListOf range) = codes "list" ∷ range_words range
+ledger_words Vacuum = codes "vacuum" ∷ []
+ledger_words Checkpoint = codes "checkpoint" ∷ []
+ledger_words Commit = codes "commit" ∷ []
 
 -- the values of a line are in their ranges: keys of at most 64 bytes, rows that there are
-abbrev pub HasValues : Line → Type 0
-HasValues (Insert entry) = IsEntryOfBytes entry
-HasValues (Delete rows) = AreRows rows
-HasValues (ListOf range) = IsRangeOfBytes range
-HasValues Vacuum = ⊤
-HasValues Checkpoint = ⊤
-HasValues Commit = ⊤
+abbrev pub HasLedgerValues : Line → Type 0
+HasLedgerValues (Insert entry) = IsEntryOfBytes entry
+HasLedgerValues (Delete rows) = AreRows rows
+HasLedgerValues (ListOf range) = IsRangeOfBytes range
+HasLedgerValues Vacuum = ⊤
+HasLedgerValues Checkpoint = ⊤
+HasLedgerValues Commit = ⊤
 
 -- the names of the lines of one word
 abbrev pub is_alone : List ℕ → Bool
 is_alone name = is_one_of name (codes "vacuum" ∷ codes "checkpoint" ∷ codes "commit" ∷ [])
 
 -- what a line of this name with these words behind it is refused with: it has its form, but a key or a row that there isn't
-abbrev pub AreNoValues : Fault → List ℕ → List (List ℕ) → Type 0
-AreNoValues fault name words = ((name ≡ codes "insert") × AreNoEntry fault words [])
+abbrev pub LedgerValuesFail : Fault → List ℕ → List (List ℕ) → Type 0
+LedgerValuesFail fault name words = ((name ≡ codes "insert") × AreNoEntry fault words [])
     ⊎ (((name ≡ codes "list") × AreNoRange fault words []) ⊎ ((name ≡ codes "delete") × AreNoRows fault words))
 
 -- what a line of these words is refused with
-pub record AreRefused (fault : Fault) (words : List (List ℕ)) : Type 0 where
+pub record LedgerLineFails (fault : Fault) (words : List (List ℕ)) : Type 0 where
   pub name : List ℕ
   pub values : List (List ℕ)
-  pub is : AreNoValues fault name values
+  pub is : LedgerValuesFail fault name values
   pub spelled : words ≡ name ∷ values

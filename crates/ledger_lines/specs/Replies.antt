@@ -51,7 +51,7 @@ reply_text (Refused fault) = refusal_text fault
 reply_text NotALine = codes "not a line"
 
 -- where a reply says how many actions are durable, so many are
-abbrev pub IsDurable : {S : Type 0} → Ghosts S → Index S → Reply → Type 0
-IsDurable g index (Checkpointed actions) = (g.backing index.store).durable ≡ actions
-IsDurable g index (Committed actions) = (g.backing index.store).durable ≡ actions
-IsDurable g index reply = ⊤
+abbrev pub ReplyIsDurable : {S : Type 0} → Ghosts S → Index S → Reply → Type 0
+ReplyIsDurable g index (Checkpointed actions) = (g.backing index.store).durable ≡ actions
+ReplyIsDurable g index (Committed actions) = (g.backing index.store).durable ≡ actions
+ReplyIsDurable g index reply = ⊤

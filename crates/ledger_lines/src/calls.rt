@@ -6,8 +6,8 @@ ghost use Rattle.access_method.specs.Tokens.{seat_of};
 ghost use Rattle.text_forms.specs.Values.{AreRows};
 ghost use Rattle.ledger_lines.specs.Calls.{CheckpointReplies, CommitReplies, DeleteReplies, InsertReplies, ListReplies, PrintsScan, Replies, VacuumReplies};
 ghost use Rattle.ledger_lines.specs.Files.{IsOnDisk};
-ghost use Rattle.ledger_lines.specs.Lines.{HasValues};
-ghost use Rattle.ledger_lines.specs.Replies.{IsDurable};
+ghost use Rattle.ledger_lines.specs.Lines.{HasLedgerValues};
+ghost use Rattle.ledger_lines.specs.Replies.{ReplyIsDurable};
 
 use crate::dead::{Dead, listed};
 use crate::line::Line;
@@ -31,9 +31,9 @@ pub fn call<D: Device, W: Write>(
 ) -> io::Result<Reply>
     ensures stands { IfOk result
         (IsOnDisk D.Device ⟦<Store<D> as PageStore>⟧ index.old index.new) }
-    ensures durable { IfOk result (IsDurable ⟦<Store<D> as PageStore>⟧ index.new) }
+    ensures durable { IfOk result (ReplyIsDurable ⟦<Store<D> as PageStore>⟧ index.new) }
     // What it is replied with is what the index's calls answered, and what a list prints is what its scan gave.
-    ensures replies { HasValues line.entry → IfOk result
+    ensures replies { HasLedgerValues line.entry → IfOk result
         (Replies ⟦<Store<D> as PageStore>⟧ ⟦<Dead as DeadRows>⟧.is_in line.entry
         index.old index.new (W.contents out.old) (W.contents out.new)) }
 {
@@ -50,7 +50,7 @@ pub fn call<D: Device, W: Write>(
 // Adds an entry.
 fn insert<D: Device>(index: &mut Index<Store<D>>, entry: Entry) -> Reply
     ensures stands { IsOnDisk D.Device ⟦<Store<D> as PageStore>⟧ index.old index.new result }
-    ensures durable { IsDurable ⟦<Store<D> as PageStore>⟧ index.new result }
+    ensures durable { ReplyIsDurable ⟦<Store<D> as PageStore>⟧ index.new result }
     ensures replies { InsertReplies ⟦<Store<D> as PageStore>⟧ entry index.old index.new result }
 {
     match index.aminsert(entry) {
@@ -62,7 +62,7 @@ fn insert<D: Device>(index: &mut Index<Store<D>>, entry: Entry) -> Reply
 // Deletes all entries with one of these rows. Refused with `NoMemory` (1) where there is no memory for them: nothing is changed.
 fn delete<D: Device>(alloc: Global, index: &mut Index<Store<D>>, rows: Rows<'_>) -> Reply
     ensures stands { IsOnDisk D.Device ⟦<Store<D> as PageStore>⟧ index.old index.new result }
-    ensures durable { IsDurable ⟦<Store<D> as PageStore>⟧ index.new result }
+    ensures durable { ReplyIsDurable ⟦<Store<D> as PageStore>⟧ index.new result }
     ensures replies { AreRows rows.entry → DeleteReplies ⟦<Store<D> as PageStore>⟧
         ⟦<Dead as DeadRows>⟧.is_in rows.entry index.old index.new result }
 {
@@ -78,7 +78,7 @@ fn delete<D: Device>(alloc: Global, index: &mut Index<Store<D>>, rows: Rows<'_>)
 // Deletes empty leaves, and counts what is there.
 fn vacuum<D: Device>(index: &mut Index<Store<D>>) -> Reply
     ensures stands { IsOnDisk D.Device ⟦<Store<D> as PageStore>⟧ index.old index.new result }
-    ensures durable { IsDurable ⟦<Store<D> as PageStore>⟧ index.new result }
+    ensures durable { ReplyIsDurable ⟦<Store<D> as PageStore>⟧ index.new result }
     ensures replies { VacuumReplies ⟦<Store<D> as PageStore>⟧ index.old index.new result }
 {
     match index.amvacuumcleanup() {
@@ -90,7 +90,7 @@ fn vacuum<D: Device>(index: &mut Index<Store<D>>) -> Reply
 // Makes all that was done durable, and writes all pages to their places.
 fn checkpoint<D: Device>(index: &mut Index<Store<D>>) -> Reply
     ensures stands { IsOnDisk D.Device ⟦<Store<D> as PageStore>⟧ index.old index.new result }
-    ensures durable { IsDurable ⟦<Store<D> as PageStore>⟧ index.new result }
+    ensures durable { ReplyIsDurable ⟦<Store<D> as PageStore>⟧ index.new result }
     ensures replies { CheckpointReplies ⟦<Store<D> as PageStore>⟧ index.old index.new result }
 {
     match index.checkpoint() {
@@ -102,7 +102,7 @@ fn checkpoint<D: Device>(index: &mut Index<Store<D>>) -> Reply
 // Makes all that was done durable.
 fn commit<D: Device>(index: &mut Index<Store<D>>) -> Reply
     ensures stands { IsOnDisk D.Device ⟦<Store<D> as PageStore>⟧ index.old index.new result }
-    ensures durable { IsDurable ⟦<Store<D> as PageStore>⟧ index.new result }
+    ensures durable { ReplyIsDurable ⟦<Store<D> as PageStore>⟧ index.new result }
     ensures replies { CommitReplies ⟦<Store<D> as PageStore>⟧ index.old index.new result }
 {
     match index.commit() {
@@ -119,7 +119,7 @@ fn list<D: Device, W: Write>(
 ) -> io::Result<Reply>
     ensures stands { IfOk result
         (IsOnDisk D.Device ⟦<Store<D> as PageStore>⟧ index.old index.new) }
-    ensures durable { IfOk result (IsDurable ⟦<Store<D> as PageStore>⟧ index.new) }
+    ensures durable { IfOk result (ReplyIsDurable ⟦<Store<D> as PageStore>⟧ index.new) }
     ensures replies { IfOk result (ListReplies ⟦<Store<D> as PageStore>⟧ range index.old
         (W.contents out.old) (W.contents out.new)) }
 {

@@ -3,7 +3,7 @@
 
 mod calls;
 mod dead;
-mod held;
+mod index_file;
 mod line;
 mod program;
 mod reply;

@@ -5,7 +5,7 @@ ghost use Rattle.index_model.specs.declared.entry.Entry.{Entry as TheEntry};
 ghost use Rattle.index_model.specs.declared.range.Range.{Range as TheRange};
 ghost use Rattle.text_forms.specs.Spelling.{words_of};
 ghost use Rattle.text_forms.specs.Values.{entry_words, range_words, IsEntryOfBytes, IsRangeOfBytes, AreRows};
-ghost use Rattle.ledger_lines.specs.Lines.{line_words, HasValues, AreNoValues, AreRefused, is_alone};
+ghost use Rattle.ledger_lines.specs.Lines.{ledger_words, HasLedgerValues, LedgerValuesFail, LedgerLineFails, is_alone};
 
 use index_model::{Entry, Fault, Range};
 use text_forms::{Rows, Words, all_rows, entry, is_word, range};
@@ -25,12 +25,12 @@ pub enum Line<'a> {
 /// The line that a text spells. None where it has no form of a line; refused with `KeyTooLong` (6) or `BadRow` (7) where it has,
 /// but there is no such key, or else no such row.
 pub fn parse(text: &[u8]) -> Option<Result<Line<'_>, Fault>>
-    ensures ok { IfSome result (λ read. IfOk read (λ line. words_of text.now ≡ line_words line)) }
-    ensures valid { IfSome result (λ read. IfOk read HasValues) }
-    ensures only { (line : Line) → HasValues line → words_of text.now ≡ line_words line
+    ensures ok { IfSome result (λ read. IfOk read (λ line. words_of text.now ≡ ledger_words line)) }
+    ensures valid { IfSome result (λ read. IfOk read HasLedgerValues) }
+    ensures only { (line : Line) → HasLedgerValues line → words_of text.now ≡ ledger_words line
         → result ≡ Some (Ok line) }
     ensures refused { (fault : Fault) → result ≡ Some (Err fault)
-        → AreRefused fault (words_of text.now) }
+        → LedgerLineFails fault (words_of text.now) }
 {
     let mut words = Words::new(text);
     let line = read(&mut words)?;
@@ -39,12 +39,12 @@ pub fn parse(text: &[u8]) -> Option<Result<Line<'_>, Fault>>
 
 fn read<'a>(words: &mut Words<'a>) -> Option<Result<Line<'a>, Fault>>
     ensures ok { (line : Line) → result ≡ Some (Ok line)
-        → words.old ≡ line_words line ++ words.new }
-    ensures valid { IfSome result (λ read. IfOk read HasValues) }
-    ensures only { (line : Line) → HasValues line → words.old ≡ line_words line
+        → words.old ≡ ledger_words line ++ words.new }
+    ensures valid { IfSome result (λ read. IfOk read HasLedgerValues) }
+    ensures only { (line : Line) → HasLedgerValues line → words.old ≡ ledger_words line
         → (result ≡ Some (Ok line)) × (words.new ≡ []) }
     ensures refused { (fault : Fault) → result ≡ Some (Err fault) → words.new ≡ []
-        → AreRefused fault words.old }
+        → LedgerLineFails fault words.old }
 {
     let name = words.next()?;
     if let Some(line) = alone(name) {
@@ -55,8 +55,8 @@ fn read<'a>(words: &mut Words<'a>) -> Option<Result<Line<'a>, Fault>>
 
 // A line of one word.
 fn alone(name: &[u8]) -> Option<Line<'static>>
-    ensures found { IfSome result (λ line. name.now ∷ [] ≡ line_words line) }
-    ensures valid { IfSome result HasValues }
+    ensures found { IfSome result (λ line. name.now ∷ [] ≡ ledger_words line) }
+    ensures valid { IfSome result HasLedgerValues }
     ensures vacuum { name.now ≡ codes "vacuum" → result ≡ Some Line.Vacuum }
     ensures checkpoint { name.now ≡ codes "checkpoint" → result ≡ Some Line.Checkpoint }
     ensures commit { name.now ≡ codes "commit" → result ≡ Some Line.Commit }
@@ -77,8 +77,8 @@ fn alone(name: &[u8]) -> Option<Line<'static>>
 // A line of an entry, a range or rows.
 fn with_values<'a>(name: &[u8], words: &mut Words<'a>) -> Option<Result<Line<'a>, Fault>>
     ensures ok { (line : Line) → result ≡ Some (Ok line)
-        → name.now ∷ words.old ≡ line_words line ++ words.new }
-    ensures valid { IfSome result (λ read. IfOk read HasValues) }
+        → name.now ∷ words.old ≡ ledger_words line ++ words.new }
+    ensures valid { IfSome result (λ read. IfOk read HasLedgerValues) }
     ensures insert { (entry : TheEntry) → IsEntryOfBytes entry → name.now ≡ codes "insert"
         → words.old ≡ entry_words entry
         → (result ≡ Some (Ok (Line.Insert entry))) × (words.new ≡ []) }
@@ -88,7 +88,7 @@ fn with_values<'a>(name: &[u8], words: &mut Words<'a>) -> Option<Result<Line<'a>
         → words.old ≡ range_words range
         → (result ≡ Some (Ok (Line.List range))) × (words.new ≡ []) }
     ensures refused { (fault : Fault) → result ≡ Some (Err fault) → words.new ≡ []
-        → AreNoValues fault name.now words.old }
+        → LedgerValuesFail fault name.now words.old }
 {
     if is_word(name, b"insert") {
         return Some(entry(words)?.map(|entry| Line::Insert(entry)));

@@ -4,7 +4,7 @@ ghost use Rattle.std.specs.Prelude.{◌≡◌, ◌≤◌, length, map, slice_get
 ghost use Rattle.ledger_lines.specs.Sessions.{Closes, Serves};
 
 use crate::dead::Dead;
-use crate::held::open;
+use crate::index_file::open;
 use crate::reply::print_refused;
 use crate::session::answer_lines;
 use access_method::in_file;

@@ -2,7 +2,7 @@
 
 ghost use Rattle.std.specs.Prelude.{IfOk, OnOk};
 ghost use Rattle.ledger_lines.specs.Files.{IsOnDisk};
-ghost use Rattle.ledger_lines.specs.Replies.{IsDurable};
+ghost use Rattle.ledger_lines.specs.Replies.{ReplyIsDurable};
 ghost use Rattle.ledger_lines.specs.Sessions.{Answers, AnswersAll, RepliesTo};
 
 use crate::calls::call;
@@ -68,7 +68,7 @@ fn reply_to<D: Device, W: Write>(
         text.now index.old index.new (W.contents out.old) (W.contents out.new)) }
     ensures stands { IfOk result
         (IsOnDisk D.Device ⟦<Store<D> as PageStore>⟧ index.old index.new) }
-    ensures durable { IfOk result (IsDurable ⟦<Store<D> as PageStore>⟧ index.new) }
+    ensures durable { IfOk result (ReplyIsDurable ⟦<Store<D> as PageStore>⟧ index.new) }
 {
     match parse(text) {
         Some(Ok(line)) => call(alloc, index, line, out),

@@ -29,8 +29,8 @@ pub record SpellsEntry (ask : Ask) (entry : Entry) : Type 0 where
   pub valid : IsRow entry.row
 
 -- it spells none, and that is its fault: the key is too long, or else there is no such row
-abbrev pub IsNoEntry : Ask → Fault → Type 0
-IsNoEntry ask fault = ((fault ≡ KeyTooLong) × (64 < ask.len)) ⊎ ((fault ≡ BadRow) × (ask.len ≤ 64) × (IsRow (row_asked ask) → ⊥))
+abbrev pub SpellsNoEntry : Ask → Fault → Type 0
+SpellsNoEntry ask fault = ((fault ≡ KeyTooLong) × (64 < ask.len)) ⊎ ((fault ≡ BadRow) × (ask.len ≤ 64) × (IsRow (row_asked ask) → ⊥))
 
 -- the range begins at a key, and ends below one
 abbrev pub has_from : Ask → Bool
@@ -52,5 +52,5 @@ pub record SpellsRange (ask : Ask) (range : Range) : Type 0 where
   pub below_fits : has_below ask ≡ true → ask.below_len ≤ 64
 
 -- it spells none, since an end is too long
-abbrev pub IsNoRange : Ask → Fault → Type 0
-IsNoRange ask fault = (fault ≡ KeyTooLong) × (((has_from ask ≡ true) × (64 < ask.len)) ⊎ ((has_below ask ≡ true) × (64 < ask.below_len)))
+abbrev pub SpellsNoRange : Ask → Fault → Type 0
+SpellsNoRange ask fault = (fault ≡ KeyTooLong) × (((has_from ask ≡ true) × (64 < ask.len)) ⊎ ((has_below ask ≡ true) × (64 < ask.below_len)))

@@ -26,7 +26,7 @@ pub record IsCheckRefusal (fault : Fault) (checked : Checked) : Type 0 where
   pub page : checked.page ≡ page_of fault
   pub no_damage : checked.damage ≡ 0
 
-pub record TellsReport (report : Report) (checked : Checked) : Type 0 where
+pub record CheckTellsReport (report : Report) (checked : Checked) : Type 0 where
   pub status : checked.status ≡ 0
   pub no_damage : checked.damage ≡ 0
   pub entries : checked.entries ≡ report.entries
@@ -36,26 +36,26 @@ pub record TellsReport (report : Report) (checked : Checked) : Type 0 where
   pub deleted : checked.deleted ≡ report.deleted
   pub unfinished : checked.unfinished ≡ report.unfinished
 
-pub record TellsDamage (number block : ℕ) (checked : Checked) : Type 0 where
+pub record CheckTellsDamage (number block : ℕ) (checked : Checked) : Type 0 where
   pub status : checked.status ≡ 0
   pub damage : checked.damage ≡ number
   pub at : checked.block ≡ block
 
 -- what the verifier answered is told: the report, the damage, or the refusal
 abbrev pub TellsCheck : Result Report CheckFault → Checked → Type 0
-TellsCheck (Ok report) checked = TellsReport report checked
-TellsCheck (Err (Damage number block)) checked = TellsDamage number block checked
+TellsCheck (Ok report) checked = CheckTellsReport report checked
+TellsCheck (Err (Damage number block)) checked = CheckTellsDamage number block checked
 TellsCheck (Err (Refused fault)) checked = IsCheckRefusal fault checked
 
 -- a file, which held these bytes for each length that it might have, is opened with the pages of its index
-abbrev pub IsOpened : {D : Type 0} (d : DeviceGhosts D) → (ℕ → List ℕ) → Store D d → Type 0
-IsOpened d held store = IsTrue (d.is_honest (device_of d store)) → (limits : Format) (pages : List Page)
+abbrev pub IsOpenedForCheck : {D : Type 0} (d : DeviceGhosts D) → (ℕ → List ℕ) → Store D d → Type 0
+IsOpenedForCheck d held store = IsTrue (d.is_honest (device_of d store)) → (limits : Format) (pages : List Page)
     → HasIndex limits pages (bytes_before held (d.trace (device_of d store))) → IsSameIndex d limits pages store
 
 -- The index in the file was opened and judged, and what the verifier answered is told: of its pages, which it has left as they were.
 pub record IsJudged {D : Type 0} (d : DeviceGhosts D) (g : Ghosts (Store D d)) (held : ℕ → List ℕ) (checked : Checked) : Type 0 where
   pub store : Store D d
-  pub opened : IsOpened d held store
+  pub opened : IsOpenedForCheck d held store
   pub last : Store D d
   pub steps : Continues g.follows store last
   pub state_is : g.state last ≡ g.state store

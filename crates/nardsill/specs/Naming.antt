@@ -15,5 +15,5 @@ is_in_set None row = false
 is_in_set (Some rows) row = contains row_cmp rows row
 
 -- the row is one of those that were named
-abbrev pub is_named : Dead → Row → Bool
-is_named dead row = is_in_set dead.rows row
+abbrev pub is_dead_row : Dead → Row → Bool
+is_dead_row dead row = is_in_set dead.rows row

@@ -1,8 +1,8 @@
 -- What a call of C's does, and what its answer means.
 use Rattle.std.specs.Prelude.{◌≡◌, ◌≢◌, ◌⊎◌, ◌||◌, ℕ, true, false, Option, Some, None, IsSome, Result, Ok, Err, IfOk, IfErr, OnOk, OnErr, ⊤}
-use Rattle.access_method.specs.Counted.{kept_came}
-use Rattle.access_method.specs.Indexes.{IndexCarries, IndexGoes, IndexInserts, IndexMakes, InsertsOrKeeps, IsCleanedUp, IsNewToken, IsSweptOrLess, KeepsTokens, NotOpenedFor, NotRescannedFor, RescanTold, SeatBecomes, SweepRuns, seat_with, slots_with}
-use Rattle.access_method.specs.Refusals.{InsertHasCause, where_run}
+use Rattle.access_method.specs.Counted.{upkeep_outcome}
+use Rattle.access_method.specs.Indexes.{ForEachIndexHistory, IndexGoes, IndexInserts, IndexMakes, InsertsOrKeeps, IsCleanedUp, IsNewToken, IsSweptOrLess, KeepsTokens, NotOpenedFor, NotRescannedFor, RescanTold, SeatBecomes, SweepRuns, seat_with, slots_with}
+use Rattle.access_method.specs.Refusals.{InsertHasCause, causes_of_run}
 use Rattle.access_method.specs.Tokens.{seat_of}
 use Rattle.access_method.specs.declared.index.Index.{Index}
 use Rattle.access_method.specs.declared.token.ScanToken.{ScanToken}
@@ -13,7 +13,7 @@ use Rattle.index_model.specs.declared.fault.Fault.{Fault}
 use Rattle.index_model.specs.declared.fault.Fault.TheVariants.{NoMemory, BadRow, NoSession}
 use Rattle.index_model.specs.declared.range.Range.{Range}
 use Rattle.index_model.specs.declared.stats.VacuumStats.{VacuumStats}
-use Rattle.page_action.specs.Causes.{where_forced}
+use Rattle.page_action.specs.Causes.{causes_of_forced}
 use Rattle.page_action.specs.States.{Continues}
 use Rattle.page_action.specs.declared.page_store.PageStore.{Ghosts}
 use Rattle.schedule.specs.Sessions.{op_of}
@@ -22,12 +22,12 @@ use Rattle.session_calls.specs.Ops.{op_before}
 use Rattle.session_calls.specs.declared.answer.Answer.TheVariants.{Begun}
 use Rattle.session_calls.specs.declared.request.Request.TheVariants.{Scan as ToScan, Cleanup as ToCleanup}
 use Rattle.whole_calls.specs.Made.{ComesTo, InsertComesTo, IsMadeOf}
-use Rattle.whole_calls.specs.Sweeping.{SweepTold, swept_came}
+use Rattle.whole_calls.specs.Sweeping.{SweepTold, sweep_outcome}
 use Rattle.whole_calls.specs.Telling.{HasBegun, IsSilent, TellsEnd}
 use Rattle.whole_calls.specs.declared.inserted.Inserted.{Inserted}
-use Rattle.nardsill.specs.Asking.{IsNoEntry, IsNoRange, SpellsEntry, SpellsRange, row_asked, token_asked}
-use Rattle.nardsill.specs.Naming.{is_named, same_row}
-use Rattle.nardsill.specs.Telling.{IsRefusal, Tells, TellsDurable, TellsInserted, TellsStats, TellsToken}
+use Rattle.nardsill.specs.Asking.{SpellsNoEntry, SpellsNoRange, SpellsEntry, SpellsRange, row_asked, token_asked}
+use Rattle.nardsill.specs.Naming.{is_dead_row, same_row}
+use Rattle.nardsill.specs.Telling.{AnswersFault, Tells, TellsDurable, TellsInserted, SpellsStats, TellsToken}
 use Rattle.nardsill.specs.declared.answer.Answer.{Answer}
 use Rattle.nardsill.specs.declared.ask.Ask.{Ask}
 use Rattle.nardsill.specs.declared.dead.Dead.{Dead}
@@ -36,7 +36,7 @@ use Rattle.nardsill.specs.declared.dead.Dead.{Dead}
 pub record IsMisspelled {S : Type 0} (IsNone : Fault → Type 0) (answer : Answer) (old new : Index S) : Type 0 where
   pub fault : Fault
   pub is_none : IsNone fault
-  pub refused : IsRefusal fault answer
+  pub refused : AnswersFault fault answer
   pub same : new ≡ old
 
 -- the entry that is spelled was asked to be inserted: with all that the index promises of that
@@ -47,12 +47,12 @@ pub record Inserts {S : Type 0} (g : Ghosts S) (ask : Ask) (answer : Answer) (ol
   pub told : Tells TellsInserted outcome answer
   pub runs : IndexInserts g 63 entry outcome old new
   pub made : IndexMakes g 63 (InsertComesTo outcome) old new
-  pub does : IndexCarries g old new (λ start history calls. InsertsOrKeeps g entry outcome old.store new.store)
-  pub cause : IndexCarries g old new (λ start history calls. InsertHasCause g entry outcome old new.store)
+  pub does : ForEachIndexHistory g old new (λ start history calls. InsertsOrKeeps g entry outcome old.store new.store)
+  pub cause : ForEachIndexHistory g old new (λ start history calls. InsertHasCause g entry outcome old new.store)
   pub tokens : KeepsTokens old new
 
 -- a scan of the range that is spelled was asked for
-pub record Begins {S : Type 0} (g : Ghosts S) (ask : Ask) (answer : Answer) (old new : Index S) : Type 0 where
+pub record BeginsScan {S : Type 0} (g : Ghosts S) (ask : Ask) (answer : Answer) (old new : Index S) : Type 0 where
   pub range : Range
   pub spelled : SpellsRange ask range
   pub outcome : Result ScanToken Fault
@@ -80,7 +80,7 @@ pub record BeginsAgain {S : Type 0} (g : Ghosts S) (ask : Ask) (answer : Answer)
   pub cause : IfErr outcome (NotRescannedFor g old (token_asked ask))
 
 -- ... was to be closed: refused only where it isn't open
-pub record Closes {S : Type 0} (g : Ghosts S) (ask : Ask) (answer : Answer) (old new : Index S) : Type 0 where
+pub record ClosesHandle {S : Type 0} (g : Ghosts S) (ask : Ask) (answer : Answer) (old new : Index S) : Type 0 where
   pub outcome : Result (Unit {0}) Fault
   pub told : Tells TellsNothing outcome answer
   pub runs : OnOk outcome (IndexGoes g ask.session (TellsEnd ask.session) None old new)
@@ -91,38 +91,38 @@ pub record Closes {S : Type 0} (g : Ghosts S) (ask : Ask) (answer : Answer) (old
 -- a row was named beside those that were; or none is named any more, as it is no row, or there is no memory
 abbrev pub Names : Ask → Answer → Dead → Dead → Type 0
 Names ask answer old new =
-    (IsRow (row_asked ask) × (answer.status ≡ 0) × ((row : Row) → is_named new row ≡ (same_row (row_asked ask) row || is_named old row)))
-    ⊎ ((IsRow (row_asked ask) → ⊥) × IsRefusal BadRow answer × (new.rows ≡ None))
-    ⊎ (IsRow (row_asked ask) × IsRefusal NoMemory answer × (new.rows ≡ None))
+    (IsRow (row_asked ask) × (answer.status ≡ 0) × ((row : Row) → is_dead_row new row ≡ (same_row (row_asked ask) row || is_dead_row old row)))
+    ⊎ ((IsRow (row_asked ask) → ⊥) × AnswersFault BadRow answer × (new.rows ≡ None))
+    ⊎ (IsRow (row_asked ask) × AnswersFault NoMemory answer × (new.rows ≡ None))
 
 -- all entries of the rows that were named were to be deleted
 pub record Deletes {S : Type 0} (g : Ghosts S) (dead : Dead) (answer : Answer) (old new : Index S) : Type 0 where
   pub outcome : Result VacuumStats Fault
-  pub told : Tells TellsStats outcome answer
-  pub runs : IndexCarries g old new (SweepRuns g (is_named dead) outcome old new)
-  pub made : IsMadeOf g 63 5 (ComesTo (swept_came outcome)) (slots_with (is_named dead) old) (slots_with (is_named dead) new)
-  pub does : IndexCarries g old new (λ start history calls. IsSweptOrLess g (is_named dead) outcome old.store new.store)
-  pub cause : IndexCarries g old new (λ start history calls. IfErr outcome (HasCause (where_run g 63 old new.store)))
+  pub told : Tells SpellsStats outcome answer
+  pub runs : ForEachIndexHistory g old new (SweepRuns g (is_dead_row dead) outcome old new)
+  pub made : IsMadeOf g 63 5 (ComesTo (sweep_outcome outcome)) (slots_with (is_dead_row dead) old) (slots_with (is_dead_row dead) new)
+  pub does : ForEachIndexHistory g old new (λ start history calls. IsSweptOrLess g (is_dead_row dead) outcome old.store new.store)
+  pub cause : ForEachIndexHistory g old new (λ start history calls. IfErr outcome (HasCause (causes_of_run g 63 old new.store)))
   pub tokens : KeepsTokens old new
 
 -- empty leaves were to be deleted
-pub record CleansUp {S : Type 0} (g : Ghosts S) (answer : Answer) (old new : Index S) : Type 0 where
+pub record CleansIndex {S : Type 0} (g : Ghosts S) (answer : Answer) (old new : Index S) : Type 0 where
   pub outcome : Result VacuumStats Fault
-  pub told : Tells TellsStats outcome answer
-  pub runs : IndexGoes g 63 (SweepTold 63 ToCleanup outcome) (swept_came outcome) old new
-  pub made : IndexMakes g 63 (ComesTo (swept_came outcome)) old new
-  pub does : IndexCarries g old new (λ start history calls. IsCleanedUp g outcome old.store new.store)
-  pub cause : IndexCarries g old new (λ start history calls. IfErr outcome (HasCause (where_run g 63 old new.store)))
+  pub told : Tells SpellsStats outcome answer
+  pub runs : IndexGoes g 63 (SweepTold 63 ToCleanup outcome) (sweep_outcome outcome) old new
+  pub made : IndexMakes g 63 (ComesTo (sweep_outcome outcome)) old new
+  pub does : ForEachIndexHistory g old new (λ start history calls. IsCleanedUp g outcome old.store new.store)
+  pub cause : ForEachIndexHistory g old new (λ start history calls. IfErr outcome (HasCause (causes_of_run g 63 old new.store)))
   pub tokens : KeepsTokens old new
 
 -- all actions were to be made durable, by a commit or a checkpoint
 pub record MakesDurable {S : Type 0} (g : Ghosts S) (upkeep : Upkeep) (answer : Answer) (old new : Index S) : Type 0 where
   pub outcome : Result ℕ Fault
   pub told : Tells TellsDurable outcome answer
-  pub runs : IndexGoes g 0 IsSilent (kept_came upkeep outcome) old new
+  pub runs : IndexGoes g 0 IsSilent (upkeep_outcome upkeep outcome) old new
   pub number : IfOk outcome (λ n. n ≡ (g.state old.store).acts)
   pub durable : OnOk outcome ((g.backing new.store).durable ≡ (g.state old.store).acts)
-  pub cause : IfErr outcome (HasCause (where_forced (g.backing old.store) (g.backing new.store)))
+  pub cause : IfErr outcome (HasCause (causes_of_forced (g.backing old.store) (g.backing new.store)))
   pub tokens : KeepsTokens old new
 
 -- no call has this number
@@ -132,17 +132,17 @@ IsUnknown what = (what ≢ 1) × (what ≢ 2) × (what ≢ 3) × (what ≢ 4) ×
 -- What is answered to a call of an open index, and what has become of it and of the rows that were named. 1 inserts, 2 opens a scan, 3
 -- begins one anew, 4 closes one, 5 names a row, 6 deletes the entries of the rows that were named, 7 cleans up, 8 commits, 9 makes a
 -- checkpoint.
-pub record Serves {S : Type 0} (g : Ghosts S) (ask : Ask) (answer : Answer) (old new : Index S) (dead left : Dead) : Type 0 where
-  pub inserted : ask.what ≡ 1 → Inserts g ask answer old new ⊎ IsMisspelled (IsNoEntry ask) answer old new
-  pub began : ask.what ≡ 2 → Begins g ask answer old new ⊎ IsMisspelled (IsNoRange ask) answer old new
-  pub begun_again : ask.what ≡ 3 → BeginsAgain g ask answer old new ⊎ IsMisspelled (IsNoRange ask) answer old new
-  pub closed : ask.what ≡ 4 → Closes g ask answer old new
+pub record ServesCall {S : Type 0} (g : Ghosts S) (ask : Ask) (answer : Answer) (old new : Index S) (dead left : Dead) : Type 0 where
+  pub inserted : ask.what ≡ 1 → Inserts g ask answer old new ⊎ IsMisspelled (SpellsNoEntry ask) answer old new
+  pub began : ask.what ≡ 2 → BeginsScan g ask answer old new ⊎ IsMisspelled (SpellsNoRange ask) answer old new
+  pub begun_again : ask.what ≡ 3 → BeginsAgain g ask answer old new ⊎ IsMisspelled (SpellsNoRange ask) answer old new
+  pub closed : ask.what ≡ 4 → ClosesHandle g ask answer old new
   pub named : ask.what ≡ 5 → Names ask answer dead left × (new ≡ old)
   pub deleted : ask.what ≡ 6 → Deletes g dead answer old new × (left.rows ≡ None)
-  pub cleaned : ask.what ≡ 7 → CleansUp g answer old new
+  pub cleaned : ask.what ≡ 7 → CleansIndex g answer old new
   pub committed : ask.what ≡ 8 → MakesDurable g Forces answer old new
   pub written : ask.what ≡ 9 → MakesDurable g Checkpoints answer old new
-  pub unknown : IsUnknown ask.what → IsRefusal NoSession answer × (new ≡ old)
+  pub unknown : IsUnknown ask.what → AnswersFault NoSession answer × (new ≡ old)
   -- where it says how many actions are durable, so many are
   pub durable : answer.is_durable ≡ true → (g.backing new.store).durable ≡ answer.number
   -- rows stay named but by the calls that name and take them
@@ -159,5 +159,5 @@ OfBoth P None new = ⊥
 -- C's to free. A handle without an index answers no other call.
 pub record IsServed {S : Type 0} (g : Ghosts S) (ask : Ask) (answer : Answer) (old new : Option (Index S)) (dead left : Dead) : Type 0 where
   pub let_go : ask.what ≡ 10 → (new ≡ None) × (left.rows ≡ None) × (answer.status ≡ 0)
-  pub empty : ask.what ≢ 10 → old ≡ None → IsRefusal NoSession answer × (new ≡ None) × (left ≡ dead)
-  pub served : ask.what ≢ 10 → IsSome old → OfBoth (λ before after. Serves g ask answer before after dead left) old new
+  pub empty : ask.what ≢ 10 → old ≡ None → AnswersFault NoSession answer × (new ≡ None) × (left ≡ dead)
+  pub served : ask.what ≢ 10 → IsSome old → OfBoth (λ before after. ServesCall g ask answer before after dead left) old new

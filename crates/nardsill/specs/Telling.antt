@@ -19,7 +19,7 @@ abbrev pub row_named : Fault → Row
 row_named fault = unwrap_or (row_of fault) (record { block = 0; offset = 0 })
 
 -- the call was refused with this fault
-pub record IsRefusal (fault : Fault) (answer : Answer) : Type 0 where
+pub record AnswersFault (fault : Fault) (answer : Answer) : Type 0 where
   pub status : answer.status ≡ number_of fault
   pub page : answer.page ≡ page_of fault
   pub block : answer.block ≡ (row_named fault).block
@@ -29,7 +29,7 @@ pub record IsRefusal (fault : Fault) (answer : Answer) : Type 0 where
 -- what a call came to is told: 0 and what it tells, or the refusal
 abbrev pub Tells : {A : Type 0} → (A → Answer → Type 0) → Result A Fault → Answer → Type 0
 Tells TellsIt (Ok it) answer = (answer.status ≡ 0) × TellsIt it answer
-Tells TellsIt (Err fault) answer = IsRefusal fault answer
+Tells TellsIt (Err fault) answer = AnswersFault fault answer
 
 -- the number of the fault that left an insert unfinished, or 0
 abbrev pub unfinished_number : Option Fault → ℕ
@@ -44,7 +44,7 @@ pub record TellsToken (token : ScanToken) (answer : Answer) : Type 0 where
   pub number : answer.number ≡ token.number
   pub session : answer.session ≡ token.session
 
-pub record TellsStats (stats : VacuumStats) (answer : Answer) : Type 0 where
+pub record SpellsStats (stats : VacuumStats) (answer : Answer) : Type 0 where
   pub removed : answer.number ≡ stats.tuples_removed
   pub entries : answer.other ≡ stats.num_index_tuples
   pub pages : answer.num_pages ≡ stats.num_pages
@@ -72,7 +72,7 @@ pub record GivesNone (fault : Fault) (given : Given) : Type 0 where
   pub none : given.is_given ≡ false
 
 -- what is given spells an entry, or says that none is left, or the fault
-abbrev pub TellsGiven : Result (Option Entry) Fault → Given → Type 0
-TellsGiven (Ok (Some entry)) given = IsEntryGiven entry given
-TellsGiven (Ok None) given = (given.status ≡ 0) × (given.is_given ≡ false)
-TellsGiven (Err fault) given = GivesNone fault given
+abbrev pub SpellsGiven : Result (Option Entry) Fault → Given → Type 0
+SpellsGiven (Ok (Some entry)) given = IsEntryGiven entry given
+SpellsGiven (Ok None) given = (given.status ≡ 0) × (given.is_given ≡ false)
+SpellsGiven (Err fault) given = GivesNone fault given

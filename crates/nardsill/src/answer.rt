@@ -1,7 +1,7 @@
 //! What C is answered.
 
 ghost use Rattle.std.specs.Prelude.{◌≡◌, false};
-ghost use Rattle.nardsill.specs.Telling.{GivesNone, IsRefusal, TellsStats, page_of, row_named, unfinished_number};
+ghost use Rattle.nardsill.specs.Telling.{GivesNone, AnswersFault, SpellsStats, page_of, row_named, unfinished_number};
 
 use index_model::{Fault, VacuumStats};
 
@@ -82,7 +82,7 @@ fn row_of(fault: &Fault) -> (u32, u16)
 
 /// The answer to a call that was refused.
 pub fn refused(fault: Fault) -> Answer
-    ensures { IsRefusal fault result }
+    ensures { AnswersFault fault result }
 {
     let page = page_of(&fault);
     let (block, offset) = row_of(&fault);
@@ -107,7 +107,7 @@ pub fn unfinished(fault: Option<Fault>) -> u64
 
 /// The answer that tells statistics.
 pub fn counted(stats: &VacuumStats) -> Answer
-    ensures told { TellsStats stats.now result }
+    ensures told { SpellsStats stats.now result }
     ensures status { result.status ≡ 0 }
     ensures quiet { result.is_durable ≡ false }
 {

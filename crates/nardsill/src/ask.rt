@@ -2,7 +2,7 @@
 
 ghost use Rattle.std.specs.Prelude.{◌≡◌, ◌≤◌, ◌<◌, true, IfErr, IfOk, MatchResult, take};
 ghost use Rattle.index_model.specs.Row.{IsRow};
-ghost use Rattle.nardsill.specs.Asking.{IsNoEntry, IsNoRange, SpellsEntry, SpellsRange, end_asked, has_below, has_from, row_asked, token_asked};
+ghost use Rattle.nardsill.specs.Asking.{SpellsNoEntry, SpellsNoRange, SpellsEntry, SpellsRange, end_asked, has_below, has_from, row_asked, token_asked};
 
 use access_method::ScanToken;
 use index_model::{Entry, Fault, Key, Limits, Range, RowAddr};
@@ -55,7 +55,7 @@ impl Ask {
     /// The entry that is spelled. Refused with `KeyTooLong` (6) for a key of more than 64 bytes, and then with `BadRow` (7).
     pub fn entry(&self) -> Result<Entry, Fault>
         ensures ok { IfOk result (SpellsEntry self.now) }
-        ensures refused { IfErr result (IsNoEntry self.now) }
+        ensures refused { IfErr result (SpellsNoEntry self.now) }
     {
         let key = key_of(self.len, &self.key)?;
         let row = self.row()?;
@@ -73,7 +73,7 @@ impl Ask {
     /// The range that is spelled. Refused with `KeyTooLong` (6).
     pub fn range(&self) -> Result<Range, Fault>
         ensures ok { IfOk result (SpellsRange self.now) }
-        ensures refused { IfErr result (IsNoRange self.now) }
+        ensures refused { IfErr result (SpellsNoRange self.now) }
     {
         let from = end_of(self.ends % 2 == 1, self.len, &self.key)?;
         let below = end_of(self.ends >= 2, self.below_len, &self.below)?;

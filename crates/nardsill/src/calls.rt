@@ -3,9 +3,9 @@
 ghost use Rattle.std.specs.Prelude.{◌≡◌, ◌⊎◌, ◌≢◌, None, false, true};
 ghost use Rattle.page_action.specs.States.{Continues};
 ghost use Rattle.schedule.specs.TheoremKinds.{Forces, Checkpoints};
-ghost use Rattle.nardsill.specs.Asking.{IsNoEntry, IsNoRange};
-ghost use Rattle.nardsill.specs.Serving.{Begins, BeginsAgain, CleansUp, Closes, Deletes, Inserts, IsMisspelled, IsServed, IsUnknown, MakesDurable, Names, Serves, TellsNothing};
-ghost use Rattle.nardsill.specs.Telling.{IsRefusal, Tells, TellsDurable, TellsInserted, TellsStats, TellsToken};
+ghost use Rattle.nardsill.specs.Asking.{SpellsNoEntry, SpellsNoRange};
+ghost use Rattle.nardsill.specs.Serving.{BeginsScan, BeginsAgain, CleansIndex, ClosesHandle, Deletes, Inserts, IsMisspelled, IsServed, IsUnknown, MakesDurable, Names, ServesCall, TellsNothing};
+ghost use Rattle.nardsill.specs.Telling.{AnswersFault, Tells, TellsDurable, TellsInserted, SpellsStats, TellsToken};
 
 use crate::answer::{Answer, DONE, counted, refused, unfinished};
 use crate::ask::Ask;
@@ -37,7 +37,7 @@ pub fn serve(handle: &mut Handle, ask: Ask) -> Answer
 
 // A call of an index that is open.
 fn call<S: PageStore>(alloc: Global, index: &mut Index<S>, dead: &mut Dead, ask: &Ask) -> Answer
-    ensures { Serves S.PageStore ask.now result index.old index.new dead.old dead.new }
+    ensures { ServesCall S.PageStore ask.now result index.old index.new dead.old dead.new }
 {
     match ask.what {
         1 => insert(index, ask),
@@ -57,7 +57,7 @@ fn call<S: PageStore>(alloc: Global, index: &mut Index<S>, dead: &mut Dead, ask:
 fn insert<S: PageStore>(index: &mut Index<S>, ask: &Ask) -> Answer
     ensures steps { Continues S.follows index.old.store index.new.store }
     ensures means { Inserts S.PageStore ask.now result index.old index.new
-        ⊎ IsMisspelled (IsNoEntry ask.now) result index.old index.new }
+        ⊎ IsMisspelled (SpellsNoEntry ask.now) result index.old index.new }
     ensures quiet { result.is_durable ≡ false }
 {
     match ask.entry() {
@@ -83,8 +83,8 @@ fn inserted(outcome: Result<Inserted, Fault>) -> Answer
 // Begins a scan.
 fn begin<S: PageStore>(index: &mut Index<S>, ask: &Ask) -> Answer
     ensures steps { Continues S.follows index.old.store index.new.store }
-    ensures means { Begins S.PageStore ask.now result index.old index.new
-        ⊎ IsMisspelled (IsNoRange ask.now) result index.old index.new }
+    ensures means { BeginsScan S.PageStore ask.now result index.old index.new
+        ⊎ IsMisspelled (SpellsNoRange ask.now) result index.old index.new }
     ensures quiet { result.is_durable ≡ false }
 {
     match ask.range() {
@@ -111,7 +111,7 @@ fn begun(outcome: Result<ScanToken, Fault>) -> Answer
 fn again<S: PageStore>(index: &mut Index<S>, ask: &Ask) -> Answer
     ensures steps { Continues S.follows index.old.store index.new.store }
     ensures means { BeginsAgain S.PageStore ask.now result index.old index.new
-        ⊎ IsMisspelled (IsNoRange ask.now) result index.old index.new }
+        ⊎ IsMisspelled (SpellsNoRange ask.now) result index.old index.new }
     ensures quiet { result.is_durable ≡ false }
 {
     match ask.range() {
@@ -133,7 +133,7 @@ fn done(outcome: Result<(), Fault>) -> Answer
 // Closes a scan.
 fn close<S: PageStore>(index: &mut Index<S>, ask: &Ask) -> Answer
     ensures steps { Continues S.follows index.old.store index.new.store }
-    ensures means { Closes S.PageStore ask.now result index.old index.new }
+    ensures means { ClosesHandle S.PageStore ask.now result index.old index.new }
     ensures quiet { result.is_durable ≡ false }
 {
     done(index.amendscan(ask.token()))
@@ -167,7 +167,7 @@ fn delete<S: PageStore>(index: &mut Index<S>, dead: &mut Dead) -> Answer
 }
 
 fn swept(outcome: Result<VacuumStats, Fault>) -> Answer
-    ensures told { Tells TellsStats outcome result }
+    ensures told { Tells SpellsStats outcome result }
     ensures quiet { result.is_durable ≡ false }
 {
     match outcome {
@@ -179,7 +179,7 @@ fn swept(outcome: Result<VacuumStats, Fault>) -> Answer
 // Deletes empty leaves, and counts what is there.
 fn clean_up<S: PageStore>(index: &mut Index<S>) -> Answer
     ensures steps { Continues S.follows index.old.store index.new.store }
-    ensures means { CleansUp S.PageStore result index.old index.new }
+    ensures means { CleansIndex S.PageStore result index.old index.new }
     ensures quiet { result.is_durable ≡ false }
 {
     swept(index.amvacuumcleanup())

@@ -1,7 +1,7 @@
 //! Checking the index in a file that C has open.
 
 ghost use Rattle.std.specs.Prelude.{◌≡◌, IfOk};
-ghost use Rattle.nardsill.specs.Checking.{IsCheckRefusal, IsChecked, IsOpened, TellsCheck};
+ghost use Rattle.nardsill.specs.Checking.{IsCheckRefusal, IsChecked, IsOpenedForCheck, TellsCheck};
 
 use crate::answer::page_of;
 use crate::handle::Handle;
@@ -84,7 +84,7 @@ fn look<S: Start>(alloc: Global, file: File, frames: u32) -> Checked
 
 // Opens the pages of the index in a file, whatever it held.
 fn opened<S: Start>(alloc: Global, file: File, frames: u32) -> Result<Store<FileDevice<S>>, Fault>
-    ensures { IfOk result (IsOpened ⟦<FileDevice<S> as Device>⟧ S.Start.bytes) }
+    ensures { IfOk result (IsOpenedForCheck ⟦<FileDevice<S> as Device>⟧ S.Start.bytes) }
 {
     match recovery::open(alloc, FileDevice::held(file)?, frames) {
         Ok(store) => Ok(store),

@@ -4,7 +4,7 @@ ghost use Rattle.std.specs.BTreeSet.{contains};
 ghost use Rattle.std.specs.Prelude.{◌≡◌, ◌||◌, None, IfErr, IfSome, OnErr, OnOk};
 ghost use Rattle.index_model.specs.Order.{row_cmp};
 ghost use Rattle.index_model.specs.Row.{Row};
-ghost use Rattle.nardsill.specs.Naming.{is_in_set, is_named, same_row};
+ghost use Rattle.nardsill.specs.Naming.{is_in_set, is_dead_row, same_row};
 
 use index_model::{DeadRows, Fault, RowAddr};
 use std::alloc::Global;
@@ -19,8 +19,8 @@ pub struct Dead {
 impl Dead {
     /// One row more. Refused with `NoMemory` (1): no row is named then.
     pub fn name(&mut self, alloc: Global, row: RowAddr) -> Result<(), Fault>
-        ensures named { OnOk result ((other : Row) → is_named self.new other
-            ≡ (same_row row other || is_named self.old other)) }
+        ensures named { OnOk result ((other : Row) → is_dead_row self.new other
+            ≡ (same_row row other || is_dead_row self.old other)) }
         ensures none { OnErr result (self.new.rows ≡ None) }
         ensures fault { IfErr result (λ fault. fault ≡ Fault.NoMemory) }
     {
@@ -59,9 +59,9 @@ fn added(rows: BTreeSet<RowAddr>, row: RowAddr) -> Option<BTreeSet<RowAddr>>
 }
 
 impl DeadRows for Dead {
-    ghost use Rattle.nardsill.specs.Naming.{is_named};
+    ghost use Rattle.nardsill.specs.Naming.{is_dead_row};
 
-    ghost is_in = { is_named };
+    ghost is_in = { is_dead_row };
 
     fn is_dead(&self, row: RowAddr) -> bool {
         match &self.rows {

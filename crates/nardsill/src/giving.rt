@@ -3,7 +3,7 @@
 ghost use Rattle.std.specs.Prelude.{◌≡◌};
 ghost use Rattle.nardsill.specs.Asking.{token_of};
 ghost use Rattle.nardsill.specs.Giving.{Gives, GivesNext};
-ghost use Rattle.nardsill.specs.Telling.{TellsGiven};
+ghost use Rattle.nardsill.specs.Telling.{SpellsGiven};
 
 use crate::answer::{Given, none_given};
 use crate::ask::Token;
@@ -36,7 +36,7 @@ fn next<S: PageStore>(index: &mut Index<S>, token: ScanToken) -> Given
 }
 
 fn given(outcome: Result<Option<Entry>, Fault>) -> Given
-    ensures { TellsGiven outcome result }
+    ensures { SpellsGiven outcome result }
 {
     match outcome {
         Ok(Some(entry)) => Given {

@@ -3,7 +3,7 @@ use Rattle.std.proofs.Common.{◌≡◌, ℕ, zero, suc, true, false, Some, List
 use Rattle.std.proofs.lemmas.Bool.{eq-eqb}
 use Rattle.std.specs.Prelude.{◌==◌, ◌||◌, Bool}
 use Rattle.page_codec.specs.declared.page.Page.{Page}
-use Rattle.page_action.specs.Frames.{Memory, is_among, CostsNothing, TakesFrame, TakesFrames, blocks_of}
+use Rattle.page_action.specs.Frames.{Memory, is_block_among, CostsNothing, TakesFrame, TakesFrames, blocks_of}
 use Rattle.page_action.specs.States.{Backing}
 
 pub costs_same : (m : Memory) (b : Backing) → CostsNothing m m b b
@@ -48,7 +48,7 @@ or_later true = refl
 or_later false = refl
 
 -- the block of a page is among those of all
-pub among_own : (pages : List Page) (k : ℕ) (page : Page) → slice_get pages k ≡ Some page → is_among (blocks_of pages) page.block ≡ true
+pub among_own : (pages : List Page) (k : ℕ) (page : Page) → slice_get pages k ≡ Some page → is_block_among (blocks_of pages) page.block ≡ true
 among_own [] k page at = absurd cc
 among_own (p ∷ pages) zero page at = let e : p ≡ page = cc in rw (eq-eqb p.block page.block (ap (λ (x : Page). x.block) e)) refl
 among_own (p ∷ pages) (suc k) page at = rw (among_own pages k page at) (or_later (p.block == page.block))

@@ -2,14 +2,14 @@
 use Rattle.std.proofs.Common.{◌≡◌, ℕ, ◌+◌, ◌<◌, List, length, drop, get_or, refl, sym, subst, inl, inr}
 use Rattle.index_model.specs.declared.format.Format.{Format}
 use Rattle.page_codec.specs.declared.page.Page.{Page}
-use Rattle.page_action.specs.Stored.{IsPlaced, IsFirstMisplaced}
+use Rattle.page_action.specs.Stored.{IsActableBeside, IsFirstMisplaced}
 use Rattle.page_action.proofs.StoredPages.{drop_at_item}
 
 module _ (limits : Format) (used : ℕ) (pages : List Page) (k : ℕ) (page : Page) (within : k < length pages) (is : page ≡ get_or pages k page) where
   -- it is this page
-  pub first_here : (IsPlaced limits used page (drop (k + 1) pages) → ⊥) → IsFirstMisplaced limits used (drop k pages) page.block
+  pub first_here : (IsActableBeside limits used page (drop (k + 1) pages) → ⊥) → IsFirstMisplaced limits used (drop k pages) page.block
   first_here wrong = subst (λ (ps : List Page). IsFirstMisplaced limits used ps page.block) (sym (drop_at_item pages k page within is)) (inl (refl, wrong))
 
   -- it is behind this page, which may be changed
-  pub first_behind : (block : ℕ) → IsPlaced limits used page (drop (k + 1) pages) → IsFirstMisplaced limits used (drop (k + 1) pages) block → IsFirstMisplaced limits used (drop k pages) block
+  pub first_behind : (block : ℕ) → IsActableBeside limits used page (drop (k + 1) pages) → IsFirstMisplaced limits used (drop (k + 1) pages) block → IsFirstMisplaced limits used (drop k pages) block
   first_behind block placed rest = subst (λ (ps : List Page). IsFirstMisplaced limits used ps block) (sym (drop_at_item pages k page within is)) (inr (placed, rest))

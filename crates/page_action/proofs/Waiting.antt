@@ -185,7 +185,8 @@ module _ (limits : Format) (frames acts : ℕ) (pages : List Page) (calls : Tabl
   decides : (block : ℕ) → may_pass block ≡ is_reusable st block
   decides block = ap (is_at_most (least_start calls.running)) (waits.each block) ∙ split (is_deleted pages block)
     where
-      split : (d : Bool) → is_at_most (least_start calls.running) (if d then Some (slice_index calls.counted block) else None) ≡ (d && others_began_after (slice_index calls.counted block) 0 None calls.running)
+      split : (d : Bool) →
+          is_at_most (least_start calls.running) (if d then Some (slice_index calls.counted block) else None) ≡ (d && others_began_after (slice_index calls.counted block) 0 None calls.running)
       split true = least_decides (slice_index calls.counted block) 0 calls.running
       split false = refl
 

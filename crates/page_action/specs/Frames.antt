@@ -15,8 +15,8 @@ pub record Memory : Type 0 where
   pub unwritten : ℕ → ℕ
 
 -- the block is one of these
-abbrev pub is_among : List ℕ → ℕ → Bool
-is_among blocks block = list_any (λ b. b == block) blocks
+abbrev pub is_block_among : List ℕ → ℕ → Bool
+is_block_among blocks block = list_any (λ b. b == block) blocks
 
 -- the log is as it was: it wasn't forced
 pub record LogStays (old new : Backing) : Type 0 where
@@ -40,22 +40,22 @@ pub record AreWrittenBehind (frames : ℕ) (pinned front behind : List ℕ) (m :
   pub was : behind ≡ more ++ rest
   pub left : new.changed ≡ front ++ rest
   pub few : length more ≤ frames / 4
-  pub each : All (λ b. (is_among pinned b ≡ false) × (m.unwritten b ≤ new.durable)) more
+  pub each : All (λ b. (is_block_among pinned b ≡ false) × (m.unwritten b ≤ new.durable)) more
 
 -- No frame is free: all are in use, and each clean page is pinned. So the first changed page that isn't pinned is written, and some
 -- behind it; or none is, since a call of the device failed. The log is forced for that first page alone, if its act isn't durable.
 pub record IsWrittenFor (frames : ℕ) (pinned : List ℕ) (m m' : Memory) (old new : Backing) : Type 0 where
   pub full : length m.held ≡ frames
-  pub clean : All (λ b. is_among old.changed b ≡ false → is_among pinned b ≡ true) m.held
+  pub clean : All (λ b. is_block_among old.changed b ≡ false → is_block_among pinned b ≡ true) m.held
   pub front : List ℕ
   pub block : ℕ
   pub behind : List ℕ
   pub was : old.changed ≡ front ++ block ∷ behind
-  pub passed : All (λ b. is_among pinned b ≡ true) front
-  pub unpinned : is_among pinned block ≡ false
+  pub passed : All (λ b. is_block_among pinned b ≡ true) front
+  pub unpinned : is_block_among pinned block ≡ false
   pub forced : m.unwritten block ≤ old.durable → LogStays old new
   pub left : (new.changed ≡ old.changed) ⊎ AreWrittenBehind frames pinned front behind m new
-  pub others : (b : ℕ) → is_among new.changed b ≡ true → m'.unwritten b ≡ m.unwritten b
+  pub others : (b : ℕ) → is_block_among new.changed b ≡ true → m'.unwritten b ≡ m.unwritten b
 
 -- what a frame costs: nothing where one is free; else changed pages are written for it
 abbrev pub FrameCosts : ℕ → List ℕ → Memory → Memory → Backing → Backing → Type 0
@@ -66,7 +66,7 @@ pub record TakesOver (frames : ℕ) (pinned : List ℕ) (block : ℕ) (m m' : Me
   pub full : length m.held ≡ frames
   pub at : ℕ
   pub within : at < frames
-  pub unpinned : is_among pinned (slice_index m.held at) ≡ false
+  pub unpinned : is_block_among pinned (slice_index m.held at) ≡ false
   pub clean : m'.unwritten (slice_index m.held at) ≡ 0
   pub held : m'.held ≡ slice_set m.held at block
 
@@ -78,7 +78,7 @@ pub record TakesUnused (frames block : ℕ) (m m' : Memory) : Type 0 where
 -- A page is brought into memory, or isn't, since a call failed or no frame is had. One that is there costs nothing; another takes an
 -- unused frame before that of another page, and costs what that frame does.
 pub record TakesFrame (frames : ℕ) (pinned : List ℕ) (block : ℕ) (m m' : Memory) (old new : Backing) : Type 0 where
-  pub there : is_among m.held block ≡ true → (m' ≡ m) × (new ≡ old)
+  pub there : is_block_among m.held block ≡ true → (m' ≡ m) × (new ≡ old)
   pub cost : FrameCosts frames pinned m m' old new
   pub frame : (m'.held ≡ m.held) ⊎ (TakesUnused frames block m m' ⊎ TakesOver frames pinned block m m')
 

@@ -40,7 +40,7 @@ IsPlaceable limits used block = (block ≤ used) × (block < limits.pages)
 
 -- an act may change the page beside those behind it: it may be written, at a block that is in use or the next unused one, which none
 -- of them names
-pub record IsPlaced (limits : Format) (used : ℕ) (page : Page) (behind : List Page) : Type 0 where
+pub record IsActableBeside (limits : Format) (used : ℕ) (page : Page) (behind : List Page) : Type 0 where
   pub writable : IsWritable limits page
   pub placeable : IsPlaceable limits used page.block
   pub apart : IsApartFrom page.block behind
@@ -56,5 +56,5 @@ AreActable limits used (page ∷ pages) =
 abbrev pub IsFirstMisplaced : Format → ℕ → List Page → ℕ → Type 0
 IsFirstMisplaced limits used [] block = ⊥
 IsFirstMisplaced limits used (page ∷ pages) block =
-    ((page.block ≡ block) × (IsPlaced limits used page pages → ⊥))
-    ⊎ (IsPlaced limits used page pages × IsFirstMisplaced limits used pages block)
+    ((page.block ≡ block) × (IsActableBeside limits used page pages → ⊥))
+    ⊎ (IsActableBeside limits used page pages × IsFirstMisplaced limits used pages block)

@@ -41,7 +41,8 @@ kind_again (Entries v) rest h =
     rw (some, read) refl
 kind_again (Downlinks v) rest h =
     let some : nat_lt 50 (length v.items) ≡ false = grind (arith, nat_tests, h.0) in
-    let read : items_at downlink_at 75 (length v.items) (flat_map downlink_bytes v.items ++ rest) ≡ Some v.items = items_again downlink_at 75 downlink_bytes (IsDownlink Two) length-downlink downlink_again v.items rest h.1 in
+    let read : items_at downlink_at 75 (length v.items) (flat_map downlink_bytes v.items ++ rest) ≡ Some v.items =
+    items_again downlink_at 75 downlink_bytes (IsDownlink Two) length-downlink downlink_again v.items rest h.1 in
     rw (some, read) refl
 
 count_fits : (items : Items) → AreItems items → count_of items < 256 ^ 2
@@ -136,7 +137,8 @@ page_again p h =
     let e_layout : layout_at (slice_index whole 3) ≡ Some p.layout = ap layout_at has.layout ∙ layout_again p.layout in
     let e_state : state_at (slice_index whole 10) ≡ Some p.state = ap state_at has.state ∙ state_again p.state in
     let e_high : slot_at (drop 36 whole) ≡ Some p.high = ap slot_at at36 ∙ slot_again p.high (items ++ zeros) high in
-    let e_items : items_of (slice_index whole 8) (little_number 2 (drop 32 whole)) (drop 107 whole) ≡ Some p.items = (λ i. items_of (has.kind i) (has.count i) (at107 i)) ∙ kind_again p.items zeros are in
+    let e_items : items_of (slice_index whole 8) (little_number 2 (drop 32 whole)) (drop 107 whole) ≡ Some p.items =
+    (λ i. items_of (has.kind i) (has.count i) (at107 i)) ∙ kind_again p.items zeros are in
     let e_left : link_at (little_number 4 (drop 12 whole)) ≡ p.left = ap link_at has.left ∙ link_again p.left h.left in
     let e_right : link_at (little_number 4 (drop 16 whole)) ≡ p.right = ap link_at has.right ∙ link_again p.right h.right in
     ap page_at parts ∙ (λ i. e_layout i >>= λ layout. e_state i >>= λ state. e_high i >>= λ high. e_items i >>= λ its. Some (let x : Page = record {

@@ -25,7 +25,14 @@ pieces : (p : Page) → IsPage p → page_bytes p ≡ head_bytes p ++ (slot_byte
 unfolding page_bytes used_bytes zeros_of
 pieces p h =
     let used : length ((head_bytes p ++ slot_bytes p.high) ++ items_bytes p.items) ≡ 107 + size_of p.items =
-    omega (arith, length-append (head_bytes p ++ slot_bytes p.high) (items_bytes p.items), length-append (head_bytes p) (slot_bytes p.high), length-head p, length-slot p.high (slot_widens p.layout p.high h.high), length-items p.items (are_items p p.items h.kind)) in
+    omega (
+      arith,
+      length-append (head_bytes p ++ slot_bytes p.high) (items_bytes p.items),
+      length-append (head_bytes p) (slot_bytes p.high),
+      length-head p,
+      length-slot p.high (slot_widens p.layout p.high h.high),
+      length-items p.items (are_items p p.items h.kind),
+    ) in
     ap (λ (n : ℕ). ((head_bytes p ++ slot_bytes p.high) ++ items_bytes p.items) ++ replicate (4096 - n) 0) used
     ∙ append_assoc (head_bytes p ++ slot_bytes p.high) (items_bytes p.items) (zeros_of p)
     ∙ append_assoc (head_bytes p) (slot_bytes p.high) (items_bytes p.items ++ zeros_of p)

@@ -21,7 +21,8 @@ use Rattle.page_delete.specs.declared.steps.CleanupOp.{CleanupOp}
 use Rattle.page_delete.proofs.Moving.{leaf_count, dead_count}
 
 -- behind a page that has so many entries and isn't half-dead
-pub cleaned_past : (st : State) (op : CleanupOp) (count : ℕ) → IsCleaned st op → suc op.cursor ≤ length st.pages → entry_count (slice_get st.pages op.cursor) ≡ count → state_in st op.cursor ≢ HalfDead → IsCleaned st (gone_past op count)
+pub cleaned_past : (st : State) (op : CleanupOp) (count : ℕ) → IsCleaned st op → suc op.cursor ≤ length st.pages
+    → entry_count (slice_get st.pages op.cursor) ≡ count → state_in st op.cursor ≢ HalfDead → IsCleaned st (gone_past op count)
 cleaned_past st op count h inside is alive = record {
   counted = (let a = h.counted in let b = is in omega (arith, a, b));
   none_dead = λ block lt. elim (cases_eq block op.cursor) [
@@ -49,12 +50,14 @@ moved_counts old new op was is h moves = (
   (λ block lt dead. h.none_dead block lt (sym (moves.others block (λ same. (let e : block ≡ op.cursor = same in omega (arith, lt, e)))) ∙ dead)),
 )
 
-pub cleaned_dying : (old new : State) (op : CleanupOp) → IsCleaned old op → suc op.cursor ≤ length old.pages → length new.pages ≡ length old.pages → LeafDies op.cursor old new → IsEmptyAt old op.cursor → IsCleaned new (turned_to op Unlink)
+pub cleaned_dying : (old new : State) (op : CleanupOp) → IsCleaned old op → suc op.cursor ≤ length old.pages → length new.pages ≡ length old.pages
+    → LeafDies op.cursor old new → IsEmptyAt old op.cursor → IsCleaned new (turned_to op Unlink)
 cleaned_dying old new op h inside used moves empty =
     let m = moved_counts old new op Live HalfDead h moves in
     record { counted = m.0; none_dead = m.1; empty = moves.counts op.cursor ∙ empty; within = subst (λ (n : ℕ). suc op.cursor ≤ n) (sym used) inside; fewer = h.fewer }
 
-pub cleaned_deleted : (old new : State) (op : CleanupOp) → IsCleaned old op → suc op.cursor ≤ length old.pages → length new.pages ≡ length old.pages → PageGoes op.cursor old new → IsEmptyAt old op.cursor → IsCleaned new (gone_past_deleted op)
+pub cleaned_deleted : (old new : State) (op : CleanupOp) → IsCleaned old op → suc op.cursor ≤ length old.pages → length new.pages ≡ length old.pages
+    → PageGoes op.cursor old new → IsEmptyAt old op.cursor → IsCleaned new (gone_past_deleted op)
 cleaned_deleted old new op h inside used moves empty =
     let m = moved_counts old new op HalfDead Deleted h moves in
     let none = moves.counts op.cursor ∙ empty in
@@ -73,7 +76,8 @@ cleaned_deleted old new op h inside used moves empty =
     clash e = cc
 
 -- behind the look at a page
-pub cleaned_looking : (st : State) (before after : CleanupOp) (page : Page) → slice_get st.pages before.cursor ≡ Some page → suc before.cursor ≤ length st.pages → IsCleaned st before → TurnsAt page before after → IsCleaned st after
+pub cleaned_looking : (st : State) (before after : CleanupOp) (page : Page) → slice_get st.pages before.cursor ≡ Some page
+    → suc before.cursor ≤ length st.pages → IsCleaned st before → TurnsAt page before after → IsCleaned st after
 cleaned_looking st before after page found inside h (unlinks dead is) = rw is (cleaned_at st before Unlink h inside (ap entry_count found ∙ dead_count page dead))
 cleaned_looking st before after page found inside h (tries high may is_high is) = rw is (cleaned_at st before (Start high) h inside (
   ap entry_count found ∙ leaf_count page may,
@@ -96,7 +100,9 @@ cleaned_all st op h last = record {
 pub nothing_cleaned : NothingIsCleaned
 nothing_cleaned st session order = record {
   counted = (let none = meta_count in omega (arith, none));
-  none_dead = λ block lt dead. clash (sym (meta_lives st order.tree) ∙ sym (ap (λ (o : Option Page). (node_from o).state) order.tree.tree.meta_at) ∙ subst (λ (b : ℕ). state_in st b ≡ HalfDead) (let z : block ≡ 0 = omega (arith, lt) in z) dead);
+  none_dead = λ block lt dead.
+      clash (sym (meta_lives st order.tree) ∙ sym (ap (λ (o : Option Page). (node_from o).state) order.tree.tree.meta_at)
+      ∙ subst (λ (b : ℕ). state_in st b ≡ HalfDead) (let z : block ≡ 0 = omega (arith, lt) in z) dead);
   empty = tt;
   within = some_first st.pages order.tree.tree.meta order.tree.tree.meta_at;
   fewer = omega arith;

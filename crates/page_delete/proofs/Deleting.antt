@@ -23,7 +23,7 @@ use Rattle.tree_acts.proofs.Unlinking.{edit as unlink_edit, unlink_lasts, unlink
 use Rattle.tree_acts.proofs.Overlays.{page_length}
 use Rattle.descent.specs.Shared.{IsInOrder}
 use Rattle.descent.proofs.Acting.{AreFree, numbers_stay, does_delete}
-use Rattle.page_delete.specs.Parts.{IsTaken, IsTakenLeft, IsTakenRight, DeletesOn, SiblingsLink, unlinked}
+use Rattle.page_delete.specs.Parts.{IsTakenToChange, IsTakenLeft, IsTakenRight, DeletesOn, SiblingsLink, unlinked}
 use Rattle.page_delete.specs.Spares.{goes as goes_edit}
 use Rattle.page_delete.proofs.Siblings.{left_apart, right_apart, sides_apart, siblings}
 
@@ -106,7 +106,8 @@ deleted_is_page page number h dead low =
     }
 
 -- the pages of the act
-module _ (st : State) (session : ℕ) (page right : Page) (order : IsInOrder st) (taken : IsTaken st true session page.block page) (dead : page.state ≡ HalfDead) (right_is : page.right ≡ Some right.block)
+module _ (st : State) (session : ℕ) (page right : Page) (order : IsInOrder st) (taken : IsTakenToChange st true session page.block page)
+    (dead : page.state ≡ HalfDead) (right_is : page.right ≡ Some right.block)
     (right_taken : IsTakenRight st true session page right.block right) where
   admitted : IsPage page
   admitted = taken.stored.storable.admitted
@@ -152,7 +153,8 @@ module _ (st : State) (session : ℕ) (page right : Page) (order : IsInOrder st)
             let block_is : l.block ≡ b = t.0.stored.block_is in
             let link : page.left ≡ Some l.block = is ∙ ap Some (sym block_is) in (
               writable st.limits (record l { layout = Two; right = Some right.block }) refl
-                  (mended_right (renewed l) right.block (renewed_is_page l t.0.stored.storable.admitted) (subst (λ (o : Option ℕ). IsSome o) (sym t.1) refl) (subst (λ (o : Option ℕ). IfSome o IsBlock) right_is admitted.right))
+                  (mended_right (renewed l) right.block (renewed_is_page l t.0.stored.storable.admitted)
+                  (subst (λ (o : Option ℕ). IsSome o) (sym t.1) refl) (subst (λ (o : Option ℕ). IfSome o IsBlock) right_is admitted.right))
                   t.0.stored.storable.few,
               (omega arith, omega arith),
               (
@@ -170,7 +172,8 @@ module _ (st : State) (session : ℕ) (page right : Page) (order : IsInOrder st)
     unlinks mended is free =
         let lasts = unlink_lasts st page right (as_deleted page st.begun) (record right { layout = Two; left = page.left }) mended order.tree below is in
         record {
-          own = λ start runs. numbers_stay st (after_act (mended ++ as_deleted page st.begun ∷ record right { layout = Two; left = page.left } ∷ []) st) session start runs lasts.0.places lasts.0.trails;
+          own = λ start runs. numbers_stay st
+              (after_act (mended ++ as_deleted page st.begun ∷ record right { layout = Two; left = page.left } ∷ []) st) session start runs lasts.0.places lasts.0.trails;
           does = does_delete st session (mended ++ as_deleted page st.begun ∷ record right { layout = Two; left = page.left } ∷ []) order is.may lasts.0 lasts.1
               (record {
                 leaf = inr (unlink_goes st page right (as_deleted page st.begun) (record right { layout = Two; left = page.left }) mended order.tree is);
@@ -227,11 +230,12 @@ used_unlinking st session honest page right number left in_page in_right taken =
     by (Some b) (Some l) t =
         let u : l.block < length st.pages = subst (λ (k : ℕ). k < length st.pages) (sym t.0.stored.block_is) t.0.used in
         let one = page_length st.pages (record l { layout = Two; right = Some right.block }) (omega (arith, u)) in
-        two (with_page st.pages (record l { layout = Two; right = Some right.block })) (as_deleted page number) (record right { layout = Two; left = page.left }) (omega (arith, one, u, in_page)) (omega (arith, one, u, in_right))
+        two (with_page st.pages (record l { layout = Two; right = Some right.block })) (as_deleted page number)
+        (record right { layout = Two; left = page.left }) (omega (arith, one, u, in_page)) (omega (arith, one, u, in_right))
         ∙ (omega (arith, one, u))
 
 -- the siblings of a half-dead page link to it
-pub dead_links : (st : State) (session : ℕ) (page : Page) → IsInOrder st → IsTaken st true session page.block page → page.state ≡ HalfDead → SiblingsLink st.pages page
+pub dead_links : (st : State) (session : ℕ) (page : Page) → IsInOrder st → IsTakenToChange st true session page.block page → page.state ≡ HalfDead → SiblingsLink st.pages page
 dead_links st session page order taken dead =
     siblings st order.tree page (taken.found refl) (λ gone. clash (sym dead ∙ gone)) (is_dead page taken.stored.storable.admitted dead).block.0
   where

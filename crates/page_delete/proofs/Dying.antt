@@ -28,7 +28,7 @@ use Rattle.descent.specs.Shared.{IsInOrder}
 use Rattle.descent.proofs.Acting.{numbers_stay, does_delete}
 use Rattle.vacuum.proofs.Holding.{free_for_all}
 use Rattle.page_delete.specs.Judging.{IsHandingOn}
-use Rattle.page_delete.specs.Parts.{IsCandidate, IsTaken, DeletesOn, SiblingsAllow, SiblingsLink}
+use Rattle.page_delete.specs.Parts.{IsCandidate, IsTakenToChange, DeletesOn, SiblingsAllow, SiblingsLink}
 use Rattle.page_delete.specs.Spares.{dies as dies_edit}
 use Rattle.page_delete.proofs.Siblings.{siblings}
 
@@ -40,7 +40,7 @@ pub record AreDying (leaf parent leaf_after parent_after : Page) (at : ℕ) : Ty
   pub block_is : parent_after.block ≡ parent.block
 
 pub dies : (st : State) (session : ℕ) (leaf parent leaf_after parent_after : Page) (right at : ℕ) → IsInOrder st → IsCandidate st true session leaf.block leaf → SiblingsAllow st.pages leaf right
-    → IsTaken st true session parent.block parent → IsHandingOn parent leaf.block right at → AreDying leaf parent leaf_after parent_after at
+    → IsTakenToChange st true session parent.block parent → IsHandingOn parent leaf.block right at → AreDying leaf parent leaf_after parent_after at
     → AreActable st.limits (length st.pages) (leaf_after ∷ parent_after ∷ []) → DeletesOn session st (after_act (leaf_after ∷ parent_after ∷ []) st)
 dies st session leaf parent leaf_after parent_after right at order candidate allow taken place dying may =
     let lasts = half_death_lasts st leaf allow.page parent leaf_after parent_after order.tree is in
@@ -52,7 +52,8 @@ dies st session leaf parent leaf_after parent_after right at order candidate all
             flags = half_death_flags st leaf allow.page parent leaf_after parent_after order.tree is;
             links = λ within. half_death_links st leaf allow.page parent leaf_after parent_after order.tree is;
           }) (
-            subst (λ (b : ℕ). is_held_by_another st.table session b Exclusive ≡ false) (sym (ap (λ (p : Page). p.block) dying.leaf_is)) (free_for_all st.table session leaf.block Exclusive candidate.free),
+            subst (λ (b : ℕ). is_held_by_another st.table session b Exclusive ≡ false) (sym (ap (λ (p : Page). p.block) dying.leaf_is))
+                (free_for_all st.table session leaf.block Exclusive candidate.free),
             (subst (λ (b : ℕ). is_held_by_another st.table session b Exclusive ≡ false) (sym dying.block_is) taken.free, tt),
           );
       edit = dies_edit leaf.block parent.block (leaf_is leaf candidate.stored.storable.admitted candidate.may_die.leaf).0 candidate.used
@@ -92,7 +93,8 @@ links_no_leaf (Downlinks v) a b = a
 
 -- the act may be done
 pub may_die_so : (st : State) (session : ℕ) (leaf parent leaf_after parent_after : Page) (right at : ℕ) → length st.pages ≤ st.limits.pages → IsCandidate st true session leaf.block leaf
-    → IsTaken st true session parent.block parent → IsHandingOn parent leaf.block right at → leaf_after ≡ record leaf { layout = Two; state = HalfDead } → parent_after.block ≡ parent.block → parent_after.layout ≡ Two → IsPage leaf_after → IsPage parent_after
+    → IsTakenToChange st true session parent.block parent → IsHandingOn parent leaf.block right at
+    → leaf_after ≡ record leaf { layout = Two; state = HalfDead } → parent_after.block ≡ parent.block → parent_after.layout ≡ Two → IsPage leaf_after → IsPage parent_after
     → count_of parent_after.items ≤ count_of parent.items → AreActable st.limits (length st.pages) (leaf_after ∷ parent_after ∷ [])
 may_die_so st session leaf parent leaf_after parent_after right at few candidate taken place leaf_is block_is layout_is leaf_page parent_page less =
     let leaf_block : leaf_after.block ≡ leaf.block = ap (λ (p : Page). p.block) leaf_is in

@@ -8,7 +8,7 @@ use Rattle.tree_acts.proofs.Sizes.{low_level, pages_few}
 use Rattle.descent.specs.Onward.{IsOnWay}
 use Rattle.descent.specs.Shared.{IsInOrder, NumbersStay}
 use Rattle.descent.specs.declared.way.Way.{Way}
-use Rattle.page_delete.specs.Cleanups.{IsUnderway}
+use Rattle.page_delete.specs.Cleanups.{CleanupIsUnderway}
 use Rattle.page_delete.specs.Laws.{CleanupsAreUndisturbed, CleanupsAreBounded}
 use Rattle.page_delete.specs.Work.{steps_for_page, turn_left, pages_left}
 use Rattle.page_delete.specs.declared.steps.CleanupAt.{CleanupAt}
@@ -22,7 +22,7 @@ way_stays old new start high way stay w = record {
   trail = stay.trails way.level way.block way.moves w.trail;
 }
 
-pub underway_still : (old new : State) (start cursor : ℕ) (at : CleanupAt) → NumbersStay start old new → IsUnderway old start cursor at → IsUnderway new start cursor at
+pub underway_still : (old new : State) (start cursor : ℕ) (at : CleanupAt) → NumbersStay start old new → CleanupIsUnderway old start cursor at → CleanupIsUnderway new start cursor at
 underway_still old new start cursor Look stay h = tt
 underway_still old new start cursor (Start high) stay h = stay.trails 0 cursor 0 h
 underway_still old new start cursor (Down high way) stay h = (stay.trails 0 cursor 0 h.0, way_stays old new start high way stay h.1)
@@ -38,7 +38,7 @@ undisturbed old new op rely fits = record {
   at = underway_still old new fits.start op.cursor op.at (rely.numbers fits.start fits.running) fits.at;
 }
 
-turn_small : (st : State) (start cursor : ℕ) (at : CleanupAt) → IsInOrder st → IsUnderway st start cursor at → turn_left st.limits.pages at < steps_for_page st.limits.pages
+turn_small : (st : State) (start cursor : ℕ) (at : CleanupAt) → IsInOrder st → CleanupIsUnderway st start cursor at → turn_left st.limits.pages at < steps_for_page st.limits.pages
 turn_small st start cursor Look order h = omega arith
 turn_small st start cursor (Start high) order h = omega arith
 turn_small st start cursor (Down high way) order h =

@@ -52,7 +52,8 @@ module _ (most used cursor : ℕ) where
   down_goes_on high way on shorter = elim shorter.shorter [
     | inl lower ↦ more ((used - suc cursor) * steps_for_page most) _ _ (down_less on.level way.level (most + 2) ((suc most - on.moves) + 2) ((suc most - way.moves) + 2) lower (omega arith))
     | inr same ↦ more ((used - suc cursor) * steps_for_page most) _ _
-        (subst (λ (l : ℕ). l * (most + 2) + ((suc most - on.moves) + 2) < way.level * (most + 2) + ((suc most - way.moves) + 2)) (sym same.0) (let a = same.1.0 in let b = same.1.1 in omega (arith, a, b)))
+        (subst (λ (l : ℕ). l * (most + 2) + ((suc most - on.moves) + 2) < way.level * (most + 2) + ((suc most - way.moves) + 2)) (sym same.0)
+        (let a = same.1.0 in let b = same.1.1 in omega (arith, a, b)))
   ]
 
   pub down_judges : (high : Bound) (way : Way) (parent : ℕ) → 0 < way.level → cleanup_left most used cursor (Judge high parent) < cleanup_left most used cursor (Down high way)
@@ -69,7 +70,8 @@ module _ (most used cursor : ℕ) where
   unlink_passes = more ((used - suc cursor) * steps_for_page most) 0 1 (omega arith)
 
 -- within the limits all of it is bounded
-pub bounded : (most used cursor : ℕ) (at : CleanupAt) → most ≤ 65536 → used ≤ 65536 → turn_left most at < steps_for_page most → pages_left used cursor at ≤ used → cleanup_left most used cursor at < 4398046511104
+pub bounded : (most used cursor : ℕ) (at : CleanupAt) → most ≤ 65536 → used ≤ 65536 → turn_left most at < steps_for_page most
+    → pages_left used cursor at ≤ used → cleanup_left most used cursor at < 4398046511104
 bounded most used cursor at few in_use turn pages =
     let a = mul_le (pages_left used cursor at) 65536 (steps_for_page most) (omega (arith, in_use, pages)) in
     omega (arith, a, few, turn)

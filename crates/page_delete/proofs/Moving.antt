@@ -39,8 +39,10 @@ dead_count page dead = no_leaf_count page (λ alive leaf. clash (sym alive ∙ d
     clash e = cc
 
 -- the leaf becomes half-dead
-pub dying_moves : (st : State) (leaf parent leaf_after parent_after : Page) (links : List Downlink) → slice_get st.pages leaf.block ≡ Some leaf → slice_get st.pages parent.block ≡ Some parent → MayDie leaf
-    → HasLinks parent.items → AreActable st.limits (length st.pages) (leaf_after ∷ parent_after ∷ []) → leaf_after ≡ record leaf { layout = Two; state = HalfDead } → parent_after ≡ with_downlinks (renewed parent) links
+pub dying_moves : (st : State) (leaf parent leaf_after parent_after : Page) (links : List Downlink) → slice_get st.pages leaf.block ≡ Some leaf
+    → slice_get st.pages parent.block ≡ Some parent → MayDie leaf
+    → HasLinks parent.items → AreActable st.limits (length st.pages) (leaf_after ∷ parent_after ∷ [])
+    → leaf_after ≡ record leaf { layout = Two; state = HalfDead } → parent_after ≡ with_downlinks (renewed parent) links
     → LeafDies leaf.block st (after_act (leaf_after ∷ parent_after ∷ []) st)
 dying_moves st leaf parent leaf_after parent_after links found parent_found may_die internal may leaf_is parent_is = record {
   counts = λ b. elim (cases_eq b leaf.block) [
@@ -80,7 +82,8 @@ dying_moves st leaf parent leaf_after parent_after links found parent_found may_
     parent_count = internal_count parent_after (subst (λ (p : Page). HasLinks p.items) (sym parent_is) tt)
 
 -- the page is deleted
-module _ (st : State) (page right : Page) (number : ℕ) (found : slice_get st.pages page.block ≡ Some page) (dead : page.state ≡ HalfDead) (right_found : slice_get st.pages right.block ≡ Some right) where
+module _ (st : State) (page right : Page) (number : ℕ) (found : slice_get st.pages page.block ≡ Some page) (dead : page.state ≡ HalfDead)
+    (right_found : slice_get st.pages right.block ≡ Some right) where
   abbrev gone : Page
   gone = as_deleted page number
 
@@ -126,9 +129,11 @@ module _ (st : State) (page right : Page) (number : ℕ) (found : slice_get st.p
           let left_found : slice_get st.pages l.block ≡ Some l = subst (λ (b : ℕ). slice_get st.pages b ≡ Some l) (sym t.0.stored.block_is) (t.0.found refl) in
           let m = moved (with_pages st.pages (left_after ∷ gone ∷ right_after ∷ [])) there (pages_third st.limits (length st.pages) st.pages left_after gone right_after [] may (omega arith))
           (λ b not_page not_right. elim (cases_eq b l.block) [
-            | inl is_left ↦ rw is_left (count_at _ l.block left_after first ∙ sym (count_at st.pages l.block l left_found), state_at _ l.block left_after first ∙ sym (state_at st.pages l.block l left_found))
+            | inl is_left ↦ rw is_left
+                (count_at _ l.block left_after first ∙ sym (count_at st.pages l.block l left_found), state_at _ l.block left_after first ∙ sym (state_at st.pages l.block l left_found))
             | inr not_left ↦
-                let same = pages_other st.limits (length st.pages) st.pages (left_after ∷ gone ∷ right_after ∷ []) b may (omega arith) ((λ e. not_left (sym e)), ((λ e. not_page (sym e)), ((λ e. not_right (sym e)), tt))) in
+                let same = pages_other st.limits (length st.pages) st.pages (left_after ∷ gone ∷ right_after ∷ []) b may (omega arith)
+                ((λ e. not_left (sym e)), ((λ e. not_page (sym e)), ((λ e. not_right (sym e)), tt))) in
                 (ap entry_count same, ap (λ (o : Option Page). (node_from o).state) same)
           ]) in
           record { counts = m.0; others = m.1; before = state_at st.pages page.block page found ∙ dead; after = state_at _ page.block gone there }

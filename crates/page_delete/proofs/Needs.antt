@@ -8,10 +8,12 @@ use Rattle.page_delete.specs.Needs.{blocks_unlinked_at}
 use Rattle.page_delete.specs.Parts.{IsTakenLeft, unlinked}
 
 -- the blocks that are written where a half-dead page is unlinked
-pub dead_blocks : (st : State) (page : Page) → slice_get st.pages page.block ≡ Some page → page.state ≡ HalfDead → blocks_unlinked_at page.block st ≡ sibling page.left ++ page.block ∷ sibling page.right
+pub dead_blocks : (st : State) (page : Page) → slice_get st.pages page.block ≡ Some page → page.state ≡ HalfDead
+    → blocks_unlinked_at page.block st ≡ sibling page.left ++ page.block ∷ sibling page.right
 dead_blocks st page found dead = rw (found, dead) refl
 
-pub unlinked_are : (st : State) (honest : Bool) (session number : ℕ) (page right : Page) (block link : Option ℕ) (left : Option Page) → link ≡ Some right.block → IsTakenLeft st honest session page block left
+pub unlinked_are : (st : State) (honest : Bool) (session number : ℕ) (page right : Page) (block link : Option ℕ) (left : Option Page)
+    → link ≡ Some right.block → IsTakenLeft st honest session page block left
     → map (λ (p : Page). p.block) (unlinked left page right number) ≡ sibling block ++ page.block ∷ sibling link
 unlinked_are st honest session number page right None link None is taken = rw is refl
 unlinked_are st honest session number page right None link (Some other) is taken = absurd taken

@@ -36,7 +36,8 @@ leaf_same : (pages pages2 : List Page) (b : ℕ) (page : Page) → IsLeafAt page
 leaf_same pages pages2 b page at same = record { page = page; was = record { found = same ∙ at.found; alive = at.alive; leaf = at.leaf } }
 
 -- a leaf that is made half-dead is pinned by no other session
-pub pinned_dying : (st : State) (session : ℕ) (leaf parent leaf_after parent_after : Page) → is_held_by_another st.table session leaf.block Cleanup ≡ false → slice_get st.pages parent.block ≡ Some parent
+pub pinned_dying : (st : State) (session : ℕ) (leaf parent leaf_after parent_after : Page)
+    → is_held_by_another st.table session leaf.block Cleanup ≡ false → slice_get st.pages parent.block ≡ Some parent
     → HasLinks parent.items → AreActable st.limits (length st.pages) (leaf_after ∷ parent_after ∷ []) → leaf_after.block ≡ leaf.block → parent_after.block ≡ parent.block
     → PinnedLeavesStay session st (after_act (leaf_after ∷ parent_after ∷ []) st)
 pinned_dying st session leaf parent leaf_after parent_after free parent_found internal may leaf_is parent_is other b page differ at pin = elim (cases_eq b leaf.block) [
@@ -55,7 +56,8 @@ clash : Live ≡ HalfDead → ⊥
 clash e = cc
 
 -- a page that is unlinked is no live leaf, and its siblings keep their state and entries
-module _ (st : State) (page right : Page) (number : ℕ) (found : slice_get st.pages page.block ≡ Some page) (dead : page.state ≡ HalfDead) (right_found : slice_get st.pages right.block ≡ Some right) where
+module _ (st : State) (page right : Page) (number : ℕ) (found : slice_get st.pages page.block ≡ Some page) (dead : page.state ≡ HalfDead)
+    (right_found : slice_get st.pages right.block ≡ Some right) where
   abbrev gone : Page
   gone = as_deleted page number
 
@@ -93,8 +95,10 @@ module _ (st : State) (page right : Page) (number : ℕ) (found : slice_get st.p
           let left_found : slice_get st.pages l.block ≡ Some l = subst (λ (x : ℕ). slice_get st.pages x ≡ Some l) (sym t.0.stored.block_is) (t.0.found refl) in
           leaf_by (with_pages st.pages (left_after ∷ gone ∷ right_after ∷ [])) b p at (pages_third st.limits (length st.pages) st.pages left_after gone right_after [] may (omega arith))
           (λ not_page not_right. elim (cases_eq b l.block) [
-            | inl is_left ↦ leaf_kept st.pages (with_pages st.pages (left_after ∷ gone ∷ right_after ∷ [])) b p l left_after at (subst (λ (x : ℕ). slice_get st.pages x ≡ Some l) (sym is_left) left_found)
+            | inl is_left ↦ leaf_kept st.pages (with_pages st.pages (left_after ∷ gone ∷ right_after ∷ [])) b p l left_after at
+                (subst (λ (x : ℕ). slice_get st.pages x ≡ Some l) (sym is_left) left_found)
                 (subst (λ (x : ℕ). slice_get (with_pages st.pages (left_after ∷ gone ∷ right_after ∷ [])) x ≡ Some left_after) (sym is_left) first) refl refl
             | inr not_left ↦ leaf_same st.pages (with_pages st.pages (left_after ∷ gone ∷ right_after ∷ [])) b p at
-                (pages_other st.limits (length st.pages) st.pages (left_after ∷ gone ∷ right_after ∷ []) b may (omega arith) ((λ e. not_left (sym e)), ((λ e. not_page (sym e)), ((λ e. not_right (sym e)), tt))))
+                (pages_other st.limits (length st.pages) st.pages (left_after ∷ gone ∷ right_after ∷ []) b may (omega arith)
+                ((λ e. not_left (sym e)), ((λ e. not_page (sym e)), ((λ e. not_right (sym e)), tt))))
           ])

@@ -214,7 +214,8 @@ judged_stays st session block parent order alone none m not_to_die = with_right 
             ]
           where
             link : LinksLeft st.pages r m.leaf.leaf.block
-            link = (siblings st order.tree m.leaf.leaf (subst (λ (b : ℕ). slice_get st.pages b ≡ Some m.leaf.leaf) (sym block_is) m.leaf.found) (λ gone. live_gone m.leaf.may_die.alive gone) stands.0).right r is
+            link = (siblings st order.tree m.leaf.leaf (subst (λ (b : ℕ). slice_get st.pages b ≡ Some m.leaf.leaf) (sym block_is) m.leaf.found)
+                (λ gone. live_gone m.leaf.may_die.alive gone) stands.0).right r is
 
             right_alive : link.page.state ≡ Live
             right_alive = by link.page.state refl
@@ -308,7 +309,8 @@ spared_at st op at h not_unlink sought = record {
 }
 
 -- behind the page
-pub spared_past : (st : State) (op : CleanupOp) (count : ℕ) → IsSparing st op → ((b : ℕ) → state_in st b ≢ HalfDead) → (IsEmptyLeaf st op.cursor → HasToStay st op.cursor) → IsSparing st (gone_past op count)
+pub spared_past : (st : State) (op : CleanupOp) (count : ℕ) → IsSparing st op → ((b : ℕ) → state_in st b ≢ HalfDead)
+    → (IsEmptyLeaf st op.cursor → HasToStay st op.cursor) → IsSparing st (gone_past op count)
 spared_past st op count h none here = record {
   none_dead = λ b dead. absurd (none b dead);
   sought = tt;
@@ -319,7 +321,8 @@ spared_past st op count h none here = record {
 }
 
 -- behind the look at a page
-pub spared_looking : (st : State) (before after : CleanupOp) (page : Page) → HasTree st → slice_get st.pages before.cursor ≡ Some page → before.at ≡ Look → IsSparing st before → TurnsAt page before after → IsSparing st after
+pub spared_looking : (st : State) (before after : CleanupOp) (page : Page) → HasTree st → slice_get st.pages before.cursor ≡ Some page
+    → before.at ≡ Look → IsSparing st before → TurnsAt page before after → IsSparing st after
 spared_looking st before after page has found at h turn = by turn
   where
     not_unlink : before.at ≢ Unlink
@@ -376,9 +379,12 @@ leaf_before_unlink old new n b used u not_n e = record {
   empty = sym same.2 ∙ e.empty;
 }
   where
-    same : ((nodes_of new.pages b).state ≡ (nodes_of old.pages b).state) × ((nodes_of new.pages b).level ≡ (nodes_of old.pages b).level) × ((nodes_of new.pages b).entries ≡ (nodes_of old.pages b).entries)
+    same : ((nodes_of new.pages b).state ≡ (nodes_of old.pages b).state) × ((nodes_of new.pages b).level ≡ (nodes_of old.pages b).level)
+        × ((nodes_of new.pages b).entries ≡ (nodes_of old.pages b).entries)
     same = elim (cases_eq b u.right) [
-      | inl is_right ↦ subst (λ (c : ℕ). ((nodes_of new.pages c).state ≡ (nodes_of old.pages c).state) × ((nodes_of new.pages c).level ≡ (nodes_of old.pages c).level) × ((nodes_of new.pages c).entries ≡ (nodes_of old.pages c).entries))
+      | inl is_right ↦ subst
+          (λ (c : ℕ). ((nodes_of new.pages c).state ≡ (nodes_of old.pages c).state) × ((nodes_of new.pages c).level ≡ (nodes_of old.pages c).level)
+          × ((nodes_of new.pages c).entries ≡ (nodes_of old.pages c).entries))
           (sym is_right) (ap (λ (x : Node). x.state) u.right_mended, ap (λ (x : Node). x.level) u.right_mended, ap (λ (x : Node). x.entries) u.right_mended)
       | inr not_right ↦ elim (link_cases (nodes_of old.pages n).left b) [
         | inl is_left ↦ let k = u.left_mended b is_left in (ap (λ (x : Node). x.state) k, ap (λ (x : Node). x.level) k, ap (λ (x : Node). x.entries) k)
@@ -387,7 +393,8 @@ leaf_before_unlink old new n b used u not_n e = record {
     ]
 
 -- the leaf at the cursor became half-dead
-pub spared_dying : (old new : State) (op : CleanupOp) (high : Bound) (parent : ℕ) → op.at ≡ Judge high parent → length new.pages ≡ length old.pages → IsSparing old op → LeafDies op.cursor old new → EditsALeaf old new → IsSparing new (turned_to op Unlink)
+pub spared_dying : (old new : State) (op : CleanupOp) (high : Bound) (parent : ℕ) → op.at ≡ Judge high parent → length new.pages ≡ length old.pages
+    → IsSparing old op → LeafDies op.cursor old new → EditsALeaf old new → IsSparing new (turned_to op Unlink)
 spared_dying old new op high parent at used h moves edit = record {
   none_dead = λ b dead. elim (cases_eq b op.cursor) [
     | inl same ↦ (same, refl)
@@ -415,7 +422,8 @@ spared_dying old new op high parent at used h moves edit = record {
         ]
 
 -- ... or was deleted
-pub spared_deleted : (old new : State) (op : CleanupOp) → HasTree old → op.at ≡ Unlink → length new.pages ≡ length old.pages → IsSparing old op → PageGoes op.cursor old new → EditsALeaf old new → IsSparing new (gone_past_deleted op)
+pub spared_deleted : (old new : State) (op : CleanupOp) → HasTree old → op.at ≡ Unlink → length new.pages ≡ length old.pages → IsSparing old op
+    → PageGoes op.cursor old new → EditsALeaf old new → IsSparing new (gone_past_deleted op)
 spared_deleted old new op has at used h moves edit = record {
   none_dead = λ b dead. absurd (none b dead);
   sought = tt;
@@ -434,7 +442,8 @@ spared_deleted old new op has at used h moves edit = record {
     by : EditsALeaf old new → (b : ℕ) → b < op.cursor → IsEmptyLeaf new b → HasToStay new b
     by (dies n q above below d) b lt e = absurd (none n (ap (λ (x : Node). x.state) d.half_dead_is))
     by (goes n above below u) b lt e = subst (λ (k : ℕ). MustStay (nodes_of new.pages) k b) (sym used)
-        (unlink_spares (nodes_of old.pages) (nodes_of new.pages) (length old.pages) has.tree.root has.tree.meta.level has.tree.chain n b has.tree.is u above below not_n (h.stays b lt (leaf_before_unlink old new n b used u not_n e)))
+        (unlink_spares (nodes_of old.pages) (nodes_of new.pages) (length old.pages) has.tree.root has.tree.meta.level has.tree.chain n b has.tree.is u
+        above below not_n (h.stays b lt (leaf_before_unlink old new n b used u not_n e)))
       where
         not_n : b ≢ n
         not_n same = (let k : b ≡ op.cursor = same ∙ (h.none_dead n u.dead).0 in omega (arith, lt, k))

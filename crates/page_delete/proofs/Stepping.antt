@@ -32,11 +32,11 @@ use Rattle.descent.specs.declared.way.Way.{Way}
 use Rattle.descent.proofs.Acting.{one_nothing, cleans_nothing}
 use Rattle.vacuum.proofs.Lasting.{same_page}
 use Rattle.vacuum.proofs.Causes.{or_more}
-use Rattle.page_delete.specs.Cleanups.{IsUnderway, CleanupFits, CleanupSteps, where_cleaning}
+use Rattle.page_delete.specs.Cleanups.{CleanupIsUnderway, CleanupInvariant, CleanupSteps, causes_of_cleaning}
 use Rattle.page_delete.specs.Counts.{IsEmptyAt, IsFoundEmpty, come_to, IsCleaned, AllIsCleaned, deleted_in}
-use Rattle.page_delete.specs.Ops.{is_counted_out, cleanup_stats, turned_to, gone_past, gone_past_deleted, TurnsAt, unlinks, tries, passes}
-use Rattle.page_delete.specs.Needs.{blocks_judged, blocks_unlinked_at, blocks_written, where_trying}
-use Rattle.page_delete.specs.Parts.{IsTried, DeletesOn, AreInUse, LeafDies, IsSpared, IsInUse, PageGoes, IsNotDead, left_to, left_root, left_page, left_answer}
+use Rattle.page_delete.specs.Ops.{cleanup_counted_out, cleanup_stats, turned_to, gone_past, gone_past_deleted, TurnsAt, unlinks, tries, passes}
+use Rattle.page_delete.specs.Needs.{blocks_judged, blocks_unlinked_at, blocks_written, causes_of_trying}
+use Rattle.page_delete.specs.Parts.{IsTried, DeletesOn, BlocksAreInUse, LeafDies, IsSpared, IsInUse, PageGoes, IsNotDead, left_to, left_root, left_page, left_answer}
 use Rattle.page_delete.specs.Spares.{IsAlone, IsSought, IsSparing, EditsALeaf}
 use Rattle.page_delete.specs.Turns.{TurnsFrom}
 use Rattle.page_delete.specs.Work.{cleanup_left}
@@ -62,23 +62,24 @@ or_there false true c h = refl
 or_there false false c h = h
 
 -- what keeps an act from being done keeps the cleanup from its step
-pub working_cause : (st : State) (old new : Backing) (op : CleanupOp) (fault : Fault) → HasCause (where_trying st old new op.session (blocks_written op.at op.cursor st)) fault → HasCause (where_cleaning st old new op) fault
-working_cause st old new op Stopped h = or_more old.stopped (is_at_end st.acts) (is_counted_out op) h
+pub working_cause : (st : State) (old new : Backing) (op : CleanupOp) (fault : Fault)
+    → HasCause (causes_of_trying st old new op.session (blocks_written op.at op.cursor st)) fault → HasCause (causes_of_cleaning st old new op) fault
+working_cause st old new op Stopped h = or_more old.stopped (is_at_end st.acts) (cleanup_counted_out op) h
 working_cause st old new op fault h = h
 
-pub counted_cause : (st : State) (old new : Backing) (op : CleanupOp) → is_counted_out op ≡ true → HasCause (where_cleaning st old new op) Stopped
-counted_cause st old new op h = or_there old.stopped (is_at_end st.acts) (is_counted_out op) h
+pub counted_cause : (st : State) (old new : Backing) (op : CleanupOp) → cleanup_counted_out op ≡ true → HasCause (causes_of_cleaning st old new op) Stopped
+counted_cause st old new op h = or_there old.stopped (is_at_end st.acts) (cleanup_counted_out op) h
 
 runs_no_more : (b : Bool) {A : Type 0} → b ≡ false → b ≡ true → A
 runs_no_more b alive stopped = absurd cc
 
-pub has_room : (st : State) (op : CleanupOp) → CleanupFits st op → HasRoom st.table op.session
+pub has_room : (st : State) (op : CleanupOp) → CleanupInvariant st op → HasRoom st.table op.session
 has_room st op fits = subst (λ (h : Holding). length h.latches < 8) (sym fits.held) (omega arith)
 
 -- a step that is refused
 pub refuses : {S : Type 0} (g : Ghosts S) (op : CleanupOp) (old new : S) (fault : Fault) → Continues g.follows old new → g.state new ≡ g.state old
     → ((g.backing old).stopped ≡ true → fault ≡ Stopped)
-    → ((g.backing new).honest ≡ true → IsInOrder (g.state old) → CleanupFits (g.state old) op → HasCause (where_cleaning (g.state old) (g.backing old) (g.backing new) op) fault)
+    → ((g.backing new).honest ≡ true → IsInOrder (g.state old) → CleanupInvariant (g.state old) op → HasCause (causes_of_cleaning (g.state old) (g.backing old) (g.backing new) op) fault)
     → CleanupSteps g op op old new (Err fault)
 refuses g op old new fault steps same stops cause = record {
   steps = steps;
@@ -118,7 +119,8 @@ ends g op store stats alive at last told steps = record {
 }
 
 -- a call that goes on, at another step
-pub fits_at : (st : State) (before after : CleanupOp) (fits : CleanupFits st before) → after.session ≡ before.session → IsUnderway st fits.start after.cursor after.at → CleanupFits st after
+pub fits_at : (st : State) (before after : CleanupOp) (fits : CleanupInvariant st before) → after.session ≡ before.session
+    → CleanupIsUnderway st fits.start after.cursor after.at → CleanupInvariant st after
 fits_at st before after fits session at = record {
   session = subst (λ (s : ℕ). s < 64) (sym session) fits.session;
   start = fits.start;
@@ -128,12 +130,14 @@ fits_at st before after fits session at = record {
 }
 
 -- a step that goes on without an act
-pub moves : {S : Type 0} (g : Ghosts S) (before after : CleanupOp) (old new : S) → Continues g.follows old new → g.state new ≡ g.state old → after.session ≡ before.session → after.deleted ≡ before.deleted → (g.backing old).stopped ≡ false
+pub moves : {S : Type 0} (g : Ghosts S) (before after : CleanupOp) (old new : S) → Continues g.follows old new → g.state new ≡ g.state old
+    → after.session ≡ before.session → after.deleted ≡ before.deleted → (g.backing old).stopped ≡ false
     → cleanup_left (g.state old).limits.pages (length (g.state old).pages) after.cursor after.at < cleanup_left (g.state old).limits.pages (length (g.state old).pages) before.cursor before.at
-    → ((g.backing new).honest ≡ true → IsInOrder (g.state old) → (fits : CleanupFits (g.state old) before)
-    → TurnsFrom before.at (g.state old) before None after × IsUnderway (g.state old) fits.start after.cursor after.at)
-    → ((g.backing new).honest ≡ true → CleanupFits (g.state old) before → IsCleaned (g.state old) before → IsCleaned (g.state old) after)
-    → ((g.backing new).honest ≡ true → IsInOrder (g.state old) → CleanupFits (g.state old) before → IsAlone (g.state old) before.session → IsSparing (g.state old) before → IsSparing (g.state old) after)
+    → ((g.backing new).honest ≡ true → IsInOrder (g.state old) → (fits : CleanupInvariant (g.state old) before)
+    → TurnsFrom before.at (g.state old) before None after × CleanupIsUnderway (g.state old) fits.start after.cursor after.at)
+    → ((g.backing new).honest ≡ true → CleanupInvariant (g.state old) before → IsCleaned (g.state old) before → IsCleaned (g.state old) after)
+    → ((g.backing new).honest ≡ true → IsInOrder (g.state old) → CleanupInvariant (g.state old) before → IsAlone (g.state old) before.session
+    → IsSparing (g.state old) before → IsSparing (g.state old) after)
     → CleanupSteps g before after old new (Ok Going)
 moves g before after old new steps same session none alive less stepped cleans spares = record {
   steps = steps;
@@ -144,7 +148,8 @@ moves g before after old new steps same session none alive less stepped cleans s
   refused = tt;
   stopped = λ h. runs_no_more (g.backing old).stopped alive h;
   stats = tt;
-  less = subst (λ (st : State). cleanup_left st.limits.pages (length st.pages) after.cursor after.at < cleanup_left (g.state old).limits.pages (length (g.state old).pages) before.cursor before.at) (sym same) less;
+  less = subst (λ (st : State).
+      cleanup_left st.limits.pages (length st.pages) after.cursor after.at < cleanup_left (g.state old).limits.pages (length (g.state old).pages) before.cursor before.at) (sym same) less;
   pins = λ honest. pinned_same before.session (g.state old) (g.state new) same;
   deletes = λ honest. ap (λ (st : State). deleted_in st + before.deleted) same ∙ ap (λ (n : ℕ). deleted_in (g.state old) + n) (sym none);
   counts = λ honest fits h. subst (λ (st : State). IsCleaned st after) (sym same) (cleans honest fits h);
@@ -154,16 +159,18 @@ moves g before after old new steps same session none alive less stepped cleans s
         effect = None;
         does = cleans_nothing before.session (g.state old) (g.state new) same order;
         turns = s.0;
-        fits = subst (λ (st : State). CleanupFits st after) (sym same) (fits_at (g.state old) before after fits session s.1);
+        fits = subst (λ (st : State). CleanupInvariant st after) (sym same) (fits_at (g.state old) before after fits session s.1);
       };
   spares = λ honest order below fits alone h. subst (λ (st : State). IsSparing st after) (sym same) (spares honest order fits alone h);
 }
 
 -- ... or with one
-pub acts : {S : Type 0} (g : Ghosts S) (written : State → List ℕ) (sure : State → Type 0) (change : State → State → Type 0) (reason : State → Type 0) (before after : CleanupOp) (old new : S) → IsTried g before.session written sure change reason old new (Ok true) → after.session ≡ before.session → (g.backing old).stopped ≡ false
+pub acts : {S : Type 0} (g : Ghosts S) (written : State → List ℕ) (sure : State → Type 0) (change : State → State → Type 0) (reason : State → Type 0)
+    (before after : CleanupOp) (old new : S) → IsTried g before.session written sure change reason old new (Ok true) → after.session ≡ before.session → (g.backing old).stopped ≡ false
     → cleanup_left (g.state old).limits.pages (length (g.state old).pages) after.cursor after.at < cleanup_left (g.state old).limits.pages (length (g.state old).pages) before.cursor before.at
     → TurnsFrom before.at (g.state old) before (Some Shape) after
-    → (IsInOrder (g.state old) → (fits : CleanupFits (g.state old) before) → DeletesOn before.session (g.state old) (g.state new) → IsUnderway (g.state new) fits.start after.cursor after.at)
+    → (IsInOrder (g.state old) → (fits : CleanupInvariant (g.state old) before) → DeletesOn before.session (g.state old) (g.state new)
+    → CleanupIsUnderway (g.state new) fits.start after.cursor after.at)
     → (length (g.state new).pages ≡ length (g.state old).pages → change (g.state old) (g.state new) → deleted_in (g.state new) + before.deleted ≡ deleted_in (g.state old) + after.deleted)
     → (IsCleaned (g.state old) before → change (g.state old) (g.state new) → IsCleaned (g.state new) after)
     → (IsInOrder (g.state old) → IsSparing (g.state old) before → change (g.state old) (g.state new) → EditsALeaf (g.state old) (g.state new) → IsSparing (g.state new) after)
@@ -180,7 +187,8 @@ acts g written sure change reason before after old new tried session alive less 
   less =
       let most : (g.state new).limits.pages ≡ (g.state old).limits.pages = ap (λ (l : _). l.pages) tried.kept.limits in
       subst (λ (n : ℕ). cleanup_left (g.state new).limits.pages n after.cursor after.at < cleanup_left (g.state old).limits.pages (length (g.state old).pages) before.cursor before.at) (sym tried.used)
-      (subst (λ (m : ℕ). cleanup_left m (length (g.state old).pages) after.cursor after.at < cleanup_left (g.state old).limits.pages (length (g.state old).pages) before.cursor before.at) (sym most) less);
+      (subst (λ (m : ℕ). cleanup_left m (length (g.state old).pages) after.cursor after.at < cleanup_left (g.state old).limits.pages
+      (length (g.state old).pages) before.cursor before.at) (sym most) less);
   pins = tried.pins;
   deletes = λ honest. deletes tried.used (tried.changed honest refl);
   counts = λ honest fits h. cleans h (tried.changed honest refl);
@@ -193,7 +201,8 @@ acts g written sure change reason before after old new tried session alive less 
         fits = record {
           session = subst (λ (s : ℕ). s < 64) (sym session) fits.session;
           start = fits.start;
-          running = subst (λ (s : ℕ). slice_get (g.state new).running s ≡ Some (Some fits.start)) (sym session) (ap (λ (r : List (Option ℕ)). slice_get r before.session) d.does.running ∙ fits.running);
+          running = subst (λ (s : ℕ). slice_get (g.state new).running s ≡ Some (Some fits.start)) (sym session)
+              (ap (λ (r : List (Option ℕ)). slice_get r before.session) d.does.running ∙ fits.running);
           held = ap (holding_of (g.state new).table) session ∙ ap (λ (t : _). holding_of t before.session) tried.table ∙ fits.held;
           at = under order fits d;
         };
@@ -202,13 +211,15 @@ acts g written sure change reason before after old new tried session alive less 
 }
 
 -- a part that may do one act is refused
-pub try_refused : {S : Type 0} (g : Ghosts S) (written : State → List ℕ) (sure : State → Type 0) (change : State → State → Type 0) (reason : State → Type 0) (op : CleanupOp) (old new : S) (fault : Fault) → IsTried g op.session written sure change reason old new (Err fault) → (g.backing old).stopped ≡ false
+pub try_refused : {S : Type 0} (g : Ghosts S) (written : State → List ℕ) (sure : State → Type 0) (change : State → State → Type 0)
+    (reason : State → Type 0) (op : CleanupOp) (old new : S) (fault : Fault) → IsTried g op.session written sure change reason old new (Err fault) → (g.backing old).stopped ≡ false
     → written (g.state old) ≡ blocks_written op.at op.cursor (g.state old)
-    → (IsInOrder (g.state old) → CleanupFits (g.state old) op → sure (g.state old)) → CleanupSteps g op op old new (Err fault)
+    → (IsInOrder (g.state old) → CleanupInvariant (g.state old) op → sure (g.state old)) → CleanupSteps g op op old new (Err fault)
 try_refused g written sure change reason op old new fault tried alive same there =
     refuses g op old new fault tried.steps tried.refused (λ h. runs_no_more (g.backing old).stopped alive h)
     (λ honest order fits. working_cause (g.state old) (g.backing old) (g.backing new) op fault
-    (subst (λ (n : List ℕ). HasCause (where_trying (g.state old) (g.backing old) (g.backing new) op.session n) fault) same (tried.cause honest order (has_room (g.state old) op fits) (there order fits))))
+    (subst (λ (n : List ℕ). HasCause (causes_of_trying (g.state old) (g.backing old) (g.backing new) op.session n) fault) same
+    (tried.cause honest order (has_room (g.state old) op fits) (there order fits))))
 
 -- the leaf is judged
 module _ {S : Type 0} (g : Ghosts S) (before : CleanupOp) (high : Bound) (parent : ℕ) (old new : S) (at : before.at ≡ Judge high parent) (alive : (g.backing old).stopped ≡ false) where
@@ -218,20 +229,24 @@ module _ {S : Type 0} (g : Ghosts S) (before : CleanupOp) (high : Bound) (parent
   abbrev used : ℕ
   used = length (g.state old).pages
 
-  under : (fits : CleanupFits (g.state old) before) → IsUnderway (g.state old) fits.start before.cursor (Judge high parent)
-  under fits = subst (IsUnderway (g.state old) fits.start before.cursor) at fits.at
+  under : (fits : CleanupInvariant (g.state old) before) → CleanupIsUnderway (g.state old) fits.start before.cursor (Judge high parent)
+  under fits = subst (CleanupIsUnderway (g.state old) fits.start before.cursor) at fits.at
 
-  pub judge_in_use : IsInOrder (g.state old) → CleanupFits (g.state old) before → AreInUse before.cursor parent (g.state old)
+  pub judge_in_use : IsInOrder (g.state old) → CleanupInvariant (g.state old) before → BlocksAreInUse before.cursor parent (g.state old)
   judge_in_use order fits =
-      let u = under fits in
-      (trail_in_use (g.state old) fits.start 0 before.cursor 0 order.tree u.0, trail_in_use (g.state old) fits.start 1 parent 0 order.tree (trail_begins_here (g.state old) fits.start 1 (bound_aim high) false parent order.tree u.1))
+      let u = under fits in (
+        trail_in_use (g.state old) fits.start 0 before.cursor 0 order.tree u.0,
+        trail_in_use (g.state old) fits.start 1 parent 0 order.tree (trail_begins_here (g.state old) fits.start 1 (bound_aim high) false parent order.tree u.1),
+      )
 
   found_empty : IsCleaned (g.state old) before → IsEmptyAt (g.state old) before.cursor × (state_in (g.state old) before.cursor ≢ HalfDead)
   found_empty h = subst (IsFoundEmpty (g.state old) before.cursor) at h.empty
 
-  pub leaf_dies : IsTried g before.session (blocks_judged before.cursor parent) (AreInUse before.cursor parent) (LeafDies before.cursor) (IsSpared before.session before.cursor parent) old new (Ok true) → CleanupSteps g before (turned_to before Unlink) old new (Ok Going)
+  pub leaf_dies : IsTried g before.session (blocks_judged before.cursor parent) (BlocksAreInUse before.cursor parent) (LeafDies before.cursor)
+      (IsSpared before.session before.cursor parent) old new (Ok true) → CleanupSteps g before (turned_to before Unlink) old new (Ok Going)
   leaf_dies tried =
-      acts g (blocks_judged before.cursor parent) (AreInUse before.cursor parent) (LeafDies before.cursor) (IsSpared before.session before.cursor parent) before (turned_to before Unlink) old new tried refl alive
+      acts g (blocks_judged before.cursor parent) (BlocksAreInUse before.cursor parent) (LeafDies before.cursor)
+      (IsSpared before.session before.cursor parent) before (turned_to before Unlink) old new tried refl alive
       (subst (λ (a : CleanupAt). cleanup_left most used before.cursor Unlink < cleanup_left most used before.cursor a) (sym at) (judge_unlinks most used before.cursor high parent))
       (subst (λ (a : CleanupAt). TurnsFrom a (g.state old) before (Some Shape) (turned_to before Unlink)) (sym at) (inl (refl, refl)))
       (λ order fits d. (d.own fits.start fits.running).trails 0 before.cursor 0 (under fits).0)
@@ -239,11 +254,13 @@ module _ {S : Type 0} (g : Ghosts S) (before : CleanupOp) (high : Bound) (parent
       (λ h moved. cleaned_dying (g.state old) (g.state new) before h (come_within (g.state old) before (Judge high parent) at h) tried.used moved (found_empty h).0)
       (λ order h moved edit. spared_dying (g.state old) (g.state new) before high parent at tried.used h moved edit)
 
-  pub leaf_spared : IsTried g before.session (blocks_judged before.cursor parent) (AreInUse before.cursor parent) (LeafDies before.cursor) (IsSpared before.session before.cursor parent) old new (Ok false) → CleanupSteps g before (gone_past before 0) old new (Ok Going)
+  pub leaf_spared : IsTried g before.session (blocks_judged before.cursor parent) (BlocksAreInUse before.cursor parent) (LeafDies before.cursor)
+      (IsSpared before.session before.cursor parent) old new (Ok false) → CleanupSteps g before (gone_past before 0) old new (Ok Going)
   leaf_spared tried =
       moves g before (gone_past before 0) old new tried.steps (tried.stays refl) refl refl alive
       (subst (λ (a : CleanupAt). cleanup_left most used (suc before.cursor) Look < cleanup_left most used before.cursor a) (sym at) (judge_passes most used before.cursor high parent))
-      (λ honest order fits. (subst (λ (a : CleanupAt). TurnsFrom a (g.state old) before None (gone_past before 0)) (sym at) (inr (refl, refl, tried.passes honest (has_room (g.state old) before fits) refl)), tt))
+      (λ honest order fits.
+      (subst (λ (a : CleanupAt). TurnsFrom a (g.state old) before None (gone_past before 0)) (sym at) (inr (refl, refl, tried.passes honest (has_room (g.state old) before fits) refl)), tt))
       (λ honest fits h. cleaned_past (g.state old) before 0 h (come_within (g.state old) before (Judge high parent) at h) (found_empty h).0 (found_empty h).1)
       (λ honest order fits alone h. spared_judged (g.state old) before high parent order alone at h (tried.passes honest (has_room (g.state old) before fits) refl))
 
@@ -260,37 +277,49 @@ never_dead pages b none = by (slice_get pages b) refl
 
 -- the page is unlinked
 module _ {S : Type 0} (g : Ghosts S) (before : CleanupOp) (old new : S) (at : before.at ≡ Unlink) (alive : (g.backing old).stopped ≡ false) where
-  pub unlink_in_use : IsInOrder (g.state old) → CleanupFits (g.state old) before → IsInUse before.cursor (g.state old)
-  unlink_in_use order fits = trail_in_use (g.state old) fits.start 0 before.cursor 0 order.tree (subst (IsUnderway (g.state old) fits.start before.cursor) at fits.at)
+  pub unlink_in_use : IsInOrder (g.state old) → CleanupInvariant (g.state old) before → IsInUse before.cursor (g.state old)
+  unlink_in_use order fits = trail_in_use (g.state old) fits.start 0 before.cursor 0 order.tree (subst (CleanupIsUnderway (g.state old) fits.start before.cursor) at fits.at)
 
   not_dead : IsNotDead before.cursor (g.state old) → state_in (g.state old) before.cursor ≢ HalfDead
   not_dead none = never_dead (g.state old).pages before.cursor none
 
-  pub page_goes : IsTried g before.session (blocks_unlinked_at before.cursor) (IsInUse before.cursor) (PageGoes before.cursor) (IsNotDead before.cursor) old new (Ok true) → CleanupSteps g before (gone_past_deleted before) old new (Ok Going)
+  pub page_goes : IsTried g before.session (blocks_unlinked_at before.cursor) (IsInUse before.cursor) (PageGoes before.cursor)
+      (IsNotDead before.cursor) old new (Ok true) → CleanupSteps g before (gone_past_deleted before) old new (Ok Going)
   page_goes tried =
       acts g (blocks_unlinked_at before.cursor) (IsInUse before.cursor) (PageGoes before.cursor) (IsNotDead before.cursor) before (gone_past_deleted before) old new tried refl alive
-      (subst (λ (a : CleanupAt). cleanup_left (g.state old).limits.pages (length (g.state old).pages) (suc before.cursor) Look < cleanup_left (g.state old).limits.pages (length (g.state old).pages) before.cursor a) (sym at) (unlink_passes (g.state old).limits.pages (length (g.state old).pages) before.cursor))
+      (subst (λ (a : CleanupAt).
+      cleanup_left (g.state old).limits.pages (length (g.state old).pages) (suc before.cursor) Look < cleanup_left (g.state old).limits.pages
+      (length (g.state old).pages) before.cursor a) (sym at) (unlink_passes (g.state old).limits.pages (length (g.state old).pages) before.cursor))
       (subst (λ (a : CleanupAt). TurnsFrom a (g.state old) before (Some Shape) (gone_past_deleted before)) (sym at) (inl (refl, refl)))
       (λ order fits d. tt)
       (λ same moved. let one = one_deleted (g.state old) (g.state new) before.cursor same moved in omega (arith, one))
       (λ h moved. cleaned_deleted (g.state old) (g.state new) before h (come_within (g.state old) before Unlink at h) tried.used moved (subst (IsFoundEmpty (g.state old) before.cursor) at h.empty))
       (λ order h moved edit. spared_deleted (g.state old) (g.state new) before order.tree at tried.used h moved edit)
 
-  pub page_stays : IsTried g before.session (blocks_unlinked_at before.cursor) (IsInUse before.cursor) (PageGoes before.cursor) (IsNotDead before.cursor) old new (Ok false) → CleanupSteps g before (gone_past before 0) old new (Ok Going)
+  pub page_stays : IsTried g before.session (blocks_unlinked_at before.cursor) (IsInUse before.cursor) (PageGoes before.cursor)
+      (IsNotDead before.cursor) old new (Ok false) → CleanupSteps g before (gone_past before 0) old new (Ok Going)
   page_stays tried =
       moves g before (gone_past before 0) old new tried.steps (tried.stays refl) refl refl alive
-      (subst (λ (a : CleanupAt). cleanup_left (g.state old).limits.pages (length (g.state old).pages) (suc before.cursor) Look < cleanup_left (g.state old).limits.pages (length (g.state old).pages) before.cursor a) (sym at) (unlink_passes (g.state old).limits.pages (length (g.state old).pages) before.cursor))
-      (λ honest order fits. (subst (λ (a : CleanupAt). TurnsFrom a (g.state old) before None (gone_past before 0)) (sym at) (inr (refl, refl, tried.passes honest (has_room (g.state old) before fits) refl)), tt))
-      (λ honest fits h. cleaned_past (g.state old) before 0 h (come_within (g.state old) before Unlink at h) (subst (IsFoundEmpty (g.state old) before.cursor) at h.empty) (not_dead (tried.passes honest (has_room (g.state old) before fits) refl)))
+      (subst (λ (a : CleanupAt).
+      cleanup_left (g.state old).limits.pages (length (g.state old).pages) (suc before.cursor) Look < cleanup_left (g.state old).limits.pages
+      (length (g.state old).pages) before.cursor a) (sym at) (unlink_passes (g.state old).limits.pages (length (g.state old).pages) before.cursor))
+      (λ honest order fits.
+      (subst (λ (a : CleanupAt). TurnsFrom a (g.state old) before None (gone_past before 0)) (sym at) (inr (refl, refl, tried.passes honest (has_room (g.state old) before fits) refl)), tt))
+      (λ honest fits h. cleaned_past (g.state old) before 0 h (come_within (g.state old) before Unlink at h)
+      (subst (IsFoundEmpty (g.state old) before.cursor) at h.empty) (not_dead (tried.passes honest (has_room (g.state old) before fits) refl)))
       (λ honest order fits alone h. absurd (not_dead (tried.passes honest (has_room (g.state old) before fits) refl) (subst (IsSought (g.state old) before.cursor) at h.sought)))
 
 -- the page at the cursor is looked at
-pub looks : {S : Type 0} (g : Ghosts S) (before after : CleanupOp) (old new : S) (page : Page) → before.at ≡ Look → (g.backing old).stopped ≡ false → Continues g.follows old new → g.state new ≡ g.state old
-    → before.cursor < length (g.state old).pages → IsStored (g.state old).limits before.cursor page → ((g.backing new).honest ≡ true → slice_get (g.state old).pages before.cursor ≡ Some page) → TurnsAt page before after
+pub looks : {S : Type 0} (g : Ghosts S) (before after : CleanupOp) (old new : S) (page : Page) → before.at ≡ Look → (g.backing old).stopped ≡ false
+    → Continues g.follows old new → g.state new ≡ g.state old
+    → before.cursor < length (g.state old).pages → IsStored (g.state old).limits before.cursor page
+    → ((g.backing new).honest ≡ true → slice_get (g.state old).pages before.cursor ≡ Some page) → TurnsAt page before after
     → CleanupSteps g before after old new (Ok Going)
 looks g before after old new page at alive steps same inside stored found turn =
     moves g before after old new steps same (session_is turn) (deleted_is turn) alive
-    (subst (λ (a : CleanupAt). cleanup_left (g.state old).limits.pages (length (g.state old).pages) after.cursor after.at < cleanup_left (g.state old).limits.pages (length (g.state old).pages) before.cursor a) (sym at) (less turn))
+    (subst (λ (a : CleanupAt).
+    cleanup_left (g.state old).limits.pages (length (g.state old).pages) after.cursor after.at < cleanup_left (g.state old).limits.pages
+    (length (g.state old).pages) before.cursor a) (sym at) (less turn))
     (λ honest order fits. (
       subst (λ (a : CleanupAt). TurnsFrom a (g.state old) before None after) (sym at)
           (refl, (λ p there. subst (λ (q : Page). TurnsAt q before after) (same_page (g.state old).pages before.cursor page p (found honest) there) turn)),
@@ -309,14 +338,17 @@ looks g before after old new page at alive steps same inside stored found turn =
     deleted_is (tries high may is_high is) = ap (λ (op : CleanupOp). op.deleted) is
     deleted_is (passes alive empty is) = ap (λ (op : CleanupOp). op.deleted) is
 
-    less : TurnsAt page before after → cleanup_left (g.state old).limits.pages (length (g.state old).pages) after.cursor after.at < cleanup_left (g.state old).limits.pages (length (g.state old).pages) before.cursor Look
+    less : TurnsAt page before after
+        → cleanup_left (g.state old).limits.pages (length (g.state old).pages) after.cursor after.at < cleanup_left (g.state old).limits.pages (length (g.state old).pages) before.cursor Look
     less (unlinks dead is) = rw is (look_unlinks (g.state old).limits.pages (length (g.state old).pages) before.cursor inside)
     less (tries high may is_high is) = rw is (look_starts (g.state old).limits.pages (length (g.state old).pages) before.cursor high inside)
     less (passes alive empty is) = rw is (look_passes (g.state old).limits.pages (length (g.state old).pages) before.cursor inside)
 
-    under : (g.backing new).honest ≡ true → IsInOrder (g.state old) → (fits : CleanupFits (g.state old) before) → TurnsAt page before after → IsUnderway (g.state old) fits.start after.cursor after.at
+    under : (g.backing new).honest ≡ true → IsInOrder (g.state old) → (fits : CleanupInvariant (g.state old) before) → TurnsAt page before after
+        → CleanupIsUnderway (g.state old) fits.start after.cursor after.at
     under honest order fits (unlinks dead is) = rw is (subst (λ (b : ℕ). HasTrail (g.state old) fits.start 0 b 0) stored.block_is
-        (dead_begins_trail (g.state old) fits.start page order.tree (subst (λ (b : ℕ). slice_get (g.state old).pages b ≡ Some page) (sym stored.block_is) (found honest)) stored.storable.admitted dead))
+        (dead_begins_trail (g.state old) fits.start page order.tree
+        (subst (λ (b : ℕ). slice_get (g.state old).pages b ≡ Some page) (sym stored.block_is) (found honest)) stored.storable.admitted dead))
     under honest order fits (tries high may is_high is) = rw is (subst (λ (b : ℕ). HasTrail (g.state old) fits.start 0 b 0) stored.block_is
         (leaf_begins_trail (g.state old) fits.start page order.tree (subst (λ (b : ℕ). slice_get (g.state old).pages b ≡ Some page) (sym stored.block_is) (found honest)) may.alive may.leaf))
     under honest order fits (passes alive empty is) = rw is tt
@@ -337,7 +369,8 @@ down_differs : {high : Bound} {way : Way} → Down high way ≡ Unlink → ⊥
 down_differs e = cc
 
 -- the metapage is read
-pub starts : {S : Type 0} (g : Ghosts S) (before after : CleanupOp) (high : Bound) (old new : S) (meta : Page) (way : Way) → before.at ≡ Start high → (g.backing old).stopped ≡ false → Continues g.follows old new
+pub starts : {S : Type 0} (g : Ghosts S) (before after : CleanupOp) (high : Bound) (old new : S) (meta : Page) (way : Way) → before.at ≡ Start high
+    → (g.backing old).stopped ≡ false → Continues g.follows old new
     → g.state new ≡ g.state old → IsPage meta → ((g.backing new).honest ≡ true → slice_get (g.state old).pages 0 ≡ Some meta) → way.level ≡ meta.level
     → ((root : ℕ) → IsMetaOf meta root meta.level → Some way ≡ Some (way_from root meta.level)) → after ≡ left_root before way high → CleanupSteps g before after old new (Ok Going)
 starts g before after high old new meta way at alive steps same admitted found level named is = by way.level refl (is ∙ refl)
@@ -359,7 +392,9 @@ starts g before after high old new meta way at alive steps same admitted found l
 
     by : (l : ℕ) → way.level ≡ l → after ≡ left_to before l way high → CleanupSteps g before after old new (Ok Going)
     by zero z is0 = moves g before after old new steps same (ap (λ (op : CleanupOp). op.session) is0) (ap (λ (op : CleanupOp). op.deleted) is0) alive
-        (subst (λ (a : CleanupAt). cleanup_left (g.state old).limits.pages (length (g.state old).pages) after.cursor after.at < cleanup_left (g.state old).limits.pages (length (g.state old).pages) before.cursor a) (sym at) (rw is0 (start_passes (g.state old).limits.pages (length (g.state old).pages) before.cursor high)))
+        (subst (λ (a : CleanupAt).
+        cleanup_left (g.state old).limits.pages (length (g.state old).pages) after.cursor after.at < cleanup_left (g.state old).limits.pages
+        (length (g.state old).pages) before.cursor a) (sym at) (rw is0 (start_passes (g.state old).limits.pages (length (g.state old).pages) before.cursor high)))
         (λ honest order fits. (
           subst (λ (a : CleanupAt). TurnsFrom a (g.state old) before None after) (sym at)
               (refl, (λ m there. let one = same_page (g.state old).pages 0 meta m (found honest) there in inl (ap (λ (p : Page). p.level) (sym one) ∙ sym level ∙ z, is0))),
@@ -370,7 +405,8 @@ starts g before after high old new meta way at alive steps same admitted found l
         (ap (λ (p : Page). p.level) (same_page (g.state old).pages 0 order.tree.tree.meta meta order.tree.tree.meta_at (found honest)) ∙ sym level ∙ z)
         (subst (IsSought (g.state old) before.cursor) at h.sought)))
     by (suc n) some is1 = moves g before after old new steps same (ap (λ (op : CleanupOp). op.session) is1) (ap (λ (op : CleanupOp). op.deleted) is1) alive
-        (subst (λ (a : CleanupAt). cleanup_left (g.state old).limits.pages (length (g.state old).pages) after.cursor after.at < cleanup_left (g.state old).limits.pages (length (g.state old).pages) before.cursor a) (sym at)
+        (subst (λ (a : CleanupAt).
+        cleanup_left (g.state old).limits.pages (length (g.state old).pages) after.cursor after.at < cleanup_left (g.state old).limits.pages (length (g.state old).pages) before.cursor a) (sym at)
         (rw is1 (start_goes_down (g.state old).limits.pages (length (g.state old).pages) before.cursor high way (subst (λ (k : ℕ). k ≤ 31) (sym level) (page_low meta admitted)))))
         (λ honest order fits.
         let t = tells honest order fits.start in
@@ -384,7 +420,7 @@ starts g before after high old new meta way at alive steps same admitted found l
                 )),
           ),
           rw is1 (
-            subst (IsUnderway (g.state old) fits.start before.cursor) at fits.at,
+            subst (CleanupIsUnderway (g.state old) fits.start before.cursor) at fits.at,
             subst (λ (k : Way). IsOnWay (g.state old) fits.start (bound_aim high) false 1 k) (sym w) (record {
               not_below = (let a = level in let b = some in omega (arith, a, b));
               place = t.place;
@@ -398,17 +434,20 @@ starts g before after high old new meta way at alive steps same admitted found l
 -- a page on the way is read
 pub descends : {S : Type 0} (g : Ghosts S) (before after : CleanupOp) (high : Bound) (way : Way) (old new : S) (onward : Option Onward) (result : Result CleanupStep Fault) → before.at ≡ Down high way
     → (g.backing old).stopped ≡ false → Continues g.follows old new → g.state new ≡ g.state old → way.level ≢ 0 → LeavesLess 1 (g.state old).limits.pages way onward
-    → ((g.backing new).honest ≡ true → (start : ℕ) → IsInOrder (g.state old) → IsOnWay (g.state old) start (bound_aim high) false 1 way → LeadsOnward (g.state old) start (bound_aim high) false 1 way onward)
+    → ((g.backing new).honest ≡ true → (start : ℕ) → IsInOrder (g.state old) → IsOnWay (g.state old) start (bound_aim high) false 1 way
+    → LeadsOnward (g.state old) start (bound_aim high) false 1 way onward)
     → after ≡ left_page before onward way.block high → result ≡ left_answer onward way.block → CleanupSteps g before after old new result
-descends g before after high way old new None result at alive steps same some less leads op is = subst (CleanupSteps g before after old new) (sym is) (subst (λ (a : CleanupOp). CleanupSteps g before a old new (Err (PageDamaged way.block))) (sym op)
+descends g before after high way old new None result at alive steps same some less leads op is =
+    subst (CleanupSteps g before after old new) (sym is) (subst (λ (a : CleanupOp). CleanupSteps g before a old new (Err (PageDamaged way.block))) (sym op)
     (refuses g before old new (PageDamaged way.block) steps same (λ h. runs_no_more (g.backing old).stopped alive h)
-    (λ honest order fits. absurd (leads honest fits.start order (subst (IsUnderway (g.state old) fits.start before.cursor) at fits.at).1))))
+    (λ honest order fits. absurd (leads honest fits.start order (subst (CleanupIsUnderway (g.state old) fits.start before.cursor) at fits.at).1))))
 descends g before after high way old new (Some (LeadsOn on)) result at alive steps same some less leads op is = subst (CleanupSteps g before after old new) (sym is)
     (moves g before after old new steps same (ap (λ (o : CleanupOp). o.session) op) (ap (λ (o : CleanupOp). o.deleted) op) alive
-    (subst (λ (a : CleanupAt). cleanup_left (g.state old).limits.pages (length (g.state old).pages) after.cursor after.at < cleanup_left (g.state old).limits.pages (length (g.state old).pages) before.cursor a) (sym at)
+    (subst (λ (a : CleanupAt).
+    cleanup_left (g.state old).limits.pages (length (g.state old).pages) after.cursor after.at < cleanup_left (g.state old).limits.pages (length (g.state old).pages) before.cursor a) (sym at)
     (rw op (down_goes_on (g.state old).limits.pages (length (g.state old).pages) before.cursor high way on less)))
     (λ honest order fits.
-    let u = subst (IsUnderway (g.state old) fits.start before.cursor) at fits.at in (
+    let u = subst (CleanupIsUnderway (g.state old) fits.start before.cursor) at fits.at in (
       subst (λ (a : CleanupAt). TurnsFrom a (g.state old) before None after) (sym at) (refl, inl (on, op)),
       rw op (u.0, leads honest fits.start order u.1),
     ))
@@ -416,10 +455,11 @@ descends g before after high way old new (Some (LeadsOn on)) result at alive ste
     (λ honest order fits alone h. rw op (spared_at (g.state old) before (Down high on) h (λ e. down_differs (sym at ∙ e)) (subst (IsSought (g.state old) before.cursor) at h.sought))))
 descends g before after high way old new (Some Here) result at alive steps same some less leads op is = subst (CleanupSteps g before after old new) (sym is)
     (moves g before after old new steps same (ap (λ (o : CleanupOp). o.session) op) (ap (λ (o : CleanupOp). o.deleted) op) alive
-    (subst (λ (a : CleanupAt). cleanup_left (g.state old).limits.pages (length (g.state old).pages) after.cursor after.at < cleanup_left (g.state old).limits.pages (length (g.state old).pages) before.cursor a) (sym at)
+    (subst (λ (a : CleanupAt).
+    cleanup_left (g.state old).limits.pages (length (g.state old).pages) after.cursor after.at < cleanup_left (g.state old).limits.pages (length (g.state old).pages) before.cursor a) (sym at)
     (rw op (down_judges (g.state old).limits.pages (length (g.state old).pages) before.cursor high way way.block (omega (arith, some)))))
     (λ honest order fits.
-    let u = subst (IsUnderway (g.state old) fits.start before.cursor) at fits.at in
+    let u = subst (CleanupIsUnderway (g.state old) fits.start before.cursor) at fits.at in
     let here = leads honest fits.start order u.1 in (
       subst (λ (a : CleanupAt). TurnsFrom a (g.state old) before None after) (sym at) (refl, inr op),
       rw op (
@@ -427,9 +467,10 @@ descends g before after high way old new (Some Here) result at alive steps same 
         subst (λ (k : ℕ). HasPlace (g.state old) fits.start k (bound_aim high) false way.block) here.0 u.1.place,
       ),
     ))
-    (λ honest fits h. rw op (cleaned_at (g.state old) before (Judge high way.block) h (come_within (g.state old) before (Down high way) at h) (subst (IsFoundEmpty (g.state old) before.cursor) at h.empty)))
+    (λ honest fits h. rw op
+    (cleaned_at (g.state old) before (Judge high way.block) h (come_within (g.state old) before (Down high way) at h) (subst (IsFoundEmpty (g.state old) before.cursor) at h.empty)))
     (λ honest order fits alone h. rw op (spared_at (g.state old) before (Judge high way.block) h (λ e. down_differs (sym at ∙ e)) (record {
       high = high;
       leaf = subst (IsSought (g.state old) before.cursor) at h.sought;
-      above = (leads honest fits.start order (subst (IsUnderway (g.state old) fits.start before.cursor) at fits.at).1).1;
+      above = (leads honest fits.start order (subst (CleanupIsUnderway (g.state old) fits.start before.cursor) at fits.at).1).1;
     }))))

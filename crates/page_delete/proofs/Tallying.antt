@@ -37,7 +37,8 @@ there_more true x y r = omega (arith, r)
 there_more false x y r = omega (arith, r)
 
 -- one more is deleted
-one_more : (old new : State) (block n : ℕ) → block < n → is_deleted old.pages block ≡ false → is_deleted new.pages block ≡ true → ((b : ℕ) → b ≢ block → is_deleted new.pages b ≡ is_deleted old.pages b)
+one_more : (old new : State) (block n : ℕ) → block < n → is_deleted old.pages block ≡ false → is_deleted new.pages block ≡ true
+    → ((b : ℕ) → b ≢ block → is_deleted new.pages b ≡ is_deleted old.pages b)
     → deleted_count new n ≡ suc (deleted_count old n)
 one_more old new block zero lt was is others = absurd (omega (arith, lt))
 one_more old new block (suc n) lt was is others = elim (cases_eq n block) [
@@ -68,7 +69,8 @@ deleted_alike old new same =
 pub none_deleted : (old new : State) (block : ℕ) → length new.pages ≡ length old.pages → LeafDies block old new → deleted_in new ≡ deleted_in old
 none_deleted old new block used moves =
     ap (λ (n : ℕ). deleted_count new n) used ∙ same_below old new (length old.pages) (λ b lt. elim (cases_eq b block) [
-      | inl same ↦ ap (is_deleted new.pages) same ∙ told_by_state new.pages block ∙ ap is_deleted_state moves.after ∙ sym (ap (is_deleted old.pages) same ∙ told_by_state old.pages block ∙ ap is_deleted_state moves.before)
+      | inl same ↦ ap (is_deleted new.pages) same ∙ told_by_state new.pages block ∙ ap is_deleted_state moves.after
+          ∙ sym (ap (is_deleted old.pages) same ∙ told_by_state old.pages block ∙ ap is_deleted_state moves.before)
       | inr differ ↦ told_by_state new.pages b ∙ ap is_deleted_state (moves.others b differ) ∙ sym (told_by_state old.pages b)
     ])
 
@@ -76,5 +78,6 @@ none_deleted old new block used moves =
 pub one_deleted : (old new : State) (block : ℕ) → length new.pages ≡ length old.pages → PageGoes block old new → deleted_in new ≡ suc (deleted_in old)
 one_deleted old new block used moves =
     ap (λ (n : ℕ). deleted_count new n) used
-    ∙ one_more old new block (length old.pages) (dead_inside old.pages block moves.before) (told_by_state old.pages block ∙ ap is_deleted_state moves.before) (told_by_state new.pages block ∙ ap is_deleted_state moves.after)
+    ∙ one_more old new block (length old.pages) (dead_inside old.pages block moves.before)
+    (told_by_state old.pages block ∙ ap is_deleted_state moves.before) (told_by_state new.pages block ∙ ap is_deleted_state moves.after)
     (λ b differ. told_by_state new.pages b ∙ ap is_deleted_state (moves.others b differ) ∙ sym (told_by_state old.pages b))

@@ -12,8 +12,8 @@ use Rattle.tree_acts.specs.Leaves.{WasLeaf}
 use Rattle.descent.specs.Shared.{IsInOrder, IsOneStep, frames_for}
 use Rattle.descent.proofs.Acting.{one_act, one_nothing}
 use Rattle.descent.proofs.Working.{working_later}
-use Rattle.page_delete.specs.Needs.{where_trying}
-use Rattle.page_delete.specs.Parts.{IsCandidate, IsTaken, IsTakenLeft, DeletesOn, PinnedLeavesStay, IsTried}
+use Rattle.page_delete.specs.Needs.{causes_of_trying}
+use Rattle.page_delete.specs.Parts.{IsCandidate, IsTakenToChange, IsTakenLeft, DeletesOn, PinnedLeavesStay, IsTried}
 
 -- two answers are the same
 abbrev Path_result : Result Bool Fault → Result Bool Fault → Type 0
@@ -46,15 +46,16 @@ read_on g old mid steps same alive promised later = record { steps = steps; stat
 
 module _ {S : Type 0} (g : Ghosts S) (session : ℕ) where
   -- why a later part is refused, from before the reading
-  pub cause_later : (old mid new : S) (written : List ℕ) (fault : Fault) → HasRead g old mid → HasCause (where_trying (g.state mid) (g.backing mid) (g.backing new) session written) fault
-      → HasCause (where_trying (g.state old) (g.backing old) (g.backing new) session written) fault
+  pub cause_later : (old mid new : S) (written : List ℕ) (fault : Fault) → HasRead g old mid → HasCause (causes_of_trying (g.state mid) (g.backing mid) (g.backing new) session written) fault
+      → HasCause (causes_of_trying (g.state old) (g.backing old) (g.backing new) session written) fault
   cause_later old mid new written fault r h =
       working_later (g.state old) (g.backing old) (g.backing mid) (g.backing new) session written (frames_for written) false false fault r.failures r.alive r.promised
-      (subst (λ (st : State). HasCause (where_trying st (g.backing mid) (g.backing new) session written) fault) r.state h)
+      (subst (λ (st : State). HasCause (causes_of_trying st (g.backing mid) (g.backing new) session written) fault) r.state h)
 
   module _ (written : State → List ℕ) (sure : State → Type 0) (change : State → State → Type 0) (reason : State → Type 0) where
     -- ... behind a reading
-    pub tried_later : (old mid new : S) (result : Result Bool Fault) → HasRead g old mid → IsTried g session written sure change reason mid new result → IsTried g session written sure change reason old new result
+    pub tried_later : (old mid new : S) (result : Result Bool Fault) → HasRead g old mid → IsTried g session written sure change reason mid new result
+        → IsTried g session written sure change reason old new result
     tried_later old mid new result r t = record {
       steps = λ first h. t.steps first (r.steps first h);
       kept = subst (λ (st : State). IsOneStep st (g.state new)) r.state t.kept;
@@ -69,7 +70,8 @@ module _ {S : Type 0} (g : Ghosts S) (session : ℕ) where
       does = λ honest order below is. subst (λ (st : State). DeletesOn session st (g.state new)) r.state
           (t.does honest (subst IsInOrder (sym r.state) order) (subst StartsAreBelow (sym r.state) below) is);
       cause = λ honest order room there. if_err_map result _ _ (λ fault h.
-          subst (λ (st : State). HasCause (where_trying (g.state old) (g.backing old) (g.backing new) session (written st)) fault) r.state (cause_later old mid new (written (g.state mid)) fault r h))
+          subst (λ (st : State). HasCause (causes_of_trying (g.state old) (g.backing old) (g.backing new) session (written st)) fault) r.state
+          (cause_later old mid new (written (g.state mid)) fault r h))
           (t.cause honest (subst IsInOrder (sym r.state) order) (subst (λ (st : State). HasRoom st.table session) (sym r.state) room) (subst sure (sym r.state) there));
     }
 
@@ -97,7 +99,7 @@ module _ {S : Type 0} (g : Ghosts S) (session : ℕ) where
     -- ... or it was refused
     pub tried_refused : (old new : S) (fault : Fault) → Continues g.follows old new → g.state new ≡ g.state old
         → ((g.backing new).honest ≡ true → IsInOrder (g.state old) → HasRoom (g.state old).table session → sure (g.state old)
-        → HasCause (where_trying (g.state old) (g.backing old) (g.backing new) session (written (g.state old))) fault) → IsTried g session written sure change reason old new (Err fault)
+        → HasCause (causes_of_trying (g.state old) (g.backing old) (g.backing new) session (written (g.state old))) fault) → IsTried g session written sure change reason old new (Err fault)
     tried_refused old new fault steps same cause = record {
       steps = steps;
       kept = one_nothing (g.state old) (g.state new) same;
@@ -145,9 +147,10 @@ candidate_later st st2 h h2 session block leaf same back c =
     let d = subst (λ (s : State). IsCandidate s h session block leaf) (sym same) c in
     record { found = λ k. d.found (back k); stored = d.stored; used = d.used; free = d.free; may_die = d.may_die }
 
-pub taken_later : (st st2 : State) (h h2 : Bool) (session block : ℕ) (page : Page) → st2 ≡ st → (h2 ≡ true → h ≡ true) → IsTaken st h session block page → IsTaken st2 h2 session block page
+pub taken_later : (st st2 : State) (h h2 : Bool) (session block : ℕ) (page : Page) → st2 ≡ st → (h2 ≡ true → h ≡ true)
+    → IsTakenToChange st h session block page → IsTakenToChange st2 h2 session block page
 taken_later st st2 h h2 session block page same back c =
-    let d = subst (λ (s : State). IsTaken s h session block page) (sym same) c in
+    let d = subst (λ (s : State). IsTakenToChange s h session block page) (sym same) c in
     record { found = λ k. d.found (back k); stored = d.stored; used = d.used; free = d.free }
 
 pub left_later : (st st2 : State) (h h2 : Bool) (session : ℕ) (page : Page) (link : Option ℕ) (left : Option Page) → st2 ≡ st → (h2 ≡ true → h ≡ true) → IsTakenLeft st h session page link left

@@ -15,8 +15,8 @@ use Rattle.tree_acts.specs.Trees.{HasPlace, HasTrail}
 use Rattle.descent.specs.Onward.{IsOnWay}
 use Rattle.descent.specs.Shared.{IsInOrder, CleansUp, IsOneStep}
 use Rattle.page_delete.specs.Counts.{IsCleaned, CleansOn, CountsDeleted}
-use Rattle.page_delete.specs.Needs.{blocks_written, where_trying}
-use Rattle.page_delete.specs.Ops.{is_counted_out, cleanup_stats}
+use Rattle.page_delete.specs.Needs.{blocks_written, causes_of_trying}
+use Rattle.page_delete.specs.Ops.{cleanup_counted_out, cleanup_stats}
 use Rattle.page_delete.specs.Parts.{PinnedLeavesStay}
 use Rattle.page_delete.specs.Spares.{IsAlone, IsSparing, SparesOn}
 use Rattle.page_delete.specs.Turns.{TurnsFrom}
@@ -29,14 +29,14 @@ use Rattle.page_delete.specs.declared.steps.CleanupStep.TheVariants.{Going, Fini
 
 -- The leaf at the cursor is on the chain of leaves, or was deleted since; its parent is looked for on the way to its high key,
 -- or may be this page of the level above, from which right links lead to the one that covers the high key.
-abbrev pub IsUnderway : State → ℕ → ℕ → CleanupAt → Type 0
-IsUnderway st start cursor Look = Unit {0}
-IsUnderway st start cursor (Start high) = HasTrail st start 0 cursor 0
-IsUnderway st start cursor (Down high way) =
+abbrev pub CleanupIsUnderway : State → ℕ → ℕ → CleanupAt → Type 0
+CleanupIsUnderway st start cursor Look = Unit {0}
+CleanupIsUnderway st start cursor (Start high) = HasTrail st start 0 cursor 0
+CleanupIsUnderway st start cursor (Down high way) =
     HasTrail st start 0 cursor 0 × IsOnWay st start (bound_aim high) false 1 way
-IsUnderway st start cursor (Judge high parent) =
+CleanupIsUnderway st start cursor (Judge high parent) =
     HasTrail st start 0 cursor 0 × HasPlace st start 1 (bound_aim high) false parent
-IsUnderway st start cursor Unlink = HasTrail st start 0 cursor 0
+CleanupIsUnderway st start cursor Unlink = HasTrail st start 0 cursor 0
 
 -- it tests the leaf, and this page, which may be its parent
 pub record IsJudging (at : CleanupAt) (parent : ℕ) : Type 0 where
@@ -44,19 +44,19 @@ pub record IsJudging (at : CleanupAt) (parent : ℕ) : Type 0 where
   pub is : at ≡ Judge high parent
 
 -- what a cleanup knows between its steps
-pub record CleanupFits (st : State) (op : CleanupOp) : Type 0 where
+pub record CleanupInvariant (st : State) (op : CleanupOp) : Type 0 where
   pub session : op.session < 64
   -- its call runs, with a start number
   pub start : ℕ
   pub running : slice_get st.running op.session ≡ Some (Some start)
   pub held : holding_of st.table op.session ≡ nothing_held
-  pub at : IsUnderway st start op.cursor op.at
+  pub at : CleanupIsUnderway st start op.cursor op.at
 
 -- why a step of a cleanup is refused, on pages that are a tree and a device that keeps its model
-abbrev pub where_cleaning : State → Backing → Backing → CleanupOp → Circumstances
-where_cleaning st old new op = record (where_trying st old new op.session
+abbrev pub causes_of_cleaning : State → Backing → Backing → CleanupOp → Circumstances
+causes_of_cleaning st old new op = record (causes_of_trying st old new op.session
     (blocks_written op.at op.cursor st)) {
-      is_stopped = old.stopped || (is_at_end st.acts || is_counted_out op);
+      is_stopped = old.stopped || (is_at_end st.acts || cleanup_counted_out op);
     }
 
 -- a step is made, with one act at most, which is of one leaf on its way out of the tree
@@ -64,7 +64,7 @@ pub record CleanupGoesOn (old new : State) (before after : CleanupOp) : Type 0 w
   pub effect : Option Effect
   pub does : CleansUp before.session effect old new
   pub turns : TurnsFrom before.at old before effect after
-  pub fits : CleanupFits new after
+  pub fits : CleanupInvariant new after
 
 -- each block in use was looked at
 pub record CleanupEnds (old new : State) (before after : CleanupOp) : Type 0 where
@@ -81,7 +81,7 @@ CleanupStepped old old_backing new new_backing before after (Ok Going) =
 CleanupStepped old old_backing new new_backing before after (Ok (Finished stats)) =
     CleanupEnds old new before after
 CleanupStepped old old_backing new new_backing before after (Err fault) =
-    HasCause (where_cleaning old old_backing new_backing before) fault
+    HasCause (causes_of_cleaning old old_backing new_backing before) fault
 
 -- a refused step changes neither the pages, nor who holds what, nor the call
 pub record CleanupStays (old new : State) (before after : CleanupOp) : Type 0 where
@@ -89,10 +89,10 @@ pub record CleanupStays (old new : State) (before after : CleanupOp) : Type 0 wh
   pub op : after ≡ before
 
 -- the statistics are those of the call and of the pages
-abbrev pub StatsAreTold : State → CleanupOp → Result CleanupStep Fault → Type 0
-StatsAreTold st op (Ok Going) = Unit {0}
-StatsAreTold st op (Ok (Finished stats)) = stats ≡ cleanup_stats st op
-StatsAreTold st op (Err fault) = Unit {0}
+abbrev pub CleanupStatsAreTold : State → CleanupOp → Result CleanupStep Fault → Type 0
+CleanupStatsAreTold st op (Ok Going) = Unit {0}
+CleanupStatsAreTold st op (Ok (Finished stats)) = stats ≡ cleanup_stats st op
+CleanupStatsAreTold st op (Err fault) = Unit {0}
 
 -- each step that goes on leaves less to do
 abbrev pub CleanupLeavesLess : State → State → CleanupOp → CleanupOp → Result CleanupStep Fault
@@ -117,19 +117,19 @@ pub record CleanupSteps {S : Type 0} (g : Ghosts S) (before after : CleanupOp) (
   pub cycle : (g.state new).cycle ≡ (g.state old).cycle
   pub refused : OnErr result (CleanupStays (g.state old) (g.state new) before after)
   pub stopped : (g.backing old).stopped ≡ true → result ≡ Err Stopped
-  pub stats : StatsAreTold (g.state old) before result
+  pub stats : CleanupStatsAreTold (g.state old) before result
   pub less : CleanupLeavesLess (g.state old) (g.state new) before after result
   pub pins : (g.backing new).honest ≡ true
       → PinnedLeavesStay before.session (g.state old) (g.state new)
   pub deletes : (g.backing new).honest ≡ true
       → CountsDeleted (g.state old) (g.state new) before after result
-  pub counts : (g.backing new).honest ≡ true → CleanupFits (g.state old) before
+  pub counts : (g.backing new).honest ≡ true → CleanupInvariant (g.state old) before
       → IsCleaned (g.state old) before → CleansOn (g.state new) after result
   pub stepped : (g.backing new).honest ≡ true → IsInOrder (g.state old)
-      → StartsAreBelow (g.state old) → CleanupFits (g.state old) before
+      → StartsAreBelow (g.state old) → CleanupInvariant (g.state old) before
       → CleanupStepped (g.state old) (g.backing old) (g.state new) (g.backing new) before after
       result
   pub spares : (g.backing new).honest ≡ true → IsInOrder (g.state old)
-      → StartsAreBelow (g.state old) → CleanupFits (g.state old) before
+      → StartsAreBelow (g.state old) → CleanupInvariant (g.state old) before
       → IsAlone (g.state old) before.session → IsSparing (g.state old) before
       → SparesOn (g.state new) after result

@@ -4,7 +4,7 @@ use Rattle.page_codec.specs.declared.page.PageState.TheVariants.{HalfDead}
 use Rattle.page_action.specs.States.{State}
 use Rattle.tree_acts.specs.Deletions.{state_in}
 use Rattle.descent.specs.Shared.{IsInOrder, MayRely}
-use Rattle.page_delete.specs.Cleanups.{CleanupFits}
+use Rattle.page_delete.specs.Cleanups.{CleanupInvariant}
 use Rattle.page_delete.specs.Counts.{IsCleaned}
 use Rattle.page_delete.specs.Ops.{fresh_cleanup}
 use Rattle.page_delete.specs.Spares.{IsSparing}
@@ -14,13 +14,13 @@ use Rattle.page_delete.specs.declared.steps.CleanupOp.{CleanupOp}
 -- what a cleanup knows it still knows after others have acted
 abbrev pub CleanupsAreUndisturbed : Type 0
 CleanupsAreUndisturbed =
-    (old new : State) (op : CleanupOp) → MayRely op.session old new → CleanupFits old op
-    → CleanupFits new op
+    (old new : State) (op : CleanupOp) → MayRely op.session old new → CleanupInvariant old op
+    → CleanupInvariant new op
 
 -- what is left to do for a cleanup has a bound at each moment, within the limits
 abbrev pub CleanupsAreBounded : Type 0
 CleanupsAreBounded =
-    (st : State) (op : CleanupOp) → IsInOrder st → CleanupFits st op → st.limits.pages ≤ 65536
+    (st : State) (op : CleanupOp) → IsInOrder st → CleanupInvariant st op → st.limits.pages ≤ 65536
     → cleanup_left st.limits.pages (length st.pages) op.cursor op.at < 4398046511104
 
 -- before the first step nothing is counted, and there is nothing to clean

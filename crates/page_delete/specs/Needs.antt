@@ -5,7 +5,7 @@ use Rattle.page_codec.specs.declared.page.Page.{Page}
 use Rattle.page_codec.specs.declared.page.PageState.{PageState}
 use Rattle.page_codec.specs.declared.page.PageState.TheVariants.{Live, HalfDead, Deleted}
 use Rattle.page_action.specs.States.{State, Backing}
-use Rattle.descent.specs.Shared.{sibling, frames_for, where_working}
+use Rattle.descent.specs.Shared.{sibling, frames_for, causes_of_working}
 use Rattle.page_delete.specs.declared.steps.CleanupAt.{CleanupAt}
 use Rattle.page_delete.specs.declared.steps.CleanupAt.TheVariants.{Look, Start, Down, Judge, Unlink}
 
@@ -35,6 +35,6 @@ blocks_written (Judge high parent) cursor st = blocks_judged cursor parent st
 blocks_written Unlink cursor st = blocks_unlinked_at cursor st
 
 -- why a step is refused that writes these blocks at most
-abbrev pub where_trying : State → Backing → Backing → ℕ → List ℕ → Circumstances
-where_trying st old new session written =
-    where_working st old new session written (frames_for written) false false
+abbrev pub causes_of_trying : State → Backing → Backing → ℕ → List ℕ → Circumstances
+causes_of_trying st old new session written =
+    causes_of_working st old new session written (frames_for written) false false

@@ -39,8 +39,8 @@ abbrev pub is_last_number : ℕ → Bool
 is_last_number count = count == 4294967295
 
 -- a counter is at its end, or has no room for the entries of one more leaf
-abbrev pub is_counted_out : CleanupOp → Bool
-is_counted_out op = is_full_count op.left || (is_last_number op.cursor || is_last_number op.deleted)
+abbrev pub cleanup_counted_out : CleanupOp → Bool
+cleanup_counted_out op = is_full_count op.left || (is_last_number op.cursor || is_last_number op.deleted)
 
 -- where the page at the cursor leads the cleanup: a half-dead one is unlinked; for an empty leaf the parent is looked for;
 -- any other is passed

@@ -23,7 +23,7 @@ use Rattle.descent.specs.declared.way.Onward.TheVariants.{Going as LeadsOn, Here
 use Rattle.descent.specs.declared.way.Way.{Way}
 use Rattle.vacuum.specs.Counts.{entry_count}
 use Rattle.page_delete.specs.Judging.{IsToDie}
-use Rattle.page_delete.specs.Needs.{where_trying}
+use Rattle.page_delete.specs.Needs.{causes_of_trying}
 use Rattle.page_delete.specs.Ops.{turned_to, gone_past}
 use Rattle.page_delete.specs.Spares.{EditsALeaf}
 use Rattle.page_delete.specs.declared.looking.Seen.{Seen}
@@ -109,7 +109,7 @@ CandidateAnswers st honest session block None =
     honest ≡ true → HasRoom st.table session → NoCandidate st session block
 
 -- the page of this block as it was read to be changed: no other session holds it
-pub record IsTaken (st : State) (honest : Bool) (session block : ℕ) (page : Page) : Type 0 where
+pub record IsTakenToChange (st : State) (honest : Bool) (session block : ℕ) (page : Page) : Type 0 where
   pub found : honest ≡ true → slice_get st.pages block ≡ Some page
   pub stored : IsStored st.limits block page
   pub used : block < length st.pages
@@ -151,12 +151,12 @@ pub record IsTried {S : Type 0} (g : Ghosts S) (session : ℕ) (written : State 
       → DeletesOn session (g.state old) (g.state new)
   pub cause : (g.backing new).honest ≡ true → IsInOrder (g.state old)
       → HasRoom (g.state old).table session → sure (g.state old)
-      → IfErr result (HasCause (where_trying (g.state old) (g.backing old) (g.backing new) session
+      → IfErr result (HasCause (causes_of_trying (g.state old) (g.backing old) (g.backing new) session
       (written (g.state old))))
 
 -- these blocks are in use
-abbrev pub AreInUse : ℕ → ℕ → State → Type 0
-AreInUse block parent st = (block < length st.pages) × (parent < length st.pages)
+abbrev pub BlocksAreInUse : ℕ → ℕ → State → Type 0
+BlocksAreInUse block parent st = (block < length st.pages) × (parent < length st.pages)
 
 abbrev pub IsInUse : ℕ → State → Type 0
 IsInUse block st = block < length st.pages
@@ -178,7 +178,7 @@ pub record IsLiveAt (pages : List Page) (block : ℕ) : Type 0 where
 -- the page as it was read to be linked anew, and its links
 pub record IsTakenRight (st : State) (honest : Bool) (session : ℕ) (page : Page) (block : ℕ)
     (sibling : Page) : Type 0 where
-  pub taken : IsTaken st honest session block sibling
+  pub taken : IsTakenToChange st honest session block sibling
   pub links : sibling.left ≡ Some page.block
 
 -- ... to its left: none where there is none
@@ -187,7 +187,7 @@ IsTakenLeft st honest session page None None = Unit {0}
 IsTakenLeft st honest session page None (Some sibling) = ⊥
 IsTakenLeft st honest session page (Some block) None = ⊥
 IsTakenLeft st honest session page (Some block) (Some sibling) =
-    IsTaken st honest session block sibling × (sibling.right ≡ Some page.block)
+    IsTakenToChange st honest session block sibling × (sibling.right ≡ Some page.block)
 
 -- the right link of a half-dead page, if it is one
 abbrev pub HalfDeadAnswers : Page → Option ℕ → Type 0

@@ -6,10 +6,10 @@ ghost use Rattle.latch_table.specs.Holdings.{HasRoom};
 ghost use Rattle.page_action.specs.States.{Continues};
 ghost use Rattle.tree_shape.specs.LinkPlaces.{child_at};
 ghost use Rattle.tree_acts.specs.Deletions.{IsWholeAt};
-ghost use Rattle.descent.specs.Shared.{where_working, where_writing_any};
+ghost use Rattle.descent.specs.Shared.{causes_of_working, causes_of_writing_any};
 ghost use Rattle.page_delete.specs.Judging.{IsHandingOn};
 ghost use Rattle.page_delete.specs.Needs.{blocks_judged};
-ghost use Rattle.page_delete.specs.Parts.{SiblingsLink, SiblingsAllow, SiblingsAnswer, CandidateAnswers, IsCandidate, IsTaken, IsTried, AreInUse, LeafDies, IsSpared, LinksRight, LinksLeft, IsLiveAt};
+ghost use Rattle.page_delete.specs.Parts.{SiblingsLink, SiblingsAllow, SiblingsAnswer, CandidateAnswers, IsCandidate, IsTakenToChange, IsTried, BlocksAreInUse, LeafDies, IsSpared, LinksRight, LinksLeft, IsLiveAt};
 
 use crate::looking::glance;
 use crate::steps::CleanupOp;
@@ -33,10 +33,10 @@ fn candidate<S: PageStore>(
     ensures alive { OnOk result
         ((S.backing store.new).stopped ≡ true → (S.backing store.old).stopped ≡ true) }
     ensures promised { (S.backing store.new).promised ≡ (S.backing store.old).promised }
-    ensures faults { IfErr result (HasCause where_writing_any) }
+    ensures faults { IfErr result (HasCause causes_of_writing_any) }
     ensures cause { (S.backing store.new).honest ≡ true
         → block < length (S.state store.old).pages
-        → (first second : ℕ) → IfErr result (HasCause (where_working (S.state store.old)
+        → (first second : ℕ) → IfErr result (HasCause (causes_of_working (S.state store.old)
         (S.backing store.old) (S.backing store.new) session (first ∷ second ∷ [])
         2 false false)) }
 {
@@ -61,12 +61,12 @@ fn left_is_whole<S: PageStore>(store: &mut S, session: Session, leaf: &Page) -> 
     ensures alive { OnOk result
         ((S.backing store.new).stopped ≡ true → (S.backing store.old).stopped ≡ true) }
     ensures promised { (S.backing store.new).promised ≡ (S.backing store.old).promised }
-    ensures faults { IfErr result (HasCause where_writing_any) }
+    ensures faults { IfErr result (HasCause causes_of_writing_any) }
     ensures cause { (S.backing store.new).honest ≡ true
         → HasRoom (S.state store.old).table session
         → ((l : ℕ) → leaf.now.left ≡ Some l
         → LinksRight (S.state store.old).pages l leaf.now.block)
-        → (first second : ℕ) → IfErr result (HasCause (where_working (S.state store.old)
+        → (first second : ℕ) → IfErr result (HasCause (causes_of_working (S.state store.old)
         (S.backing store.old) (S.backing store.new) session (first ∷ second ∷ [])
         2 false false)) }
 {
@@ -100,11 +100,11 @@ fn right_is_live<S: PageStore>(
     ensures alive { OnOk result
         ((S.backing store.new).stopped ≡ true → (S.backing store.old).stopped ≡ true) }
     ensures promised { (S.backing store.new).promised ≡ (S.backing store.old).promised }
-    ensures faults { IfErr result (HasCause where_writing_any) }
+    ensures faults { IfErr result (HasCause causes_of_writing_any) }
     ensures cause { (S.backing store.new).honest ≡ true
         → HasRoom (S.state store.old).table session
         → LinksLeft (S.state store.old).pages right leaf.now.block
-        → (first second : ℕ) → IfErr result (HasCause (where_working (S.state store.old)
+        → (first second : ℕ) → IfErr result (HasCause (causes_of_working (S.state store.old)
         (S.backing store.old) (S.backing store.new) session (first ∷ second ∷ [])
         2 false false)) }
 {
@@ -129,11 +129,11 @@ fn siblings_allow<S: PageStore>(
     ensures alive { OnOk result
         ((S.backing store.new).stopped ≡ true → (S.backing store.old).stopped ≡ true) }
     ensures promised { (S.backing store.new).promised ≡ (S.backing store.old).promised }
-    ensures faults { IfErr result (HasCause where_writing_any) }
+    ensures faults { IfErr result (HasCause causes_of_writing_any) }
     ensures cause { (S.backing store.new).honest ≡ true
         → HasRoom (S.state store.old).table session
         → SiblingsLink (S.state store.old).pages leaf.now
-        → (first second : ℕ) → IfErr result (HasCause (where_working (S.state store.old)
+        → (first second : ℕ) → IfErr result (HasCause (causes_of_working (S.state store.old)
         (S.backing store.old) (S.backing store.new) session (first ∷ second ∷ [])
         2 false false)) }
 {
@@ -182,7 +182,7 @@ fn handing_place(parent: &Page, leaf: u32, right: u32) -> Option<usize>
 }
 
 // Makes the leaf half-dead in one act, and hands its downlink on.
-fn put_to_death<S: PageStore>(
+fn make_half_dead<S: PageStore>(
     store: &mut S,
     session: Session,
     leaf: Page,
@@ -194,14 +194,14 @@ fn put_to_death<S: PageStore>(
         leaf.block leaf }
     requires right { (S.backing store.old).honest ≡ true
         → SiblingsAllow (S.state store.old).pages leaf right }
-    requires parent { IsTaken (S.state store.old) (S.backing store.old).honest session
+    requires parent { IsTakenToChange (S.state store.old) (S.backing store.old).honest session
         parent.block parent }
     requires place { IsHandingOn parent leaf.block right at }
     requires inside { length (S.state store.old).pages ≤ (S.state store.old).limits.pages }
     ensures all { IsTried S.PageStore session (blocks_judged leaf.block parent.block)
-        (AreInUse leaf.block parent.block) (LeafDies leaf.block) (IsSpared session leaf.block parent.block)
+        (BlocksAreInUse leaf.block parent.block) (LeafDies leaf.block) (IsSpared session leaf.block parent.block)
         store.old store.new result }
-    ensures faults { IfErr result (HasCause where_writing_any) }
+    ensures faults { IfErr result (HasCause causes_of_writing_any) }
 {
     let mut leaf = leaf;
     let mut parent = parent;
@@ -226,15 +226,15 @@ fn try_parent<S: PageStore>(
     requires right { (S.backing store.old).honest ≡ true
         → SiblingsAllow (S.state store.old).pages leaf right }
     ensures all { IsTried S.PageStore session (blocks_judged leaf.block parent)
-        (AreInUse leaf.block parent) (LeafDies leaf.block) (IsSpared session leaf.block parent) store.old store.new result }
-    ensures faults { IfErr result (HasCause where_writing_any) }
+        (BlocksAreInUse leaf.block parent) (LeafDies leaf.block) (IsSpared session leaf.block parent) store.old store.new result }
+    ensures faults { IfErr result (HasCause causes_of_writing_any) }
 {
     let page = match look_to_change(store, session, parent) {
         Ok(page) => page,
         Err(fault) => return Err(fault),
     };
     match handing_place(&page, leaf.block, right) {
-        Some(at) => put_to_death(store, session, leaf, right, page, at),
+        Some(at) => make_half_dead(store, session, leaf, right, page, at),
         None => Ok(false),
     }
 }
@@ -249,8 +249,8 @@ fn try_beside<S: PageStore>(
     requires leaf { IsCandidate (S.state store.old) (S.backing store.old).honest session
         leaf.block leaf }
     ensures all { IsTried S.PageStore session (blocks_judged leaf.block parent)
-        (AreInUse leaf.block parent) (LeafDies leaf.block) (IsSpared session leaf.block parent) store.old store.new result }
-    ensures faults { IfErr result (HasCause where_writing_any) }
+        (BlocksAreInUse leaf.block parent) (LeafDies leaf.block) (IsSpared session leaf.block parent) store.old store.new result }
+    ensures faults { IfErr result (HasCause causes_of_writing_any) }
 {
     match siblings_allow(store, session, &leaf) {
         Ok(Some(right)) => try_parent(store, session, leaf, right, parent),
@@ -263,9 +263,9 @@ impl CleanupOp {
     // Makes the leaf at the cursor half-dead, if it is to be: whether it did.
     pub fn try_leaf<S: PageStore>(&self, store: &mut S, parent: u32) -> Result<bool, Fault>
         ensures all { IsTried S.PageStore self.now.session (blocks_judged self.now.cursor parent)
-            (AreInUse self.now.cursor parent) (LeafDies self.now.cursor)
+            (BlocksAreInUse self.now.cursor parent) (LeafDies self.now.cursor)
             (IsSpared self.now.session self.now.cursor parent) store.old store.new result }
-        ensures faults { IfErr result (HasCause where_writing_any) }
+        ensures faults { IfErr result (HasCause causes_of_writing_any) }
     {
         match candidate(store, self.session, self.cursor) {
             Ok(Some(leaf)) => try_beside(store, self.session, leaf, parent),

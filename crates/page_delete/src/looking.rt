@@ -4,7 +4,7 @@ ghost use Rattle.std.specs.Prelude.{◌≡◌, ◌<◌, ℕ, [], ◌∷◌, true
 ghost use Rattle.index_model.specs.Faults.{HasCause};
 ghost use Rattle.latch_table.specs.Holdings.{HasRoom};
 ghost use Rattle.page_action.specs.States.{Continues};
-ghost use Rattle.descent.specs.Shared.{where_working, where_writing_any};
+ghost use Rattle.descent.specs.Shared.{causes_of_working, causes_of_writing_any};
 ghost use Rattle.page_delete.specs.Parts.{IsSeen};
 
 use descent::look;
@@ -34,10 +34,10 @@ pub fn glance<S: PageStore>(store: &mut S, session: Session, block: u32) -> Resu
     ensures alive { OnOk result
         ((S.backing store.new).stopped ≡ true → (S.backing store.old).stopped ≡ true) }
     ensures promised { (S.backing store.new).promised ≡ (S.backing store.old).promised }
-    ensures faults { IfErr result (HasCause where_writing_any) }
+    ensures faults { IfErr result (HasCause causes_of_writing_any) }
     ensures cause { (S.backing store.new).honest ≡ true
         → HasRoom (S.state store.old).table session → block < length (S.state store.old).pages
-        → (first second : ℕ) → IfErr result (HasCause (where_working (S.state store.old)
+        → (first second : ℕ) → IfErr result (HasCause (causes_of_working (S.state store.old)
         (S.backing store.old) (S.backing store.new) session (first ∷ second ∷ [])
         2 false false)) }
 {

@@ -2,7 +2,7 @@
 
 ghost use Rattle.std.specs.Prelude.{◌≡◌, ◌<◌, ◌||◌, false, IfErr, length};
 ghost use Rattle.index_model.specs.Faults.{HasCause};
-ghost use Rattle.descent.specs.Shared.{where_writing_any};
+ghost use Rattle.descent.specs.Shared.{causes_of_writing_any};
 
 use crate::turns::stats;
 use descent::{Way, lead, look, way_down};
@@ -50,7 +50,7 @@ pub enum CleanupStep {
 }
 
 impl CleanupOp {
-    ghost use Rattle.page_delete.specs.Ops.{fresh_cleanup, is_counted_out};
+    ghost use Rattle.page_delete.specs.Ops.{fresh_cleanup, cleanup_counted_out};
     ghost use Rattle.page_delete.specs.Cleanups.{CleanupSteps, IsJudging};
 
     /// A cleanup before its first step.
@@ -75,7 +75,7 @@ impl CleanupOp {
     /// for a sibling that does not link back, among others. A refused step changes nothing.
     pub fn step<S: PageStore>(&mut self, store: &mut S) -> Result<CleanupStep, Fault>
         ensures all { CleanupSteps S.PageStore self.old self.new store.old store.new result }
-        ensures faults { IfErr result (HasCause where_writing_any) }
+        ensures faults { IfErr result (HasCause causes_of_writing_any) }
     {
         if store.is_stopped() || self.is_counted_out() {
             return Err(Fault::Stopped);
@@ -92,7 +92,7 @@ impl CleanupOp {
 
     // Whether a counter is at its end, or has no room for the entries of one more leaf.
     fn is_counted_out(&self) -> bool
-        ensures { result ≡ is_counted_out self.now }
+        ensures { result ≡ cleanup_counted_out self.now }
     {
         self.left > u64::MAX - 50 || self.cursor == u32::MAX || self.deleted == u32::MAX
     }
@@ -101,10 +101,10 @@ impl CleanupOp {
     fn look_at_page<S: PageStore>(&mut self, store: &mut S) -> Result<CleanupStep, Fault>
         requires at { self.old.at ≡ CleanupAt.Look }
         requires alive { (S.backing store.old).stopped ≡ false }
-        requires room { is_counted_out self.old ≡ false }
+        requires room { cleanup_counted_out self.old ≡ false }
         requires inside { self.old.cursor < length (S.state store.old).pages }
         ensures all { CleanupSteps S.PageStore self.old self.new store.old store.new result }
-        ensures faults { IfErr result (HasCause where_writing_any) }
+        ensures faults { IfErr result (HasCause causes_of_writing_any) }
     {
         match look(store, self.session, self.cursor) {
             Ok(()) => {}
@@ -122,9 +122,9 @@ impl CleanupOp {
     ) -> Result<CleanupStep, Fault>
         requires at { self.old.at ≡ CleanupAt.Start high }
         requires alive { (S.backing store.old).stopped ≡ false }
-        requires room { is_counted_out self.old ≡ false }
+        requires room { cleanup_counted_out self.old ≡ false }
         ensures all { CleanupSteps S.PageStore self.old self.new store.old store.new result }
-        ensures faults { IfErr result (HasCause where_writing_any) }
+        ensures faults { IfErr result (HasCause causes_of_writing_any) }
     {
         match look(store, self.session, 0) {
             Ok(()) => {}
@@ -146,9 +146,9 @@ impl CleanupOp {
     ) -> Result<CleanupStep, Fault>
         requires at { self.old.at ≡ CleanupAt.Down high way }
         requires alive { (S.backing store.old).stopped ≡ false }
-        requires room { is_counted_out self.old ≡ false }
+        requires room { cleanup_counted_out self.old ≡ false }
         ensures all { CleanupSteps S.PageStore self.old self.new store.old store.new result }
-        ensures faults { IfErr result (HasCause where_writing_any) }
+        ensures faults { IfErr result (HasCause causes_of_writing_any) }
     {
         if way.level == 0 {
             return Err(Fault::PageDamaged(way.block));
@@ -167,9 +167,9 @@ impl CleanupOp {
     fn judge<S: PageStore>(&mut self, store: &mut S, parent: u32) -> Result<CleanupStep, Fault>
         requires at { IsJudging self.old.at parent }
         requires alive { (S.backing store.old).stopped ≡ false }
-        requires room { is_counted_out self.old ≡ false }
+        requires room { cleanup_counted_out self.old ≡ false }
         ensures all { CleanupSteps S.PageStore self.old self.new store.old store.new result }
-        ensures faults { IfErr result (HasCause where_writing_any) }
+        ensures faults { IfErr result (HasCause causes_of_writing_any) }
     {
         match self.try_leaf(store, parent) {
             Ok(true) => {
@@ -188,9 +188,9 @@ impl CleanupOp {
     fn unlink<S: PageStore>(&mut self, store: &mut S) -> Result<CleanupStep, Fault>
         requires at { self.old.at ≡ CleanupAt.Unlink }
         requires alive { (S.backing store.old).stopped ≡ false }
-        requires room { is_counted_out self.old ≡ false }
+        requires room { cleanup_counted_out self.old ≡ false }
         ensures all { CleanupSteps S.PageStore self.old self.new store.old store.new result }
-        ensures faults { IfErr result (HasCause where_writing_any) }
+        ensures faults { IfErr result (HasCause causes_of_writing_any) }
     {
         match self.try_unlink(store) {
             Ok(true) => {

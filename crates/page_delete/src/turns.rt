@@ -2,7 +2,7 @@
 
 ghost use Rattle.std.specs.Prelude.{◌≡◌, ◌≤◌, ◌↔◌, IsTrue, false, Some, length};
 ghost use Rattle.page_codec.specs.declared.page.PageState.TheVariants.{HalfDead};
-ghost use Rattle.page_delete.specs.Ops.{is_counted_out, turned_to, gone_past, gone_past_deleted, TurnsAt, cleanup_stats};
+ghost use Rattle.page_delete.specs.Ops.{cleanup_counted_out, turned_to, gone_past, gone_past_deleted, TurnsAt, cleanup_stats};
 ghost use Rattle.page_delete.specs.Parts.{left_root, left_page, left_answer};
 ghost use Rattle.vacuum.specs.Counts.{entry_count};
 ghost use Rattle.page_action.specs.Contents.{live_entries};
@@ -50,7 +50,7 @@ fn count_entries(page: &Page) -> u64
 impl CleanupOp {
     // Goes on behind the page at the cursor, on which it counted so many entries, at most 50.
     pub fn pass(&mut self, count: u64)
-        requires room { is_counted_out self.old ≡ false }
+        requires room { cleanup_counted_out self.old ≡ false }
         requires few { count ≤ 50 }
         ensures { self.new ≡ gone_past self.old count }
     {
@@ -61,7 +61,7 @@ impl CleanupOp {
 
     // Goes on behind the page at the cursor, which it has unlinked.
     pub fn pass_deleted(&mut self)
-        requires room { is_counted_out self.old ≡ false }
+        requires room { cleanup_counted_out self.old ≡ false }
         ensures { self.new ≡ gone_past_deleted self.old }
     {
         self.cursor += 1;
@@ -71,7 +71,7 @@ impl CleanupOp {
 
     // Goes where the page at the cursor leads it.
     pub fn turn_at(&mut self, page: &Page)
-        requires room { is_counted_out self.old ≡ false }
+        requires room { cleanup_counted_out self.old ≡ false }
         requires few { length (live_entries page.now.state page.now.items) ≤ 50 }
         ensures { TurnsAt page.now self.old self.new }
     {
@@ -90,7 +90,7 @@ impl CleanupOp {
 
     // Goes to the root, unless that is a leaf.
     pub fn turn_from_root(&mut self, way: Way, high: Bound)
-        requires room { is_counted_out self.old ≡ false }
+        requires room { cleanup_counted_out self.old ≡ false }
         ensures { self.new ≡ left_root self.old way high }
     {
         if way.level == 0 {

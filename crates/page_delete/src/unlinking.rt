@@ -7,9 +7,9 @@ ghost use Rattle.page_action.specs.States.{Continues, after_act};
 ghost use Rattle.page_action.specs.Stored.{AreActable};
 ghost use Rattle.page_codec.specs.declared.page.PageState.TheVariants.{HalfDead};
 ghost use Rattle.tree_shape.specs.Deletion.{as_deleted};
-ghost use Rattle.descent.specs.Shared.{where_acting, where_writing_any};
-ghost use Rattle.page_delete.specs.Needs.{where_trying, blocks_unlinked_at};
-ghost use Rattle.page_delete.specs.Parts.{HalfDeadAnswers, IsTaken, IsTakenLeft, IsTakenRight, IsTried, IsInUse, PageGoes, IsNotDead, LinksRight, LinksLeft, unlinked};
+ghost use Rattle.descent.specs.Shared.{causes_of_acting, causes_of_writing_any};
+ghost use Rattle.page_delete.specs.Needs.{causes_of_trying, blocks_unlinked_at};
+ghost use Rattle.page_delete.specs.Parts.{HalfDeadAnswers, IsTakenToChange, IsTakenLeft, IsTakenRight, IsTried, IsInUse, PageGoes, IsNotDead, LinksRight, LinksLeft, unlinked};
 
 use crate::steps::CleanupOp;
 use crate::turns::is_half_dead;
@@ -40,12 +40,12 @@ fn take_left<S: PageStore>(
     ensures alive { OnOk result
         ((S.backing store.new).stopped ≡ true → (S.backing store.old).stopped ≡ true) }
     ensures promised { (S.backing store.new).promised ≡ (S.backing store.old).promised }
-    ensures faults { IfErr result (HasCause where_writing_any) }
+    ensures faults { IfErr result (HasCause causes_of_writing_any) }
     ensures cause { (S.backing store.new).honest ≡ true
         → HasRoom (S.state store.old).table session
         → ((l : ℕ) → page.now.left ≡ Some l
         → LinksRight (S.state store.old).pages l page.now.block)
-        → (written : List ℕ) → IfErr result (HasCause (where_trying (S.state store.old)
+        → (written : List ℕ) → IfErr result (HasCause (causes_of_trying (S.state store.old)
         (S.backing store.old) (S.backing store.new) session written)) }
 {
     let Some(block) = page.left else {
@@ -74,11 +74,11 @@ fn take_right<S: PageStore>(
     ensures alive { OnOk result
         ((S.backing store.new).stopped ≡ true → (S.backing store.old).stopped ≡ true) }
     ensures promised { (S.backing store.new).promised ≡ (S.backing store.old).promised }
-    ensures faults { IfErr result (HasCause where_writing_any) }
+    ensures faults { IfErr result (HasCause causes_of_writing_any) }
     ensures cause { (S.backing store.new).honest ≡ true
         → HasRoom (S.state store.old).table session
         → LinksLeft (S.state store.old).pages block page.now.block
-        → (written : List ℕ) → IfErr result (HasCause (where_trying (S.state store.old)
+        → (written : List ℕ) → IfErr result (HasCause (causes_of_trying (S.state store.old)
         (S.backing store.old) (S.backing store.new) session written)) }
 {
     match look_to_change(store, session, block) {
@@ -103,10 +103,10 @@ fn act_between<S: PageStore>(
     ensures done { OnOk result (S.state store.new
         ≡ after_act (unlinked left page.now right number) (S.state store.old)) }
     ensures refused { OnErr result (S.state store.new ≡ S.state store.old) }
-    ensures faults { IfErr result (HasCause where_writing_any) }
+    ensures faults { IfErr result (HasCause causes_of_writing_any) }
     ensures cause { AreActable (S.state store.old).limits (length (S.state store.old).pages)
         (unlinked left page.now right number)
-        → IfErr result (HasCause (where_acting (S.state store.old) (S.backing store.old)
+        → IfErr result (HasCause (causes_of_acting (S.state store.old) (S.backing store.old)
         (S.backing store.new) (unlinked left page.now right number))) }
 {
     let gone = deleted_page(page, number);
@@ -130,7 +130,7 @@ fn unlink_between<S: PageStore>(
     page: Page,
     right: Page,
 ) -> Result<bool, Fault>
-    requires page { IsTaken (S.state store.old) (S.backing store.old).honest session
+    requires page { IsTakenToChange (S.state store.old) (S.backing store.old).honest session
         page.block page }
     requires dead { page.state ≡ HalfDead }
     requires right_is { page.right ≡ Some right.block }
@@ -141,7 +141,7 @@ fn unlink_between<S: PageStore>(
     requires inside { length (S.state store.old).pages ≤ (S.state store.old).limits.pages }
     ensures all { IsTried S.PageStore session (blocks_unlinked_at page.block) (IsInUse page.block)
         (PageGoes page.block) (IsNotDead page.block) store.old store.new result }
-    ensures faults { IfErr result (HasCause where_writing_any) }
+    ensures faults { IfErr result (HasCause causes_of_writing_any) }
 {
     let number = store.begun();
     match act_between(store, left, &page, right, number) {
@@ -158,7 +158,7 @@ fn unlink_right<S: PageStore>(
     page: Page,
     right: u32,
 ) -> Result<bool, Fault>
-    requires page { IsTaken (S.state store.old) (S.backing store.old).honest session
+    requires page { IsTakenToChange (S.state store.old) (S.backing store.old).honest session
         page.block page }
     requires dead { page.state ≡ HalfDead }
     requires right_is { page.right ≡ Some right }
@@ -166,7 +166,7 @@ fn unlink_right<S: PageStore>(
         page.left left }
     ensures all { IsTried S.PageStore session (blocks_unlinked_at page.block) (IsInUse page.block)
         (PageGoes page.block) (IsNotDead page.block) store.old store.new result }
-    ensures faults { IfErr result (HasCause where_writing_any) }
+    ensures faults { IfErr result (HasCause causes_of_writing_any) }
 {
     match take_right(store, session, &page, right) {
         Ok(right) => unlink_between(store, session, left, page, right),
@@ -181,13 +181,13 @@ fn unlink_dead<S: PageStore>(
     page: Page,
     right: u32,
 ) -> Result<bool, Fault>
-    requires page { IsTaken (S.state store.old) (S.backing store.old).honest session
+    requires page { IsTakenToChange (S.state store.old) (S.backing store.old).honest session
         page.block page }
     requires dead { page.state ≡ HalfDead }
     requires right_is { page.right ≡ Some right }
     ensures all { IsTried S.PageStore session (blocks_unlinked_at page.block) (IsInUse page.block)
         (PageGoes page.block) (IsNotDead page.block) store.old store.new result }
-    ensures faults { IfErr result (HasCause where_writing_any) }
+    ensures faults { IfErr result (HasCause causes_of_writing_any) }
 {
     match take_left(store, session, &page) {
         Ok(left) => unlink_right(store, session, left, page, right),
@@ -201,7 +201,7 @@ impl CleanupOp {
         ensures all { IsTried S.PageStore self.now.session (blocks_unlinked_at self.now.cursor)
             (IsInUse self.now.cursor) (PageGoes self.now.cursor) (IsNotDead self.now.cursor)
             store.old store.new result }
-        ensures faults { IfErr result (HasCause where_writing_any) }
+        ensures faults { IfErr result (HasCause causes_of_writing_any) }
     {
         let page = match look_to_change(store, self.session, self.cursor) {
             Ok(page) => page,

@@ -3,7 +3,7 @@ use Rattle.std.proofs.Common.{◌≡◌, inl, inr, ℕ, suc, ◌<◌, ◌≤◌,
 use Rattle.std.proofs.lemmas.List.{take-append-le, drop-append-le}
 use Rattle.std.specs.Prelude.{is_some}
 use Rattle.std.proofs.lemmas.Bool.{cases_lt}
-use Rattle.device.specs.Disk.{Moment}
+use Rattle.device.specs.Disk.{DiskMoment}
 use Rattle.device.specs.Places.{Has, OnDisk}
 use Rattle.device.proofs.Going.{stays}
 use Rattle.index_model.specs.declared.format.Format.{Format}
@@ -15,7 +15,7 @@ use Rattle.redo_log.specs.Kept.{Keeps, limits_of, is_stopped}
 use Rattle.redo_log.specs.declared.log.Log.{Log}
 use Rattle.redo_log.proofs.ImageLists.{last_image-append, images_of-push}
 use Rattle.page_store.specs.Histories.{with_act, after_acts, pages_after, pages_now, AreActs}
-use Rattle.device_layout.specs.Layout.{superblock, place}
+use Rattle.page_codec.specs.Places.{superblock, place}
 use Rattle.page_store.specs.Restart.{LeavesPart}
 use Rattle.page_store.specs.Logged.{Held, pages_held, is_named, AreHome, IsKept, IsOwn}
 use Rattle.page_store.specs.Following.{Follows}
@@ -24,9 +24,10 @@ use Rattle.page_store.proofs.Images.{acts-append, after_acts-append, get-with_pa
 use Rattle.page_store.specs.Crashing.{part_of_more}
 
 module _ (old : Held) (log : Log) (changed : List Page) (room promised : ℕ) (limits : limits_of log ≡ limits_of old.log) (stopped : is_stopped log ≡ is_stopped old.log)
-    (keeps : (m : Moment) (acts : List (List Page)) (forced : ℕ) → Keeps old.log m acts forced → Keeps log m (acts ++ changed ∷ []) forced)
+    (keeps : (m : DiskMoment) (acts : List (List Page)) (forced : ℕ) → Keeps old.log m acts forced → Keeps log m (acts ++ changed ∷ []) forced)
     (actable : AreActable (limits_of old.log) (length (pages_held old)) changed) (unwritten : ℕ → ℕ) (order : List ℕ)
-    (acted : (block : ℕ) → is_some (last_image changed block) ≡ true → unwritten block ≡ suc old.acts) (others : (block : ℕ) → last_image changed block ≡ None → unwritten block ≡ old.unwritten block) where
+    (acted : (block : ℕ) → is_some (last_image changed block) ≡ true → unwritten block ≡ suc old.acts)
+    (others : (block : ℕ) → last_image changed block ≡ None → unwritten block ≡ old.unwritten block) where
   abbrev h : History
   h = old.history
 

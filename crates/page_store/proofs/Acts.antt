@@ -67,7 +67,8 @@ acted_more old mid new xs page act a c = record {
   order = c.order ∙ (ap (λ (blocks : List ℕ). step blocks page) a.order ∙ sym (changed-append (changed_of old) xs page));
 }
 
-pub acted_next : (old mid new : Pool) (pages : List Page) (k : ℕ) (page : Page) (act : ℕ) → slice_get pages k ≡ Some page → AreActed old mid (take k pages) act → IsChanged mid new page act → AreActed old new (take (suc k) pages) act
+pub acted_next : (old mid new : Pool) (pages : List Page) (k : ℕ) (page : Page) (act : ℕ) → slice_get pages k ≡ Some page
+    → AreActed old mid (take k pages) act → IsChanged mid new page act → AreActed old new (take (suc k) pages) act
 acted_next old mid new pages k page act at a c =
     subst (λ (xs : List Page). AreActed old new xs act) (sym (take_next pages k page at)) (acted_more old mid new (take k pages) page act a c)
 
@@ -85,7 +86,8 @@ acted_none pool act = record {
 }
 
 -- the pages are as many as the next unused block is
-pub length_acted : (limits : Format) (used : ℕ) (pages changed : List Page) → AreActable limits used changed → used ≤ length pages → length (with_pages pages changed) ≡ used_after (length pages) changed
+pub length_acted : (limits : Format) (used : ℕ) (pages changed : List Page) → AreActable limits used changed → used ≤ length pages
+    → length (with_pages pages changed) ≡ used_after (length pages) changed
 length_acted limits used pages [] may more = refl
 length_acted limits used pages (page ∷ changed) may more =
     let place : page.block ≤ length pages = omega (arith, may.1.0) in

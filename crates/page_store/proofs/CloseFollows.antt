@@ -2,7 +2,7 @@
 use Rattle.std.proofs.Common.{◌≡◌, ⊎_elim, ℕ, ◌+◌, ◌<◌, ◌≤◌, Bool, true, false, Option, None, List, [], ◌∷◌, length, take, drop, slice_get, refl, sym, ap, subst, inl, inr, ◌∙◌, arith, length-drop}
 use Rattle.std.proofs.lemmas.List.{append-nil}
 use Rattle.std.proofs.lemmas.Option.{slice_get_past}
-use Rattle.device.specs.Disk.{Moment, Trace}
+use Rattle.device.specs.Disk.{DiskMoment, Trace}
 use Rattle.device.specs.Moments.{Goes}
 use Rattle.device.specs.Places.{Has, OnDisk, ChangesOnly}
 use Rattle.device.proofs.Going.{goes_weaker, goes_both, goes_now}
@@ -15,7 +15,7 @@ use Rattle.redo_log.specs.Images.{last_image, later_of, images_of}
 use Rattle.redo_log.specs.Kept.{Keeps, RestartsOrEmpty, RestartsOrEmptyThroughout, ChangesItsRange, limits_of, is_stopped}
 use Rattle.redo_log.specs.declared.log.Log.{Log}
 use Rattle.page_store.specs.Histories.{after_acts, pages_after, pages_now, AreActs}
-use Rattle.device_layout.specs.Layout.{superblock, place}
+use Rattle.page_codec.specs.Places.{superblock, place}
 use Rattle.page_store.specs.Restart.{RestartsToPart, LeavesPart}
 use Rattle.page_store.specs.Logged.{Held, pages_held, is_named, AreHome, IsKept, IsOwn}
 use Rattle.page_store.specs.Following.{Follows}
@@ -57,7 +57,7 @@ module _ (old : Held) (own : IsOwn old) (alive : is_stopped old.log ≡ false) (
   all_forced : k.forced ≡ length since
   all_forced = omega (arith, k.durable_is, all, own.counted, length-drop k.base h.acts, k.base_few)
 
-  long_at : (m : Moment) → length m.seen ≡ length old.trace.now.seen → place l l.pages ≤ length m.seen
+  long_at : (m : DiskMoment) → length m.seen ≡ length old.trace.now.seen → place l l.pages ≤ length m.seen
   long_at m same = omega (arith, own.long, same)
 
   now_is : (block : ℕ) → slice_get (pages_now h) block ≡ later_of (slice_get (pages_after h k.base) block) (last_image (images_of since) block)
@@ -83,7 +83,7 @@ module _ (old : Held) (own : IsOwn old) (alive : is_stopped old.log ≡ false) (
   }
 
   -- while the log is closed, the acts it held or nothing
-  leaves_closing : (m : Moment) → AreHome l [] (pages_now h) old.trace.now → RestartsOrEmpty l (take k.forced since) m × ChangesOnly 4096 l.log_bytes old.trace.now m → LeavesPart l h old.durable m
+  leaves_closing : (m : DiskMoment) → AreHome l [] (pages_now h) old.trace.now → RestartsOrEmpty l (take k.forced since) m × ChangesOnly 4096 l.log_bytes old.trace.now m → LeavesPart l h old.durable m
   leaves_closing m home both image left =
       let superblock_on = superblock_kept l 4096 l.log_bytes old.trace.now m (omega arith) both.1 k.superblock_on in
       let long = long_at m both.1.same_length in
@@ -95,7 +95,7 @@ module _ (old : Held) (own : IsOwn old) (alive : is_stopped old.log ≡ false) (
       (home_restarts l h own.start_stored own.start_few own.acts_are (pages_now h) m image refl left superblock_on (home_kept l [] (pages_now h) old.trace.now m both.1 home) long holds))
       (both.0 image left)
 
-  kept_closed : (log : Log) (m : Moment) → limits_of log ≡ l → ChangesOnly 4096 l.log_bytes old.trace.now m → AreHome l [] (pages_now h) old.trace.now → Keeps log m [] 0
+  kept_closed : (log : Log) (m : DiskMoment) → limits_of log ≡ l → ChangesOnly 4096 l.log_bytes old.trace.now m → AreHome l [] (pages_now h) old.trace.now → Keeps log m [] 0
       → ((block : ℕ) → old.unwritten block ≡ 0) → IsKept log m old.unwritten h old.durable
   kept_closed log m limits only home keeps clean =
       let none = nothing_left h.acts in
@@ -127,7 +127,8 @@ pub record IsClosing (old : Held) (log : Log) (trace : Trace) (honest : Bool) (f
   pub failed : is_stopped log ≡ true → old.failures < failures
 
 module _ (old : Held) (log : Log) (trace : Trace) (honest : Bool) (failures : ℕ) (r : IsClosing old log trace honest failures) (room promised : ℕ)
-    (clean : is_stopped log ≡ false → (block : ℕ) → old.unwritten block ≡ 0) (keeps : is_stopped log ≡ false → (acts : List (List Page)) (forced : ℕ) → Keeps old.log old.trace.now acts forced → Keeps log trace.now [] 0) where
+    (clean : is_stopped log ≡ false → (block : ℕ) → old.unwritten block ≡ 0)
+    (keeps : is_stopped log ≡ false → (acts : List (List Page)) (forced : ℕ) → Keeps old.log old.trace.now acts forced → Keeps log trace.now [] 0) where
   abbrev closed : Held
   closed = record old { log = log; trace = trace; honest = honest; failures = failures; room = room; promised = promised }
 
@@ -152,7 +153,13 @@ module _ (old : Held) (log : Log) (trace : Trace) (honest : Bool) (failures : �
 
   pub follows_closed : Follows old closed
   follows_closed = record {
-    later = record { failures = r.more; durable = omega arith; stopped = λ s. (let both : true ≡ false = sym s ∙ r.alive in absurd cc); stop_has_cause = λ s. inr (r.failed s); honest = λ s. sym r.same ∙ s };
+    later = record {
+      failures = r.more;
+      durable = omega arith;
+      stopped = λ s. (let both : true ≡ false = sym s ∙ r.alive in absurd cc);
+      stop_has_cause = λ s. inr (r.failed s);
+      honest = λ s. sym r.same ∙ s;
+    };
     grows = λ own. record {
       own = own_closed own;
       limits = r.limits;

@@ -10,7 +10,7 @@ use Rattle.std.proofs.lemmas.Option.{slice_get_within}
 use Rattle.device.specs.declared.device.Device.{Ghosts}
 use Rattle.buffer_pool.specs.Choices.{IsOldest}
 use Rattle.buffer_pool.specs.Frames.{has_block}
-use Rattle.buffer_pool.specs.Pools.{most_of, count_of, blocks_of, frame_of, act_of, changed_of, HasSamePages, HasSameChanges, CanBeTaken, IsPut, IsPool}
+use Rattle.buffer_pool.specs.Pools.{most_of, pool_count, pool_blocks, frame_of, act_of, changed_of, HasSamePages, HasSameChanges, CanBeTaken, IsPut, IsPool}
 use Rattle.buffer_pool.specs.declared.pool.Pool.{Pool}
 use Rattle.page_codec.specs.declared.page.Page.{Page}
 use Rattle.page_action.specs.Frames.{Memory, LogStays, TakesFrame, TakesUnused, TakesOver}
@@ -41,7 +41,7 @@ passed_before p xs front rest place first is many = λ k d less.
 pub same_memory : (old new : Pool) → HasSamePages old new → HasSameChanges old new → memory_in new ≡ memory_in old
 same_memory old new pages changes =
     ap (λ (bs : List ℕ). record { held = bs; unwritten = act_of new }) pages.blocks
-    ∙ ap (λ (acts : ℕ → ℕ). record { held = blocks_of old; unwritten = acts }) (fun_ext changes.acts)
+    ∙ ap (λ (acts : ℕ → ℕ). record { held = pool_blocks old; unwritten = acts }) (fun_ext changes.acts)
 
 pub changes_same : (old new : Pool) → new ≡ old → HasSameChanges old new
 changes_same old new is = record { order = ap changed_of is; acts = λ block. ap (λ (p : Pool). act_of p block) is }
@@ -52,11 +52,12 @@ none_of None found is none = refl
 none_of (Some x) found is none = (let both : true ≡ false = sym is ∙ none in absurd cc)
 
 -- a block without a frame isn't in memory
-pub not_there : (pool : Pool) (block : ℕ) → IsPool pool → frame_of pool block ≡ None → has_block (blocks_of pool) block ≡ true → ⊥
+pub not_there : (pool : Pool) (block : ℕ) → IsPool pool → frame_of pool block ≡ None → has_block (pool_blocks pool) block ≡ true → ⊥
 not_there pool block is none among = (let both : true ≡ false = sym among ∙ (is.there block ∙ ap is_some none) in cc)
 
 -- the blocks of the first so many pages and one more
-pub blocks_next : (pages : List Page) (i : ℕ) (page : Page) → slice_get pages i ≡ Some page → map (λ (p : Page). p.block) (take (i + 1) pages) ≡ map (λ (p : Page). p.block) (take i pages) ++ page.block ∷ []
+pub blocks_next : (pages : List Page) (i : ℕ) (page : Page) → slice_get pages i ≡ Some page
+    → map (λ (p : Page). p.block) (take (i + 1) pages) ≡ map (λ (p : Page). p.block) (take i pages) ++ page.block ∷ []
 blocks_next pages i page at = ap (λ (n : ℕ). map (λ (p : Page). p.block) (take n pages)) (add-one i) ∙ by pages i at
   where
     by : (pages : List Page) (i : ℕ) → slice_get pages i ≡ Some page → map (λ (p : Page). p.block) (take (suc i) pages) ≡ map (λ (p : Page). p.block) (take i pages) ++ page.block ∷ []
@@ -81,7 +82,8 @@ module _ {D : Type 0} (g : Ghosts D) where
     waiting = ap waiting_blocks same.log;
   }
 
-  pub stays_both : (a b c : LoggedPages D g) → LogStays (backing_of (held_of g a)) (backing_of (held_of g b)) → LogStays (backing_of (held_of g b)) (backing_of (held_of g c)) → LogStays (backing_of (held_of g a)) (backing_of (held_of g c))
+  pub stays_both : (a b c : LoggedPages D g) → LogStays (backing_of (held_of g a)) (backing_of (held_of g b))
+      → LogStays (backing_of (held_of g b)) (backing_of (held_of g c)) → LogStays (backing_of (held_of g a)) (backing_of (held_of g c))
   stays_both a b c f s = record {
     durable = s.durable ∙ f.durable;
     room = s.room ∙ f.room;
@@ -129,14 +131,14 @@ module _ {D : Type 0} (g : Ghosts D) where
   module _ (pinned : List ℕ) (old chosen new : LoggedPages D g) (place block act : ℕ) (pages : HasSamePages old.pool chosen.pool) (changes : HasSameChanges old.pool chosen.pool)
       (oldest : IsOldest chosen.pool pinned place block act) (law : IsPool chosen.pool)
       (forced : act ≤ old.durable → LogStays (backing_of (held_of g old)) (backing_of (held_of g new))) where
-    full : length (blocks_of old.pool) ≡ most_of old.pool
+    full : length (pool_blocks old.pool) ≡ most_of old.pool
     full = sym (ap (λ (l : List ℕ). length l) pages.blocks) ∙ (law.count ∙ (oldest.full ∙ pages.most))
 
-    clean : All (λ b. has_block (changed_of old.pool) b ≡ false → has_block pinned b ≡ true) (blocks_of old.pool)
+    clean : All (λ b. has_block (changed_of old.pool) b ≡ false → has_block pinned b ≡ true) (pool_blocks old.pool)
     clean =
         let all = subst (λ (bs : List ℕ). All (λ b. act_of chosen.pool b ≡ 0 → has_block pinned b ≡ true) bs) pages.blocks oldest.clean in
         λ k d less out.
-        let b = get_or (blocks_of old.pool) k d in
+        let b = get_or (pool_blocks old.pool) k d in
         all k d less (unchanged chosen.pool law b (ap (λ (l : List ℕ). has_block l b) changes.order ∙ out))
 
     passed : (front rest : List ℕ) → changed_of chosen.pool ≡ front ++ rest → length front ≡ place → All (λ b. has_block pinned b ≡ true) front
@@ -236,7 +238,8 @@ module _ {D : Type 0} (g : Ghosts D) where
   gets_nothing pinned block a = takes_nothing (most_of a.pool) pinned block (memory_in a.pool) (backing_of (held_of g a))
 
   -- a page that isn't there, and isn't brought in
-  pub gets_none : (pinned : List ℕ) (block : ℕ) (old new : LoggedPages D g) → IsPool old.pool → frame_of old.pool block ≡ None → CostsFrame g pinned old new → blocks_of new.pool ≡ blocks_of old.pool → GetsFrame g pinned block old new
+  pub gets_none : (pinned : List ℕ) (block : ℕ) (old new : LoggedPages D g) → IsPool old.pool → frame_of old.pool block ≡ None
+      → CostsFrame g pinned old new → pool_blocks new.pool ≡ pool_blocks old.pool → GetsFrame g pinned block old new
   gets_none pinned block old new law none cost same = record {
     there = λ among. absurd (not_there old.pool block law none among);
     cost = cost;
@@ -247,17 +250,17 @@ module _ {D : Type 0} (g : Ghosts D) where
   module _ (pinned : List ℕ) (at : ℕ) (old mid new : LoggedPages D g) (page : Page) (law : IsPool old.pool) (absent : frame_of old.pool page.block ≡ None)
       (same : HasSamePages old.pool mid.pool) (free : CanBeTaken mid.pool at)
       (unpinned : (block : ℕ) → has_block pinned block ≡ true → frame_of old.pool block ≢ Some at)
-      (unused : count_of old.pool < most_of old.pool → at ≡ count_of old.pool) (put : IsPut mid.pool new.pool at page) where
-    takes_unused : count_of old.pool < most_of old.pool → TakesUnused (most_of old.pool) page.block (memory_in old.pool) (memory_in new.pool)
+      (unused : pool_count old.pool < most_of old.pool → at ≡ pool_count old.pool) (put : IsPut mid.pool new.pool at page) where
+    takes_unused : pool_count old.pool < most_of old.pool → TakesUnused (most_of old.pool) page.block (memory_in old.pool) (memory_in new.pool)
     takes_unused some = record {
       unused = omega (arith, some, law.count);
       held = put.behind (omega (arith, unused some, same.count)) ∙ ap (λ (l : List ℕ). l ++ page.block ∷ []) same.blocks;
     }
 
-    takes_over : most_of old.pool ≤ count_of old.pool → TakesOver (most_of old.pool) pinned page.block (memory_in old.pool) (memory_in new.pool)
+    takes_over : most_of old.pool ≤ pool_count old.pool → TakesOver (most_of old.pool) pinned page.block (memory_in old.pool) (memory_in new.pool)
     takes_over many =
-        let within : at < count_of old.pool = omega (arith, many, free.within, same.most) in
-        let block = get_or (blocks_of old.pool) at 0 in
+        let within : at < pool_count old.pool = omega (arith, many, free.within, same.most) in
+        let block = get_or (pool_blocks old.pool) at 0 in
         let framed : frame_of old.pool block ≡ Some at = law.frames at within in
         record {
           full = omega (arith, many, law.few, law.count);
@@ -278,14 +281,15 @@ module _ {D : Type 0} (g : Ghosts D) where
     gets_one cost = record {
       there = λ among. absurd (not_there old.pool page.block law absent among);
       cost = cost;
-      frame = elim (cases_lt (count_of old.pool) (most_of old.pool)) [
+      frame = elim (cases_lt (pool_count old.pool) (most_of old.pool)) [
         | inl some ↦ inr (inl (takes_unused some))
         | inr many ↦ inr (inr (takes_over many))
       ];
     }
 
   -- one page more, and nothing for others
-  pub gets_next : (pinned blocks : List ℕ) (block : ℕ) (a b c : LoggedPages D g) → most_of b.pool ≡ most_of a.pool → GetFrames g pinned blocks a b → GetsFrame g pinned block b c → GetFrames g pinned (blocks ++ block ∷ []) a c
+  pub gets_next : (pinned blocks : List ℕ) (block : ℕ) (a b c : LoggedPages D g) → most_of b.pool ≡ most_of a.pool → GetFrames g pinned blocks a b
+      → GetsFrame g pinned block b c → GetFrames g pinned (blocks ++ block ∷ []) a c
   gets_next pinned blocks block a b c most first next =
       takes_next (most_of a.pool) pinned blocks block (memory_in a.pool) (memory_in b.pool) (memory_in c.pool) (backing_of (held_of g a)) (backing_of (held_of g b)) (backing_of (held_of g c)) first
       (subst (λ (n : ℕ). TakesFrame n pinned block (memory_in b.pool) (memory_in c.pool) (backing_of (held_of g b)) (backing_of (held_of g c))) most next)

@@ -21,7 +21,8 @@ grows_on a b c later f s = record {
   more = f.more ++ s.more;
   acts = s.acts ∙ (ap (λ (as' : List (List Page)). as' ++ s.more) f.acts ∙ append_assoc a.history.acts f.more s.more);
   moments = goes_on _ a.trace b.trace c.trace
-      (goes_weaker _ _ a.trace b.trace (λ m leaves image left. part_of_more (limits_of a.log) b.history c.history s.more a.durable a.durable image s.start s.acts (omega arith) (leaves image left)) f.moments)
+      (goes_weaker _ _ a.trace b.trace
+      (λ m leaves image left. part_of_more (limits_of a.log) b.history c.history s.more a.durable a.durable image s.start s.acts (omega arith) (leaves image left)) f.moments)
       (goes_weaker _ _ b.trace c.trace (λ m leaves image left.
       subst (λ (l : Format). RestartsToPart l c.history a.durable image) f.limits
       (part_of_more (limits_of b.log) c.history c.history [] a.durable b.durable image refl (sym (append-nil c.history.acts)) later.durable (leaves image left))) s.moments);

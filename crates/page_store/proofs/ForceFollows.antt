@@ -1,7 +1,7 @@
 -- Pages after a force follow those before it, whether it succeeded or failed.
 use Rattle.std.proofs.Common.{◌≡◌, inr, ℕ, ◌<◌, ◌≤◌, Bool, true, false, List, [], length, take, drop, refl, sym, subst, ◌∙◌, arith, length-drop}
 use Rattle.std.proofs.lemmas.List.{append-nil}
-use Rattle.device.specs.Disk.{Moment, Trace}
+use Rattle.device.specs.Disk.{DiskMoment, Trace}
 use Rattle.device.specs.Moments.{Goes}
 use Rattle.device.specs.Places.{Has, OnDisk, ChangesOnly}
 use Rattle.device.proofs.Going.{goes_weaker, goes_both, goes_now}
@@ -15,7 +15,7 @@ use Rattle.redo_log.specs.Kept.{Keeps, Restarts, limits_of, is_stopped}
 use Rattle.redo_log.specs.declared.log.Log.{Log}
 use Rattle.redo_log.proofs.Keeping.{keeps_restarts}
 use Rattle.page_store.specs.Histories.{pages_after, AreActs}
-use Rattle.device_layout.specs.Layout.{superblock, place}
+use Rattle.page_codec.specs.Places.{superblock, place}
 use Rattle.page_store.specs.Restart.{LeavesPart}
 use Rattle.page_store.specs.Logged.{Held, AreHome, IsKept, IsOwn}
 use Rattle.page_store.specs.Following.{GrowsTo, Follows}
@@ -24,14 +24,16 @@ use Rattle.page_store.proofs.Images.{none_among_fewer}
 use Rattle.page_store.proofs.Restarting.{home_kept, superblock_kept, leaves_part}
 
 -- what stands at home while fewer acts are forced does while more are
-home_of_more : (limits : Format) (since : List (List Page)) (pages : List Page) (n m : ℕ) (at : Moment) → n ≤ m → AreHome limits (images_of (take n since)) pages at → AreHome limits (images_of (take m since)) pages at
+home_of_more : (limits : Format) (since : List (List Page)) (pages : List Page) (n m : ℕ) (at : DiskMoment) → n ≤ m
+    → AreHome limits (images_of (take n since)) pages at → AreHome limits (images_of (take m since)) pages at
 home_of_more limits since pages n m at le home = record {
   used = λ block page found none. home.used block page found (none_among_fewer since n m block le none);
   unused = λ block past small none. home.unused block past small (none_among_fewer since n m block le none);
 }
 
 -- what is kept of a log leaves a first part
-pub leaves_kept : (held : Held) (own : IsOwn held) (log : Log) (m : Moment) (unwritten : ℕ → ℕ) (durable : ℕ) → limits_of log ≡ limits_of held.log → place (limits_of held.log) (limits_of held.log).pages ≤ length m.seen
+pub leaves_kept : (held : Held) (own : IsOwn held) (log : Log) (m : DiskMoment) (unwritten : ℕ → ℕ) (durable : ℕ) → limits_of log ≡ limits_of held.log
+    → place (limits_of held.log) (limits_of held.log).pages ≤ length m.seen
     → IsKept log m unwritten held.history durable → LeavesPart (limits_of held.log) held.history durable m
 leaves_kept held own log m unwritten durable limits long k =
     subst (λ (n : ℕ). LeavesPart (limits_of held.log) held.history n m) (sym k.durable_is)
@@ -65,7 +67,8 @@ module _ (old : Held) (log : Log) (trace : Trace) (honest : Bool) (failures : �
         (omega (arith, own.long, both.1.same_length)) both.0)
         (goes_both _ _ old.trace trace (moments (drop k.base h.acts) k.forced k.log_keeps) outside))
 
-    own_between : (durable room : ℕ) → LeavesPart l h durable trace.now → (is_stopped log ≡ false → IsKept log trace.now old.unwritten h durable) → IsOwn (record old { log = log; trace = trace; honest = honest; failures = failures; durable = durable; room = room })
+    own_between : (durable room : ℕ) → LeavesPart l h durable trace.now → (is_stopped log ≡ false → IsKept log trace.now old.unwritten h durable)
+        → IsOwn (record old { log = log; trace = trace; honest = honest; failures = failures; durable = durable; room = room })
     own_between durable room leaves kept = record {
       start_stored = subst (λ (x : Format). AreStored x 0 h.start) (sym limits) own.start_stored;
       start_few = subst (λ (x : Format). length h.start ≤ x.pages) (sym limits) own.start_few;
@@ -76,7 +79,8 @@ module _ (old : Held) (log : Log) (trace : Trace) (honest : Bool) (failures : �
       kept = kept;
     }
 
-    extends_to : (durable room : ℕ) → LeavesPart l h durable trace.now → (is_stopped log ≡ false → IsKept log trace.now old.unwritten h durable) → GrowsTo old (record old { log = log; trace = trace; honest = honest; failures = failures; durable = durable; room = room })
+    extends_to : (durable room : ℕ) → LeavesPart l h durable trace.now → (is_stopped log ≡ false → IsKept log trace.now old.unwritten h durable)
+        → GrowsTo old (record old { log = log; trace = trace; honest = honest; failures = failures; durable = durable; room = room })
     extends_to durable room leaves kept = record {
       own = own_between durable room leaves kept;
       limits = limits;
@@ -119,7 +123,13 @@ module _ (old : Held) (log : Log) (trace : Trace) (honest : Bool) (failures : �
 
     pub follows_force : is_stopped log ≡ false → Follows old (record old { log = log; trace = trace; honest = honest; failures = failures; durable = old.acts; room = room })
     follows_force living = record {
-      later = record { failures = more_failures; durable = behind; stopped = λ s. (let both : true ≡ false = sym s ∙ alive in absurd cc); stop_has_cause = λ s. (let both : true ≡ false = sym s ∙ living in absurd cc); honest = λ s. sym same_honest ∙ s };
+      later = record {
+        failures = more_failures;
+        durable = behind;
+        stopped = λ s. (let both : true ≡ false = sym s ∙ alive in absurd cc);
+        stop_has_cause = λ s. (let both : true ≡ false = sym s ∙ living in absurd cc);
+        honest = λ s. sym same_honest ∙ s;
+      };
       grows = λ own. extends_to own old.acts room
           (leaves_kept old own log trace.now old.unwritten old.acts limits (omega (arith, own.long, len)) (kept_all own))
           (λ still. kept_all own);

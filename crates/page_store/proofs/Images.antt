@@ -74,7 +74,8 @@ get-with_page pages page b place = elim (cases_eq page.block b) [
   | inr ne ↦ rw (if_other b page ne) (is_other pages page b ne place)
 ]
 
-pub get-with_pages : (limits : Format) (used : ℕ) (pages changed : List Page) (b : ℕ) → AreActable limits used changed → used ≤ length pages → slice_get (with_pages pages changed) b ≡ later_of (slice_get pages b) (last_image changed b)
+pub get-with_pages : (limits : Format) (used : ℕ) (pages changed : List Page) (b : ℕ) → AreActable limits used changed → used ≤ length pages
+    → slice_get (with_pages pages changed) b ≡ later_of (slice_get pages b) (last_image changed b)
 get-with_pages limits used pages [] b h few = refl
 get-with_pages limits used pages (page ∷ changed) b h few =
     let place : page.block ≤ length pages = omega (arith, h.1.0) in
@@ -89,7 +90,8 @@ length-with_page pages page place = elim (cases_lt page.block (length pages)) [
 ]
 
 -- of each block the last image of the acts, or else the page that was there
-pub get-after_acts : (limits : Format) (pages : List Page) (acts : List (List Page)) (b : ℕ) → AreActs limits pages acts → slice_get (after_acts pages acts) b ≡ later_of (slice_get pages b) (last_image (images_of acts) b)
+pub get-after_acts : (limits : Format) (pages : List Page) (acts : List (List Page)) (b : ℕ) → AreActs limits pages acts
+    → slice_get (after_acts pages acts) b ≡ later_of (slice_get pages b) (last_image (images_of acts) b)
 get-after_acts limits pages [] b h = refl
 get-after_acts limits pages (changed ∷ acts) b h =
     get-after_acts limits (with_pages pages changed) acts b h.1

@@ -2,9 +2,9 @@
 use Rattle.std.proofs.Common.{◌≡◌, ◌≢◌, ◌⊎◌, inl, inr, ℕ, suc, ◌<◌, ◌≤◌, Bool, true, Option, Some, None, List, [], length, take, slice_get, get_or, sym, ap, subst, ◌∙◌, arith}
 use Rattle.std.proofs.lemmas.Bool.{cases_eq, cases_lt}
 use Rattle.buffer_pool.specs.Frames.{has_block}
-use Rattle.buffer_pool.specs.Pools.{act_of, held_page, changed_of, count_of, blocks_of, HasSamePages, IsPut, IsWritten, AreWritten, IsPool}
+use Rattle.buffer_pool.specs.Pools.{act_of, held_page, changed_of, pool_count, pool_blocks, HasSamePages, IsPut, IsWritten, AreWritten, IsPool}
 use Rattle.buffer_pool.specs.declared.pool.Pool.{Pool}
-use Rattle.device.specs.Disk.{Moment}
+use Rattle.device.specs.Disk.{DiskMoment}
 use Rattle.device.specs.Places.{Has, ChangesOnly}
 use Rattle.device.proofs.Standing.{has_kept}
 use Rattle.index_model.specs.declared.format.Format.{Format}
@@ -13,7 +13,7 @@ use Rattle.page_codec.specs.declared.page.Page.{Page}
 use Rattle.page_codec.proofs.Laws.{length-page}
 use Rattle.page_action.specs.Stored.{IsStored, AreStored}
 use Rattle.page_action.proofs.StoredPages.{stored_page}
-use Rattle.device_layout.specs.Layout.{place}
+use Rattle.page_codec.specs.Places.{place}
 use Rattle.page_store.specs.Histories.{after_acts, pages_now}
 use Rattle.page_store.specs.Writing.{HoldsPages, AreSeen}
 use Rattle.page_store.specs.declared.history.History.{History}
@@ -29,10 +29,11 @@ use Rattle.redo_log.specs.Images.{last_image, later_of}
 use Rattle.page_store.specs.Changing.{AreActed}
 use Rattle.page_store.specs.Writing.{AreWrittenUpTo, IsClean}
 
-module _ (limits : Format) (pages : List Page) (acts : ℕ) (pool : Pool) (honest : Bool) (m n : Moment) (holds : HoldsPages limits pages acts pool honest m) where
+module _ (limits : Format) (pages : List Page) (acts : ℕ) (pool : Pool) (honest : Bool) (m n : DiskMoment) (holds : HoldsPages limits pages acts pool honest m) where
   -- where what a read gives stays at the places of clean pages
   holds_seen : (honest' : Bool) → (honest' ≡ true → honest ≡ true)
-      → (honest ≡ true → (block : ℕ) (page : Page) → slice_get pages block ≡ Some page → act_of pool block ≡ 0 → Has (place limits block) (page_bytes page) m.seen → Has (place limits block) (page_bytes page) n.seen)
+      → (honest ≡ true → (block : ℕ) (page : Page) → slice_get pages block ≡ Some page → act_of pool block ≡ 0
+      → Has (place limits block) (page_bytes page) m.seen → Has (place limits block) (page_bytes page) n.seen)
       → HoldsPages limits pages acts pool honest' n
   holds_seen honest' was stays = record {
     few = holds.few;
@@ -63,7 +64,7 @@ module _ (limits : Format) (pages : List Page) (acts : ℕ) (pool : Pool) (hones
       (λ h block page found clean has. subst (λ (file : List ℕ). Has (place limits block) (page_bytes page) file) (sym same) has)
 
 -- pages that stand at their places are noted as written
-pub holds_noted : (limits : Format) (pages : List Page) (acts : ℕ) (old new : Pool) (honest : Bool) (m : Moment) → HoldsPages limits pages acts old honest m → HasSamePages old new
+pub holds_noted : (limits : Format) (pages : List Page) (acts : ℕ) (old new : Pool) (honest : Bool) (m : DiskMoment) → HoldsPages limits pages acts old honest m → HasSamePages old new
     → ((block : ℕ) → (act_of new block ≡ act_of old block)
     ⊎ ((act_of new block ≡ 0) × ((page : Page) → slice_get pages block ≡ Some page → Has (place limits block) (page_bytes page) m.seen)))
     → HoldsPages limits pages acts new honest m
@@ -89,7 +90,8 @@ holds_noted limits pages acts old new honest m holds same noted = record {
     ]
 
 -- a page is brought into a frame that can be taken: the one in use, or one of a block that isn't
-pub holds_put : (limits : Format) (pages : List Page) (acts : ℕ) (old new : Pool) (honest honest' : Bool) (m : Moment) (at : ℕ) (page : Page) → HoldsPages limits pages acts old honest m → IsPut old new at page
+pub holds_put : (limits : Format) (pages : List Page) (acts : ℕ) (old new : Pool) (honest honest' : Bool) (m : DiskMoment) (at : ℕ) (page : Page)
+    → HoldsPages limits pages acts old honest m → IsPut old new at page
     → (honest' ≡ true → honest ≡ true) → (page.block < length pages → IsStored limits page.block page)
     → (honest' ≡ true → (there : Page) → slice_get pages page.block ≡ Some there → page ≡ there) → act_of old page.block ≡ 0 → HoldsPages limits pages acts new honest' m
 holds_put limits pages acts old new honest honest' m at page holds put was stored right clean = record {
@@ -116,23 +118,24 @@ holds_put limits pages acts old new honest honest' m at page holds put was store
 }
 
 -- a pool that holds nothing has no page of any block
-none_held : (pool : Pool) → IsPool pool → count_of pool ≡ 0 → (block : ℕ) → held_page pool block ≡ None
+none_held : (pool : Pool) → IsPool pool → pool_count pool ≡ 0 → (block : ℕ) → held_page pool block ≡ None
 none_held pool is none block = elim (option_cases (held_page pool block)) [
   | inl absent ↦ absent
   | inr some ↦
       let there = some_of (held_page pool block) some in
-      let among : has_block [] block ≡ true = subst (λ (bs : List ℕ). has_block bs block ≡ true) (none_of_length (blocks_of pool) (is.count ∙ none)) (is.among block there.0 there.1) in
+      let among : has_block [] block ≡ true = subst (λ (bs : List ℕ). has_block bs block ≡ true) (none_of_length (pool_blocks pool) (is.count ∙ none)) (is.among block there.0 there.1) in
       absurd cc
 ]
 
-pub none_changed : (pool : Pool) → IsPool pool → count_of pool ≡ 0 → (block : ℕ) → act_of pool block ≡ 0
+pub none_changed : (pool : Pool) → IsPool pool → pool_count pool ≡ 0 → (block : ℕ) → act_of pool block ≡ 0
 none_changed pool is none block = elim (cases_lt 0 (act_of pool block)) [
   | inl some ↦ absurd (none_isn't (held_page pool block) (none_held pool is none block) (is.kept block some))
   | inr none ↦ omega arith
 ]
 
 -- pages that were just read, of which the pool holds none
-pub holds_opened : (limits : Format) (pages : List Page) (pool : Pool) (honest : Bool) (m : Moment) → IsPool pool → count_of pool ≡ 0 → (honest ≡ true → AreSeen limits pages m) → HoldsPages limits pages 0 pool honest m
+pub holds_opened : (limits : Format) (pages : List Page) (pool : Pool) (honest : Bool) (m : DiskMoment) → IsPool pool → pool_count pool ≡ 0
+    → (honest ≡ true → AreSeen limits pages m) → HoldsPages limits pages 0 pool honest m
 holds_opened limits pages pool honest m is none seen = record {
   few = λ block. omega (arith, none_changed pool is none block);
   in_use = λ block some. absurd (omega (arith, none_changed pool is none block));
@@ -147,18 +150,21 @@ pub pages_opened : (h : History) → length h.acts ≡ 0 → pages_now h ≡ h.s
 pages_opened h none = ap (λ (as' : List (List Page)). after_acts h.start as') (none_of_length h.acts none)
 
 -- the same pages and changes in another order of frames
-pub holds_same : (limits : Format) (pages : List Page) (acts : ℕ) (old new : Pool) (honest : Bool) (m : Moment) → HoldsPages limits pages acts old honest m → HasSamePages old new → ((block : ℕ) → act_of new block ≡ act_of old block) → HoldsPages limits pages acts new honest m
+pub holds_same : (limits : Format) (pages : List Page) (acts : ℕ) (old new : Pool) (honest : Bool) (m : DiskMoment)
+    → HoldsPages limits pages acts old honest m → HasSamePages old new → ((block : ℕ) → act_of new block ≡ act_of old block) → HoldsPages limits pages acts new honest m
 holds_same limits pages acts old new honest m holds same acts_same = holds_noted limits pages acts old new honest m holds same (λ block. inl (acts_same block))
 
-module _ (limits : Format) (pages : List Page) (acts : ℕ) (pool : Pool) (honest : Bool) (m : Moment) (holds : HoldsPages limits pages acts pool honest m) (is : IsPool pool) where
+module _ (limits : Format) (pages : List Page) (acts : ℕ) (pool : Pool) (honest : Bool) (m : DiskMoment) (holds : HoldsPages limits pages acts pool honest m) (is : IsPool pool) where
   -- a changed page that stands at its place as it is held, stands there as it is
-  at_home : (b : ℕ) → 0 < act_of pool b → ((held : Page) → held_page pool b ≡ Some held → Has (place limits b) (page_bytes held) m.seen) → (page : Page) → slice_get pages b ≡ Some page → Has (place limits b) (page_bytes page) m.seen
+  at_home : (b : ℕ) → 0 < act_of pool b → ((held : Page) → held_page pool b ≡ Some held → Has (place limits b) (page_bytes held) m.seen)
+      → (page : Page) → slice_get pages b ≡ Some page → Has (place limits b) (page_bytes page) m.seen
   at_home b some has page found =
       let there = some_of (held_page pool b) (is.kept b some) in
       subst (λ (bytes : List ℕ). Has (place limits b) bytes m.seen) (holds.changed b there.0 page some there.1 found) (has there.0 there.1)
 
   -- one page of the order is noted as written
-  pub written_noted : (new : Pool) (k block : ℕ) → slice_get (changed_of pool) k ≡ Some block → ((held : Page) → held_page pool block ≡ Some held → Has (place limits block) (page_bytes held) m.seen) → IsWritten pool new k
+  pub written_noted : (new : Pool) (k block : ℕ) → slice_get (changed_of pool) k ≡ Some block
+      → ((held : Page) → held_page pool block ≡ Some held → Has (place limits block) (page_bytes held) m.seen) → IsWritten pool new k
       → (b : ℕ) → (act_of new b ≡ act_of pool b) ⊎ ((act_of new b ≡ 0) × ((page : Page) → slice_get pages b ≡ Some page → Has (place limits b) (page_bytes page) m.seen))
   written_noted new k block at has written b =
       let index : get_or (changed_of pool) k 0 ≡ block = get_or_from_slice_get (changed_of pool) k block 0 at in
@@ -167,7 +173,8 @@ module _ (limits : Format) (pages : List Page) (acts : ℕ) (pool : Pool) (hones
             let here : b ≡ get_or (changed_of pool) k 0 = same ∙ sym index in
             inr (
               ap (act_of new) here ∙ written.written,
-              at_home b (subst (λ (x : ℕ). 0 < act_of pool x) (sym same) (changed_at pool is k block at)) (λ held found. subst (λ (x : ℕ). Has (place limits x) (page_bytes held) m.seen) (sym same) (has held (ap (held_page pool) (sym same) ∙ found))),
+              at_home b (subst (λ (x : ℕ). 0 < act_of pool x) (sym same) (changed_at pool is k block at))
+                  (λ held found. subst (λ (x : ℕ). Has (place limits x) (page_bytes held) m.seen) (sym same) (has held (ap (held_page pool) (sym same) ∙ found))),
             )
         | inr ne ↦ inl (written.others b (λ e. ne (e ∙ index)))
       ]
@@ -194,14 +201,16 @@ module _ (limits : Format) (pages : List Page) (acts : ℕ) (pool : Pool) (hones
   long_changed b held among found = length-page held (holds.stored b held (holds.in_use b (changed_some pool is b among)) found).storable.admitted
 
   -- those before the next stay written, where its place changes
-  pub up_to_same : (n : Moment) (k block : ℕ) → slice_get (changed_of pool) k ≡ Some block → AreWrittenUpTo limits pool k m → ChangesOnly (place limits block) 4096 m n → AreWrittenUpTo limits pool k n
+  pub up_to_same : (n : DiskMoment) (k block : ℕ) → slice_get (changed_of pool) k ≡ Some block → AreWrittenUpTo limits pool k m
+      → ChangesOnly (place limits block) 4096 m n → AreWrittenUpTo limits pool k n
   up_to_same n k block at home only b held among found =
       has_kept (place limits block) 4096 (place limits b) (page_bytes held) m n only
       (apart_long limits b block _ (long_changed b held (has_all (changed_of pool) k b among) found)
       (λ e. next_apart (changed_of pool) k block is.once at (subst (λ (x : ℕ). has_block (take k (changed_of pool)) x ≡ true) e among))) (home b held among found)
 
   -- the next of the order is written too
-  pub up_to_next : (n : Moment) (k block : ℕ) → slice_get (changed_of pool) k ≡ Some block → AreWrittenUpTo limits pool k m → ((held : Page) → held_page pool block ≡ Some held → Has (place limits block) (page_bytes held) n.seen)
+  pub up_to_next : (n : DiskMoment) (k block : ℕ) → slice_get (changed_of pool) k ≡ Some block → AreWrittenUpTo limits pool k m
+      → ((held : Page) → held_page pool block ≡ Some held → Has (place limits block) (page_bytes held) n.seen)
       → ChangesOnly (place limits block) 4096 m n → AreWrittenUpTo limits pool (suc k) n
   up_to_next n k block at home has only b held among found = elim (cases_eq b block) [
     | inl same ↦ subst (λ (x : ℕ). Has (place limits x) (page_bytes held) n.seen) (sym same) (has held (ap (held_page pool) (sym same) ∙ found))
@@ -213,7 +222,7 @@ module _ (limits : Format) (pages : List Page) (acts : ℕ) (pool : Pool) (hones
   ]
 
 -- an act changed pages that have frames
-module _ (limits : Format) (pages : List Page) (acts : ℕ) (old new : Pool) (honest : Bool) (m : Moment) (changed : List Page) (holds : HoldsPages limits pages acts old honest m)
+module _ (limits : Format) (pages : List Page) (acts : ℕ) (old new : Pool) (honest : Bool) (m : DiskMoment) (changed : List Page) (holds : HoldsPages limits pages acts old honest m)
     (stored : AreStored limits 0 pages) (few : length pages ≤ limits.pages) (actable : AreActable limits (length pages) changed) (acted : AreActed old new changed (suc acts)) where
   abbrev after : List Page
   after = with_pages pages changed
@@ -252,7 +261,8 @@ module _ (limits : Format) (pages : List Page) (acts : ℕ) (old new : Pool) (ho
       | inr named ↦ (let there = some_of (last_image changed b) named in
           let both : Some held ≡ Some there.0 = sym found ∙ acted.held b there.0 there.1 in
           let e : held ≡ there.0 = cc in
-          subst (λ (p : Page). IsStored limits b p) (sym e) (stored_page limits b after there.0 (stored-with_pages limits (length pages) pages changed actable (omega arith) stored few).0 (as_named b there.0 there.1)))
+          subst (λ (p : Page). IsStored limits b p) (sym e)
+          (stored_page limits b after there.0 (stored-with_pages limits (length pages) pages changed actable (omega arith) stored few).0 (as_named b there.0 there.1)))
     ];
     changed = λ b held page some found there. alike b held page found there
         (λ none. holds.changed b held page (subst (λ (n : ℕ). 0 < n) (acted.before b none) some) (sym (acted.others b none) ∙ found) (sym (as_before b none) ∙ there));
@@ -270,7 +280,8 @@ module _ (limits : Format) (pages : List Page) (acts : ℕ) (old new : Pool) (ho
         | inr past ↦ absurd (omega (arith, past.0))
       ]
 
-      alike : (b : ℕ) (held page : Page) → held_page new b ≡ Some held → slice_get after b ≡ Some page → (last_image changed b ≡ None → page_bytes held ≡ page_bytes page) → page_bytes held ≡ page_bytes page
+      alike : (b : ℕ) (held page : Page) → held_page new b ≡ Some held → slice_get after b ≡ Some page
+          → (last_image changed b ≡ None → page_bytes held ≡ page_bytes page) → page_bytes held ≡ page_bytes page
       alike b held page found there before = elim (image_cases (last_image changed b)) [
         | inl none ↦ before none
         | inr named ↦ (let image = some_of (last_image changed b) named in

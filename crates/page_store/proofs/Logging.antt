@@ -9,13 +9,13 @@ use Rattle.page_codec.specs.declared.page.Page.{Page}
 use Rattle.page_action.specs.Order.{with_changed}
 use Rattle.page_action.specs.Room.{WaitsOn}
 use Rattle.page_action.specs.States.{Backing}
-use Rattle.redo_log.specs.Blocks.{is_among, with_blocks, new_count}
+use Rattle.redo_log.specs.Blocks.{is_among_blocks, with_blocks, new_count}
 use Rattle.redo_log.specs.Kept.{ImagesFit, end_with, limits_of, waiting_blocks}
 use Rattle.redo_log.specs.declared.log.Log.{Log}
 use Rattle.redo_log.proofs.BlockLists.{length-with_blocks}
 
 -- to be one of these is one word of logs and of stores
-among_any : (blocks : List ℕ) (block : ℕ) → is_among blocks block ≡ list_any (λ b. b == block) blocks
+among_any : (blocks : List ℕ) (block : ℕ) → is_among_blocks blocks block ≡ list_any (λ b. b == block) blocks
 among_any [] block = refl
 among_any (b ∷ blocks) block = ap (λ (rest : Bool). (b == block) || rest) (among_any blocks block)
 
@@ -27,7 +27,8 @@ blocks_changed blocks (page ∷ pages) =
     ∙ blocks_changed (if list_any (λ b. b == page.block) blocks then blocks else blocks ++ page.block ∷ []) pages
 
 -- where the blocks that don't wait don't fit, they are more than the room
-pub no_room : (log : Log) (room : ℕ) (pages : List Page) → (0 < room → end_with log room ≤ (limits_of log).log_bytes) → 0 < new_count (waiting_blocks log) pages → (ImagesFit log (new_count (waiting_blocks log) pages) → ⊥)
+pub no_room : (log : Log) (room : ℕ) (pages : List Page) → (0 < room → end_with log room ≤ (limits_of log).log_bytes)
+    → 0 < new_count (waiting_blocks log) pages → (ImagesFit log (new_count (waiting_blocks log) pages) → ⊥)
     → length (waiting_blocks log) + room < length (with_changed (waiting_blocks log) pages)
 no_room log room pages fits some full =
     let long = length-with_blocks (waiting_blocks log) pages in

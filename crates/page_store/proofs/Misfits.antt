@@ -13,14 +13,16 @@ misfit log n h = elim (cases_lt (limits_of log).log_bytes (end_with log n)) [
 ]
 
 -- a force costs at most one image of room
-pub promise_left : (log new : Log) (bytes room left : ℕ) → (0 < room → end_with log room ≤ bytes) → end_with new (left + 1) ≤ end_with log (suc (left + 1)) → bytes < end_with new (left + 1) → room ≤ suc left
+pub promise_left : (log new : Log) (bytes room left : ℕ) → (0 < room → end_with log room ≤ bytes)
+    → end_with new (left + 1) ≤ end_with log (suc (left + 1)) → bytes < end_with new (left + 1) → room ≤ suc left
 promise_left log new bytes room left fits cost no_more = elim (cases_lt (suc left) room) [
   | inl above ↦ let h = fits (omega arith) in absurd (omega arith)
   | inr below ↦ below
 ]
 
 -- so many images cost no more than their room
-pub room_left : (log new : Log) (images room left : ℕ) → (0 < room → end_with log room ≤ (limits_of new).log_bytes) → ((n : ℕ) → end_with new n ≤ end_with log (images + n)) → ((n : ℕ) → left < n → ImagesFit new n → ⊥) → room ≤ images + left
+pub room_left : (log new : Log) (images room left : ℕ) → (0 < room → end_with log room ≤ (limits_of new).log_bytes)
+    → ((n : ℕ) → end_with new n ≤ end_with log (images + n)) → ((n : ℕ) → left < n → ImagesFit new n → ⊥) → room ≤ images + left
 room_left log new images room left fits cost no_more = elim (cases_lt (images + left) room) [
   | inl above ↦
       let n = room - images in

@@ -5,7 +5,7 @@ use Rattle.page_codec.specs.declared.page.Page.{Page}
 use Rattle.page_action.specs.Stored.{AreStored}
 use Rattle.redo_log.specs.Kept.{limits_of}
 use Rattle.redo_log.proofs.Keeping.{keeps_restarts}
-use Rattle.device_layout.specs.Layout.{place}
+use Rattle.page_codec.specs.Places.{place}
 use Rattle.page_store.specs.Logged.{Held, is_named, StandsOpened, IsOwn}
 use Rattle.page_store.specs.declared.history.History.{History}
 use Rattle.page_store.proofs.Restarting.{leaves_part}
@@ -16,7 +16,8 @@ none_of_length [] is = refl
 none_of_length (x ∷ xs) is = absurd cc
 
 module _ (held : Held) (stored : AreStored (limits_of held.log) 0 held.history.start) (few : length held.history.start ≤ (limits_of held.log).pages)
-    (long : place (limits_of held.log) (limits_of held.log).pages ≤ length held.trace.now.seen) (clean : (block : ℕ) → held.unwritten block ≡ 0) (fresh : length held.history.acts ≡ 0) (none : held.acts ≡ 0)
+    (long : place (limits_of held.log) (limits_of held.log).pages ≤ length held.trace.now.seen) (clean : (block : ℕ) → held.unwritten block ≡ 0)
+    (fresh : length held.history.acts ≡ 0) (none : held.acts ≡ 0)
     (none_durable : held.durable ≡ 0) where
   abbrev from_start : History
   from_start = record held.history { acts = [] }

@@ -9,7 +9,7 @@ use Rattle.device.specs.Places.{Has, ChangesOnly}
 use Rattle.device.proofs.Going.{writes_goes}
 use Rattle.device.proofs.Standing.{wrote_only, wrote_has, has_drop}
 use Rattle.index_model.specs.declared.format.Format.{Format}
-use Rattle.device_layout.specs.Layout.{place}
+use Rattle.page_codec.specs.Places.{place}
 
 pub places_apart : (limits : Format) (b k : ℕ) → b ≢ k → (place limits b + 4096 ≤ place limits k) ⊎ (place limits k + 4096 ≤ place limits b)
 places_apart limits b k ne = elim (cases_lt b k) [
@@ -26,13 +26,15 @@ on_ok_map (Ok x) a f = f a
 on_ok_map (Err e) a f = tt
 
 -- a page is written to its place: nothing else changes
-module _ (limits : Format) (k : ℕ) (few : k < limits.pages) {T E : Type 0} (bytes : List ℕ) (t u : Trace) (r : Result T E) (long : length bytes ≡ 4096) (inside : place limits limits.pages ≤ length t.now.seen)
+module _ (limits : Format) (k : ℕ) (few : k < limits.pages) {T E : Type 0} (bytes : List ℕ) (t u : Trace) (r : Result T E)
+    (long : length bytes ≡ 4096) (inside : place limits limits.pages ≤ length t.now.seen)
     (w : Writes (place limits k) bytes r t u) where
   pub block_goes : Goes (ChangesOnly (place limits k) 4096 t.now) t u
   block_goes = writes_goes _ (place limits k) bytes r t u w
       (λ b n. subst (λ (x : ℕ). ChangesOnly (place limits k) x t.now (wrote (place limits k) b t.now)) (n ∙ long) (wrote_only (place limits k) b t.now (omega (arith, n ∙ long))))
 
-pub block_has : {T E : Type 0} (limits : Format) (k : ℕ) (bytes : List ℕ) (t u : Trace) (r : Result T E) → k < limits.pages → length bytes ≡ 4096 → place limits limits.pages ≤ length t.now.seen → Writes (place limits k) bytes r t u
+pub block_has : {T E : Type 0} (limits : Format) (k : ℕ) (bytes : List ℕ) (t u : Trace) (r : Result T E) → k < limits.pages → length bytes ≡ 4096
+    → place limits limits.pages ≤ length t.now.seen → Writes (place limits k) bytes r t u
     → OnOk r (Has (place limits k) bytes u.now.seen)
 block_has limits k bytes t u (Ok x) few long inside w = subst (λ (v : Trace). Has (place limits k) bytes v.now.seen) (sym w) (wrote_has (place limits k) bytes t.now (omega arith))
 block_has limits k bytes t u (Err e) few long inside w = tt

@@ -3,7 +3,7 @@ use Rattle.std.proofs.Common.{◌≡◌, ◌≢◌, ◌⊎◌, inl, inr, ℕ, ze
 use Rattle.std.proofs.lemmas.Bool.{cases_eq, cases_lt, eq-eqb, ne_eqb, lt-ltb, le-ltb}
 use Rattle.std.specs.Prelude.{◌==◌, ◌||◌, is_some}
 use Rattle.std.proofs.lemmas.Option.{slice_get_within, get_or_from_slice_get}
-use Rattle.buffer_pool.specs.Frames.{has_block, AreApart}
+use Rattle.buffer_pool.specs.Frames.{has_block, BlocksAreApart}
 use Rattle.buffer_pool.specs.Pools.{act_of, held_page, frame_of, page_at, changed_of, CanBeTaken, IsPool}
 use Rattle.buffer_pool.specs.declared.pool.Pool.{Pool}
 
@@ -52,7 +52,7 @@ before xs (suc k) b h = elim (has_next xs k b h) [
 ]
 
 -- where no block stands twice, the next isn't one of those before
-pub next_apart : (xs : List ℕ) (k b : ℕ) → AreApart xs → slice_get xs k ≡ Some b → has_block (take k xs) b ≡ true → ⊥
+pub next_apart : (xs : List ℕ) (k b : ℕ) → BlocksAreApart xs → slice_get xs k ≡ Some b → has_block (take k xs) b ≡ true → ⊥
 next_apart xs k b apart at h =
     let there = before xs k b h in
     apart there.0 k b there.1 (slice_get_within xs k b at) (get_or_from_slice_get xs there.0 b b there.2 ∙ sym (get_or_from_slice_get xs k b b at))

@@ -23,7 +23,8 @@ quiet_same g a = record {
 }
 
 -- what waits waits on
-pub waits_both : {D : Type 0} (g : Ghosts D) (a b c : LoggedPages D g) → b.acts ≡ a.acts → c.acts ≡ b.acts → b.durable ≤ c.durable → WaitsOn a.acts (backing_of (held_of g a)) (backing_of (held_of g b)) → WaitsOn b.acts (backing_of (held_of g b)) (backing_of (held_of g c))
+pub waits_both : {D : Type 0} (g : Ghosts D) (a b c : LoggedPages D g) → b.acts ≡ a.acts → c.acts ≡ b.acts → b.durable ≤ c.durable
+    → WaitsOn a.acts (backing_of (held_of g a)) (backing_of (held_of g b)) → WaitsOn b.acts (backing_of (held_of g b)) (backing_of (held_of g c))
     → WaitsOn a.acts (backing_of (held_of g a)) (backing_of (held_of g c))
 waits_both g a b c first second later f (inr forced) = inr (forced.0, forced.1 ∙ first)
 waits_both g a b c first second later (inl was) (inl same) = inl (same ∙ was)
@@ -52,7 +53,8 @@ quiet_both g a b c f s = record {
 }
 
 -- where the store is as it was but for the pool, of which some changed pages are noted as written
-pub quiet_noted : {D : Type 0} (g : Ghosts D) (a b : LoggedPages D g) → b.limits ≡ a.limits → b.history ≡ a.history → b.used ≡ a.used → b.acts ≡ a.acts → b.promised ≡ a.promised → b.room ≡ a.room → b.log ≡ a.log → IsPartOf (changed_of b.pool) (changed_of a.pool)
+pub quiet_noted : {D : Type 0} (g : Ghosts D) (a b : LoggedPages D g) → b.limits ≡ a.limits → b.history ≡ a.history → b.used ≡ a.used
+    → b.acts ≡ a.acts → b.promised ≡ a.promised → b.room ≡ a.room → b.log ≡ a.log → IsPartOf (changed_of b.pool) (changed_of a.pool)
     → Follows (held_of g a) (held_of g b) → IsQuiet g a b
 quiet_noted g a b limits history used acts promised room log order follows = record {
   follows = follows;
@@ -65,4 +67,13 @@ quiet_noted g a b limits history used acts promised room log order follows = rec
 
 -- where the device alone is another
 pub quiet_device : {D : Type 0} (g : Ghosts D) (a b : LoggedPages D g) → Follows (held_of g a) (held_of g b) → SameButDevice g a b → IsQuiet g a b
-quiet_device g a b follows same = record { follows = follows; pages = same.pages; promised = same.room.promised; idle = λ all. same.room.room; order = part_is (changed_of b.pool) (changed_of a.pool) (ap changed_of same.pool); waits = inl (ap waiting_blocks same.log) }
+quiet_device g a b follows same =
+    record {
+      follows = follows;
+      pages = same.pages;
+      promised = same.room.promised;
+      idle = λ all. same.room.room;
+      order =
+          part_is (changed_of b.pool) (changed_of a.pool) (ap changed_of same.pool);
+      waits = inl (ap waiting_blocks same.log);
+    }

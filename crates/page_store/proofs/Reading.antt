@@ -2,7 +2,7 @@
 use Rattle.std.proofs.Common.{◌≡◌, inl, inr, ℕ, ◌<◌, ◌≤◌, Bool, true, Some, List, length, slice_get, Result, Ok, Err, sym, ap, ◌∙◌, arith}
 use Rattle.std.specs.Prelude.{OnOk, OnErr}
 use Rattle.std.proofs.lemmas.Option.{slice_get_cases}
-use Rattle.device.specs.Disk.{Moment}
+use Rattle.device.specs.Disk.{DiskMoment}
 use Rattle.device.specs.Places.{Has}
 use Rattle.index_model.specs.declared.fault.Fault.{Fault}
 use Rattle.index_model.specs.declared.fault.Fault.TheVariants.{Io}
@@ -14,7 +14,7 @@ use Rattle.page_codec.specs.declared.page.Page.{Page}
 use Rattle.page_codec.proofs.Laws.{one_page}
 use Rattle.page_action.specs.Stored.{IsStored, AreStored}
 use Rattle.page_action.proofs.StoredPages.{stored_page}
-use Rattle.device_layout.specs.Layout.{place}
+use Rattle.page_codec.specs.Places.{place}
 use Rattle.page_store.specs.Writing.{HoldsPages, GivesPage, ReadingFails}
 
 -- a block in use has its page
@@ -29,7 +29,7 @@ reading_rises block (Ok x) old new same = omega arith
 reading_rises block (Err e) old new (inl io) = omega (arith, io.1)
 reading_rises block (Err e) old new (inr damaged) = omega (arith, damaged.1)
 
-module _ (limits : Format) (pages : List Page) (acts : ℕ) (pool : Pool) (honest : Bool) (m : Moment) (holds : HoldsPages limits pages acts pool honest m) (stored : AreStored limits 0 pages) where
+module _ (limits : Format) (pages : List Page) (acts : ℕ) (pool : Pool) (honest : Bool) (m : DiskMoment) (holds : HoldsPages limits pages acts pool honest m) (stored : AreStored limits 0 pages) where
   -- a read of a page that isn't held gives it, or the device failed
   pub read_gives : {T : Type 0} (block : ℕ) (page given : Page) (r : Result T Fault) → slice_get pages block ≡ Some page → act_of pool block ≡ 0 → honest ≡ true
       → ((there : Page) → IsStored limits block there → Has (place limits block) (page_bytes there) m.seen → GivesPage there given r) → GivesPage page given r
@@ -39,7 +39,8 @@ module _ (limits : Format) (pages : List Page) (acts : ℕ) (pool : Pool) (hones
   pub held_is : (block : ℕ) (held : Page) → block < length pages → held_page pool block ≡ Some held → honest ≡ true → slice_get pages block ≡ Some held
   held_is block held used found h =
       let there = page_in_use pages block used in
-      there.1 ∙ ap Some (one_page there.0 held (stored_page limits block pages there.0 stored there.1).storable.admitted (holds.stored block held used found).storable.admitted (sym (holds.held h block held there.0 found there.1)))
+      there.1 ∙ ap Some (one_page there.0 held (stored_page limits block pages there.0 stored there.1).storable.admitted
+      (holds.stored block held used found).storable.admitted (sym (holds.held h block held there.0 found there.1)))
 
 pub given_right : {T : Type 0} (pages : List Page) (block : ℕ) (page given : Page) (honest : Bool) (r : Result T Fault) → slice_get pages block ≡ Some page → (honest ≡ true → GivesPage page given r)
     → OnOk r (honest ≡ true → slice_get pages block ≡ Some given)

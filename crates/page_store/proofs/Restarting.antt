@@ -1,7 +1,7 @@
 -- What a crash leaves restarts to the pages after a first part of the acts.
 use Rattle.std.proofs.Common.{◌≡◌, ◌⊎◌, ℕ, ◌+◌, ◌<◌, ◌≤◌, Option, Some, None, List, [], ◌∷◌, length, take, drop, replicate, slice_get, refl, sym, ap, subst, inl, inr, zero, suc, ◌∙◌, arith, length-drop}
 use Rattle.std.proofs.lemmas.Option.{slice_get_past}
-use Rattle.device.specs.Disk.{Moment, MayLeave}
+use Rattle.device.specs.Disk.{DiskMoment, MayLeave}
 use Rattle.device.specs.Places.{OnDisk, ChangesOnly}
 use Rattle.device.proofs.Standing.{on_image, kept}
 use Rattle.index_model.specs.declared.format.Format.{Format}
@@ -11,7 +11,7 @@ use Rattle.page_action.specs.Stored.{AreStored}
 use Rattle.redo_log.specs.Images.{last_image, later_of, images_of}
 use Rattle.redo_log.specs.Kept.{Holds, HoldsFirst, Restarts}
 use Rattle.page_store.specs.Histories.{after_acts, pages_after, AreActs}
-use Rattle.device_layout.specs.Layout.{superblock, place}
+use Rattle.page_codec.specs.Places.{superblock, place}
 use Rattle.page_store.specs.Restart.{StandsAtHome, RestartsTo, RestartsToPart, LeavesPart}
 use Rattle.page_store.specs.Logged.{AreHome}
 use Rattle.page_store.specs.declared.history.History.{History}
@@ -23,7 +23,7 @@ past_of_none (x ∷ xs) zero e = absurd cc
 past_of_none (x ∷ xs) (suc i) e = let h = past_of_none xs i e in omega arith
 
 -- with an own superblock, and each page at home that has no image among the forced ones
-module _ (limits : Format) (base : List Page) (since : List (List Page)) (forced part : ℕ) (m : Moment) (image : List ℕ) (left : MayLeave m image) (superblock_on : OnDisk 0 (superblock limits) m)
+module _ (limits : Format) (base : List Page) (since : List (List Page)) (forced part : ℕ) (m : DiskMoment) (image : List ℕ) (left : MayLeave m image) (superblock_on : OnDisk 0 (superblock limits) m)
     (home : AreHome limits (images_of (take forced since)) base m) (le : forced ≤ part) (holds : Holds limits image (take part since)) (acts : AreActs limits base since) where
   get : (block : ℕ) → slice_get (after_acts base (take part since)) block ≡ later_of (slice_get base block) (last_image (images_of (take part since)) block)
   get block = get-after_acts limits base (take part since) block (acts-take limits base since part acts)
@@ -61,7 +61,7 @@ module _ (limits : Format) (base : List Page) (since : List (List Page)) (forced
       }
 
 -- places lie outside the log's range
-pub home_kept : (limits : Format) (images pages : List Page) (m n : Moment) → ChangesOnly 4096 limits.log_bytes m n → AreHome limits images pages m → AreHome limits images pages n
+pub home_kept : (limits : Format) (images pages : List Page) (m n : DiskMoment) → ChangesOnly 4096 limits.log_bytes m n → AreHome limits images pages m → AreHome limits images pages n
 home_kept limits images pages m n only home = record {
   used = λ block page found unnamed. kept 4096 limits.log_bytes (place limits block) (page_bytes page) m n only (inr (omega arith)) (home.used block page found unnamed);
   unused = λ block past small unnamed. kept 4096 limits.log_bytes (place limits block) (replicate 4096 0) m n only (inr (omega arith)) (home.unused block past small unnamed);
@@ -71,7 +71,7 @@ pub length-superblock : (limits : Format) → length (superblock limits) ≡ 409
 unfolding superblock
 length-superblock limits = refl
 
-pub superblock_kept : (limits : Format) (at n : ℕ) (old new : Moment) → 4096 ≤ at → ChangesOnly at n old new → OnDisk 0 (superblock limits) old → OnDisk 0 (superblock limits) new
+pub superblock_kept : (limits : Format) (at n : ℕ) (old new : DiskMoment) → 4096 ≤ at → ChangesOnly at n old new → OnDisk 0 (superblock limits) old → OnDisk 0 (superblock limits) new
 superblock_kept limits at n old new behind only on = kept at n 0 (superblock limits) old new only (inl (omega (arith, length-superblock limits))) on
 
 module _ (limits : Format) (h : History) (start_stored : AreStored limits 0 h.start) (start_few : length h.start ≤ limits.pages) (acts : AreActs limits h.start h.acts) where
@@ -79,8 +79,9 @@ module _ (limits : Format) (h : History) (start_stored : AreStored limits 0 h.st
   pages_stored part = stored-after_acts limits h.start (take part h.acts) (acts-take limits h.start h.acts part acts) start_stored start_few
 
   -- what the log holds of a first part of the acts behind the first so many
-  pub part_restarts : (base forced : ℕ) (m : Moment) (image : List ℕ) → MayLeave m image → base ≤ length h.acts → OnDisk 0 (superblock limits) m
-      → AreHome limits (images_of (take forced (drop base h.acts))) (pages_after h base) m → place limits limits.pages ≤ length m.seen → HoldsFirst limits (drop base h.acts) forced image → RestartsToPart limits h (base + forced) image
+  pub part_restarts : (base forced : ℕ) (m : DiskMoment) (image : List ℕ) → MayLeave m image → base ≤ length h.acts → OnDisk 0 (superblock limits) m
+      → AreHome limits (images_of (take forced (drop base h.acts))) (pages_after h base) m → place limits limits.pages ≤ length m.seen
+      → HoldsFirst limits (drop base h.acts) forced image → RestartsToPart limits h (base + forced) image
   part_restarts base forced m image left base_few superblock_on home long first =
       let at_base = pages_stored base in
       record {
@@ -88,11 +89,12 @@ module _ (limits : Format) (h : History) (start_stored : AreStored limits 0 h.st
         from = omega (arith, first.from);
         to = omega (arith, first.to, length-drop base h.acts);
         restarts = subst (RestartsTo limits image) (sym (after_both h.start h.acts base first.part))
-            (restarts_to limits (pages_after h base) (drop base h.acts) forced first.part m image left superblock_on home first.from first.holds (acts-drop limits h.start h.acts base acts) at_base.0 at_base.1 long);
+            (restarts_to limits (pages_after h base) (drop base h.acts) forced first.part m image left superblock_on home first.from first.holds
+            (acts-drop limits h.start h.acts base acts) at_base.0 at_base.1 long);
       }
 
   -- what restarts in the log's terms does in those of pages
-  pub leaves_part : (base forced : ℕ) (m : Moment) → base ≤ length h.acts → OnDisk 0 (superblock limits) m → AreHome limits (images_of (take forced (drop base h.acts))) (pages_after h base) m
+  pub leaves_part : (base forced : ℕ) (m : DiskMoment) → base ≤ length h.acts → OnDisk 0 (superblock limits) m → AreHome limits (images_of (take forced (drop base h.acts))) (pages_after h base) m
       → place limits limits.pages ≤ length m.seen → Restarts limits (drop base h.acts) forced m → LeavesPart limits h (base + forced) m
   leaves_part base forced m base_few superblock_on home long restarts image left = part_restarts base forced m image left base_few superblock_on home long (restarts image left)
 
@@ -101,7 +103,7 @@ module _ (limits : Format) (h : History) (start_stored : AreStored limits 0 h.st
   whole (x ∷ xs) = ap (λ l. x ∷ l) (whole xs)
 
   -- all pages at home, and none in the log
-  pub home_restarts : (pages : List Page) (m : Moment) (image : List ℕ) → pages ≡ after_acts h.start h.acts → MayLeave m image → OnDisk 0 (superblock limits) m → AreHome limits [] pages m
+  pub home_restarts : (pages : List Page) (m : DiskMoment) (image : List ℕ) → pages ≡ after_acts h.start h.acts → MayLeave m image → OnDisk 0 (superblock limits) m → AreHome limits [] pages m
       → place limits limits.pages ≤ length m.seen → Holds limits image [] → RestartsToPart limits h (length h.acts) image
   home_restarts pages m image are left superblock_on home long holds =
       let now = stored-after_acts limits h.start h.acts acts start_stored start_few in
@@ -110,5 +112,6 @@ module _ (limits : Format) (h : History) (start_stored : AreStored limits 0 h.st
         from = omega arith;
         to = omega arith;
         restarts = subst (RestartsTo limits image) (are ∙ ap (λ (as' : List (List Page)). after_acts h.start as') (sym (whole h.acts)))
-            (restarts_to limits pages [] 0 0 m image left superblock_on home (omega arith) holds tt (subst (AreStored limits 0) (sym are) now.0) (subst (λ (ps : List Page). length ps ≤ limits.pages) (sym are) now.1) long);
+            (restarts_to limits pages [] 0 0 m image left superblock_on home (omega arith) holds tt (subst (AreStored limits 0) (sym are) now.0)
+            (subst (λ (ps : List Page). length ps ≤ limits.pages) (sym are) now.1) long);
       }

@@ -2,7 +2,7 @@
 use Rattle.std.proofs.Common.{◌≡◌, ◌≢◌, ◌⊎◌, ℕ, ◌+◌, ◌<◌, ◌≤◌, Bool, true, false, Some, None, List, [], length, take, drop, replicate, slice_get, refl, sym, ap, subst, inl, inr, ◌∙◌, arith}
 use Rattle.std.proofs.lemmas.List.{append-nil, length-replicate}
 use Rattle.std.specs.Prelude.{is_some}
-use Rattle.device.specs.Disk.{Moment, Trace, synced}
+use Rattle.device.specs.Disk.{DiskMoment, Trace, synced}
 use Rattle.device.specs.Moments.{Goes}
 use Rattle.device.specs.Places.{Has, ChangesOnly}
 use Rattle.device.proofs.Going.{goes_weaker, goes_now}
@@ -15,7 +15,7 @@ use Rattle.page_action.proofs.StoredPages.{stored_page}
 use Rattle.redo_log.specs.Images.{last_image, images_of}
 use Rattle.redo_log.specs.Kept.{limits_of, is_stopped}
 use Rattle.redo_log.proofs.Keeping.{keeps_elsewhere}
-use Rattle.device_layout.specs.Layout.{place}
+use Rattle.page_codec.specs.Places.{place}
 use Rattle.page_store.specs.Histories.{pages_after, pages_now}
 use Rattle.page_store.specs.Logged.{Held, pages_held, is_named, IsKept, IsOwn}
 use Rattle.page_store.specs.Following.{Follows}
@@ -66,7 +66,7 @@ module _ (old : Held) (own : IsOwn old) (alive : is_stopped old.log ≡ false) w
     clean_other : (b : ℕ) → old.unwritten b ≡ 0 → b ≢ block
     clean_other b clean e = let there : old.unwritten block ≡ 0 = sym (ap old.unwritten e) ∙ clean in omega arith
 
-    kept_written : (m : Moment) → ChangesOnly (place l block) 4096 old.trace.now m → IsKept old.log m old.unwritten h old.durable
+    kept_written : (m : DiskMoment) → ChangesOnly (place l block) 4096 old.trace.now m → IsKept old.log m old.unwritten h old.durable
     kept_written m only = record {
       base = k.base;
       forced = k.forced;
@@ -87,7 +87,7 @@ module _ (old : Held) (own : IsOwn old) (alive : is_stopped old.log ≡ false) w
     }
 
   -- a read gives what it gave
-  kept_alike : (m : Moment) → ChangesOnly (place l 0) 0 old.trace.now m → IsKept old.log m old.unwritten h old.durable
+  kept_alike : (m : DiskMoment) → ChangesOnly (place l 0) 0 old.trace.now m → IsKept old.log m old.unwritten h old.durable
   kept_alike m only = record {
     base = k.base;
     forced = k.forced;
@@ -106,7 +106,9 @@ module _ (old : Held) (own : IsOwn old) (alive : is_stopped old.log ≡ false) w
 
 -- the device went on while the log kept what it kept
 goes_kept : (old : Held) (trace : Trace) (honest : Bool) (failures : ℕ) → is_stopped old.log ≡ false → honest ≡ old.honest → old.failures ≤ failures
-    → ((own : IsOwn old) → Goes (λ m. IsKept old.log m old.unwritten old.history old.durable × (length m.seen ≡ length old.trace.now.seen)) old.trace trace) → Follows old (record old { trace = trace; honest = honest; failures = failures })
+    → ((own : IsOwn old)
+    → Goes (λ m. IsKept old.log m old.unwritten old.history old.durable × (length m.seen ≡ length old.trace.now.seen)) old.trace trace)
+    → Follows old (record old { trace = trace; honest = honest; failures = failures })
 goes_kept old trace honest failures alive same more goes = record {
   later = record { failures = more; durable = omega arith; stopped = λ s. s; stop_has_cause = λ s. inl s; honest = λ s. sym same ∙ s };
   grows = λ own.
@@ -132,18 +134,20 @@ goes_kept old trace honest failures alive same more goes = record {
 
 -- the page of a block whose last act is durable was written, or that failed
 pub follows_written : (old : Held) (block : ℕ) (trace : Trace) (honest : Bool) (failures : ℕ) → is_stopped old.log ≡ false → 0 < old.unwritten block → old.unwritten block ≤ old.durable
-    → Goes (ChangesOnly (place (limits_of old.log) block) 4096 old.trace.now) old.trace trace → honest ≡ old.honest → old.failures ≤ failures → Follows old (record old { trace = trace; honest = honest; failures = failures })
+    → Goes (ChangesOnly (place (limits_of old.log) block) 4096 old.trace.now) old.trace trace → honest ≡ old.honest → old.failures ≤ failures
+    → Follows old (record old { trace = trace; honest = honest; failures = failures })
 follows_written old block trace honest failures alive some durable moments same more =
     goes_kept old trace honest failures alive same more
     (λ own. goes_weaker _ _ old.trace trace (λ m only. (kept_written old own alive block some durable m only, only.same_length)) moments)
 
 -- the device was synced, or that failed
-pub follows_synced : (old : Held) (trace : Trace) (honest : Bool) (failures : ℕ) → is_stopped old.log ≡ false → Goes (λ m. m ≡ synced old.trace.now) old.trace trace → honest ≡ old.honest → old.failures ≤ failures
+pub follows_synced : (old : Held) (trace : Trace) (honest : Bool) (failures : ℕ) → is_stopped old.log ≡ false
+    → Goes (λ m. m ≡ synced old.trace.now) old.trace trace → honest ≡ old.honest → old.failures ≤ failures
     → Follows old (record old { trace = trace; honest = honest; failures = failures })
 follows_synced old trace honest failures alive moments same more =
     goes_kept old trace honest failures alive same more
     (λ own. goes_weaker _ _ old.trace trace (λ m is.
-    subst (λ (n : Moment). IsKept old.log n old.unwritten old.history old.durable × (length n.seen ≡ length old.trace.now.seen)) (sym is)
+    subst (λ (n : DiskMoment). IsKept old.log n old.unwritten old.history old.durable × (length n.seen ≡ length old.trace.now.seen)) (sym is)
     (kept_alike old own alive (synced old.trace.now) (synced_only (place (limits_of old.log) 0) 0 old.trace.now), refl)) moments)
 
 -- pages that stand at their places are noted as written
@@ -203,7 +207,8 @@ pub follows_noted : (old : Held) (unwritten : ℕ → ℕ) (changed : List ℕ) 
     ⊎ ((unwritten block ≡ 0) × ((page : Page) → slice_get (pages_held old) block ≡ Some page → Has (place limits block) (page_bytes page) old.trace.now.seen)))
     → Follows old (record old { unwritten = unwritten; changed = changed })
 follows_noted old unwritten changed limits is noted = noted_follows old unwritten changed
-    (subst (λ (l : Format). (block : ℕ) → (unwritten block ≡ old.unwritten block) ⊎ ((unwritten block ≡ 0) × ((page : Page) → slice_get (pages_held old) block ≡ Some page → Has (place l block) (page_bytes page) old.trace.now.seen))) (sym is) noted)
+    (subst (λ (l : Format). (block : ℕ) → (unwritten block ≡ old.unwritten block)
+    ⊎ ((unwritten block ≡ 0) × ((page : Page) → slice_get (pages_held old) block ≡ Some page → Has (place l block) (page_bytes page) old.trace.now.seen))) (sym is) noted)
 
 -- a read leaves what it finds
 read_follows : (old : Held) (honest : Bool) (failures : ℕ) → (honest ≡ true → old.honest ≡ true) → old.failures ≤ failures

@@ -2,10 +2,10 @@
 use Rattle.std.specs.Prelude.{◌≡◌, ◌⊎◌, ℕ, List, [], ◌∷◌, ◌++◌}
 use Rattle.std.proofs.Common.{inl, inr, sym, ap, subst, ◌∙◌, append_assoc}
 use Rattle.std.proofs.lemmas.List.{append_cancel_right}
-use Rattle.device.specs.Disk.{Moment, Trace, MayLeave}
+use Rattle.device.specs.Disk.{DiskMoment, Trace, MayLeave}
 use Rattle.device.specs.Moments.{AtSome, MayHaveLeft}
 
-split : (P : Moment → Type 0) (ms ns : List Moment) → AtSome P (ms ++ ns)
+split : (P : DiskMoment → Type 0) (ms ns : List DiskMoment) → AtSome P (ms ++ ns)
     → AtSome P ms ⊎ AtSome P ns
 split P [] ns some = inr some
 split P (m ∷ ms) ns (inl p) = inl (inl p)
@@ -14,31 +14,31 @@ split P (m ∷ ms) ns (inr some) = elim (split P ms ns some) [
   | inr early ↦ inr early
 ]
 
-front : (P : Moment → Type 0) (ms ns : List Moment) → AtSome P ms → AtSome P (ms ++ ns)
+front : (P : DiskMoment → Type 0) (ms ns : List DiskMoment) → AtSome P ms → AtSome P (ms ++ ns)
 front P [] ns some = elim some [ ]
 front P (m ∷ ms) ns (inl p) = inl p
 front P (m ∷ ms) ns (inr some) = inr (front P ms ns some)
 
-behind : (P : Moment → Type 0) (ms ns : List Moment) → AtSome P ns → AtSome P (ms ++ ns)
+behind : (P : DiskMoment → Type 0) (ms ns : List DiskMoment) → AtSome P ns → AtSome P (ms ++ ns)
 behind P [] ns some = some
 behind P (m ∷ ms) ns some = inr (behind P ms ns some)
 
 -- the newest moment is the first of all since an earlier one
-newest : (P : Moment → Type 0) (first second : Trace) (early : List Moment)
+newest : (P : DiskMoment → Type 0) (first second : Trace) (early : List DiskMoment)
     → second.now ∷ second.past ≡ early ++ first.now ∷ first.past → P second.now
     → AtSome P (early ++ first.now ∷ [])
 newest P first second [] is p = let e : second.now ≡ first.now = cc in inl (subst P e p)
 newest P first second (m ∷ ms) is p = let e : second.now ≡ m = cc in inl (subst P e p)
 
 -- a device came from the first to the second by the early moments, and from there to the third by the late ones
-module _ (first second third : Trace) (image : List ℕ) (early late : List Moment)
+module _ (first second third : Trace) (image : List ℕ) (early late : List DiskMoment)
     (to_second : second.now ∷ second.past ≡ early ++ first.now ∷ first.past)
     (to_third : third.now ∷ third.past ≡ late ++ second.now ∷ second.past) where
-  may : Moment → Type 0
+  may : DiskMoment → Type 0
   may m = MayLeave m image
 
   to_end : third.now ∷ third.past ≡ (late ++ early) ++ first.now ∷ first.past
-  to_end = to_third ∙ (ap (λ (l : List Moment). late ++ l) to_second ∙ sym (append_assoc late early (first.now ∷ first.past)))
+  to_end = to_third ∙ (ap (λ (l : List DiskMoment). late ++ l) to_second ∙ sym (append_assoc late early (first.now ∷ first.past)))
 
   whole : AtSome may (late ++ (early ++ first.now ∷ [])) → MayHaveLeft first third image
   unfolding may
@@ -50,7 +50,7 @@ module _ (first second third : Trace) (image : List ℕ) (early late : List Mome
   unfolding may
   left_between h =
       let all : h.since ≡ late ++ early = append_cancel_right h.since (late ++ early) (first.now ∷ first.past) (sym h.is ∙ to_end) in
-      let some = subst (AtSome may) (ap (λ (l : List Moment). l ++ first.now ∷ []) all ∙ append_assoc late early (first.now ∷ [])) h.left in
+      let some = subst (AtSome may) (ap (λ (l : List DiskMoment). l ++ first.now ∷ []) all ∙ append_assoc late early (first.now ∷ [])) h.left in
       elim (split may late (early ++ first.now ∷ []) some) [
         | inl since ↦ inr (record { since = late; is = to_third; left = front may late (second.now ∷ []) since })
         | inr before ↦ inl (record { since = early; is = to_second; left = before })
@@ -62,14 +62,14 @@ module _ (first second third : Trace) (image : List ℕ) (early late : List Mome
   left_early h =
       let all : h.since ≡ early =
       append_cancel_right h.since early (first.now ∷ first.past) (sym h.is ∙ to_second) in
-      whole (behind may late (early ++ first.now ∷ []) (subst (λ (l : List Moment). AtSome may (l ++ first.now ∷ [])) all h.left))
+      whole (behind may late (early ++ first.now ∷ []) (subst (λ (l : List DiskMoment). AtSome may (l ++ first.now ∷ [])) all h.left))
 
   pub left_late : MayHaveLeft second third image → MayHaveLeft first third image
   unfolding may
   left_late h =
       let all : h.since ≡ late =
       append_cancel_right h.since late (second.now ∷ second.past) (sym h.is ∙ to_third) in
-      elim (split may late (second.now ∷ []) (subst (λ (l : List Moment). AtSome may (l ++ second.now ∷ [])) all h.left)) [
+      elim (split may late (second.now ∷ []) (subst (λ (l : List DiskMoment). AtSome may (l ++ second.now ∷ [])) all h.left)) [
         | inl since ↦ whole (front may late (early ++ first.now ∷ []) since)
         | inr (inl here) ↦ whole (behind may late (early ++ first.now ∷ []) (newest may first second early to_second here))
         | inr (inr none) ↦ elim none [ ]

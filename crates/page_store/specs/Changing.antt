@@ -1,7 +1,7 @@
 -- What an act leaves in the pool.
 use Rattle.std.specs.Prelude.{◌≡◌, ℕ, suc, max, true, Some, None, List, [], ◌∷◌}
 use Rattle.std.specs.Prelude.{is_some}
-use Rattle.buffer_pool.specs.Pools.{most_of, reach_of, count_of, frame_of, held_page, act_of, changed_of}
+use Rattle.buffer_pool.specs.Pools.{most_of, reach_of, pool_count, frame_of, held_page, act_of, changed_of}
 use Rattle.buffer_pool.specs.declared.pool.Pool.{Pool}
 use Rattle.page_action.specs.Order.{with_changed}
 use Rattle.page_codec.specs.declared.page.Page.{Page}
@@ -11,7 +11,7 @@ use Rattle.redo_log.specs.Images.{last_image}
 pub record AreActed (old new : Pool) (pages : List Page) (act : ℕ) : Type 0 where
   pub most : most_of new ≡ most_of old
   pub reach : reach_of new ≡ reach_of old
-  pub count : count_of new ≡ count_of old
+  pub count : pool_count new ≡ pool_count old
   pub places : (block : ℕ) → frame_of new block ≡ frame_of old block
   pub held : (block : ℕ) (page : Page) → last_image pages block ≡ Some page
       → held_page new block ≡ Some page

@@ -1,7 +1,7 @@
 -- What the pool holds of the pages has one proof at most, so a store may keep it.
 use Rattle.std.specs.Prelude.{ℕ, Bool, List}
 use Rattle.std.proofs.Props.{props}
-use Rattle.device.specs.Disk.{Moment}
+use Rattle.device.specs.Disk.{DiskMoment}
 use Rattle.device.specs.Places.{Has}
 use Rattle.buffer_pool.specs.declared.pool.Pool.{Pool}
 use Rattle.index_model.specs.declared.format.Format.{Format}
@@ -13,5 +13,5 @@ Has-prop : (at : ℕ) (bytes file : List ℕ) → IsProp (Has at bytes file)
 Has-prop at bytes file = hlevel props
 
 pub HoldsPages-prop : (limits : Format) (pages : List Page) (acts : ℕ) (pool : Pool) (honest : Bool)
-    (m : Moment) → IsProp (HoldsPages limits pages acts pool honest m)
+    (m : DiskMoment) → IsProp (HoldsPages limits pages acts pool honest m)
 HoldsPages-prop limits pages acts pool honest m = hlevel (props, IsStored-prop)

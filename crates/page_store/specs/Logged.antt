@@ -1,9 +1,9 @@
 -- What pages over a log and a device show, and which of them are an own device's.
 use Rattle.std.specs.Prelude.{◌≡◌, ℕ, ◌+◌, ◌<◌, ◌≤◌, Bool, true, false, Some, None, List, [], length, take, drop, replicate, slice_get, is_some}
-use Rattle.device.specs.Disk.{Moment, Trace}
+use Rattle.device.specs.Disk.{DiskMoment, Trace}
 use Rattle.device.specs.Places.{Has, OnDisk}
 use Rattle.device.specs.declared.device.Device.{Ghosts}
-use Rattle.buffer_pool.specs.Pools.{act_of, changed_of, blocks_of}
+use Rattle.buffer_pool.specs.Pools.{act_of, changed_of, pool_blocks}
 use Rattle.buffer_pool.specs.declared.pool.Pool.{Pool}
 use Rattle.index_model.specs.declared.format.Format.{Format}
 use Rattle.page_codec.specs.Spelling.{page_bytes}
@@ -15,7 +15,7 @@ use Rattle.redo_log.specs.Images.{last_image, images_of}
 use Rattle.redo_log.specs.Kept.{Keeps, limits_of, is_stopped, waiting_blocks}
 use Rattle.redo_log.specs.declared.log.Log.{Log}
 use Rattle.page_store.specs.Histories.{pages_after, pages_now, AreActs}
-use Rattle.device_layout.specs.Layout.{superblock, place}
+use Rattle.page_codec.specs.Places.{superblock, place}
 use Rattle.page_store.specs.Restart.{LeavesPart}
 use Rattle.page_store.specs.declared.history.History.{History}
 use Rattle.page_store.specs.declared.logged_pages.LoggedPages.{LoggedPages}
@@ -92,10 +92,10 @@ backing_of held = record {
 
 -- the pages in memory
 abbrev pub memory_in : Pool → Memory
-memory_in pool = record { held = blocks_of pool; unwritten = act_of pool }
+memory_in pool = record { held = pool_blocks pool; unwritten = act_of pool }
 
 -- each block that has no image among these stands at its place: its page, or zeros where it has none
-pub record AreHome (limits : Format) (images pages : List Page) (m : Moment) : Type 0 where
+pub record AreHome (limits : Format) (images pages : List Page) (m : DiskMoment) : Type 0 where
   pub used : (block : ℕ) (page : Page) → slice_get pages block ≡ Some page
       → last_image images block ≡ None
       → OnDisk (place limits block) (page_bytes page) m
@@ -109,7 +109,7 @@ is_named acts block = is_some (last_image (images_of acts) block)
 
 -- the log keeps the acts behind the first so many, whose pages stand at home but for those that the log has an image of;
 -- of these each is unwritten since its last act, or a read gives it at its place
-pub record IsKept (log : Log) (m : Moment) (unwritten : ℕ → ℕ) (h : History) (durable : ℕ)
+pub record IsKept (log : Log) (m : DiskMoment) (unwritten : ℕ → ℕ) (h : History) (durable : ℕ)
     : Type 0 where
   pub base : ℕ
   pub forced : ℕ
@@ -140,7 +140,7 @@ pub record IsOwn (held : Held) : Type 0 where
 
 -- a device as it stands behind its opening: the log holds nothing, each page in use stands at its place, zeros at those
 -- of the other blocks, and no crash changes this
-pub record StandsOpened (log : Log) (m : Moment) (pages : List Page) : Type 0 where
+pub record StandsOpened (log : Log) (m : DiskMoment) (pages : List Page) : Type 0 where
   pub log_keeps : Keeps log m [] 0
   pub home : AreHome (limits_of log) [] pages m
   pub superblock_on : OnDisk 0 (superblock (limits_of log)) m

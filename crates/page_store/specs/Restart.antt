@@ -1,8 +1,8 @@
 -- What the bytes of a device restart to.
 use Rattle.std.specs.Prelude.{◌≡◌, ◌⊎◌, ℕ, ◌<◌, ◌≤◌, Some, None, List, length, replicate, slice_get}
-use Rattle.device.specs.Disk.{Moment, MayLeave}
+use Rattle.device.specs.Disk.{DiskMoment, MayLeave}
 use Rattle.device.specs.Places.{Has}
-use Rattle.device_layout.specs.Layout.{superblock, place}
+use Rattle.page_codec.specs.Places.{superblock, place}
 use Rattle.index_model.specs.declared.format.Format.{Format}
 use Rattle.page_codec.specs.Spelling.{page_bytes}
 use Rattle.page_codec.specs.declared.page.Page.{Page}
@@ -42,10 +42,10 @@ pub record RestartsToPart (limits : Format) (h : History) (least : ℕ) (image :
   pub restarts : RestartsTo limits image (pages_after h part)
 
 -- each image that a crash at this moment may leave does
-abbrev pub LeavesPart : Format → History → ℕ → Moment → Type 0
+abbrev pub LeavesPart : Format → History → ℕ → DiskMoment → Type 0
 LeavesPart limits h least m =
     (image : List ℕ) → MayLeave m image → RestartsToPart limits h least image
 
 -- each image that a crash at this moment may leave restarts to these pages
-abbrev pub LeavesPages : Format → List Page → Moment → Type 0
+abbrev pub LeavesPages : Format → List Page → DiskMoment → Type 0
 LeavesPages limits pages m = (image : List ℕ) → MayLeave m image → RestartsTo limits image pages

@@ -3,7 +3,7 @@ use Rattle.std.specs.Prelude.{ℕ, List}
 use Rattle.buffer_pool.specs.Pools.{most_of}
 use Rattle.index_model.specs.declared.format.Format.{Format}
 use Rattle.page_codec.specs.declared.page.Page.{Page}
-use Rattle.page_store.specs.declared.room.StoreRoom.{StoreRoom}
+use Rattle.page_store.specs.declared.log_room.StoreRoom.{StoreRoom}
 
 -- the limits that it was made for
 abbrev pub limits_of_room : StoreRoom → Format

@@ -3,7 +3,7 @@ use Rattle.std.specs.Prelude.{◌≡◌, ◌⊎◌, ℕ, ◌<◌, ◌≤◌, ◌
 use Rattle.index_model.specs.declared.fault.Fault.{Fault}
 use Rattle.index_model.specs.declared.fault.Fault.TheVariants.{Io, Stopped, NoFrame, PageDamaged}
 use Rattle.device.specs.declared.device.Device.{Ghosts}
-use Rattle.buffer_pool.specs.Choices.{count_apart}
+use Rattle.buffer_pool.specs.Choices.{count_distinct}
 use Rattle.buffer_pool.specs.Frames.{has_block}
 use Rattle.buffer_pool.specs.Pools.{most_of, frame_of, act_of, changed_of, IsWritten}
 use Rattle.buffer_pool.specs.declared.pool.Pool.{Pool}
@@ -61,7 +61,7 @@ module _ {D : Type 0} (g : Ghosts D) where
 -- the pinned blocks with one that isn't held are more than the frames
 abbrev pub AreTooMany : Pool → List ℕ → Type 0
 AreTooMany pool pinned =
-    (block : ℕ) → frame_of pool block ≡ None → most_of pool < count_apart (block ∷ pinned)
+    (block : ℕ) → frame_of pool block ≡ None → most_of pool < count_distinct (block ∷ pinned)
 
 -- a changed page could not be written: a device call failed, or the log had failed before
 abbrev pub WritingFails : Bool → ℕ → ℕ → Fault → Type 0
@@ -76,7 +76,7 @@ FrameFails pool pinned stopped old new fault =
 -- no frame is had beside so many blocks, or a device call failed, or the log had failed before
 abbrev pub TakingFails : Pool → List ℕ → Bool → ℕ → ℕ → Fault → Type 0
 TakingFails pool blocks stopped old new fault =
-    ((fault ≡ NoFrame) × (most_of pool < count_apart blocks)) ⊎ WritingFails stopped old new fault
+    ((fault ≡ NoFrame) × (most_of pool < count_distinct blocks)) ⊎ WritingFails stopped old new fault
 
 -- ... or the page isn't one of the format, which a device that keeps its model doesn't show
 abbrev pub FetchFails : Pool → List ℕ → Bool → ℕ → ℕ → ℕ → Bool → Fault → Type 0

@@ -2,7 +2,7 @@
 use Rattle.std.specs.Prelude.{◌≡◌, ◌⊎◌, ℕ, suc, ◌<◌, ◌≤◌, Bool, true, Some, List, Result, MatchResult, length, take, slice_get}
 use Rattle.index_model.specs.declared.fault.Fault.{Fault}
 use Rattle.index_model.specs.declared.fault.Fault.TheVariants.{Io, PageDamaged}
-use Rattle.device.specs.Disk.{Moment}
+use Rattle.device.specs.Disk.{DiskMoment}
 use Rattle.device.specs.Places.{Has, OnDisk}
 use Rattle.buffer_pool.specs.Frames.{has_block}
 use Rattle.buffer_pool.specs.Pools.{act_of, held_page, changed_of}
@@ -11,17 +11,17 @@ use Rattle.index_model.specs.declared.format.Format.{Format}
 use Rattle.page_codec.specs.Spelling.{page_bytes}
 use Rattle.page_codec.specs.declared.page.Page.{Page}
 use Rattle.page_action.specs.Stored.{IsStored}
-use Rattle.device_layout.specs.Layout.{place}
+use Rattle.page_codec.specs.Places.{place}
 
 -- a read gives each of these pages at its place
-abbrev pub AreSeen : Format → List Page → Moment → Type 0
+abbrev pub AreSeen : Format → List Page → DiskMoment → Type 0
 AreSeen limits pages m = (block : ℕ) (page : Page) → slice_get pages block ≡ Some page
     → Has (place limits block) (page_bytes page) m.seen
 
 -- What the pool holds of these pages, after so many acts: changed pages as the acts have left them; and where the device
 -- kept its model, each as it is, and the others at their places.
 pub record HoldsPages (limits : Format) (pages : List Page) (acts : ℕ) (pool : Pool) (honest : Bool)
-    (m : Moment) : Type 0 where
+    (m : DiskMoment) : Type 0 where
   pub few : (block : ℕ) → act_of pool block ≤ acts
   pub in_use : (block : ℕ) → 0 < act_of pool block → block < length pages
   pub stored : (block : ℕ) (page : Page) → block < length pages → held_page pool block ≡ Some page
@@ -35,7 +35,7 @@ pub record HoldsPages (limits : Format) (pages : List Page) (acts : ℕ) (pool :
       → act_of pool block ≡ 0 → Has (place limits block) (page_bytes page) m.seen
 
 -- the first so many of the changed pages stand at their places, as a read gives them
-abbrev pub AreWrittenUpTo : Format → Pool → ℕ → Moment → Type 0
+abbrev pub AreWrittenUpTo : Format → Pool → ℕ → DiskMoment → Type 0
 AreWrittenUpTo limits pool count m = (block : ℕ) (page : Page)
     → has_block (take count (changed_of pool)) block ≡ true → held_page pool block ≡ Some page
     → Has (place limits block) (page_bytes page) m.seen
@@ -54,5 +54,5 @@ abbrev pub IsClean : Pool → Type 0
 IsClean pool = (block : ℕ) → act_of pool block ≡ 0
 
 -- what a read gives, a crash leaves
-abbrev pub IsFirm : Moment → Type 0
-IsFirm m = (at : ℕ) (bytes : List ℕ) → Has at bytes m.seen → OnDisk at bytes m
+abbrev pub IsAllFirm : DiskMoment → Type 0
+IsAllFirm m = (at : ℕ) (bytes : List ℕ) → Has at bytes m.seen → OnDisk at bytes m

@@ -4,7 +4,7 @@ ghost use Rattle.std.specs.Prelude.{◌≡◌, ◌⊎◌, ◌<◌, ◌≤◌, Er
 ghost use Rattle.buffer_pool.specs.Pools.{act_of, changed_of, held_page, IsWritten, HasSamePages};
 ghost use Rattle.device.specs.Disk.{CountsFailures};
 ghost use Rattle.device.specs.Places.{Has, OnDisk, ChangesOnly};
-ghost use Rattle.device_layout.specs.Layout.{place};
+ghost use Rattle.page_codec.specs.Places.{place};
 ghost use Rattle.page_action.specs.Order.{IsRestOf};
 ghost use Rattle.page_action.specs.Room.{HasWholeRoom, WaitsOn};
 ghost use Rattle.page_codec.specs.Spelling.{page_bytes};
@@ -13,7 +13,7 @@ ghost use Rattle.redo_log.specs.Kept.{IoOrStopped, is_stopped, waiting_count, wa
 ghost use Rattle.page_store.specs.Following.{Follows};
 ghost use Rattle.page_store.specs.Logged.{held_of, backing_of, SamePages, SameRoom, SameButDevice};
 ghost use Rattle.page_store.specs.Quiet.{IsQuiet, IsUnforced};
-ghost use Rattle.page_store.specs.Writing.{AreWrittenUpTo, IsFirm, IsClean};
+ghost use Rattle.page_store.specs.Writing.{AreWrittenUpTo, IsAllFirm, IsClean};
 
 use crate::logged_pages::LoggedPages;
 use crate::writing::write_page;
@@ -125,7 +125,7 @@ impl<D: Device> LoggedPages<D> {
     pub(crate) fn note_written(&mut self, place: usize, block: u32)
         requires at { slice_get (changed_of self.old.pool) place ≡ Some block }
         requires home { (page : Page) → held_page self.old.pool block ≡ Some page
-            → Has (Rattle.device_layout.specs.Layout.place self.old.limits block) (page_bytes page)
+            → Has (Rattle.page_codec.specs.Places.place self.old.limits block) (page_bytes page)
             (D.trace self.old.device).now.seen }
         ensures quiet { IsQuiet D.Device self.old self.new }
         ensures written { IsWritten self.old.pool self.new.pool place }
@@ -210,7 +210,7 @@ impl<D: Device> LoggedPages<D> {
         requires alive { is_stopped self.old.log ≡ false }
         ensures steps { Follows (held_of D.Device self.old) (held_of D.Device self.new) }
         ensures same { SameButDevice D.Device self.old self.new }
-        ensures firm { OnOk result (IsFirm (D.trace self.new.device).now) }
+        ensures firm { OnOk result (IsAllFirm (D.trace self.new.device).now) }
         ensures failures { CountsFailures result
             (D.failures self.old.device) (D.failures self.new.device) }
     {
@@ -231,7 +231,7 @@ impl<D: Device> LoggedPages<D> {
         ensures clean { OnOk result (IsClean self.new.pool) }
         ensures rest { IsRestOf (changed_of self.new.pool) (changed_of self.old.pool) }
         ensures none { OnOk result (changed_of self.new.pool ≡ []) }
-        ensures firm { OnOk result (IsFirm (D.trace self.new.device).now) }
+        ensures firm { OnOk result (IsAllFirm (D.trace self.new.device).now) }
         ensures failures { CountsFailures result
             (D.failures self.old.device) (D.failures self.new.device) }
     {
@@ -247,7 +247,7 @@ impl<D: Device> LoggedPages<D> {
         requires alive { is_stopped self.old.log ≡ false }
         requires all { self.old.durable ≡ self.old.acts }
         requires clean { IsClean self.old.pool }
-        requires firm { IsFirm (D.trace self.old.device).now }
+        requires firm { IsAllFirm (D.trace self.old.device).now }
         ensures steps { Follows (held_of D.Device self.old) (held_of D.Device self.new) }
         ensures pages { SamePages D.Device self.old self.new }
         ensures pool { self.new.pool ≡ self.old.pool }

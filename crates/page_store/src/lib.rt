@@ -3,14 +3,14 @@
 #![tactic(auto)]
 
 mod changing;
+mod fetching;
 mod forcing;
 mod history;
+mod log_room;
 mod logged_pages;
 mod memory;
-mod room;
 mod store;
-mod taking;
 mod writing;
 
-pub use room::StoreRoom;
+pub use log_room::StoreRoom;
 pub use store::Store;

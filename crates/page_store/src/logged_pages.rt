@@ -3,7 +3,7 @@
 ghost use Rattle.std.specs.Prelude.{◌≡◌, ◌≤◌, ◌<◌, ◌+◌, ◌*◌, suc, false, length};
 ghost use Rattle.std.specs.Coded.{Coded-set};
 ghost use Rattle.buffer_pool.specs.Pools.{reach_of};
-ghost use Rattle.device_layout.specs.Layout.{place};
+ghost use Rattle.page_codec.specs.Places.{place};
 ghost use Rattle.index_model.specs.Limits.{AreLimits};
 ghost use Rattle.page_action.specs.Stored.{AreStored};
 ghost use Rattle.page_action.specs.Props.{AreStored-prop};
@@ -60,7 +60,7 @@ pub(crate) struct LoggedPages<D: Device> {
 
 impl<D: Device> LoggedPages<D> {
     ghost use Rattle.std.specs.Prelude.{◌⊎◌, ◌^◌, ◌-◌, Err, Some, IfOk, IfErr, OnOk, OnErr, IsSome, is_some, ℕ, true, All, slice_get};
-    ghost use Rattle.buffer_pool.specs.Pools.{count_of, frame_of, held_page};
+    ghost use Rattle.buffer_pool.specs.Pools.{pool_count, frame_of, held_page};
     ghost use Rattle.page_action.specs.Stored.{AreActable, IsStored};
     ghost use Rattle.page_action.specs.Order.{with_changed};
     ghost use Rattle.page_action.specs.Room.{HasWholeRoom, HasNoRoomFor};
@@ -94,7 +94,7 @@ impl<D: Device> LoggedPages<D> {
         requires used { used ≡ length history.start }
         requires few { used ≤ limits.pages }
         requires reach { reach_of pool ≡ limits.pages }
-        requires empty { count_of pool ≡ 0 }
+        requires empty { pool_count pool ≡ 0 }
         requires seen { D.is_honest device ≡ true
             → AreSeen limits history.start (D.trace device).now }
         ensures limits { result.limits ≡ limits }

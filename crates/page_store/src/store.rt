@@ -4,8 +4,8 @@ ghost use Rattle.std.specs.Prelude.{◌≡◌, ◌≤◌, length};
 ghost use Rattle.page_action.specs.Waiting.{AreWaiting};
 ghost use Rattle.page_store.specs.Histories.{pages_now};
 
+use crate::log_room::StoreRoom;
 use crate::logged_pages::LoggedPages;
-use crate::room::StoreRoom;
 use arrayvec::ArrayVec;
 use device::Device;
 use index_model::{Fault, Format, Limits, Session};
@@ -38,7 +38,7 @@ impl<D: Device> Store<D> {
     ghost use Rattle.page_store.specs.Logged.{Held, IsOwn, StandsOpened, backing_of};
     ghost use Rattle.page_store.specs.Histories.{pages_after};
     ghost use Rattle.page_store.specs.Following.{Follows};
-    ghost use Rattle.device_layout.specs.Layout.{place};
+    ghost use Rattle.page_codec.specs.Places.{place};
     ghost use Rattle.page_store.specs.Restart.{RestartsToPart};
     ghost use Rattle.page_store.specs.Quiet.{IsQuiet};
     ghost use Rattle.page_store.specs.Rooms.{limits_of_room, frames_of_room, pages_of_room, counts_of_room};

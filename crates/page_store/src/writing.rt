@@ -6,13 +6,12 @@ ghost use Rattle.device.specs.Moments.{Goes};
 ghost use Rattle.device.specs.Places.{Has, ChangesOnly};
 ghost use Rattle.page_action.specs.Stored.{IsStored};
 ghost use Rattle.page_codec.specs.Spelling.{page_bytes};
-ghost use Rattle.device_layout.specs.Layout.{place};
+ghost use Rattle.page_codec.specs.Places.{place};
 ghost use Rattle.page_store.specs.Writing.{ReadingFails, GivesPage};
 
 use device::Device;
-use device_layout::page_place;
 use index_model::{Fault, Format};
-use page_codec::{Page, decode_into, encode};
+use page_codec::{Page, decode_into, encode, page_place};
 
 /// Writes the bytes of the page.
 fn put_page<D: Device>(device: &mut D, at: u64, page: &Page) -> Result<(), Fault>

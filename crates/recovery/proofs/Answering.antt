@@ -3,14 +3,14 @@ use Rattle.std.proofs.Common.{◌≡◌, ◌≤◌, ◌⊎◌, ⊎_elim, inl, in
 use Rattle.std.specs.Prelude.{MatchResult, IfOk, OnOk}
 use Rattle.std.proofs.lemmas.List.{take_at}
 use Rattle.device.proofs.Standing.{has_drop}
-use Rattle.device.specs.Disk.{Moment, Trace, next, synced}
+use Rattle.device.specs.Disk.{DiskMoment, Trace, next, synced}
 use Rattle.index_model.specs.declared.fault.Fault.{Fault}
 use Rattle.index_model.specs.declared.fault.Fault.TheVariants.{NoMemory, Io, LogDamaged}
 use Rattle.index_model.specs.Limits.{AreLimits}
 use Rattle.index_model.specs.declared.format.Format.{Format}
 use Rattle.page_codec.specs.declared.page.Page.{Page}
 use Rattle.page_store.specs.Logged.{AreHome, StandsOpened}
-use Rattle.device_layout.specs.Layout.{superblock, place}
+use Rattle.page_codec.specs.Places.{superblock, place}
 use Rattle.page_store.specs.Restart.{RestartsTo}
 use Rattle.page_store.proofs.Restarting.{length-superblock}
 use Rattle.page_store.specs.Rooms.{limits_of_room, pages_of_room}
@@ -19,7 +19,7 @@ use Rattle.redo_log.specs.declared.log.Log.{Log}
 use Rattle.recovery.specs.Calls.{IsIoOr, FailsWithIoOr}
 use Rattle.recovery.specs.Index.{HasIndex}
 use Rattle.recovery.specs.Opening.{AreFrames, HasGroups, IsFound, IsFront, IsRestored, IsRefusal, IsSynced, IsRestoreRefusal, IsNoMemoryOrIo, AreSamePages}
-use Rattle.recovery.specs.Reading.{AreInUse, IsDamage, IsAllRead}
+use Rattle.recovery.specs.Reading.{AreInUse, IsDamagedBlock, IsAllRead}
 use Rattle.recovery.specs.declared.opening.Parts.{Parts}
 use Rattle.recovery.specs.declared.reading.Found.{Found}
 use Rattle.recovery.specs.Superblock.{sizes_in}
@@ -47,7 +47,8 @@ module _ (limits : Format) (t u : Trace) (is : u ≡ next (synced t.now) t) wher
   )
 
 -- the pages of an opened log are those in use
-pub opened_in_use : (limits : Format) (pages : List Page) (log : Log) (m : Moment) (file : List ℕ) → IsOpened limits log → RestartsTo limits file pages → StandsOpened log m pages → AreInUse limits pages m.seen
+pub opened_in_use : (limits : Format) (pages : List Page) (log : Log) (m : DiskMoment) (file : List ℕ) → IsOpened limits log
+    → RestartsTo limits file pages → StandsOpened log m pages → AreInUse limits pages m.seen
 opened_in_use limits pages log m file opened restarts stands =
     home_in_use limits pages m restarts.stored restarts.few (subst (λ (l : Format). AreHome l [] pages m) opened.limits_are stands.home)
 
@@ -56,24 +57,27 @@ all_in_use limits honest file found is all = record { stored = all.read.stored; 
 
 -- why the pages of an index are not read
 pub pages_refuse : (limits : Format) (pages : List Page) (honest : Bool) (file : List ℕ) (e : Fault) (fails failed : ℕ) → IsTrue honest → AreInUse limits pages file → 0 < length pages
-    → IsIoOr (λ e. (e ≡ NoMemory) ⊎ IsDamage limits honest file e) failed fails e → IsNoMemoryOrIo e
+    → IsIoOr (λ e. (e ≡ NoMemory) ⊎ IsDamagedBlock limits honest file e) failed fails e → IsNoMemoryOrIo e
 pages_refuse limits pages honest file e fails failed is in_use some (inl io) = inr io.0
 pages_refuse limits pages honest file e fails failed is in_use some (inr other) =
     ⊎_elim (λ memory. inl memory) (λ damaged. absurd (not_damaged limits pages file damaged.0 in_use some (damaged.2 is))) other.0
 
 -- the pages that are read are those of the index
-pub same_pages : (limits : Format) (honest : Bool) (pages : List Page) (m n : Moment) (file : List ℕ) (parts : Parts) → IsTrue honest → n ≡ m → IsOpened limits parts.log → RestartsTo limits file pages → StandsOpened parts.log m pages
+pub same_pages : (limits : Format) (honest : Bool) (pages : List Page) (m n : DiskMoment) (file : List ℕ) (parts : Parts) → IsTrue honest → n ≡ m
+    → IsOpened limits parts.log → RestartsTo limits file pages → StandsOpened parts.log m pages
     → IsAllRead limits honest m.seen parts.found → AreSamePages pages n parts
 same_pages limits honest pages m n file parts is same opened restarts stands all = record {
-  pages_are = one_reading limits (pages_of_room parts.found.room) pages m.seen (all_in_use limits honest m.seen parts.found is all) (opened_in_use limits pages parts.log m file opened restarts stands);
-  stands = subst (λ (x : Moment). StandsOpened parts.log x pages) (sym same) stands;
+  pages_are = one_reading limits (pages_of_room parts.found.room) pages m.seen (all_in_use limits honest m.seen parts.found is all)
+      (opened_in_use limits pages parts.log m file opened restarts stands);
+  stands = subst (λ (x : DiskMoment). StandsOpened parts.log x pages) (sym same) stands;
 }
 
 -- an index has one front
 pub front_of : (limits : Format) (pages : List Page) (file : List ℕ) → HasIndex limits pages file → IsFront limits file
 front_of limits pages file index = record {
   allowed = index.allowed;
-  superblock_is = ap (take 4096) (has_drop 0 (superblock limits) file index.restarts.superblock_is) ∙ take_at (superblock limits) (drop (0 + length (superblock limits)) file) 4096 (length-superblock limits);
+  superblock_is = ap (take 4096) (has_drop 0 (superblock limits) file index.restarts.superblock_is)
+      ∙ take_at (superblock limits) (drop (0 + length (superblock limits)) file) 4096 (length-superblock limits);
   long = index.restarts.long;
 }
 
@@ -81,23 +85,27 @@ pub one_front : (limits others : Format) (file : List ℕ) → IsFront limits fi
 one_front limits others file a b = sym (sizes_spelled limits a.allowed) ∙ (ap sizes_in (sym a.superblock_is ∙ b.superblock_is) ∙ sizes_spelled others b.allowed)
 
 -- a restored index is the one that was found
-pub found_same : (r : Result Parts Fault) (found limits : Format) (pages : List Page) (honest : Bool) (file : List ℕ) (m : Moment) → found ≡ limits → IfOk r (IsRestored found honest file) → MatchResult r (AreSamePages pages m) IsNoMemoryOrIo
+pub found_same : (r : Result Parts Fault) (found limits : Format) (pages : List Page) (honest : Bool) (file : List ℕ) (m : DiskMoment)
+    → found ≡ limits → IfOk r (IsRestored found honest file) → MatchResult r (AreSamePages pages m) IsNoMemoryOrIo
     → MatchResult r (λ parts. (limits_of_room parts.found.room ≡ limits) × AreSamePages pages m parts) IsNoMemoryOrIo
 found_same (Ok parts) found limits pages honest file m is restored same = (restored.read.read.limits_are ∙ is, same)
 found_same (Err e) found limits pages honest file m is restored same = same
 
 -- a call that came behind one that didn't fail
-pub fails_behind : {T : Type 0} (r : Result T Fault) (P Q : Fault → Type 0) (fails middle failed : ℕ) → middle ≡ failed → ((e : Fault) → IsIoOr P middle fails e → IsIoOr Q failed fails e) → FailsWithIoOr P r middle fails → FailsWithIoOr Q r failed fails
+pub fails_behind : {T : Type 0} (r : Result T Fault) (P Q : Fault → Type 0) (fails middle failed : ℕ) → middle ≡ failed
+    → ((e : Fault) → IsIoOr P middle fails e → IsIoOr Q failed fails e) → FailsWithIoOr P r middle fails → FailsWithIoOr Q r failed fails
 fails_behind (Ok x) P Q fails middle failed same f p = p ∙ same
 fails_behind (Err e) P Q fails middle failed same f p = f e p
 
-pub restore_refuses : (limits : Format) (honest before : Bool) (frames : ℕ) (t u v : Trace) (e : Fault) (fails middle failed : ℕ) → AreFrames frames → (IsTrue honest → IsTrue before) → (IsTrue before → IsFront limits t.now.seen) → u ≡ t → middle ≡ failed
+pub restore_refuses : (limits : Format) (honest before : Bool) (frames : ℕ) (t u v : Trace) (e : Fault) (fails middle failed : ℕ) → AreFrames frames
+    → (IsTrue honest → IsTrue before) → (IsTrue before → IsFront limits t.now.seen) → u ≡ t → middle ≡ failed
     → IsIoOr (IsRestoreRefusal limits honest u v) middle fails e → IsIoOr (IsRefusal honest frames t v) failed fails e
 restore_refuses limits honest before frames t u v e fails middle failed may earlier front same count (inl io) = inl (io.0, io.1 ∙ ap suc count)
 restore_refuses limits honest before frames t u v e fails middle failed may earlier front same count (inr other) =
     inr (inr (limits, may, (λ h. front (earlier h)), subst (λ (w : Trace). IsRestoreRefusal limits honest w v e) same other.0), other.1 ∙ count)
 
-pub found_index : (r : Result Parts Fault) (limits : Format) (honest : Bool) (t u : Trace) (new : List ℕ) → u ≡ t → AreLimits limits → place limits limits.pages ≤ length new → (IsTrue honest → IsFront limits t.now.seen) → IfOk r (IsRestored limits honest new)
+pub found_index : (r : Result Parts Fault) (limits : Format) (honest : Bool) (t u : Trace) (new : List ℕ) → u ≡ t → AreLimits limits
+    → place limits limits.pages ≤ length new → (IsTrue honest → IsFront limits t.now.seen) → IfOk r (IsRestored limits honest new)
     → OnOk r (IsTrue honest → HasGroups limits u.now.seen) → IfOk r (IsFound honest t.now.seen new)
 found_index (Ok parts) limits honest t u new same allowed long front restored undamaged = record {
   limits = limits;

@@ -4,7 +4,7 @@ use Rattle.std.proofs.lemmas.Bool.{cases_eq}
 use Rattle.std.proofs.lemmas.List.{take_at, length-replicate, get_or-take, get_or-drop}
 use Rattle.std.proofs.lemmas.Option.{slice_get_within}
 use Rattle.std.specs.Prelude.{MatchResult, IsErrAnd}
-use Rattle.device.specs.Disk.{Moment}
+use Rattle.device.specs.Disk.{DiskMoment}
 use Rattle.device.specs.Places.{Has}
 use Rattle.device.proofs.Standing.{has_drop}
 use Rattle.index_model.specs.declared.fault.Fault.{Fault}
@@ -15,7 +15,7 @@ use Rattle.page_codec.specs.Spelling.{page_bytes, used_bytes, head_bytes}
 use Rattle.page_codec.proofs.Laws.{one_page, length-page}
 use Rattle.page_codec.specs.declared.page.Page.{Page}
 use Rattle.page_store.specs.Rooms.{limits_of_room, pages_of_room, counts_of_room}
-use Rattle.device_layout.specs.Layout.{place}
+use Rattle.page_codec.specs.Places.{place}
 use Rattle.page_store.specs.Logged.{AreHome}
 use Rattle.page_store.specs.Writing.{AreSeen}
 use Rattle.page_store.proofs.Restarting.{past_of_none}
@@ -31,7 +31,8 @@ zeros-more : (n : ℕ) → replicate {A = ℕ} n 0 ++ 0 ∷ [] ≡ replicate {A 
 zeros-more zero = refl
 zeros-more (suc n) = ap (λ (l : List ℕ). 0 ∷ l) (zeros-more n)
 
-stand-more : (limits : Format) (pages : List Page) (page : Page) (file : List ℕ) → StandFirst limits pages file → block_bytes limits (length pages) file ≡ page_bytes page → StandFirst limits (pages ++ page ∷ []) file
+stand-more : (limits : Format) (pages : List Page) (page : Page) (file : List ℕ) → StandFirst limits pages file
+    → block_bytes limits (length pages) file ≡ page_bytes page → StandFirst limits (pages ++ page ∷ []) file
 stand-more limits pages page file stand here block p found = elim (cases_eq (length pages) block) [
   | inl same ↦
       let got = sym (more_same pages page) ∙ (ap (λ (b : ℕ). slice_get (pages ++ page ∷ []) b) same ∙ found) in
@@ -41,14 +42,18 @@ stand-more limits pages page file stand here block p found = elim (cases_eq (len
 ]
 
 -- one page more is read
-pub read_more : (limits : Format) (before after : Bool) (file : List ℕ) (old new : Found) (page : Page) → (IsTrue after → IsTrue before) → HasReadPages limits before file old → limits_of_room new.room ≡ limits_of_room old.room
-    → pages_of_room new.room ≡ pages_of_room old.room ++ page ∷ [] → counts_of_room new.room ≡ counts_of_room old.room ++ 0 ∷ [] → IsStored limits (length (pages_of_room old.room)) page → new.counter ≡ max old.counter page.cycle
+pub read_more : (limits : Format) (before after : Bool) (file : List ℕ) (old new : Found) (page : Page) → (IsTrue after → IsTrue before)
+    → HasReadPages limits before file old → limits_of_room new.room ≡ limits_of_room old.room
+    → pages_of_room new.room ≡ pages_of_room old.room ++ page ∷ [] → counts_of_room new.room ≡ counts_of_room old.room ++ 0 ∷ []
+    → IsStored limits (length (pages_of_room old.room)) page → new.counter ≡ max old.counter page.cycle
     → (IsTrue after → block_bytes limits (length (pages_of_room old.room)) file ≡ page_bytes page) → HasReadPages limits after file new
 read_more limits before after file old new page earlier read same pages counts stored counter here =
     let count : length (pages_of_room new.room) ≡ suc (length (pages_of_room old.room)) = omega (arith, ap length pages, length-append (pages_of_room old.room) (page ∷ [])) in
     record {
       limits_are = same ∙ read.limits_are;
-      stored = subst (AreStored limits 0) (sym pages) (stored-add limits 0 (pages_of_room old.room) page read.stored (let e : 0 + length (pages_of_room old.room) ≡ length (pages_of_room old.room) = omega arith in subst (λ (b : ℕ). IsStored limits b page) (sym e) stored));
+      stored = subst (AreStored limits 0) (sym pages)
+          (stored-add limits 0 (pages_of_room old.room) page read.stored
+          (let e : 0 + length (pages_of_room old.room) ≡ length (pages_of_room old.room) = omega arith in subst (λ (b : ℕ). IsStored limits b page) (sym e) stored));
       counts = counts ∙ (ap (λ (l : List ℕ). l ++ 0 ∷ []) read.counts ∙ (zeros-more (length (pages_of_room old.room)) ∙ ap (λ (n : ℕ). replicate {A = ℕ} n 0) (sym count)));
       counter = counter ∙ (ap (λ (n : ℕ). max n page.cycle) read.counter ∙ (sym (cycle-more (pages_of_room old.room) page) ∙ ap greatest_cycle (sym pages)));
       stand = λ honest. subst (λ (ps : List Page). StandFirst limits ps file) (sym pages) (stand-more limits (pages_of_room old.room) page file (read.stand (earlier honest)) (here honest));
@@ -60,8 +65,10 @@ unfolding page_bytes used_bytes head_bytes
 page_is_not_zeros page is = (let first : 66 ≡ 0 = ap (λ (l : List ℕ). slice_index l 0) is in absurd (omega (arith, first)))
 
 -- the block whose page was not taken is damaged
-pub damaged_here : (limits : Format) (honest : Bool) (file : List ℕ) (found : Found) (page : Page) → HasReadPages limits honest file found → IsTrue honest → length (pages_of_room found.room) < limits.pages
-    → AreBytesOf (Some page) (block_bytes limits (length (pages_of_room found.room)) file) → (IsStored limits (length (pages_of_room found.room)) page → ⊥) → IsDamagedAt limits (length (pages_of_room found.room)) file
+pub damaged_here : (limits : Format) (honest : Bool) (file : List ℕ) (found : Found) (page : Page) → HasReadPages limits honest file found
+    → IsTrue honest → length (pages_of_room found.room) < limits.pages
+    → AreBytesOf (Some page) (block_bytes limits (length (pages_of_room found.room)) file)
+    → (IsStored limits (length (pages_of_room found.room)) page → ⊥) → IsDamagedAt limits (length (pages_of_room found.room)) file
 damaged_here limits honest file found page read is within here wrong = record {
   before = pages_of_room found.room;
   stored = read.stored;
@@ -98,7 +105,8 @@ block_has limits block bytes file has long =
     ap (λ (n : ℕ). take n (drop at file)) size ∙ (ap (take 4096) (has_drop at bytes file has) ∙ take_at bytes (drop (at + length bytes) file) 4096 long)
 
 -- what stands at the place of a block is what a read gives there
-pub has_block : (limits : Format) (block : ℕ) (bytes file : List ℕ) → block_bytes limits block file ≡ bytes → length bytes ≡ 4096 → place limits block + 4096 ≤ length file → Has (place limits block) bytes file
+pub has_block : (limits : Format) (block : ℕ) (bytes file : List ℕ) → block_bytes limits block file ≡ bytes → length bytes ≡ 4096
+    → place limits block + 4096 ≤ length file → Has (place limits block) bytes file
 has_block limits block bytes file is long inside =
     let at = place limits block in
     let size : at + 4096 - at ≡ 4096 = omega arith in
@@ -109,17 +117,19 @@ has_block limits block bytes file is long inside =
     }
 
 -- pages that were read stand on the device
-pub seen_of : (limits : Format) (pages : List Page) (m : Moment) → AreStored limits 0 pages → length pages ≤ limits.pages → place limits limits.pages ≤ length m.seen → StandFirst limits pages m.seen → AreSeen limits pages m
+pub seen_of : (limits : Format) (pages : List Page) (m : DiskMoment) → AreStored limits 0 pages → length pages ≤ limits.pages
+    → place limits limits.pages ≤ length m.seen → StandFirst limits pages m.seen → AreSeen limits pages m
 seen_of limits pages m stored few inside stand block page found =
     has_block limits block (page_bytes page) m.seen (stand block page found) (length-page page (stored_page limits block pages page stored found).storable.admitted)
     (omega (arith, slice_get_within pages block page found, few, inside))
 
 -- pages that stand at home are those of all blocks in use
-pub home_in_use : (limits : Format) (pages : List Page) (m : Moment) → AreStored limits 0 pages → length pages ≤ limits.pages → AreHome limits [] pages m → AreInUse limits pages m.seen
+pub home_in_use : (limits : Format) (pages : List Page) (m : DiskMoment) → AreStored limits 0 pages → length pages ≤ limits.pages → AreHome limits [] pages m → AreInUse limits pages m.seen
 home_in_use limits pages m stored few home = record {
   stored = stored;
   few = few;
-  stand = λ block page found. block_has limits block (page_bytes page) m.seen (home.used block page found refl).has (length-page page (stored_page limits block pages page stored found).storable.admitted);
+  stand = λ block page found.
+      block_has limits block (page_bytes page) m.seen (home.used block page found refl).has (length-page page (stored_page limits block pages page stored found).storable.admitted);
   end = elim (cases_eq (length pages) limits.pages) [
     | inl full ↦ inl full
     | inr less ↦ inr (block_has limits (length pages) (replicate 4096 0) m.seen (home.unused (length pages) (omega arith) (omega (arith, few)) refl).has (length-replicate {A = ℕ} 4096 0))
@@ -157,7 +167,8 @@ one_reading limits ps qs file a b = same_gets ps qs (λ i. at i (slice_get ps i)
     at i None None e f = refl
     at i None (Some q) e f = absurd (not_more limits ps qs file a b (omega (arith, past_of_none ps i e, slice_get_within qs i q f)))
     at i (Some p) None e f = absurd (not_more limits qs ps file b a (omega (arith, past_of_none qs i f, slice_get_within ps i p e)))
-    at i (Some p) (Some q) e f = ap Some (one_page p q (stored_page limits i ps p a.stored e).storable.admitted (stored_page limits i qs q b.stored f).storable.admitted (sym (a.stand i p e) ∙ b.stand i q f))
+    at i (Some p) (Some q) e f =
+        ap Some (one_page p q (stored_page limits i ps p a.stored e).storable.admitted (stored_page limits i qs q b.stored f).storable.admitted (sym (a.stand i p e) ∙ b.stand i q f))
 
 -- where pages are in use, one or more, no block is damaged
 pub not_damaged : (limits : Format) (pages : List Page) (file : List ℕ) (block : ℕ) → AreInUse limits pages file → 0 < length pages → IsDamagedAt limits block file → ⊥

@@ -4,7 +4,7 @@ use Rattle.std.proofs.lemmas.List.{length-replicate, get_or-take}
 use Rattle.std.proofs.lemmas.Bool.Decides.{nat_tests}
 use Rattle.std.specs.Prelude.{OnOk, ◌||◌}
 use Rattle.std.proofs.lemmas.Bool.{cases_lt}
-use Rattle.device.specs.Disk.{Moment, Trace, Writes, Syncs, next, wrote, synced, is_in}
+use Rattle.device.specs.Disk.{DiskMoment, Trace, Writes, Syncs, next, wrote, synced, is_in}
 use Rattle.device.specs.Moments.{Goes}
 use Rattle.device.specs.Places.{Has, OnDisk, ChangesOnly}
 use Rattle.device.proofs.Going.{steps, goes_on, goes_weaker, goes_now, writes_goes, syncs_goes}
@@ -12,7 +12,7 @@ use Rattle.device.proofs.Standing.{only_wider, only_more, same_only, has_kept, k
 use Rattle.index_model.specs.declared.format.Format.{Format}
 use Rattle.page_codec.specs.Spelling.{page_bytes}
 use Rattle.page_codec.specs.declared.page.Page.{Page}
-use Rattle.device_layout.specs.Layout.{superblock, place}
+use Rattle.page_codec.specs.Places.{superblock, place}
 use Rattle.recovery.specs.Fresh.{IsFirstMeta, IsFirstLeaf, AreZero, HasPages, HasBody, WritesFront, LeavesNoMagic, IsMaking, IsEmptyIndex}
 
 -- what follows from success
@@ -20,25 +20,28 @@ pub on_ok : {T E : Type 0} (P Q : Type 0) (r : Result T E) → (P → Q) → OnO
 on_ok P Q (Ok x) f p = f p
 on_ok P Q (Err e) f p = p
 
-apart_each : (limits : Format) (from to block a k : ℕ) → from ≤ block → block < to → (place limits to ≤ a) ⊎ (a + k ≤ place limits from) → (place limits block + length (replicate {A = ℕ} 4096 0) ≤ a) ⊎ (a + k ≤ place limits block)
+apart_each : (limits : Format) (from to block a k : ℕ) → from ≤ block → block < to → (place limits to ≤ a) ⊎ (a + k ≤ place limits from)
+    → (place limits block + length (replicate {A = ℕ} 4096 0) ≤ a) ⊎ (a + k ≤ place limits block)
 apart_each limits from to block a k low high (inl e) = let long : length (replicate {A = ℕ} 4096 0) ≡ 4096 = length-replicate {A = ℕ} 4096 0 in inl (omega (arith, long))
 apart_each limits from to block a k low high (inr e) = inr (omega arith)
 
 -- a block that lies outside of what was written stays
-pub zeros_stay : (limits : Format) (from to a k : ℕ) (old new : Moment) → ChangesOnly a k old new → (place limits to ≤ a) ⊎ (a + k ≤ place limits from) → AreZero limits from to old.seen → AreZero limits from to new.seen
+pub zeros_stay : (limits : Format) (from to a k : ℕ) (old new : DiskMoment) → ChangesOnly a k old new → (place limits to ≤ a)
+    ⊎ (a + k ≤ place limits from) → AreZero limits from to old.seen → AreZero limits from to new.seen
 zeros_stay limits from to a k old new only apart zero = λ block low high.
     has_kept a k (place limits block) (replicate 4096 0) old new only
     (apart_each limits from to block a k low high apart)
     (zero block low high)
 
 -- one block of zeros more
-pub zeros_more : (limits : Format) (block : ℕ) (old new : Moment) → AreZero limits 2 block old.seen → Has (place limits block) (replicate 4096 0) new.seen → ChangesOnly (place limits block) 4096 old new → AreZero limits 2 (block + 1) new.seen
+pub zeros_more : (limits : Format) (block : ℕ) (old new : DiskMoment) → AreZero limits 2 block old.seen
+    → Has (place limits block) (replicate 4096 0) new.seen → ChangesOnly (place limits block) 4096 old new → AreZero limits 2 (block + 1) new.seen
 zeros_more limits block old new zero has only =
     let stay = zeros_stay limits 2 block (place limits block) 4096 old new only (inl (omega arith)) zero in
     λ b low high. ⊎_elim (λ lt. stay b low lt) (λ ge. let e : block ≡ b = omega arith in subst (λ (n : ℕ). Has (place limits n) (replicate 4096 0) new.seen) e has) (cases_lt b block)
 
 -- the pages stand, once each was written
-pub pages_made : (limits : Format) (meta leaf : Page) (a b c : Moment) → IsFirstMeta meta → IsFirstLeaf leaf → length (page_bytes meta) ≡ 4096 → AreZero limits 2 limits.pages a.seen
+pub pages_made : (limits : Format) (meta leaf : Page) (a b c : DiskMoment) → IsFirstMeta meta → IsFirstLeaf leaf → length (page_bytes meta) ≡ 4096 → AreZero limits 2 limits.pages a.seen
     → Has (place limits meta.block) (page_bytes meta) b.seen → ChangesOnly (place limits meta.block) 4096 a b
     → Has (place limits leaf.block) (page_bytes leaf) c.seen → ChangesOnly (place limits leaf.block) 4096 b c → HasPages limits c.seen
 pages_made limits meta leaf a b c is_meta is_leaf long zero has_meta only_meta has_leaf only_leaf =
@@ -58,7 +61,8 @@ pages_made limits meta leaf a b c is_meta is_leaf long zero has_meta only_meta h
     }
 
 -- what was written, a sync makes stand
-pub body_made : {T E : Type 0} (limits : Format) (r : Result T E) (a b : Trace) (gate : Moment) → Has 4096 (0 ∷ []) gate.seen → ChangesOnly (place limits 0) (4096 * limits.pages) gate a.now → HasPages limits a.now.seen → 1 ≤ limits.log_bytes
+pub body_made : {T E : Type 0} (limits : Format) (r : Result T E) (a b : Trace) (gate : DiskMoment) → Has 4096 (0 ∷ []) gate.seen
+    → ChangesOnly (place limits 0) (4096 * limits.pages) gate a.now → HasPages limits a.now.seen → 1 ≤ limits.log_bytes
     → Syncs r a b → OnOk r (HasBody limits b.now)
 body_made limits (Ok x) a b gate has only pages log is =
     subst (λ (t : Trace). HasBody limits t.now) (sym is)
@@ -70,7 +74,7 @@ body_made limits (Ok x) a b gate has only pages log is =
 body_made limits (Err e) a b gate has only pages log is = tt
 
 -- the pages stay where only the superblock is written
-pub body_stays : (limits : Format) (a b : Moment) → ChangesOnly 0 4096 a b → HasBody limits a → HasBody limits b
+pub body_stays : (limits : Format) (a b : DiskMoment) → ChangesOnly 0 4096 a b → HasBody limits a → HasBody limits b
 body_stays limits a b only body = record {
   pages = record {
     meta = body.pages.meta;
@@ -93,7 +97,8 @@ pub wider_goes : (at n start size : ℕ) (t u : Trace) → start ≤ at → at +
 wider_goes at n start size t u lo hi moments = goes_weaker _ _ t u (λ m only. only_wider at n start size t.now m lo hi only) moments
 
 -- nor does it while more is written there
-pub more_goes : (at n start size : ℕ) (t u v : Trace) → start ≤ at → at + n ≤ start + size → Goes (ChangesOnly start size t.now) t u → Goes (ChangesOnly at n u.now) u v → Goes (ChangesOnly start size t.now) t v
+pub more_goes : (at n start size : ℕ) (t u v : Trace) → start ≤ at → at + n ≤ start + size → Goes (ChangesOnly start size t.now) t u
+    → Goes (ChangesOnly at n u.now) u v → Goes (ChangesOnly start size t.now) t v
 more_goes at n start size t u v lo hi first second = goes_on _ t u v first
     (goes_weaker _ _ u v (λ m only. only_more start size t.now u.now m (only_now start size t u first) (only_wider at n start size u.now m lo hi only)) second)
 
@@ -121,11 +126,11 @@ module _ (bytes : List ℕ) (t : Trace) (long : length bytes ≡ 4096) (inside :
       goes_on _ t u v (steps _ t u _ is (front_wrote bytes refl))
       (syncs_goes _ r u v s (record {
         only = only_more 0 4096 t.now u.now (synced u.now) only (synced_only 0 4096 u.now);
-        either = inr (synced_on 0 bytes u.now (subst (λ (m : Moment). Has 0 bytes m.seen) (sym now) (wrote_has 0 bytes t.now (omega (arith, long, inside)))));
+        either = inr (synced_on 0 bytes u.now (subst (λ (m : DiskMoment). Has 0 bytes m.seen) (sym now) (wrote_has 0 bytes t.now (omega (arith, long, inside)))));
       }))
 
 -- zeros don't begin as an index does
-pub no_magic : (m : Moment) → OnDisk 0 (replicate 4096 0) m → LeavesNoMagic m
+pub no_magic : (m : DiskMoment) → OnDisk 0 (replicate 4096 0) m → LeavesNoMagic m
 no_magic m on image left is =
     let zero = (on_image 0 (replicate 4096 0) m image on left).each 0 (omega (arith, length-replicate {A = ℕ} 4096 0)) in
     let first : get_or image 0 0 ≡ 66 = sym (get_or-take 8 image 0 0 (omega arith)) ∙ ap (λ (l : List ℕ). get_or l 0 0) is in
@@ -149,7 +154,8 @@ module _ (limits : Format) (t u : Trace) (clearing : Goes (WritesFront (replicat
         }))) finishing)
 
 -- the index is made, once its superblock stands
-pub fresh_made : {T E : Type 0} (limits : Format) (r : Result T E) (bytes : List ℕ) (t u : Trace) → bytes ≡ superblock limits → HasBody limits t.now → Goes (WritesFront bytes t.now) t u → OnOk r (OnDisk 0 bytes u.now)
+pub fresh_made : {T E : Type 0} (limits : Format) (r : Result T E) (bytes : List ℕ) (t u : Trace) → bytes ≡ superblock limits → HasBody limits t.now
+    → Goes (WritesFront bytes t.now) t u → OnOk r (OnDisk 0 bytes u.now)
     → OnOk r (IsEmptyIndex limits u.now)
 fresh_made limits (Ok x) bytes t u is body moments on = record {
   superblock = subst (λ (l : List ℕ). OnDisk 0 l u.now) is on;

@@ -1,7 +1,7 @@
 -- A device with an empty index on it leaves that index, whatever crashes.
 use Rattle.std.proofs.Common.{◌≡◌, inr, ℕ, zero, suc, ◌+◌, ◌-◌, ◌≤◌, Some, List, [], ◌∷◌, length, replicate, slice_get, refl, sym, ap, subst, arith}
 use Rattle.std.proofs.lemmas.List.{length-replicate}
-use Rattle.device.specs.Disk.{Moment, MayLeave}
+use Rattle.device.specs.Disk.{DiskMoment, MayLeave}
 use Rattle.device.specs.Places.{Has}
 use Rattle.device.proofs.Standing.{on_image}
 use Rattle.index_model.specs.Limits.{AreLimits, Admits}
@@ -14,7 +14,7 @@ use Rattle.page_codec.specs.Spelling.{count_of, page_bytes}
 use Rattle.page_codec.specs.declared.page.Items.{Items}
 use Rattle.page_codec.specs.declared.page.Items.TheVariants.{Meta, Entries, Downlinks}
 use Rattle.page_codec.specs.declared.page.Page.{Page}
-use Rattle.device_layout.specs.Layout.{superblock, place}
+use Rattle.page_codec.specs.Places.{superblock, place}
 use Rattle.page_store.specs.Restart.{StandsAtHome, RestartsTo}
 use Rattle.redo_log.proofs.Leaving.{shut_stands}
 use Rattle.recovery.specs.Fresh.{IsFirstMeta, IsFirstLeaf, HasBody, IsEmptyIndex, LeavesEmpty}
@@ -29,12 +29,21 @@ no_entries (Entries v) h e = ap length e
 no_entries (Downlinks v) h e = absurd h
 
 meta_stored : (limits : Format) (meta : Page) → IsFirstMeta meta → IsStored limits 0 meta
-meta_stored limits meta is = record { storable = record { admitted = is.page; few = subst (λ (items : Items). count_of items ≤ limits.items) (sym is.kind) (omega arith); layout = may_have limits meta is.layout }; block_is = is.block }
+meta_stored limits meta is =
+    record {
+      storable = record {
+        admitted = is.page;
+        few = subst (λ (items : Items). count_of items ≤ limits.items) (sym is.kind) (omega arith);
+        layout = may_have limits meta is.layout;
+      };
+      block_is = is.block;
+    }
 
 leaf_stored : (limits : Format) (leaf : Page) → IsFirstLeaf leaf → IsStored limits 1 leaf
-leaf_stored limits leaf is = record { storable = record { admitted = is.page; few = omega (arith, no_entries leaf.items is.kind is.empty); layout = may_have limits leaf is.layout }; block_is = is.block }
+leaf_stored limits leaf is =
+    record { storable = record { admitted = is.page; few = omega (arith, no_entries leaf.items is.kind is.empty); layout = may_have limits leaf is.layout }; block_is = is.block }
 
-module _ (limits : Format) (allowed : AreLimits limits) (m : Moment) (fresh : IsEmptyIndex limits m) (image : List ℕ) (left : MayLeave m image) where
+module _ (limits : Format) (allowed : AreLimits limits) (m : DiskMoment) (fresh : IsEmptyIndex limits m) (image : List ℕ) (left : MayLeave m image) where
   abbrev body : HasBody limits m
   body = fresh.body
 
@@ -43,7 +52,8 @@ module _ (limits : Format) (allowed : AreLimits limits) (m : Moment) (fresh : Is
   stays at bytes behind has = on_image at bytes m image (record { has = has; firm = λ i lt. body.firm (at + i) (omega arith) }) left
 
   pages_long : place limits limits.pages ≤ length m.seen
-  pages_long = (let last = (body.pages.unused (limits.pages - 1) (omega (arith, allowed.pages_from)) (omega (arith, allowed.pages_from))).within in omega (arith, last, length-replicate {A = ℕ} 4096 0, allowed.pages_from))
+  pages_long = (let last = (body.pages.unused (limits.pages - 1) (omega (arith, allowed.pages_from)) (omega (arith, allowed.pages_from))).within in
+      omega (arith, last, length-replicate {A = ℕ} 4096 0, allowed.pages_from))
 
   used : (block : ℕ) (page : Page) → slice_get (body.pages.meta ∷ body.pages.leaf ∷ []) block ≡ Some page → StandsAtHome limits [] block (page_bytes page) image
   used zero page found = (let is : body.pages.meta ≡ page = cc in
@@ -64,7 +74,7 @@ module _ (limits : Format) (allowed : AreLimits limits) (m : Moment) (fresh : Is
     unused = λ block past small. record { unnamed = refl; has = stays (place limits block) (replicate 4096 0) (omega arith) (body.pages.unused block past small) };
   }
 
-pub fresh_leaves : (limits : Format) → AreLimits limits → (m : Moment) → IsEmptyIndex limits m → LeavesEmpty limits m
+pub fresh_leaves : (limits : Format) → AreLimits limits → (m : DiskMoment) → IsEmptyIndex limits m → LeavesEmpty limits m
 fresh_leaves limits allowed m fresh = record {
   meta = fresh.body.pages.meta;
   is_meta = fresh.body.pages.is_meta;

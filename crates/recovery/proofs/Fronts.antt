@@ -4,7 +4,7 @@ use Rattle.index_model.specs.Limits.{AreLimits}
 use Rattle.index_model.specs.declared.fault.Fault.{Fault}
 use Rattle.index_model.specs.declared.fault.Fault.TheVariants.{BadSuper, BadVersion, BadLimits}
 use Rattle.index_model.specs.declared.format.Format.{Format}
-use Rattle.device_layout.specs.Layout.{needed_length, superblock}
+use Rattle.page_codec.specs.Places.{needed_length, superblock}
 use Rattle.recovery.specs.Opening.{AreFrames, IsFrontFault, IsFrontRefusal}
 use Rattle.recovery.specs.Superblock.{IsNoSuperblock}
 

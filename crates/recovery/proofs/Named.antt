@@ -1,28 +1,28 @@
 -- Images are written to their places, one block after the other.
 use Rattle.std.proofs.Common.{◌≡◌, inl, inr, ℕ, ◌+◌, ◌*◌, ◌<◌, ◌≤◌, Some, None, List, length, sym, ◌∙◌, ap, subst, arith}
 use Rattle.std.proofs.lemmas.Bool.{cases_eq}
-use Rattle.device.specs.Disk.{Moment, Trace, synced}
+use Rattle.device.specs.Disk.{DiskMoment, Trace, synced}
 use Rattle.device.specs.Moments.{Goes}
 use Rattle.device.specs.Places.{Has, ChangesOnly}
 use Rattle.device.proofs.Going.{goes_weaker, goes_now}
 use Rattle.device.proofs.Standing.{has_kept, kept, same_only, only_more, only_wider, synced_only, synced_on}
 use Rattle.index_model.specs.declared.format.Format.{Format}
-use Rattle.device_layout.specs.Layout.{place}
+use Rattle.page_codec.specs.Places.{place}
 use Rattle.page_store.proofs.Places.{apart_long}
 use Rattle.redo_log.specs.Reading.{kept_image}
 use Rattle.redo_log.specs.declared.log.Replayed.{Replayed}
 use Rattle.recovery.specs.Homing.{ChangesNamed, HasImages, AreHomed}
 
-pub same_named : (limits : Format) (found : Replayed) (m : Moment) → ChangesNamed limits found m m
+pub same_named : (limits : Format) (found : Replayed) (m : DiskMoment) → ChangesNamed limits found m m
 same_named limits found m = record { only = same_only (place limits 0) (4096 * limits.pages) m; others = λ block bytes long unnamed on. on }
 
-pub named_both : (limits : Format) (found : Replayed) (a b c : Moment) → ChangesNamed limits found a b → ChangesNamed limits found b c → ChangesNamed limits found a c
+pub named_both : (limits : Format) (found : Replayed) (a b c : DiskMoment) → ChangesNamed limits found a b → ChangesNamed limits found b c → ChangesNamed limits found a c
 named_both limits found a b c f s = record {
   only = only_more (place limits 0) (4096 * limits.pages) a b c f.only s.only;
   others = λ block bytes long unnamed on. s.others block bytes long unnamed (f.others block bytes long unnamed on);
 }
 
-pub named_synced : (limits : Format) (found : Replayed) (a b : Moment) → ChangesNamed limits found a b → ChangesNamed limits found a (synced b)
+pub named_synced : (limits : Format) (found : Replayed) (a b : DiskMoment) → ChangesNamed limits found a b → ChangesNamed limits found a (synced b)
 named_synced limits found a b f = record {
   only = only_more (place limits 0) (4096 * limits.pages) a b (synced b) f.only (synced_only (place limits 0) (4096 * limits.pages) b);
   others = λ block bytes long unnamed on. synced_on (place limits block) bytes b (f.others block bytes long unnamed on).has;
@@ -33,7 +33,8 @@ same_bytes : (found : Replayed) (block : ℕ) (a b : List ℕ) → kept_image fo
 same_bytes found block a b e f = (let h : Some a ≡ Some b = sym e ∙ f in cc)
 
 -- the write of one image
-only_named : (limits : Format) (found : Replayed) (k : ℕ) (image : List ℕ) (m n : Moment) → k < limits.pages → kept_image found k ≡ Some image → ChangesOnly (place limits k) 4096 m n → ChangesNamed limits found m n
+only_named : (limits : Format) (found : Replayed) (k : ℕ) (image : List ℕ) (m n : DiskMoment) → k < limits.pages → kept_image found k ≡ Some image
+    → ChangesOnly (place limits k) 4096 m n → ChangesNamed limits found m n
 only_named limits found k image m n few named only = record {
   only = only_wider (place limits k) 4096 (place limits 0) (4096 * limits.pages) m n (omega arith) (omega arith) only;
   others = λ block bytes full unnamed on. kept (place limits k) 4096 (place limits block) bytes m n only
@@ -45,11 +46,12 @@ abbrev pub HomedBelow : Format → Replayed → ℕ → List ℕ → Type 0
 HomedBelow limits found k file = (block : ℕ) (bytes : List ℕ) → block < k → kept_image found block ≡ Some bytes → (length bytes ≡ 4096) × Has (place limits block) bytes file
 
 -- one image more was written there
-module _ (limits : Format) (found : Replayed) (k at : ℕ) (image : List ℕ) (t u : Trace) (named : Some image ≡ kept_image found k) (long : length image ≡ 4096) (there : at ≡ place limits k) (moments : Goes (ChangesOnly at (length image) t.now) t u) where
+module _ (limits : Format) (found : Replayed) (k at : ℕ) (image : List ℕ) (t u : Trace) (named : Some image ≡ kept_image found k)
+    (long : length image ≡ 4096) (there : at ≡ place limits k) (moments : Goes (ChangesOnly at (length image) t.now) t u) where
   block_goes : Goes (ChangesOnly (place limits k) 4096 t.now) t u
   block_goes = subst (λ (n : ℕ). Goes (ChangesOnly (place limits k) n t.now) t u) long (subst (λ (a : ℕ). Goes (ChangesOnly a (length image) t.now) t u) there moments)
 
-  pub named_goes : (start : Moment) → k < limits.pages → ChangesNamed limits found start t.now → Goes (ChangesNamed limits found start) t u
+  pub named_goes : (start : DiskMoment) → k < limits.pages → ChangesNamed limits found start t.now → Goes (ChangesNamed limits found start) t u
   named_goes start few now = goes_weaker _ _ t u (λ m only. named_both limits found start t.now m now (only_named limits found k image t.now m few (sym named) only)) block_goes
 
   -- so that of one block more the last image stands at home
@@ -75,5 +77,5 @@ none_homed limits found k file none before block bytes lt found_bytes = elim (ca
 pub all_homed : (limits : Format) (found : Replayed) (k : ℕ) (file : List ℕ) → limits.pages ≤ k → HomedBelow limits found k file → HasImages limits found file
 all_homed limits found k file all before block bytes few found_bytes = (before block bytes (omega (arith, all, few)) found_bytes).1
 
-pub homed : (limits : Format) (found : Replayed) (m : Moment) → HasImages limits found m.seen → AreHomed limits found (synced m)
+pub homed : (limits : Format) (found : Replayed) (m : DiskMoment) → HasImages limits found m.seen → AreHomed limits found (synced m)
 homed limits found m has block bytes few found_bytes = synced_on (place limits block) bytes m (has block bytes few found_bytes)

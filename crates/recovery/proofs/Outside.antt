@@ -1,11 +1,11 @@
 -- What calls of a device leave alone, one behind the other.
 use Rattle.std.proofs.Common.{◌≡◌, ◌⊎◌, inl, inr, ℕ, ◌+◌, ◌-◌, ◌*◌, ◌≤◌, List, [], ◌∷◌, Bool, IsTrue, Result, refl, ◌∙◌, ap, subst, length, arith}
-use Rattle.device.specs.Disk.{Moment, Trace, synced, Syncs}
+use Rattle.device.specs.Disk.{DiskMoment, Trace, synced, Syncs}
 use Rattle.device.specs.Moments.{Goes}
 use Rattle.device.specs.Places.{ChangesOnly, IsUntouched}
 use Rattle.device.proofs.Going.{goes_on, goes_now, goes_weaker, syncs_goes}
 use Rattle.device.proofs.Standing.{elsewhere_untouched}
-use Rattle.device_layout.specs.Layout.{place, needed_length}
+use Rattle.page_codec.specs.Places.{place, needed_length}
 use Rattle.index_model.specs.Limits.{AreLimits}
 use Rattle.index_model.specs.declared.format.Format.{Format}
 use Rattle.recovery.specs.Fresh.{WritesFront}
@@ -16,10 +16,10 @@ use Rattle.redo_log.specs.declared.log.Replayed.{Replayed}
 use Rattle.recovery.proofs.Creating.{wider_goes, more_goes, synced_goes}
 
 -- a range that nobody touches
-same_untouched : (at n : ℕ) (m : Moment) → IsUntouched at n m m
+same_untouched : (at n : ℕ) (m : DiskMoment) → IsUntouched at n m m
 same_untouched at n m = record { same_length = refl; seen = λ i from to. refl; loose = λ i from to firm. firm }
 
-more_untouched : (at n : ℕ) (a b c : Moment) → IsUntouched at n a b → IsUntouched at n b c → IsUntouched at n a c
+more_untouched : (at n : ℕ) (a b c : DiskMoment) → IsUntouched at n a b → IsUntouched at n b c → IsUntouched at n a c
 more_untouched at n a b c f g = record {
   same_length = g.same_length ∙ f.same_length;
   seen = λ i from to. g.seen i from to ∙ f.seen i from to;
@@ -34,7 +34,7 @@ untouched_on at n t u v first second =
 pub elsewhere_goes : (at n start size : ℕ) (t u : Trace) → (start + size ≤ at) ⊎ (at + n ≤ start) → Goes (ChangesOnly at n t.now) t u → Goes (IsUntouched start size t.now) t u
 elsewhere_goes at n start size t u out g = goes_weaker _ _ t u (λ m f. elsewhere_untouched at n start size t.now m f out) g
 
-synced_untouched : (at n : ℕ) (m : Moment) → IsUntouched at n m (synced m)
+synced_untouched : (at n : ℕ) (m : DiskMoment) → IsUntouched at n m (synced m)
 synced_untouched at n m = record { same_length = refl; seen = λ i from to. refl; loose = λ i from to firm. refl }
 
 pub sync_untouched : {T E : Type 0} (at n : ℕ) (r : Result T E) (u v : Trace) → Syncs r u v → Goes (IsUntouched at n u.now) u v
@@ -82,7 +82,8 @@ pub sync_inside : {T E : Type 0} (limits : Format) (r : Result T E) (t u : Trace
 sync_inside limits r t u is = synced_goes 4096 (limits.log_bytes + 4096 * limits.pages) r t t u (same_inside limits t t refl) is
 
 -- the index whose superblock was read
-pub one_index : (limits : Format) (honest : Bool) (t u v : Trace) → AreLimits limits → needed_length limits ≤ length t.now.seen → (IsTrue honest → IsFront limits t.now.seen) → u ≡ t → ChangesBehindFront limits u v
+pub one_index : (limits : Format) (honest : Bool) (t u v : Trace) → AreLimits limits → needed_length limits ≤ length t.now.seen
+    → (IsTrue honest → IsFront limits t.now.seen) → u ≡ t → ChangesBehindFront limits u v
     → ChangesOneIndex honest t v
 one_index limits honest t u v allowed long front same only = record {
   limits = limits;

@@ -4,7 +4,7 @@ use Rattle.std.proofs.lemmas.List.{take_all, length-replicate}
 use Rattle.std.proofs.lemmas.Grind.{same_number_lists}
 use Rattle.std.proofs.lemmas.Option.{slice_get_within}
 use Rattle.std.specs.Option.{option_map}
-use Rattle.device.specs.Disk.{Moment, Trace, MayLeave, Syncs, synced}
+use Rattle.device.specs.Disk.{DiskMoment, Trace, MayLeave, Syncs, synced}
 use Rattle.device.specs.Moments.{Goes}
 use Rattle.device.specs.Places.{Has, OnDisk, ChangesOnly}
 use Rattle.device.proofs.Going.{goes_weaker, goes_both, goes_now, syncs_goes}
@@ -18,7 +18,7 @@ use Rattle.page_codec.specs.Spelling.{page_bytes}
 use Rattle.page_codec.specs.declared.page.Page.{Page}
 use Rattle.page_codec.proofs.Laws.{length-page}
 use Rattle.page_store.specs.Logged.{AreHome, StandsOpened}
-use Rattle.device_layout.specs.Layout.{superblock, place}
+use Rattle.page_codec.specs.Places.{superblock, place}
 use Rattle.page_store.specs.Restart.{RestartsTo, LeavesPages}
 use Rattle.page_store.proofs.Restarting.{superblock_kept}
 use Rattle.redo_log.specs.Groups.{SpellsGroups, log_range}
@@ -33,19 +33,20 @@ use Rattle.recovery.specs.Opening.{IsSynced, IsNoMemoryOrIo}
 use Rattle.recovery.proofs.Named.{same_named}
 
 -- of each block the page is the last of these images, or stands at home; and no crash changes that
-pub record Stands (limits : Format) (images pages : List Page) (m : Moment) : Type 0 where
+pub record Stands (limits : Format) (images pages : List Page) (m : DiskMoment) : Type 0 where
   pub superblock_on : OnDisk 0 (superblock limits) m
   pub long : place limits limits.pages ≤ length m.seen
   pub few : length pages ≤ limits.pages
   pub stored : AreStored limits 0 pages
-  pub used : (block : ℕ) (page : Page) → slice_get pages block ≡ Some page → (last_image images block ≡ Some page) ⊎ ((last_image images block ≡ None) × OnDisk (place limits block) (page_bytes page) m)
+  pub used : (block : ℕ) (page : Page) → slice_get pages block ≡ Some page → (last_image images block ≡ Some page)
+      ⊎ ((last_image images block ≡ None) × OnDisk (place limits block) (page_bytes page) m)
   pub unused : (block : ℕ) → length pages ≤ block → block < limits.pages → (last_image images block ≡ None) × OnDisk (place limits block) (replicate 4096 0) m
 
-firm_on : (at : ℕ) (bytes : List ℕ) (m : Moment) → IsSynced m → Has at bytes m.seen → OnDisk at bytes m
+firm_on : (at : ℕ) (bytes : List ℕ) (m : DiskMoment) → IsSynced m → Has at bytes m.seen → OnDisk at bytes m
 firm_on at bytes m firm has = record { has = has; firm = λ i lt. firm (at + i) }
 
 -- what a synced device restarts to stands there
-pub stands_at : (limits : Format) (pages : List Page) (m : Moment) → IsSynced m → (r : RestartsTo limits m.seen pages) → Stands limits (images_of r.groups) pages m
+pub stands_at : (limits : Format) (pages : List Page) (m : DiskMoment) → IsSynced m → (r : RestartsTo limits m.seen pages) → Stands limits (images_of r.groups) pages m
 stands_at limits pages m firm r = record {
   superblock_on = firm_on 0 (superblock limits) m firm r.superblock_is;
   long = r.long;
@@ -56,7 +57,8 @@ stands_at limits pages m firm r = record {
 }
 
 -- a crash leaves it, where the log's range that it leaves has these images
-pub stands_leaves : (limits : Format) (images pages : List Page) (m : Moment) → Stands limits images pages m → (image : List ℕ) → MayLeave m image → (groups : List (List Page)) → SpellsGroups limits (log_range limits image) groups
+pub stands_leaves : (limits : Format) (images pages : List Page) (m : DiskMoment) → Stands limits images pages m → (image : List ℕ) → MayLeave m image
+    → (groups : List (List Page)) → SpellsGroups limits (log_range limits image) groups
     → ((block : ℕ) → last_image (images_of groups) block ≡ last_image images block) → RestartsTo limits image pages
 stands_leaves limits images pages m s image left groups spells same = record {
   superblock_is = on_image 0 (superblock limits) m image s.superblock_on left;
@@ -75,30 +77,38 @@ unkept : (found : Replayed) (images : List Page) (block : ℕ) → KeepsLast fou
 unkept found images block lasts none = lasts.each block ∙ ap (option_map page_bytes) none
 
 -- it stays while places of blocks with an image are written
-pub stands_named : (limits : Format) (images pages : List Page) (found : Replayed) (a b : Moment) → KeepsLast found images → ChangesNamed limits found a b → Stands limits images pages a → Stands limits images pages b
+pub stands_named : (limits : Format) (images pages : List Page) (found : Replayed) (a b : DiskMoment) → KeepsLast found images
+    → ChangesNamed limits found a b → Stands limits images pages a → Stands limits images pages b
 stands_named limits images pages found a b lasts change s = record {
   superblock_on = superblock_kept limits (place limits 0) (4096 * limits.pages) a b (omega arith) change.only s.superblock_on;
   long = omega (arith, s.long, change.only.same_length);
   few = s.few;
   stored = s.stored;
   used = λ block page is. ⊎_elim (λ late. inl late)
-      (λ home. inr (home.0, change.others block (page_bytes page) (length-page page (stored_page limits block pages page s.stored is).storable.admitted) (unkept found images block lasts home.0) home.1)) (s.used block page is);
-  unused = λ block past small. (let home = s.unused block past small in (home.0, change.others block (replicate 4096 0) (length-replicate {A = ℕ} 4096 0) (unkept found images block lasts home.0) home.1));
+      (λ home. inr (
+        home.0,
+        change.others block (page_bytes page) (length-page page (stored_page limits block pages page s.stored is).storable.admitted)
+            (unkept found images block lasts home.0) home.1,
+      )) (s.used block page is);
+  unused = λ block past small.
+      (let home = s.unused block past small in (home.0, change.others block (replicate 4096 0) (length-replicate {A = ℕ} 4096 0) (unkept found images block lasts home.0) home.1));
 }
 
 -- and while the log's range changes
-pub stands_logged : (limits : Format) (images pages : List Page) (a b : Moment) → ChangesOnly 4096 limits.log_bytes a b → Stands limits images pages a → Stands limits images pages b
+pub stands_logged : (limits : Format) (images pages : List Page) (a b : DiskMoment) → ChangesOnly 4096 limits.log_bytes a b → Stands limits images pages a → Stands limits images pages b
 stands_logged limits images pages a b only s = record {
   superblock_on = superblock_kept limits 4096 limits.log_bytes a b (omega arith) only s.superblock_on;
   long = omega (arith, s.long, only.same_length);
   few = s.few;
   stored = s.stored;
-  used = λ block page found. ⊎_elim (λ late. inl late) (λ home. inr (home.0, kept 4096 limits.log_bytes (place limits block) (page_bytes page) a b only (inr (omega arith)) home.1)) (s.used block page found);
+  used = λ block page found.
+      ⊎_elim (λ late. inl late) (λ home. inr (home.0, kept 4096 limits.log_bytes (place limits block) (page_bytes page) a b only (inr (omega arith)) home.1)) (s.used block page found);
   unused = λ block past small. (let home = s.unused block past small in (home.0, kept 4096 limits.log_bytes (place limits block) (replicate 4096 0) a b only (inr (omega arith)) home.1));
 }
 
 -- once the images are written all pages stand at home
-pub stands_home : (limits : Format) (images pages : List Page) (found : Replayed) (m : Moment) → KeepsLast found images → AreHomed limits found m → Stands limits images pages m → Stands limits [] pages m
+pub stands_home : (limits : Format) (images pages : List Page) (found : Replayed) (m : DiskMoment) → KeepsLast found images → AreHomed limits found m
+    → Stands limits images pages m → Stands limits [] pages m
 stands_home limits images pages found m lasts homed s = record {
   superblock_on = s.superblock_on;
   long = s.long;
@@ -110,14 +120,14 @@ stands_home limits images pages found m lasts homed s = record {
   unused = λ block past small. (refl, (s.unused block past small).1);
 }
 
-pub home_of : (limits : Format) (pages : List Page) (m : Moment) → Stands limits [] pages m → AreHome limits [] pages m
+pub home_of : (limits : Format) (pages : List Page) (m : DiskMoment) → Stands limits [] pages m → AreHome limits [] pages m
 home_of limits pages m s = record {
   used = λ block page found none. ⊎_elim (λ (late : None ≡ Some page). absurd cc) (λ home. home.1) (s.used block page found);
   unused = λ block past small none. (s.unused block past small).1;
 }
 
 -- a crash leaves a synced device as it is
-pub left_synced : (m : Moment) (image : List ℕ) → IsSynced m → MayLeave m image → image ≡ m.seen
+pub left_synced : (m : DiskMoment) (image : List ℕ) → IsSynced m → MayLeave m image → image ≡ m.seen
 left_synced m image firm left = same_number_lists image m.seen left.same_length (λ i lt. left.same i (firm i))
 
 pub sync_leaves : {T E : Type 0} (limits : Format) (pages : List Page) (r : Result T E) (t u : Trace) → RestartsTo limits t.now.seen pages → Syncs r t u → Goes (LeavesPages limits pages) t u
@@ -153,19 +163,23 @@ module _ (limits : Format) (images pages : List Page) (found : Replayed) (t : Tr
   keeps : Keeps log t.now gs (length gs)
   keeps = r.replays.keeps (record { firm = λ i lt. r.firm (4096 + i) })
 
-  same_images : (part : ℕ) (groups : List (List Page)) → length gs ≤ part → SameImages (images_of groups) (images_of (take part gs)) → (block : ℕ) → last_image (images_of groups) block ≡ last_image images block
+  same_images : (part : ℕ) (groups : List (List Page)) → length gs ≤ part → SameImages (images_of groups) (images_of (take part gs)) → (block : ℕ)
+      → last_image (images_of groups) block ≡ last_image images block
   same_images part groups all same block =
       same.each block ∙ ap (λ (l : List Page). last_image l block) (ap images_of (take_all part gs all) ∙ sym r.replays.images_are)
 
-  keeps_written : (m : Moment) → ChangesNamed limits found t.now m → Keeps log m gs (length gs)
+  keeps_written : (m : DiskMoment) → ChangesNamed limits found t.now m → Keeps log m gs (length gs)
   keeps_written m change =
-      r.law t.now m gs (length gs) (elsewhere_untouched (place limits 0) (4096 * limits.pages) 4096 (limits_of log).log_bytes t.now m change.only (inl (omega (arith, ap (λ (l : Format). l.log_bytes) r.opened.limits_are)))) keeps
+      r.law t.now m gs (length gs)
+      (elsewhere_untouched (place limits 0) (4096 * limits.pages) 4096 (limits_of log).log_bytes t.now m change.only
+      (inl (omega (arith, ap (λ (l : Format). l.log_bytes) r.opened.limits_are)))) keeps
 
   -- while its images are written
-  pub written_leaves : (m : Moment) → ChangesNamed limits found t.now m → LeavesPages limits pages m
+  pub written_leaves : (m : DiskMoment) → ChangesNamed limits found t.now m → LeavesPages limits pages m
   written_leaves m change image left =
       let h = subst (λ (l : Format). Restarts l gs (length gs) m) r.opened.limits_are (r.leaves m gs (length gs) (keeps_written m change)) image left in
-      stands_leaves limits images pages m (stands_named limits images pages found t.now m r.lasts change started) image left h.holds.groups h.holds.spells (same_images h.part h.holds.groups h.from h.holds.same)
+      stands_leaves limits images pages m (stands_named limits images pages found t.now m r.lasts change started) image left h.holds.groups
+      h.holds.spells (same_images h.part h.holds.groups h.from h.holds.same)
 
   -- once they are written and synced, and while the log is closed
   module _ (u v : Trace) (moments : Goes (ChangesNamed limits found t.now) t u) (homed : AreHomed limits found u.now) where
@@ -178,9 +192,10 @@ module _ (limits : Format) (images pages : List Page) (found : Replayed) (t : Tr
     pub at_home : Stands limits [] pages u.now
     at_home = stands_home limits images pages found u.now r.lasts homed both
 
-    closing_leaves : (m : Moment) → RestartsOrEmpty limits (take (length gs) gs) m → ChangesOnly 4096 limits.log_bytes u.now m → LeavesPages limits pages m
+    closing_leaves : (m : DiskMoment) → RestartsOrEmpty limits (take (length gs) gs) m → ChangesOnly 4096 limits.log_bytes u.now m → LeavesPages limits pages m
     closing_leaves m either only image left = ⊎_elim
-        (λ holds. stands_leaves limits images pages m (stands_logged limits images pages u.now m only both) image left holds.groups holds.spells (same_images (length gs) holds.groups (omega arith) holds.same))
+        (λ holds. stands_leaves limits images pages m (stands_logged limits images pages u.now m only both) image left holds.groups holds.spells
+        (same_images (length gs) holds.groups (omega arith) holds.same))
         (λ holds. stands_leaves limits [] pages m (stands_logged limits [] pages u.now m only at_home) image left holds.groups holds.spells (λ block. holds.same.each block))
         (either image left)
 
@@ -204,7 +219,8 @@ module _ (limits : Format) (images pages : List Page) (found : Replayed) (t : Tr
           }
 
 -- what an index is not refused with
-pub replay_refuses : (limits : Format) (m : Moment) (pages : List Page) (e : Fault) (fails failed : ℕ) → ((e ≡ Io) × (fails ≡ suc failed)) ⊎ (((e ≡ NoMemory) ⊎ (e ≡ LogDamaged)) × (fails ≡ failed)) → (e ≡ LogDamaged → IsDamaged limits m)
+pub replay_refuses : (limits : Format) (m : DiskMoment) (pages : List Page) (e : Fault) (fails failed : ℕ) → ((e ≡ Io) × (fails ≡ suc failed))
+    ⊎ (((e ≡ NoMemory) ⊎ (e ≡ LogDamaged)) × (fails ≡ failed)) → (e ≡ LogDamaged → IsDamaged limits m)
     → RestartsTo limits m.seen pages → IsNoMemoryOrIo e
 replay_refuses limits m pages e fails failed (inl io) damaged restarts = inr io.0
 replay_refuses limits m pages e fails failed (inr other) damaged restarts = ⊎_elim (λ memory. inl memory) (λ is. absurd (damaged is restarts.groups restarts.spells)) other.0

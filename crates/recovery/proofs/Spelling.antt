@@ -6,17 +6,19 @@ use Rattle.index_model.specs.Limits.{AreLimits}
 use Rattle.index_model.specs.declared.format.Format.{Format}
 use Rattle.index_model.specs.declared.layout.Layout.{Layout}
 use Rattle.index_model.specs.declared.layout.Layout.TheVariants.{One, Two}
-use Rattle.recovery.specs.Superblock.{number_at, layout_of, is_unique, sizes_in, IsLayout}
-use Rattle.device_layout.specs.Layout.{layout_number, unique_number, magic, superblock}
+use Rattle.recovery.specs.Superblock.{spelled_number, layout_of, is_unique, sizes_in, IsLayout}
+use Rattle.page_codec.specs.Places.{layout_number, unique_number, magic, superblock}
 
 -- the pieces of a superblock, one behind the other
-pub spelled : (limits : Format) (whole out b1 b2 b3 b4 b5 b6 : List ℕ) (at : ℕ) → b1 ≡ 66 ∷ 76 ∷ 73 ∷ 78 ∷ 75 ∷ 73 ∷ 68 ∷ 88 ∷ [] → b2 ≡ b1 ++ to_le_bytes w32 (layout_number limits.layout) → b3 ≡ b2 ++ to_le_bytes w32 limits.items → b4 ≡ b3 ++ to_le_bytes w32 limits.pages
-    → b5 ≡ b4 ++ to_le_bytes w32 limits.log_bytes → b6 ≡ b5 ++ to_le_bytes w32 (unique_number limits.unique) → at ≡ 28 → length out ≡ 4096 → whole ≡ b6 ++ replicate (length out - at) 0 → whole ≡ superblock limits
+pub spelled : (limits : Format) (whole out b1 b2 b3 b4 b5 b6 : List ℕ) (at : ℕ) → b1 ≡ 66 ∷ 76 ∷ 73 ∷ 78 ∷ 75 ∷ 73 ∷ 68 ∷ 88 ∷ []
+    → b2 ≡ b1 ++ to_le_bytes w32 (layout_number limits.layout) → b3 ≡ b2 ++ to_le_bytes w32 limits.items → b4 ≡ b3 ++ to_le_bytes w32 limits.pages
+    → b5 ≡ b4 ++ to_le_bytes w32 limits.log_bytes → b6 ≡ b5 ++ to_le_bytes w32 (unique_number limits.unique) → at ≡ 28 → length out ≡ 4096
+    → whole ≡ b6 ++ replicate (length out - at) 0 → whole ≡ superblock limits
 unfolding superblock
 spelled limits whole out b1 b2 b3 b4 b5 b6 at e1 e2 e3 e4 e5 e6 is long e = e ∙ rw (e6, e5, e4, e3, e2, e1, is, long) refl
 
 -- the numbers of a superblock, as they are read
-number_behind : (layout : Layout) (rest : List ℕ) → number_at 8 (magic ++ (to_le_bytes w32 (layout_number layout) ++ rest)) ≡ layout_number layout
+number_behind : (layout : Layout) (rest : List ℕ) → spelled_number 8 (magic ++ (to_le_bytes w32 (layout_number layout) ++ rest)) ≡ layout_number layout
 number_behind One rest = refl
 number_behind Two rest = refl
 
@@ -28,9 +30,11 @@ pub is_layout : (layout : Layout) → IsLayout (layout_number layout)
 is_layout One = inl refl
 is_layout Two = inr refl
 
-pub layout_spelled : (limits : Format) → number_at 8 (superblock limits) ≡ layout_number limits.layout
+pub layout_spelled : (limits : Format) → spelled_number 8 (superblock limits) ≡ layout_number limits.layout
 unfolding superblock
-layout_spelled limits = number_behind limits.layout (to_le_bytes w32 limits.items ++ (to_le_bytes w32 limits.pages ++ (to_le_bytes w32 limits.log_bytes ++ (to_le_bytes w32 (unique_number limits.unique) ++ replicate 4068 0))))
+layout_spelled limits =
+    number_behind limits.layout
+    (to_le_bytes w32 limits.items ++ (to_le_bytes w32 limits.pages ++ (to_le_bytes w32 limits.log_bytes ++ (to_le_bytes w32 (unique_number limits.unique) ++ replicate 4068 0))))
 
 unique_read : (unique : Bool) → from_le_bytes w32 (to_le_bytes w32 (unique_number unique)) ≡ unique_number unique
 unique_read true = refl
@@ -46,14 +50,15 @@ pub sizes_spelled : (limits : Format) → AreLimits limits → sizes_in (superbl
 unfolding superblock
 sizes_spelled limits are =
     let layout = ap layout_of (layout_spelled limits) ∙ layout_back limits.layout in
-    let unique = ap (λ (l : Layout). is_unique l (number_at 24 (superblock limits))) layout ∙ (ap (is_unique limits.layout) (unique_read limits.unique) ∙ unique_back limits.layout limits.unique are.of_layout) in
+    let unique = ap (λ (l : Layout). is_unique l (spelled_number 24 (superblock limits))) layout
+    ∙ (ap (is_unique limits.layout) (unique_read limits.unique) ∙ unique_back limits.layout limits.unique are.of_layout) in
     let items = from_le_bytes-to_le_bytes_4 limits.items (omega (arith, are.items_to)) in
     let pages = from_le_bytes-to_le_bytes_4 limits.pages (omega (arith, are.pages_to)) in
     let log = from_le_bytes-to_le_bytes_4 limits.log_bytes (omega (arith, are.log_to)) in
     ap (λ (l : Layout). record (sizes_in (superblock limits)) { layout = l }) layout
     ∙ (ap (λ (u : Bool). record (sizes_in (superblock limits)) { layout = limits.layout; unique = u }) unique
     ∙ (ap (λ (n : ℕ). record (sizes_in (superblock limits)) { layout = limits.layout; unique = limits.unique; items = n }) items
-    ∙ (ap (λ (n : ℕ). record limits { pages = n; log_bytes = number_at 20 (superblock limits) }) pages
+    ∙ (ap (λ (n : ℕ). record limits { pages = n; log_bytes = spelled_number 20 (superblock limits) }) pages
     ∙ ap (λ (n : ℕ). record limits { log_bytes = n }) log)))
 
 pub magic_spelled : (limits : Format) → take 8 (superblock limits) ≡ magic
@@ -61,11 +66,13 @@ unfolding superblock
 magic_spelled limits = refl
 
 -- the layout and the sizes that were read are those of the superblock
-pub sizes_read : (bytes : List ℕ) (limits : Format) (layout : Layout) (unique : Bool) (items pages log : ℕ) → AreLimits limits → bytes ≡ superblock limits → layout ≡ layout_of (number_at 8 bytes) → unique ≡ is_unique layout (number_at 24 bytes) → items ≡ number_at 12 bytes → pages ≡ number_at 16 bytes → log ≡ number_at 20 bytes
+pub sizes_read : (bytes : List ℕ) (limits : Format) (layout : Layout) (unique : Bool) (items pages log : ℕ) → AreLimits limits
+    → bytes ≡ superblock limits → layout ≡ layout_of (spelled_number 8 bytes) → unique ≡ is_unique layout (spelled_number 24 bytes)
+    → items ≡ spelled_number 12 bytes → pages ≡ spelled_number 16 bytes → log ≡ spelled_number 20 bytes
     → record { layout = layout; unique = unique; items = items; pages = pages; log_bytes = log } ≡ limits
 sizes_read bytes limits layout unique items pages log are is d u e f g =
     ap (λ (l : Layout). record { layout = l; unique = unique; items = items; pages = pages; log_bytes = log }) d
-    ∙ (ap (λ (b : Bool). record (sizes_in bytes) { unique = b; items = items; pages = pages; log_bytes = log }) (u ∙ ap (λ (l : Layout). is_unique l (number_at 24 bytes)) d)
+    ∙ (ap (λ (b : Bool). record (sizes_in bytes) { unique = b; items = items; pages = pages; log_bytes = log }) (u ∙ ap (λ (l : Layout). is_unique l (spelled_number 24 bytes)) d)
     ∙ (ap (λ (n : ℕ). record (sizes_in bytes) { items = n; pages = pages; log_bytes = log }) e
     ∙ (ap (λ (n : ℕ). record (sizes_in bytes) { pages = n; log_bytes = log }) f
     ∙ (ap (λ (n : ℕ). record (sizes_in bytes) { log_bytes = n }) g ∙ (ap sizes_in is ∙ sizes_spelled limits are)))))

@@ -1,6 +1,6 @@
 -- A device with an empty index on it.
 use Rattle.std.specs.Prelude.{◌≡◌, ◌≢◌, ◌⊎◌, ℕ, suc, ◌<◌, ◌≤◌, true, false, take, Some, None, List, [], ◌∷◌, length, replicate, Result, MatchResult}
-use Rattle.device.specs.Disk.{Moment, Trace, MayLeave}
+use Rattle.device.specs.Disk.{DiskMoment, Trace, MayLeave}
 use Rattle.device.specs.Places.{Has, OnDisk, ChangesOnly}
 use Rattle.index_model.specs.Limits.{AreLimits}
 use Rattle.index_model.specs.declared.fault.Fault.{Fault}
@@ -14,7 +14,7 @@ use Rattle.page_codec.specs.declared.page.Items.TheVariants.{Meta}
 use Rattle.page_codec.specs.declared.page.Page.{Page}
 use Rattle.page_codec.specs.declared.page.PageState.TheVariants.{Live}
 use Rattle.recovery.specs.Index.{HasIndex}
-use Rattle.device_layout.specs.Layout.{magic, superblock, log_start, place, needed_length}
+use Rattle.page_codec.specs.Places.{magic, superblock, log_start, place, needed_length}
 
 -- the metapage of an empty index: its root is the leaf at block 1
 pub record IsFirstMeta (p : Page) : Type 0 where
@@ -55,46 +55,46 @@ pub record HasPages (limits : Format) (file : List ℕ) : Type 0 where
   pub unused : AreZero limits 2 limits.pages file
 
 -- these pages and a closed log, and no crash changes them
-pub record HasBody (limits : Format) (m : Moment) : Type 0 where
+pub record HasBody (limits : Format) (m : DiskMoment) : Type 0 where
   pub pages : HasPages limits m.seen
   pub gate : OnDisk log_start (0 ∷ []) m
   pub firm : (i : ℕ) → log_start ≤ i → m.loose i ≡ false
 
 -- a crash may leave any bytes in place of the superblock
-abbrev pub IsFrontLoose : Moment → Type 0
+abbrev pub IsFrontLoose : DiskMoment → Type 0
 IsFrontLoose m = (i : ℕ) → i < log_start → m.loose i ≡ true
 
 -- nothing but the superblock's bytes has changed: they are being written, or these stand there
-pub record WritesFront (bytes : List ℕ) (old m : Moment) : Type 0 where
+pub record WritesFront (bytes : List ℕ) (old m : DiskMoment) : Type 0 where
   pub only : ChangesOnly 0 log_start old m
   pub either : IsFrontLoose m ⊎ OnDisk 0 bytes m
 
 -- the superblock that was there is being written over, and nothing else has changed
-pub record IsClearing (old m : Moment) : Type 0 where
+pub record IsClearing (old m : DiskMoment) : Type 0 where
   pub front : IsFrontLoose m
   pub only : ChangesOnly 0 log_start old m
 
 -- no image that a crash leaves begins as an index does
-abbrev pub LeavesNoMagic : Moment → Type 0
+abbrev pub LeavesNoMagic : DiskMoment → Type 0
 LeavesNoMagic m = (image : List ℕ) → MayLeave m image → take 8 image ≢ magic
 
 -- all of the new index stands but for its superblock, which is being written, or stands too
-pub record IsFinishing (limits : Format) (m : Moment) : Type 0 where
+pub record IsFinishing (limits : Format) (m : DiskMoment) : Type 0 where
   pub body : HasBody limits m
   pub either : IsFrontLoose m ⊎ OnDisk 0 (superblock limits) m
 
 -- a moment while an index is made: what was there loses its superblock, alone; or no crash leaves an index; or the new
 -- one gets its superblock, last
-abbrev pub IsMaking : Format → Moment → Moment → Type 0
+abbrev pub IsMaking : Format → DiskMoment → DiskMoment → Type 0
 IsMaking limits old m = IsClearing old m ⊎ LeavesNoMagic m ⊎ IsFinishing limits m
 
 -- an empty index, which no crash changes
-pub record IsEmptyIndex (limits : Format) (m : Moment) : Type 0 where
+pub record IsEmptyIndex (limits : Format) (m : DiskMoment) : Type 0 where
   pub superblock : OnDisk 0 (superblock limits) m
   pub body : HasBody limits m
 
 -- whatever a crash leaves is an index of two pages: the metapage and the leaf of an empty one
-pub record LeavesEmpty (limits : Format) (m : Moment) : Type 0 where
+pub record LeavesEmpty (limits : Format) (m : DiskMoment) : Type 0 where
   pub meta : Page
   pub is_meta : IsFirstMeta meta
   pub leaf : Page

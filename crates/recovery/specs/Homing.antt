@@ -1,14 +1,14 @@
 -- The images of a log are written to their places.
 use Rattle.std.specs.Prelude.{◌≡◌, ℕ, ◌*◌, ◌<◌, Some, None, List, length}
-use Rattle.device.specs.Disk.{Moment}
+use Rattle.device.specs.Disk.{DiskMoment}
 use Rattle.device.specs.Places.{Has, OnDisk, ChangesOnly}
 use Rattle.index_model.specs.declared.format.Format.{Format}
-use Rattle.device_layout.specs.Layout.{place}
+use Rattle.page_codec.specs.Places.{place}
 use Rattle.redo_log.specs.Reading.{kept_image}
 use Rattle.redo_log.specs.declared.log.Replayed.{Replayed}
 
 -- nothing but places of blocks that have an image in the log changed
-pub record ChangesNamed (limits : Format) (found : Replayed) (old m : Moment) : Type 0 where
+pub record ChangesNamed (limits : Format) (found : Replayed) (old m : DiskMoment) : Type 0 where
   pub only : ChangesOnly (place limits 0) (4096 * limits.pages) old m
   pub others : (block : ℕ) (bytes : List ℕ) → length bytes ≡ 4096 → kept_image found block ≡ None
       → OnDisk (place limits block) bytes old → OnDisk (place limits block) bytes m
@@ -19,6 +19,6 @@ HasImages limits found file = (block : ℕ) (bytes : List ℕ) → block < limit
     → kept_image found block ≡ Some bytes → Has (place limits block) bytes file
 
 -- and no crash changes it
-abbrev pub AreHomed : Format → Replayed → Moment → Type 0
+abbrev pub AreHomed : Format → Replayed → DiskMoment → Type 0
 AreHomed limits found m = (block : ℕ) (bytes : List ℕ) → block < limits.pages
     → kept_image found block ≡ Some bytes → OnDisk (place limits block) bytes m

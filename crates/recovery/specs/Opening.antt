@@ -1,6 +1,6 @@
 -- What opening an index answers, and what it leaves.
 use Rattle.std.specs.Prelude.{◌≡◌, ◌⊎◌, ℕ, ◌<◌, ◌≤◌, Bool, false, IsTrue, List, length, take, replicate, Result, Ok, Err}
-use Rattle.device.specs.Disk.{Moment, Trace, next, synced}
+use Rattle.device.specs.Disk.{DiskMoment, Trace, next, synced}
 use Rattle.device.specs.declared.device.Device.{Ghosts}
 use Rattle.index_model.specs.Limits.{AreLimits}
 use Rattle.index_model.specs.declared.fault.Fault.{Fault}
@@ -10,14 +10,14 @@ use Rattle.page_action.specs.States.{State}
 use Rattle.page_action.specs.Stored.{AreStored}
 use Rattle.page_codec.specs.declared.page.Page.{Page}
 use Rattle.page_store.specs.Logged.{StandsOpened}
-use Rattle.device_layout.specs.Layout.{superblock, needed_length}
+use Rattle.page_codec.specs.Places.{superblock, needed_length}
 use Rattle.page_store.specs.Rooms.{pages_of_room}
 use Rattle.page_store.specs.Stores.{state_of, device_of, opened_state, IsOwnStore}
 use Rattle.page_store.specs.declared.store.Store.{Store}
 use Rattle.redo_log.specs.Groups.{SpellsGroups, log_range}
 use Rattle.redo_log.specs.Kept.{groups_end}
 use Rattle.redo_log.specs.Reading.{IsOpened, IsDamaged}
-use Rattle.recovery.specs.Reading.{AreInUse, IsDamage, IsAllRead, greatest_cycle}
+use Rattle.recovery.specs.Reading.{AreInUse, IsDamagedBlock, IsAllRead, greatest_cycle}
 use Rattle.recovery.specs.Superblock.{IsNoSuperblock}
 use Rattle.recovery.specs.declared.opening.Parts.{Parts}
 use Rattle.recovery.specs.declared.opening.Refused.{Refused}
@@ -62,7 +62,7 @@ IsRestoreRefusal limits honest old new fault =
     (fault ≡ NoMemory)
     ⊎ ((fault ≡ LogDamaged) × (new ≡ next (synced old.now) old)
     × (IsTrue honest → IsDamaged limits old.now))
-    ⊎ IsDamage limits honest new.now.seen fault
+    ⊎ IsDamagedBlock limits honest new.now.seen fault
 
 -- refused for one of these
 abbrev pub IsRefusal : Bool → ℕ → Trace → Trace → Fault → Type 0
@@ -72,7 +72,7 @@ IsRefusal honest frames old new fault =
     × IsRestoreRefusal limits honest old new fault)
 
 -- no crash changes a byte
-abbrev pub IsSynced : Moment → Type 0
+abbrev pub IsSynced : DiskMoment → Type 0
 IsSynced m = (i : ℕ) → m.loose i ≡ false
 
 -- an opened log without open groups, and what was read
@@ -92,7 +92,7 @@ pub record IsFound (honest : Bool) (old new : List ℕ) (parts : Parts) : Type 0
   pub undamaged : IsTrue honest → HasGroups limits old
 
 -- the pages that were read are these, which stand at home
-pub record AreSamePages (pages : List Page) (m : Moment) (parts : Parts) : Type 0 where
+pub record AreSamePages (pages : List Page) (m : DiskMoment) (parts : Parts) : Type 0 where
   pub pages_are : pages_of_room parts.found.room ≡ pages
   pub stands : StandsOpened parts.log m pages
 

@@ -5,7 +5,7 @@ use Rattle.device.specs.Moments.{Goes}
 use Rattle.device.specs.Places.{ChangesOnly, IsUntouched}
 use Rattle.index_model.specs.Limits.{AreLimits}
 use Rattle.index_model.specs.declared.format.Format.{Format}
-use Rattle.device_layout.specs.Layout.{log_start, needed_length}
+use Rattle.page_codec.specs.Places.{log_start, needed_length}
 use Rattle.recovery.specs.Opening.{IsFront}
 
 -- at each moment nothing has changed but the bytes of an index of these limits

@@ -7,7 +7,7 @@ use Rattle.page_action.specs.Stored.{IsStored, AreStored}
 use Rattle.page_codec.specs.Grammar.{IsPage}
 use Rattle.page_codec.specs.Spelling.{page_bytes}
 use Rattle.page_codec.specs.declared.page.Page.{Page}
-use Rattle.device_layout.specs.Layout.{place}
+use Rattle.page_codec.specs.Places.{place}
 use Rattle.page_store.specs.Rooms.{limits_of_room, pages_of_room, counts_of_room}
 use Rattle.recovery.specs.declared.reading.Found.{Found}
 
@@ -48,8 +48,8 @@ pub record IsDamagedAt (limits : Format) (block : ℕ) (file : List ℕ) : Type 
   pub in_use : block_bytes limits block file ≡ replicate 4096 0 → block ≡ 0
 
 -- refused for a block that is damaged
-abbrev pub IsDamage : Format → Bool → List ℕ → Fault → Type 0
-IsDamage limits honest file fault = (block : ℕ) × (fault ≡ PageDamaged block)
+abbrev pub IsDamagedBlock : Format → Bool → List ℕ → Fault → Type 0
+IsDamagedBlock limits honest file fault = (block : ℕ) × (fault ≡ PageDamaged block)
     × (IsTrue honest → IsDamagedAt limits block file)
 
 -- the greatest cycle number of these pages, 0 where there is none

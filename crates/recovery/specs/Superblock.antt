@@ -7,11 +7,11 @@ use Rattle.index_model.specs.declared.fault.Fault.TheVariants.{BadSuper, BadVers
 use Rattle.index_model.specs.declared.format.Format.{Format}
 use Rattle.index_model.specs.declared.layout.Layout.{Layout}
 use Rattle.index_model.specs.declared.layout.Layout.TheVariants.{One, Two}
-use Rattle.device_layout.specs.Layout.{magic, superblock}
+use Rattle.page_codec.specs.Places.{magic, superblock}
 
 -- the number that stands there
-abbrev pub number_at : ℕ → List ℕ → ℕ
-number_at at bytes = from_le_bytes w32 (take 4 (drop at bytes))
+abbrev pub spelled_number : ℕ → List ℕ → ℕ
+spelled_number at bytes = from_le_bytes w32 (take 4 (drop at bytes))
 
 -- the number is that of a layout
 abbrev pub IsLayout : ℕ → Type 0
@@ -29,11 +29,11 @@ is_unique Two number = number == 1
 -- the layout and the sizes that stand there, and whether the index is unique
 abbrev pub sizes_in : List ℕ → Format
 sizes_in bytes = record {
-  layout = layout_of (number_at 8 bytes);
-  unique = is_unique (layout_of (number_at 8 bytes)) (number_at 24 bytes);
-  items = number_at 12 bytes;
-  pages = number_at 16 bytes;
-  log_bytes = number_at 20 bytes;
+  layout = layout_of (spelled_number 8 bytes);
+  unique = is_unique (layout_of (spelled_number 8 bytes)) (spelled_number 24 bytes);
+  items = spelled_number 12 bytes;
+  pages = spelled_number 16 bytes;
+  log_bytes = spelled_number 20 bytes;
 }
 
 -- the bytes are no superblock: they begin otherwise; or else their layout is none; or else the sizes are out of their
@@ -41,6 +41,6 @@ sizes_in bytes = record {
 abbrev pub IsNoSuperblock : List ℕ → Fault → Type 0
 IsNoSuperblock bytes fault =
     ((fault ≡ BadSuper) × (take 8 bytes ≢ magic))
-    ⊎ ((take 8 bytes ≡ magic) × (((fault ≡ BadVersion) × (IsLayout (number_at 8 bytes) → ⊥))
-    ⊎ (IsLayout (number_at 8 bytes) × (((fault ≡ BadLimits) × (AreLimits (sizes_in bytes) → ⊥))
+    ⊎ ((take 8 bytes ≡ magic) × (((fault ≡ BadVersion) × (IsLayout (spelled_number 8 bytes) → ⊥))
+    ⊎ (IsLayout (spelled_number 8 bytes) × (((fault ≡ BadLimits) × (AreLimits (sizes_in bytes) → ⊥))
     ⊎ (AreLimits (sizes_in bytes) × (fault ≡ BadSuper) × (bytes ≢ superblock (sizes_in bytes)))))))

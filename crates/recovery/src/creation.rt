@@ -6,7 +6,7 @@ ghost use Rattle.device.specs.Places.{Has, OnDisk, ChangesOnly};
 ghost use Rattle.index_model.specs.Formats.{made};
 ghost use Rattle.index_model.specs.Limits.{AreLimits};
 ghost use Rattle.page_codec.specs.Spelling.{page_bytes};
-ghost use Rattle.device_layout.specs.Layout.{log_start, place, needed_length};
+ghost use Rattle.page_codec.specs.Places.{log_start, place, needed_length};
 ghost use Rattle.recovery.specs.Calls.{OnlyWrites};
 ghost use Rattle.recovery.specs.Fresh.{IsFirstMeta, IsFirstLeaf, AreZero, HasPages, HasBody, WritesFront, IsMaking, IsEmptyIndex, LeavesEmpty, CreateEnds};
 ghost use Rattle.recovery.specs.Outside.{ChangesItsBytes, ChangesBehindFront, KeepsLogBytes};
@@ -14,9 +14,8 @@ ghost use Rattle.recovery.specs.Outside.{ChangesItsBytes, ChangesBehindFront, Ke
 use crate::superblock::spell_superblock;
 use arrayvec::ArrayVec;
 use device::Device;
-use device_layout::{LOG_START, needed_len, page_place};
 use index_model::{Fault, Format, Layout, Limits};
-use page_codec::{Items, Page, PageState, encode};
+use page_codec::{Items, LOG_START, Page, PageState, encode, needed_len, page_place};
 
 /// The metapage of an empty index, whose root is the leaf at block 1.
 fn first_meta() -> Page

@@ -3,14 +3,14 @@
 ghost use Rattle.std.specs.Prelude.{◌≡◌, ◌≤◌, length, OnOk};
 ghost use Rattle.device.specs.Moments.{Goes};
 ghost use Rattle.index_model.specs.Limits.{AreLimits};
-ghost use Rattle.device_layout.specs.Layout.{needed_length};
+ghost use Rattle.page_codec.specs.Places.{needed_length};
 ghost use Rattle.recovery.specs.Calls.{OnlyWrites};
 ghost use Rattle.recovery.specs.Homing.{ChangesNamed, HasImages, AreHomed};
 
 use crate::creation::place;
 use device::Device;
-use device_layout::page_place;
 use index_model::{Fault, Format};
+use page_codec::page_place;
 use redo_log::Replayed;
 
 /// Writes the last image of each block to its place, once, from the bytes that were read.

@@ -2,19 +2,18 @@
 
 ghost use Rattle.std.specs.Prelude.{◌≡◌, ◌⊎◌, ◌+◌, ◌≤◌, ◌<◌, ℕ, suc, IsTrue, [], length, replicate, IfOk, IfErr, OnOk};
 ghost use Rattle.index_model.specs.Limits.{AreLimits};
-ghost use Rattle.device_layout.specs.Layout.{needed_length};
+ghost use Rattle.page_codec.specs.Places.{needed_length};
 ghost use Rattle.page_store.specs.Rooms.{limits_of_room, frames_of_room, pages_of_room, counts_of_room};
 ghost use Rattle.recovery.specs.Calls.{OnlyReads, FailsWithIoOr};
-ghost use Rattle.recovery.specs.Reading.{block_bytes, AreBytesOf, IsEnd, IsDamage, HasReadPages, IsAllRead};
+ghost use Rattle.recovery.specs.Reading.{block_bytes, AreBytesOf, IsEnd, IsDamagedBlock, HasReadPages, IsAllRead};
 ghost use Rattle.page_action.specs.Stored.{IsStored};
 ghost use Rattle.page_codec.specs.declared.page.Page.{Page};
 ghost use Rattle.page_codec.specs.Grammar.{IsPage};
 ghost use Rattle.page_codec.specs.Spelling.{page_bytes};
 
 use device::Device;
-use device_layout::page_place;
 use index_model::{Fault, Format};
-use page_codec::{Page, decode, is_unused};
+use page_codec::{Page, decode, is_unused, page_place};
 use page_store::StoreRoom;
 use std::alloc::Global;
 
@@ -82,7 +81,7 @@ fn add_pages<D: Device>(device: &mut D, limits: Format, found: &mut Found) -> Re
         → IsEnd limits used (D.trace device.old).now.seen) }
     ensures calls { OnlyReads D.Device device.old device.new }
     ensures cause { FailsWithIoOr
-        (IsDamage limits (D.is_honest device.new) (D.trace device.old).now.seen)
+        (IsDamagedBlock limits (D.is_honest device.new) (D.trace device.old).now.seen)
         result (D.failures device.old) (D.failures device.new) }
 {
     for block in 0..limits.pages {
@@ -113,7 +112,7 @@ pub(crate) fn read_pages<D: Device>(
     ensures calls { OnlyReads D.Device device.old device.new }
     ensures cause { FailsWithIoOr
         (λ e. (e ≡ Fault.NoMemory)
-        ⊎ IsDamage limits (D.is_honest device.new) (D.trace device.old).now.seen e)
+        ⊎ IsDamagedBlock limits (D.is_honest device.new) (D.trace device.old).now.seen e)
         result (D.failures device.old) (D.failures device.new) }
 {
     let mut found = Found {

@@ -4,8 +4,8 @@ ghost use Rattle.std.specs.Prelude.{◌≡◌, ◌+◌, ◌-◌, ◌≤◌, ◌+
 ghost use Rattle.std.specs.Int.{w32, to_le_bytes};
 ghost use Rattle.index_model.specs.Limits.{AreLimits};
 ghost use Rattle.index_model.specs.declared.format.Format.{Format};
-ghost use Rattle.recovery.specs.Superblock.{number_at, layout_of, is_unique, IsLayout, IsNoSuperblock};
-ghost use Rattle.device_layout.specs.Layout.{layout_number, unique_number, superblock};
+ghost use Rattle.recovery.specs.Superblock.{spelled_number, layout_of, is_unique, IsLayout, IsNoSuperblock};
+ghost use Rattle.page_codec.specs.Places.{layout_number, unique_number, superblock};
 
 use index_model::{Fault, Format, Layout};
 
@@ -92,7 +92,7 @@ pub(crate) fn spell_superblock(limits: &Format, out: &mut [u8; 4096])
 /// The number that stands there.
 fn number_at(bytes: &[u8; 4096], at: usize) -> u32
     requires { at + 4 ≤ 4096 }
-    ensures { result ≡ number_at at bytes.now }
+    ensures { result ≡ spelled_number at bytes.now }
 {
     let mut number = [0; 4];
     number.copy_from_slice(&bytes[at..at + 4]);

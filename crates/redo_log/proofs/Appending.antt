@@ -1,7 +1,7 @@
 -- One action more waits.
 use Rattle.std.proofs.Common.{◌≡◌, ℕ, zero, suc, ◌+◌, ◌*◌, ◌/◌, ◌<◌, ◌≤◌, List, [], ◌∷◌, ◌++◌, length, drop, sym, ◌∙◌, ap, subst, arith, length-append}
 use Rattle.std.proofs.lemmas.List.{take-append-le, drop-append-le}
-use Rattle.device.specs.Disk.{Moment}
+use Rattle.device.specs.Disk.{DiskMoment}
 use Rattle.page_codec.specs.declared.page.Page.{Page}
 use Rattle.redo_log.specs.Images.{SameImages, images_of}
 use Rattle.redo_log.specs.Blocks.{with_blocks, new_count, with_images, AreLaid}
@@ -14,7 +14,7 @@ use Rattle.redo_log.proofs.Laying.{with_images-same}
 -- what waits has the images of the action too, each in the place of its block's
 pub keeps_more : (old new : Log) (images : List Page) → new.limits ≡ old.limits → new.at ≡ old.at → new.stopped ≡ old.stopped
     → ((laid : List Page) → AreLaid old.limits (waiting_blocks old) old.buffer.items laid → AreLaid old.limits (waiting_blocks new) new.buffer.items (with_images laid images))
-    → (m : Moment) (acts : List (List Page)) (forced : ℕ) → Keeps old m acts forced → Keeps new m (acts ++ images ∷ []) forced
+    → (m : DiskMoment) (acts : List (List Page)) (forced : ℕ) → Keeps old m acts forced → Keeps new m (acts ++ images ∷ []) forced
 keeps_more old new images limits at stopped laid m acts forced k =
     record {
       alive = stopped ∙ k.alive;

@@ -5,7 +5,7 @@ use Rattle.std.proofs.lemmas.List.{with_items_is, append-nil}
 use Rattle.std.specs.declared.alloc.Global.{Global}
 use Rattle.std.specs.Vec.{with_items}
 use Rattle.std.specs.Int.{w32, to_le_bytes}
-use Rattle.device.specs.Disk.{Moment, Trace}
+use Rattle.device.specs.Disk.{DiskMoment, Trace}
 use Rattle.device.specs.Moments.{Goes}
 use Rattle.device.specs.Places.{OnDisk, ChangesOnly}
 use Rattle.device.proofs.Going.{goes_weaker, goes_now}
@@ -38,7 +38,7 @@ sealed_piece v given sealed read c waiting was long is laid counted buffered =
     ∙ ap (λ (n : ℕ). to_le_bytes w32 n ++ images_bytes waiting ++ 0 ∷ []) (sym counted)
 
 -- with no image waiting all actions are on the disk
-pub all_forced : (log : Log) (m : Moment) (acts : List (List Page)) (forced : ℕ) → Keeps log m acts forced → waiting_count log ≡ 0 → Keeps log m acts (length acts)
+pub all_forced : (log : Log) (m : DiskMoment) (acts : List (List Page)) (forced : ℕ) → Keeps log m acts forced → waiting_count log ≡ 0 → Keeps log m acts (length acts)
 all_forced log m acts forced k idle =
     let no_more : k.waiting ≡ [] = none k.waiting (k.waits.counted ∙ idle) in
     record {
@@ -62,7 +62,7 @@ module _ (log : Log) (b : List ℕ) (old new : Trace) (acts : List (List Page)) 
   enough : log.at + (6 + 4096 * length k.waiting) ≤ log.limits.log_bytes
   enough = omega (arith, k.waits.counted, log.fits some)
 
-  as_piece : (n : Moment) → IsShutOrWhole (4096 + log.at) b old.now n → IsShutOrWhole (4096 + log.at) (body k.waiting ++ 0 ∷ []) old.now n
+  as_piece : (n : DiskMoment) → IsShutOrWhole (4096 + log.at) b old.now n → IsShutOrWhole (4096 + log.at) (body k.waiting ++ 0 ∷ []) old.now n
   as_piece n p = subst (λ (l : List ℕ). IsShutOrWhole (4096 + log.at) l old.now n) piece p
 
   -- the images on the disk are then those of all actions

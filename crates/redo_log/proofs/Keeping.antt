@@ -2,12 +2,12 @@
 use Rattle.std.proofs.Common.{◌≡◌, ◌⊎◌, inl, inr, ℕ, ◌+◌, ◌-◌, ◌<◌, ◌≤◌, List, [], ◌∷◌, ◌++◌, length, take, drop, get_or, false, sym, ◌∙◌, ap, subst, arith, append_assoc, length-append, length-drop, length-take-le}
 use Rattle.std.proofs.lemmas.Bool.{cases_lt}
 use Rattle.std.proofs.lemmas.List.{get_or-drop, get_or-take, take_at, drop_at, take-append-drop}
-use Rattle.device.specs.Disk.{Moment, MayLeave, put}
+use Rattle.device.specs.Disk.{DiskMoment, MayLeave, put}
 use Rattle.device.specs.Places.{ChangesOnly}
 use Rattle.device.proofs.Standing.{untouched_on, elsewhere_untouched, length-put, put_inside, put_outside}
 use Rattle.index_model.specs.declared.format.Format.{Format}
 use Rattle.page_codec.specs.declared.page.Page.{Page}
-use Rattle.redo_log.specs.Groups.{SpellsGroups, spelled, log_range}
+use Rattle.redo_log.specs.Groups.{SpellsGroups, spelled_groups, log_range}
 use Rattle.redo_log.specs.Images.{SameImages, images_of}
 use Rattle.redo_log.specs.Kept.{Keeps, Restarts, ForgetsForced, RangeIsUntouched, limits_of, waiting_count}
 use Rattle.redo_log.specs.declared.log.Log.{Log}
@@ -15,14 +15,14 @@ use Rattle.redo_log.proofs.ImageLists.{none, same_append, same_behind, same_tran
 use Rattle.redo_log.proofs.Leaving.{settled_leaves}
 
 -- the groups on the disk, and behind them what waits, have the last images of all actions
-pub keeps_all : (log : Log) (m : Moment) (acts : List (List Page)) (forced : ℕ) → (k : Keeps log m acts forced) → SameImages (images_of k.groups ++ k.waiting) (images_of acts)
+pub keeps_all : (log : Log) (m : DiskMoment) (acts : List (List Page)) (forced : ℕ) → (k : Keeps log m acts forced) → SameImages (images_of k.groups ++ k.waiting) (images_of acts)
 keeps_all log m acts forced k =
     same_trans _ (images_of (take forced acts) ++ k.waiting) _ (same_append (images_of k.groups) (images_of (take forced acts)) k.waiting k.durable)
     (same_trans _ (images_of (take forced acts) ++ images_of (drop forced acts)) _ (same_behind (images_of (take forced acts)) k.waiting _ k.unforced)
     (same_eq _ _ (sym (images_of-append (take forced acts) (drop forced acts)) ∙ ap images_of (take-append-drop forced acts))))
 
 -- if none is forced and none waits, the log keeps nothing
-pub keeps_none : (log : Log) (m : Moment) (acts : List (List Page)) → Keeps log m acts 0 → waiting_count log ≡ 0 → Keeps log m [] 0
+pub keeps_none : (log : Log) (m : DiskMoment) (acts : List (List Page)) → Keeps log m acts 0 → waiting_count log ≡ 0 → Keeps log m [] 0
 keeps_none log m acts k idle = record {
   alive = k.alive;
   groups = k.groups;
@@ -35,12 +35,12 @@ keeps_none log m acts k idle = record {
 }
 
 -- with nothing waiting, a log that was closed keeps nothing
-pub forgets_all : (old : Log) (before : Moment) (new : Log) (after : Moment) → ForgetsForced old before new after → waiting_count new ≡ waiting_count old → waiting_count old ≡ 0
+pub forgets_all : (old : Log) (before : DiskMoment) (new : Log) (after : DiskMoment) → ForgetsForced old before new after → waiting_count new ≡ waiting_count old → waiting_count old ≡ 0
     → (acts : List (List Page)) (forced : ℕ) → Keeps old before acts forced → Keeps new after [] 0
 forgets_all old before new after forgets same idle acts forced k = keeps_none new after (drop forced acts) (forgets acts forced k) (same ∙ idle)
 
 -- what a log keeps, a crash leaves
-pub keeps_restarts : (log : Log) (m : Moment) (acts : List (List Page)) (forced : ℕ) → Keeps log m acts forced → Restarts (limits_of log) acts forced m
+pub keeps_restarts : (log : Log) (m : DiskMoment) (acts : List (List Page)) (forced : ℕ) → Keeps log m acts forced → Restarts (limits_of log) acts forced m
 keeps_restarts log m acts forced k = λ image left. record {
   part = forced;
   from = omega arith;
@@ -53,10 +53,10 @@ keeps_restarts log m acts forced k = λ image left. record {
 }
 
 -- what happens outside the log's range leaves what the log keeps
-pub keeps_untouched : (log : Log) (old new : Moment) (acts : List (List Page)) (forced : ℕ) → RangeIsUntouched (limits_of log) old new → Keeps log old acts forced → Keeps log new acts forced
+pub keeps_untouched : (log : Log) (old new : DiskMoment) (acts : List (List Page)) (forced : ℕ) → RangeIsUntouched (limits_of log) old new → Keeps log old acts forced → Keeps log new acts forced
 keeps_untouched log old new acts forced untouched k =
     let s = k.settled in
-    let q = spelled k.groups ++ s.gate ∷ [] in
+    let q = spelled_groups k.groups ++ s.gate ∷ [] in
     record {
       alive = k.alive;
       groups = k.groups;
@@ -65,7 +65,7 @@ keeps_untouched log old new acts forced untouched k =
         end = s.end;
         gate = s.gate;
         closed = s.closed;
-        on_disk = untouched_on 4096 log.limits.log_bytes 4096 q old new untouched (omega arith) (omega (arith, length-append (spelled k.groups) (s.gate ∷ []), s.end, log.room)) s.on_disk;
+        on_disk = untouched_on 4096 log.limits.log_bytes 4096 q old new untouched (omega arith) (omega (arith, length-append (spelled_groups k.groups) (s.gate ∷ []), s.end, log.room)) s.on_disk;
       };
       waiting = k.waiting;
       waits = k.waits;
@@ -75,13 +75,13 @@ keeps_untouched log old new acts forced untouched k =
     }
 
 -- a change outside the log's range leaves what the log keeps
-pub keeps_elsewhere : (log : Log) (at n : ℕ) (old new : Moment) (acts : List (List Page)) (forced : ℕ) → ChangesOnly at n old new → (4096 + log.limits.log_bytes ≤ at) ⊎ (at + n ≤ 4096)
+pub keeps_elsewhere : (log : Log) (at n : ℕ) (old new : DiskMoment) (acts : List (List Page)) (forced : ℕ) → ChangesOnly at n old new → (4096 + log.limits.log_bytes ≤ at) ⊎ (at + n ≤ 4096)
     → Keeps log old acts forced → Keeps log new acts forced
 keeps_elsewhere log at n old new acts forced only apart k =
     keeps_untouched log old new acts forced (elsewhere_untouched at n 4096 log.limits.log_bytes old new only apart) k
 
 -- and what a crash may leave of it
-pub restarts_elsewhere : (limits : Format) (at n : ℕ) (old new : Moment) (acts : List (List Page)) (forced : ℕ) → ChangesOnly at n old new → (4096 + limits.log_bytes ≤ at) ⊎ (at + n ≤ 4096)
+pub restarts_elsewhere : (limits : Format) (at n : ℕ) (old new : DiskMoment) (acts : List (List Page)) (forced : ℕ) → ChangesOnly at n old new → (4096 + limits.log_bytes ≤ at) ⊎ (at + n ≤ 4096)
     → 4096 + limits.log_bytes ≤ length old.seen → Restarts limits acts forced old → Restarts limits acts forced new
 restarts_elsewhere limits at n old new acts forced only apart fits r = λ image left.
     let size = limits.log_bytes in

@@ -3,13 +3,13 @@ use Rattle.std.proofs.Common.{◌≡◌, ◌≢◌, ◌⊎◌, inl, inr, ℕ, ze
 use Rattle.std.proofs.lemmas.Bool.{cases_eq}
 use Rattle.std.proofs.lemmas.List.{append-nil}
 use Rattle.std.specs.Int.{w32, to_le_bytes}
-use Rattle.device.specs.Disk.{Moment, MayLeave}
+use Rattle.device.specs.Disk.{DiskMoment, MayLeave}
 use Rattle.device.specs.Places.{Has, OnDisk, ChangesOnly}
 use Rattle.device.proofs.Standing.{kept, on_image, on_front, on_back, on_both, has_both, has_drop}
 use Rattle.index_model.specs.declared.format.Format.{Format}
 use Rattle.page_codec.specs.declared.page.Page.{Page}
 use Rattle.redo_log.specs.Images.{images_bytes}
-use Rattle.redo_log.specs.Groups.{AreGroups, IsGroup, spelled, body, SpellsGroups}
+use Rattle.redo_log.specs.Groups.{AreGroups, IsGroup, spelled_groups, body, SpellsGroups}
 use Rattle.redo_log.specs.Publish.{IsShut, IsShutOrWhole}
 use Rattle.redo_log.specs.Kept.{IsSettled}
 use Rattle.redo_log.proofs.ImageLists.{length-images_bytes, all-append}
@@ -32,24 +32,25 @@ range_is start size q c h le = ap (λ (l : List ℕ). take size l) (has_drop sta
         ap (λ (l : List ℕ). x ∷ l) (take_past xs ys n (omega arith) ∙ ap (λ (k : ℕ). xs ++ take k ys) e)
 
 -- open groups and a gate that isn't open
-pub shut_stands : (limits : Format) (start size : ℕ) (gs : List (List Page)) (gate : ℕ) (c : List ℕ) → AreGroups limits gs → gate ≢ 1 → length (spelled gs) + 1 ≤ size → Has start (spelled gs ++ gate ∷ []) c
+pub shut_stands : (limits : Format) (start size : ℕ) (gs : List (List Page)) (gate : ℕ) (c : List ℕ) → AreGroups limits gs → gate ≢ 1
+    → length (spelled_groups gs) + 1 ≤ size → Has start (spelled_groups gs ++ gate ∷ []) c
     → SpellsGroups limits (take size (drop start c)) gs
 shut_stands limits start size gs gate c good shut fits h =
-    let q = spelled gs ++ gate ∷ [] in
+    let q = spelled_groups gs ++ gate ∷ [] in
     let rest = take (size - length q) (drop (start + length q) c) in
     record {
       good = good;
       gate = gate;
       closed = shut;
       rest = rest;
-      is = range_is start size q c h (omega (arith, length-append (spelled gs) (gate ∷ []))) ∙ append_assoc (spelled gs) (gate ∷ []) rest;
+      is = range_is start size q c h (omega (arith, length-append (spelled_groups gs) (gate ∷ []))) ∙ append_assoc (spelled_groups gs) (gate ∷ []) rest;
     }
 
-pub spelled-push : (gs : List (List Page)) (g : List Page) (rest : List ℕ) → spelled (gs ++ g ∷ []) ++ rest ≡ spelled gs ++ (1 ∷ (body g ++ rest))
+pub spelled-push : (gs : List (List Page)) (g : List Page) (rest : List ℕ) → spelled_groups (gs ++ g ∷ []) ++ rest ≡ spelled_groups gs ++ (1 ∷ (body g ++ rest))
 spelled-push [] g rest = ap (λ (l : List ℕ). 1 ∷ (l ++ rest)) (append-nil (body g))
 spelled-push (h ∷ gs) g rest =
-    append_assoc (1 ∷ body h) (spelled (gs ++ g ∷ [])) rest
-    ∙ (ap (λ (l : List ℕ). (1 ∷ body h) ++ l) (spelled-push gs g rest) ∙ sym (append_assoc (1 ∷ body h) (spelled gs) (1 ∷ (body g ++ rest))))
+    append_assoc (1 ∷ body h) (spelled_groups (gs ++ g ∷ [])) rest
+    ∙ (ap (λ (l : List ℕ). (1 ∷ body h) ++ l) (spelled-push gs g rest) ∙ sym (append_assoc (1 ∷ body h) (spelled_groups gs) (1 ∷ (body g ++ rest))))
 
 -- one byte at a place, whatever it is
 some_byte : (at : ℕ) (c : List ℕ) → at < length c → Has at (get_or c at 0 ∷ []) c
@@ -59,12 +60,12 @@ some_byte at c lt = record { within = omega arith; each = λ i below. one i belo
     one zero below = (let e : at + 0 ≡ at = omega arith in ap (λ (k : ℕ). get_or c k 0) e)
     one (suc i) below = absurd (omega arith)
 
-module _ (limits : Format) (start size at : ℕ) (gs : List (List Page)) (m : Moment) (s : IsSettled limits start at gs m) (fits : at + 1 ≤ size) where
+module _ (limits : Format) (start size at : ℕ) (gs : List (List Page)) (m : DiskMoment) (s : IsSettled limits start at gs m) (fits : at + 1 ≤ size) where
   pub shut_at : IsShut (start + at) m
   shut_at = record {
     gate = s.gate;
     closed = s.closed;
-    on_disk = subst (λ (n : ℕ). OnDisk (start + n) (s.gate ∷ []) m) (sym s.end) (on_back start (spelled gs) (s.gate ∷ []) m s.on_disk);
+    on_disk = subst (λ (n : ℕ). OnDisk (start + n) (s.gate ∷ []) m) (sym s.end) (on_back start (spelled_groups gs) (s.gate ∷ []) m s.on_disk);
   }
 
   pub settled_leaves : (c : List ℕ) → MayLeave m c → SpellsGroups limits (take size (drop start c)) gs
@@ -77,65 +78,67 @@ module _ (limits : Format) (start size at : ℕ) (gs : List (List Page)) (m : Mo
     pub length_piece : length piece ≡ 5 + 4096 * length g
     length_piece = omega (arith, length-append (body g) (0 ∷ []), length_body limits g is)
 
-    end_is : start + at ≡ start + length (spelled gs)
+    end_is : start + at ≡ start + length (spelled_groups gs)
     end_is = omega (arith, s.end)
 
     -- the groups with this gate behind them, whatever it is
-    with_gate : (x : ℕ) (c : List ℕ) → Has start (spelled gs) c → Has (start + at) (x ∷ []) c → Has start (spelled gs ++ x ∷ []) c
-    with_gate x c front gate = has_both start (spelled gs) (x ∷ []) c front (subst (λ (n : ℕ). Has n (x ∷ []) c) end_is gate)
+    with_gate : (x : ℕ) (c : List ℕ) → Has start (spelled_groups gs) c → Has (start + at) (x ∷ []) c → Has start (spelled_groups gs ++ x ∷ []) c
+    with_gate x c front gate = has_both start (spelled_groups gs) (x ∷ []) c front (subst (λ (n : ℕ). Has n (x ∷ []) c) end_is gate)
 
-    with_piece : (x : ℕ) (c : List ℕ) → Has start (spelled gs) c → Has (start + at) (x ∷ []) c → Has (start + at + 1) piece c → Has start (spelled gs ++ (x ∷ piece)) c
+    with_piece : (x : ℕ) (c : List ℕ) → Has start (spelled_groups gs) c → Has (start + at) (x ∷ []) c → Has (start + at + 1) piece c → Has start (spelled_groups gs ++ (x ∷ piece)) c
     with_piece x c front gate back =
-        has_both start (spelled gs) (x ∷ piece) c front
+        has_both start (spelled_groups gs) (x ∷ piece) c front
         (subst (λ (n : ℕ). Has n (x ∷ piece) c) end_is (has_both (start + at) (x ∷ []) piece c gate back))
 
-    pushed : spelled gs ++ (1 ∷ piece) ≡ spelled (gs ++ g ∷ []) ++ 0 ∷ []
+    pushed : spelled_groups gs ++ (1 ∷ piece) ≡ spelled_groups (gs ++ g ∷ []) ++ 0 ∷ []
     pushed = sym (spelled-push gs g (0 ∷ []))
 
-    length_pushed : length (spelled (gs ++ g ∷ [])) ≡ at + (5 + 4096 * length g)
-    length_pushed = omega (arith, ap length pushed, length-append (spelled gs) (1 ∷ piece), length-append (spelled (gs ++ g ∷ [])) (0 ∷ []), length_piece, s.end)
+    length_pushed : length (spelled_groups (gs ++ g ∷ [])) ≡ at + (5 + 4096 * length g)
+    length_pushed = omega (arith, ap length pushed, length-append (spelled_groups gs) (1 ∷ piece), length-append (spelled_groups (gs ++ g ∷ [])) (0 ∷ []), length_piece, s.end)
 
     good_pushed : AreGroups limits (gs ++ g ∷ [])
     good_pushed = all-append (IsGroup limits) gs (g ∷ []) s.good (is, tt)
 
     -- where the piece stands, a crash leaves the group or not
-    whole : (c : List ℕ) → Has start (spelled gs) c → Has (start + at + 1) piece c → SpellsGroups limits (take size (drop start c)) gs ⊎ SpellsGroups limits (take size (drop start c)) (gs ++ g ∷ [])
+    whole : (c : List ℕ) → Has start (spelled_groups gs) c → Has (start + at + 1) piece c → SpellsGroups limits (take size (drop start c)) gs
+        ⊎ SpellsGroups limits (take size (drop start c)) (gs ++ g ∷ [])
     whole c front back =
         let x = get_or c (start + at) 0 in
         let gate : Has (start + at) (x ∷ []) c = some_byte (start + at) c (omega (arith, back.within)) in
         elim (cases_eq x 1) [
           | inl is_open ↦ inr (
               shut_stands limits start size (gs ++ g ∷ []) 0 c good_pushed (λ (e : 0 ≡ 1). absurd (omega arith)) (omega (arith, length_pushed, room))
-              (subst (λ (l : List ℕ). Has start l c) (ap (λ (y : ℕ). spelled gs ++ (y ∷ piece)) is_open ∙ pushed) (with_piece x c front gate back)))
+              (subst (λ (l : List ℕ). Has start l c) (ap (λ (y : ℕ). spelled_groups gs ++ (y ∷ piece)) is_open ∙ pushed) (with_piece x c front gate back)))
           | inr shut ↦ inl (shut_stands limits start size gs x c s.good shut (omega (arith, s.end)) (with_gate x c front gate))
         ]
 
-    fronts : (n : Moment) → IsShutOrWhole (start + at) piece m n → OnDisk start (spelled gs) n
-    fronts n p = kept (start + at) (length piece + 1) start (spelled gs) m n p.only (inl (omega (arith, s.end))) (on_front start (spelled gs) (s.gate ∷ []) m s.on_disk)
+    fronts : (n : DiskMoment) → IsShutOrWhole (start + at) piece m n → OnDisk start (spelled_groups gs) n
+    fronts n p = kept (start + at) (length piece + 1) start (spelled_groups gs) m n p.only (inl (omega (arith, s.end))) (on_front start (spelled_groups gs) (s.gate ∷ []) m s.on_disk)
 
-    pub publishing : (n : Moment) → IsShutOrWhole (start + at) piece m n → (c : List ℕ) → MayLeave n c
+    pub publishing : (n : DiskMoment) → IsShutOrWhole (start + at) piece m n → (c : List ℕ) → MayLeave n c
         → SpellsGroups limits (take size (drop start c)) gs ⊎ SpellsGroups limits (take size (drop start c)) (gs ++ g ∷ [])
     publishing n p c left = elim (p.either shut_at) [
       | inl shut ↦ inl (shut_stands limits start size gs shut.gate c s.good shut.closed (omega (arith, s.end))
-          (with_gate shut.gate c (on_image start (spelled gs) n c (fronts n p) left) (on_image (start + at) (shut.gate ∷ []) n c shut.on_disk left)))
-      | inr on ↦ whole c (on_image start (spelled gs) n c (fronts n p) left) (on_image (start + at + 1) piece n c on left)
+          (with_gate shut.gate c (on_image start (spelled_groups gs) n c (fronts n p) left) (on_image (start + at) (shut.gate ∷ []) n c shut.on_disk left)))
+      | inr on ↦ whole c (on_image start (spelled_groups gs) n c (fronts n p) left) (on_image (start + at + 1) piece n c on left)
     ]
 
-    pub published : (n : Moment) → IsShutOrWhole (start + at) piece m n → OnDisk (start + at) (1 ∷ piece) n → IsSettled limits start (at + (5 + 4096 * length g)) (gs ++ g ∷ []) n
+    pub published : (n : DiskMoment) → IsShutOrWhole (start + at) piece m n → OnDisk (start + at) (1 ∷ piece) n → IsSettled limits start (at + (5 + 4096 * length g)) (gs ++ g ∷ []) n
     published n p on = record {
       good = good_pushed;
       end = sym length_pushed;
       gate = 0;
       closed = λ (e : 0 ≡ 1). absurd (omega arith);
-      on_disk = subst (λ (l : List ℕ). OnDisk start l n) pushed (on_both start (spelled gs) (1 ∷ piece) n (fronts n p) (subst (λ (k : ℕ). OnDisk k (1 ∷ piece) n) end_is on));
+      on_disk = subst (λ (l : List ℕ). OnDisk start l n) pushed (on_both start (spelled_groups gs) (1 ∷ piece) n (fronts n p) (subst (λ (k : ℕ). OnDisk k (1 ∷ piece) n) end_is on));
     }
 
 -- while the first gate is closed, a crash leaves what there was or nothing
-pub resetting : (limits : Format) (start size : ℕ) (gs : List (List Page)) (gate : ℕ) (m n : Moment) → AreGroups limits gs → gate ≢ 1 → OnDisk start (spelled gs ++ gate ∷ []) m → 0 < length (spelled gs) → length (spelled gs) + 1 ≤ size
+pub resetting : (limits : Format) (start size : ℕ) (gs : List (List Page)) (gate : ℕ) (m n : DiskMoment) → AreGroups limits gs → gate ≢ 1
+    → OnDisk start (spelled_groups gs ++ gate ∷ []) m → 0 < length (spelled_groups gs) → length (spelled_groups gs) + 1 ≤ size
     → ChangesOnly start 1 m n → (c : List ℕ) → MayLeave n c → SpellsGroups limits (take size (drop start c)) gs ⊎ SpellsGroups limits (take size (drop start c)) []
 resetting limits start size [] gate m n good shut on some fits only c left = absurd (omega arith)
 resetting limits start size (g ∷ gs) gate m n good shut on some fits only c left =
-    let rest = body g ++ spelled gs ++ gate ∷ [] in
+    let rest = body g ++ spelled_groups gs ++ gate ∷ [] in
     let behind : OnDisk (start + 1) rest n = kept start 1 (start + 1) rest m n only (inr (omega arith)) (on_back start (1 ∷ []) rest m on) in
     let back : Has (start + 1) rest c = on_image (start + 1) rest n c behind left in
     let x = get_or c start 0 in

@@ -38,7 +38,8 @@ more_other images p block other = last_image-append images (p ∷ []) block ∙ 
 bytes_there : (log bytes : List ℕ) (place : ℕ) → 0 < place → slice_range log place (place + 4096) ≡ bytes → bytes_at log place ≡ Some bytes
 bytes_there log bytes place some is = rw (ne_eqb place 0 (λ (e : place ≡ 0). absurd (omega (arith, e, some)))) (ap Some is)
 
-pub note_more : (limits : Format) (log : List ℕ) (images : List Page) (lasts : List ℕ) (p : Page) (place : ℕ) → AreNoted limits log images lasts → p.block < limits.pages → 0 < place → place + 4096 ≤ length log → slice_range log place (place + 4096) ≡ page_bytes p
+pub note_more : (limits : Format) (log : List ℕ) (images : List Page) (lasts : List ℕ) (p : Page) (place : ℕ) → AreNoted limits log images lasts
+    → p.block < limits.pages → 0 < place → place + 4096 ≤ length log → slice_range log place (place + 4096) ≡ page_bytes p
     → AreNoted limits log (images ++ p ∷ []) (set lasts p.block place)
 note_more limits log images lasts p place noted few some inside is =
     let here : (block : ℕ) → p.block ≡ block → get_or (set lasts p.block place) block 0 ≡ place =
@@ -83,17 +84,20 @@ module _ (limits : Format) (log : List ℕ) (at count k : ℕ) (old now : List �
   next : take 4096 rest ≡ slice_range log (at + 4096 * k) (at + 4096 * k + 4096)
   next =
       let few : 4096 * count ≡ 4096 * k + (4096 * count - 4096 * k) = omega (arith, more) in
-      let behind : rest ≡ take (4096 * count - 4096 * k) (drop (4096 * k) (drop at log)) = ap (λ (n : ℕ). drop (4096 * k) (take n (drop at log))) few ∙ drop-take (4096 * k) (4096 * count - 4096 * k) (drop at log) in
+      let behind : rest ≡ take (4096 * count - 4096 * k) (drop (4096 * k) (drop at log)) = ap (λ (n : ℕ). drop (4096 * k) (take n (drop at log))) few
+      ∙ drop-take (4096 * k) (4096 * count - 4096 * k) (drop at log) in
       let size : 4096 ≡ at + 4096 * k + 4096 - (at + 4096 * k) = omega arith in
       ap (take 4096) behind
       ∙ (take-take 4096 (4096 * count - 4096 * k) (drop (4096 * k) (drop at log)) (omega (arith, more))
       ∙ (ap (take 4096) (drop-drop (4096 * k) at log)
       ∙ ap (λ (n : ℕ). take n (drop (at + 4096 * k) log)) size))
 
-  pub none_there : ((p : Page) → IsImage limits p → slice_range log (at + 4096 * k) (at + 4096 * k + 4096) ≡ page_bytes p → ⊥) → (others : List Page) → AreImages limits others → take (4096 * count) (drop at log) ≡ images_bytes others → ⊥
+  pub none_there : ((p : Page) → IsImage limits p → slice_range log (at + 4096 * k) (at + 4096 * k + 4096) ≡ page_bytes p → ⊥) → (others : List Page)
+      → AreImages limits others → take (4096 * count) (drop at log) ≡ images_bytes others → ⊥
   none_there refused = no_image limits _ rest s.images s.read some (λ p good e. refused p good (sym next ∙ e))
 
-  pub noted_more : (p : Page) → IsImage limits p → slice_range log (at + 4096 * k) (at + 4096 * k + 4096) ≡ page_bytes p → 0 < at → NotedSoFar limits log at count (k + 1) old (set now p.block (at + 4096 * k))
+  pub noted_more : (p : Page) → IsImage limits p → slice_range log (at + 4096 * k) (at + 4096 * k + 4096) ≡ page_bytes p → 0 < at
+      → NotedSoFar limits log at count (k + 1) old (set now p.block (at + 4096 * k))
   noted_more p good is behind =
       let e : drop 4096 rest ≡ drop (4096 * (k + 1)) (take (4096 * count) (drop at log)) =
       drop-drop 4096 (4096 * k) (take (4096 * count) (drop at log)) ∙ ap (λ (n : ℕ). drop n (take (4096 * count) (drop at log))) (let f : 4096 * k + 4096 ≡ 4096 * (k + 1) = omega arith in f) in
@@ -106,11 +110,13 @@ module _ (limits : Format) (log : List ℕ) (at count k : ℕ) (old now : List �
         many = length-set now p.block (at + 4096 * k) ∙ s.many;
       }
 
-pub noted_end : (limits : Format) (log : List ℕ) (at count k : ℕ) (old now : List ℕ) → NotedSoFar limits log at count k old now → count ≤ k → at + 4096 * count ≤ length log → NotesImages limits log at count old now
+pub noted_end : (limits : Format) (log : List ℕ) (at count k : ℕ) (old now : List ℕ) → NotedSoFar limits log at count k old now → count ≤ k
+    → at + 4096 * count ≤ length log → NotesImages limits log at count old now
 noted_end limits log at count k old now s all inside = record {
   images = s.images;
   good = s.read.good;
-  is = images_end limits _ _ s.images s.read (nothing_left (4096 * k) (take (4096 * count) (drop at log)) (omega (arith, all, inside, length-take-le (4096 * count) (drop at log) (omega (arith, inside, length-drop at log)))));
+  is = images_end limits _ _ s.images s.read
+      (nothing_left (4096 * k) (take (4096 * count) (drop at log)) (omega (arith, all, inside, length-take-le (4096 * count) (drop at log) (omega (arith, inside, length-drop at log)))));
   noted = s.noted;
 }
   where
@@ -152,8 +158,11 @@ module _ (limits : Format) (log : List ℕ) (at : ℕ) (lasts : List ℕ) (s : G
         noted = a.noted s.images s.noted;
       }
 
-  pub no_group_there : get_or log at 0 ≡ 1 → ((group : List Page) (behind : List ℕ) → IsGroup limits group → 0 < length behind → drop (at + 1) log ≡ body group ++ behind → ⊥) → (others : List (List Page)) → SpellsGroups limits log others → ⊥
-  no_group_there is_open refused = no_group limits log (drop at log) s.images s.read (gate_at log at ∙ is_open) (λ group behind good more e. refused group behind good more (sym (drop-drop 1 at log) ∙ e))
+  pub no_group_there : get_or log at 0 ≡ 1
+      → ((group : List Page) (behind : List ℕ) → IsGroup limits group → 0 < length behind → drop (at + 1) log ≡ body group ++ behind → ⊥)
+      → (others : List (List Page)) → SpellsGroups limits log others → ⊥
+  no_group_there is_open refused =
+      no_group limits log (drop at log) s.images s.read (gate_at log at ∙ is_open) (λ group behind good more e. refused group behind good more (sym (drop-drop 1 at log) ∙ e))
 
   pub all_noted : get_or log at 0 ≢ 1 → AreAllNoted limits log lasts at
   all_noted shut = record {

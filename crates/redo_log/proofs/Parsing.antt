@@ -8,7 +8,7 @@ use Rattle.page_codec.specs.declared.page.Page.{Page}
 use Rattle.page_codec.specs.Spelling.{page_bytes}
 use Rattle.page_codec.proofs.Laws.{length-page, one_page}
 use Rattle.redo_log.specs.Images.{images_bytes, images_of}
-use Rattle.redo_log.specs.Groups.{IsImage, AreImages, IsGroup, AreGroups, body, spelled, SpellsGroups}
+use Rattle.redo_log.specs.Groups.{IsImage, AreImages, IsGroup, AreGroups, body, spelled_groups, SpellsGroups}
 use Rattle.redo_log.specs.Reading.{NotesImages, NotesGroup, AreAllImages}
 use Rattle.redo_log.proofs.ImageLists.{images_bytes-append, length-images_bytes, all-append, images_of-push}
 use Rattle.redo_log.proofs.Leaving.{spelled-push}
@@ -70,7 +70,8 @@ parts head images rest behind four is = (
 )
 
 -- bytes that begin with a group, of which the number was read
-module _ (limits : Format) (behind rest : List ℕ) (group : List Page) (count : ℕ) (good : IsGroup limits group) (is : behind ≡ body group ++ rest) (number : count ≡ from_le_bytes w32 (take 4 behind)) where
+module _ (limits : Format) (behind rest : List ℕ) (group : List Page) (count : ℕ) (good : IsGroup limits group) (is : behind ≡ body group ++ rest)
+    (number : count ≡ from_le_bytes w32 (take 4 behind)) where
   two : (take 4 behind ≡ to_le_bytes w32 (length group)) × (drop 4 behind ≡ images_bytes group ++ rest)
   two = parts (to_le_bytes w32 (length group)) (images_bytes group) rest behind refl is
 
@@ -87,10 +88,12 @@ module _ (limits : Format) (behind rest : List ℕ) (group : List Page) (count :
   group_images = ap (take (4096 * count)) two.1 ∙ take_at (images_bytes group) rest (4096 * count) (omega (arith, length-images_bytes limits group good.images, group_count))
 
   pub group_rest : drop (4 + 4096 * count) behind ≡ rest
-  group_rest = sym (drop-drop (4096 * count) 4 behind) ∙ (ap (drop (4096 * count)) two.1 ∙ drop_at (images_bytes group) rest (4096 * count) (omega (arith, length-images_bytes limits group good.images, group_count)))
+  group_rest = sym (drop-drop (4096 * count) 4 behind)
+      ∙ (ap (drop (4096 * count)) two.1 ∙ drop_at (images_bytes group) rest (4096 * count) (omega (arith, length-images_bytes limits group good.images, group_count)))
 
 -- a group was read
-pub group_noted : (limits : Format) (log bodies number : List ℕ) (at count : ℕ) (old new : List ℕ) → number ≡ take 4 (drop at log) → bodies ≡ drop 4 (drop at log) → length number ≡ 4 → ((i : ℕ) → get_or number i 0 < 256) → count ≡ from_le_bytes w32 number
+pub group_noted : (limits : Format) (log bodies number : List ℕ) (at count : ℕ) (old new : List ℕ) → number ≡ take 4 (drop at log)
+    → bodies ≡ drop 4 (drop at log) → length number ≡ 4 → ((i : ℕ) → get_or number i 0 < 256) → count ≡ from_le_bytes w32 number
     → 0 < count → count < 2 ^ 32 → 4096 * count < length bodies → NotesImages limits log (at + 4) count old new → NotesGroup limits log at count old new
 group_noted limits log bodies number at count old new head tail four fit read some few long a =
     let behind = drop at log in
@@ -122,7 +125,7 @@ take_small (suc n) (x ∷ xs) all (suc i) = take_small n xs (λ k. all (suc k)) 
 pub record GroupsSoFar (limits : Format) (bytes rest : List ℕ) (now : List Page) : Type 0 where
   pub groups : List (List Page)
   pub good : AreGroups limits groups
-  pub is : bytes ≡ spelled groups ++ rest
+  pub is : bytes ≡ spelled_groups groups ++ rest
   pub images_are : now ≡ images_of groups
   pub some : 0 < length rest
   pub only : (others : List (List Page)) → SpellsGroups limits bytes others → (t : List (List Page)) × (others ≡ groups ++ t) × SpellsGroups limits rest t
@@ -178,16 +181,17 @@ next_group limits rest [] is_open s = absurd (s.closed (sym (ap (λ (l : List �
 next_group limits rest (g ∷ q) is_open s = record {
   group = g;
   others = q;
-  behind = spelled q ++ s.gate ∷ s.rest;
+  behind = spelled_groups q ++ s.gate ∷ s.rest;
   are = refl;
   good = s.good.0;
-  is = ap (drop 1) s.is ∙ append_assoc (body g) (spelled q) (s.gate ∷ s.rest);
+  is = ap (drop 1) s.is ∙ append_assoc (body g) (spelled_groups q) (s.gate ∷ s.rest);
   spells = record { good = s.good.1; gate = s.gate; closed = s.closed; rest = s.rest; is = refl };
-  more = omega (arith, length-append (spelled q) (s.gate ∷ s.rest));
+  more = omega (arith, length-append (spelled_groups q) (s.gate ∷ s.rest));
 }
 
 module _ (limits : Format) (bytes rest : List ℕ) (now : List Page) (s : GroupsSoFar limits bytes rest now) (is_open : get_or rest 0 0 ≡ 1) where
-  pub group_read : (group : List Page) (count : ℕ) → IsGroup limits group → drop 1 rest ≡ body group ++ drop (4 + 4096 * count) (drop 1 rest) → 0 < length (drop (4 + 4096 * count) (drop 1 rest)) → GroupsSoFar limits bytes (drop (5 + 4096 * count) rest) (now ++ group)
+  pub group_read : (group : List Page) (count : ℕ) → IsGroup limits group → drop 1 rest ≡ body group ++ drop (4 + 4096 * count) (drop 1 rest)
+      → 0 < length (drop (4 + 4096 * count) (drop 1 rest)) → GroupsSoFar limits bytes (drop (5 + 4096 * count) rest) (now ++ group)
   group_read group count good here more =
       let left = drop (4 + 4096 * count) (drop 1 rest) in
       let e : left ≡ drop (5 + 4096 * count) rest = drop-drop (4 + 4096 * count) 1 rest ∙ ap (λ (n : ℕ). drop n rest) (let f : 1 + (4 + 4096 * count) ≡ 5 + 4096 * count = omega arith in f) in
@@ -195,7 +199,7 @@ module _ (limits : Format) (bytes rest : List ℕ) (now : List Page) (s : Groups
         groups = s.groups ++ group ∷ [];
         good = all-append (IsGroup limits) s.groups (group ∷ []) s.good (good, tt);
         is = s.is
-            ∙ (ap (λ (l : List ℕ). spelled s.groups ++ l) (open_gate rest s.some is_open ∙ ap (λ (l : List ℕ). 1 ∷ l) here)
+            ∙ (ap (λ (l : List ℕ). spelled_groups s.groups ++ l) (open_gate rest s.some is_open ∙ ap (λ (l : List ℕ). 1 ∷ l) here)
             ∙ sym (spelled-push s.groups group left));
         images_are = ap (λ (l : List Page). l ++ group) s.images_are ∙ sym (images_of-push s.groups group);
         some = more;
@@ -209,7 +213,8 @@ module _ (limits : Format) (bytes rest : List ℕ) (now : List Page) (s : Groups
             );
       })
 
-  pub no_group : ((group : List Page) (behind : List ℕ) → IsGroup limits group → 0 < length behind → drop 1 rest ≡ body group ++ behind → ⊥) → (others : List (List Page)) → SpellsGroups limits bytes others → ⊥
+  pub no_group : ((group : List Page) (behind : List ℕ) → IsGroup limits group → 0 < length behind → drop 1 rest ≡ body group ++ behind → ⊥)
+      → (others : List (List Page)) → SpellsGroups limits bytes others → ⊥
   no_group refused others is =
       let t = s.only others is in
       let n = next_group limits rest t.0 is_open t.2 in
@@ -219,10 +224,10 @@ module _ (limits : Format) (bytes rest : List ℕ) (now : List Page) (s : Groups
 pub groups_end : (limits : Format) (bytes rest : List ℕ) (now : List Page) → GroupsSoFar limits bytes rest now → get_or rest 0 0 ≢ 1 → AreAllImages limits bytes now (length bytes - length rest)
 groups_end limits bytes rest now s shut = record {
   groups = s.groups;
-  spells = record { good = s.good; gate = get_or rest 0 0; closed = shut; rest = drop 1 rest; is = s.is ∙ ap (λ (l : List ℕ). spelled s.groups ++ l) (gate_and_rest rest s.some) };
+  spells = record { good = s.good; gate = get_or rest 0 0; closed = shut; rest = drop 1 rest; is = s.is ∙ ap (λ (l : List ℕ). spelled_groups s.groups ++ l) (gate_and_rest rest s.some) };
   images_are = s.images_are;
-  end_is = omega (arith, ap length s.is, length-append (spelled s.groups) rest);
-  within = omega (arith, s.some, ap length s.is, length-append (spelled s.groups) rest);
+  end_is = omega (arith, ap length s.is, length-append (spelled_groups s.groups) rest);
+  within = omega (arith, s.some, ap length s.is, length-append (spelled_groups s.groups) rest);
   only = λ others is.
       let t = s.only others is in
       t.1 ∙ (ap (λ (l : List (List Page)). s.groups ++ l) (none_left t.0 t.2) ∙ append-nil s.groups);

@@ -3,12 +3,12 @@ use Rattle.std.proofs.Common.{◌≡◌, ℕ, ◌+◌, ◌-◌, ◌≤◌, List,
 use Rattle.std.proofs.Math.Seq.{drop-length}
 use Rattle.std.proofs.lemmas.List.{get_or-drop, get_or-take, get_or_append_left}
 use Rattle.std.specs.Prelude.{slice_range}
-use Rattle.device.specs.Disk.{Moment}
+use Rattle.device.specs.Disk.{DiskMoment}
 use Rattle.device.specs.Places.{Has}
 use Rattle.index_model.specs.declared.format.Format.{Format}
 use Rattle.page_codec.specs.declared.page.Page.{Page}
 use Rattle.redo_log.specs.Images.{images_of}
-use Rattle.redo_log.specs.Groups.{IsImage, AreImages, AreGroups, spelled, SpellsGroups, log_range}
+use Rattle.redo_log.specs.Groups.{IsImage, AreImages, AreGroups, spelled_groups, SpellsGroups, log_range}
 use Rattle.redo_log.specs.Kept.{IsSettled, waiting_blocks}
 use Rattle.redo_log.specs.Reading.{AreAllImages, AreAllNoted, Replays, IsReplay, bytes_at}
 use Rattle.redo_log.specs.declared.log.Log.{Log}
@@ -36,15 +36,16 @@ has_range start size file q rest is fits =
           ∙ (ap (λ (l : List ℕ). get_or l i 0) is ∙ get_or_append_left q rest 0 i lt));
     }
 
-pub replayed : (limits : Format) (m : Moment) (log : Log) (bytes : List ℕ) (images : List Page) (at : ℕ) → bytes ≡ log_range limits m.seen → 4096 + limits.log_bytes ≤ length m.seen → AreAllImages limits bytes images at
+pub replayed : (limits : Format) (m : DiskMoment) (log : Log) (bytes : List ℕ) (images : List Page) (at : ℕ) → bytes ≡ log_range limits m.seen
+    → 4096 + limits.log_bytes ≤ length m.seen → AreAllImages limits bytes images at
     → log.limits ≡ limits → log.at ≡ at → waiting_blocks log ≡ [] → log.stopped ≡ false → Replays limits m log images
 replayed limits m log bytes images at are fits r limits_are at_is idle alive =
     let s = r.spells in
-    let there : take limits.log_bytes (drop 4096 m.seen) ≡ (spelled r.groups ++ s.gate ∷ []) ++ s.rest = sym are ∙ (s.is ∙ sym (append_assoc (spelled r.groups) (s.gate ∷ []) s.rest)) in
-    let has = has_range 4096 limits.log_bytes m.seen (spelled r.groups ++ s.gate ∷ []) s.rest there fits in
-    let long : length (spelled r.groups ++ s.gate ∷ []) ≤ limits.log_bytes = omega (
+    let there : take limits.log_bytes (drop 4096 m.seen) ≡ (spelled_groups r.groups ++ s.gate ∷ []) ++ s.rest = sym are ∙ (s.is ∙ sym (append_assoc (spelled_groups r.groups) (s.gate ∷ []) s.rest)) in
+    let has = has_range 4096 limits.log_bytes m.seen (spelled_groups r.groups ++ s.gate ∷ []) s.rest there fits in
+    let long : length (spelled_groups r.groups ++ s.gate ∷ []) ≤ limits.log_bytes = omega (
       arith,
-      length-append (spelled r.groups) (s.gate ∷ []),
+      length-append (spelled_groups r.groups) (s.gate ∷ []),
       r.end_is,
       r.within,
       ap length are,
@@ -79,7 +80,8 @@ images_good limits [] good = tt
 images_good limits (group ∷ groups) good = all-append (IsImage limits) group (images_of groups) good.0.images (images_good limits groups good.1)
 
 -- what was noted of the bytes that were read is what a replay finds
-pub replay_found : (limits : Format) (honest : Bool) (m : Moment) (found : Replayed) (log lasts : List ℕ) (end : ℕ) → AreAllNoted limits log lasts end → log ≡ found.log.buffer.items → lasts ≡ found.lasts.items → (IsTrue honest → log ≡ log_range limits m.seen) → 4096 + limits.log_bytes ≤ length m.seen
+pub replay_found : (limits : Format) (honest : Bool) (m : DiskMoment) (found : Replayed) (log lasts : List ℕ) (end : ℕ)
+    → AreAllNoted limits log lasts end → log ≡ found.log.buffer.items → lasts ≡ found.lasts.items → (IsTrue honest → log ≡ log_range limits m.seen) → 4096 + limits.log_bytes ≤ length m.seen
     → found.log.limits ≡ limits → found.log.at ≡ end → waiting_blocks found.log ≡ [] → found.log.stopped ≡ false → IsReplay limits honest m found
 replay_found limits honest m found log lasts end n log_is lasts_are read fits limits_are at_is idle alive = record {
   images = n.images;

@@ -1,14 +1,14 @@
 -- What the closing of a log leaves.
 use Rattle.std.proofs.Common.{◌≡◌, inl, inr, ⊎_elim, ℕ, ◌+◌, ◌<◌, ◌≤◌, List, [], ◌∷◌, length, take, drop, false, Result, Ok, Err, refl, sym, ap, subst, arith}
 use Rattle.std.specs.Prelude.{OnOk}
-use Rattle.device.specs.Disk.{Moment, Trace, Writes, Syncs, next, wrote}
+use Rattle.device.specs.Disk.{DiskMoment, Trace, Writes, Syncs, next, wrote}
 use Rattle.device.specs.Moments.{Goes}
 use Rattle.device.specs.Places.{Has, OnDisk, ChangesOnly}
 use Rattle.device.proofs.Going.{steps, goes_on, writes_goes, syncs_goes, goes_weaker}
 use Rattle.device.proofs.Standing.{only_wider, only_more, wrote_only, wrote_has, synced_only, synced_on}
 use Rattle.page_codec.specs.declared.page.Page.{Page}
 use Rattle.redo_log.specs.Images.{images_of}
-use Rattle.redo_log.specs.Groups.{spelled}
+use Rattle.redo_log.specs.Groups.{spelled_groups}
 use Rattle.redo_log.specs.Kept.{Keeps, Waits, RestartsOrEmpty}
 use Rattle.redo_log.specs.declared.log.Log.{Log}
 use Rattle.redo_log.proofs.Leaving.{resetting}
@@ -16,7 +16,7 @@ use Rattle.redo_log.proofs.ImageLists.{same_refl, same_eq}
 
 -- one byte is written at a place, and synced: at each moment only that byte changes
 module _ (at : ℕ) (t : Trace) (inside : at + 1 ≤ length t.now.seen) where
-  abbrev P : Moment → Type 0
+  abbrev P : DiskMoment → Type 0
   P = ChangesOnly at 1 t.now
 
   one_only : (b : List ℕ) → length b ≡ 1 → P (wrote at b t.now)
@@ -51,11 +51,11 @@ pub in_range : (log : Log) (old new : Trace) → Goes (ChangesOnly 4096 1 old.no
 in_range log old new gone = goes_weaker _ _ old new (λ n only. only_wider 4096 1 4096 log.limits.log_bytes old.now n (omega arith) (omega (arith, log.least)) only) gone
 
 -- with no group on the disk what is kept waits
-no_groups : (gs : List (List Page)) → length (spelled gs) ≡ 0 → gs ≡ []
+no_groups : (gs : List (List Page)) → length (spelled_groups gs) ≡ 0 → gs ≡ []
 no_groups [] e = refl
 no_groups (g ∷ gs) e = absurd (omega arith)
 
-pub empty_keeps : (log : Log) (m : Moment) (acts : List (List Page)) (forced : ℕ) → Keeps log m acts forced → log.at ≡ 0 → Keeps log m (drop forced acts) 0
+pub empty_keeps : (log : Log) (m : DiskMoment) (acts : List (List Page)) (forced : ℕ) → Keeps log m acts forced → log.at ≡ 0 → Keeps log m (drop forced acts) 0
 empty_keeps log m acts forced k start =
     let nothing : k.groups ≡ [] = no_groups k.groups (omega (arith, k.settled.end, start)) in
     record {
@@ -70,8 +70,8 @@ empty_keeps log m acts forced k start =
     }
 
 -- and so it does once the first gate is closed
-pub reset_keeps : (old : Log) (before : Moment) (acts : List (List Page)) (forced : ℕ) → (k : Keeps old before acts forced)
-    → (log : Log) (m : Moment) → log.at ≡ 0 → log.stopped ≡ false → Waits log k.waiting → OnDisk 4096 (0 ∷ []) m → Keeps log m (drop forced acts) 0
+pub reset_keeps : (old : Log) (before : DiskMoment) (acts : List (List Page)) (forced : ℕ) → (k : Keeps old before acts forced)
+    → (log : Log) (m : DiskMoment) → log.at ≡ 0 → log.stopped ≡ false → Waits log k.waiting → OnDisk 4096 (0 ∷ []) m → Keeps log m (drop forced acts) 0
 reset_keeps old before acts forced k log m start alive waits on = record {
   alive = alive;
   groups = [];

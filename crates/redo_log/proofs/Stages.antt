@@ -1,7 +1,7 @@
 -- What stands on the disk after each call of a publication.
 use Rattle.std.proofs.Common.{◌≡◌, inl, inr, ℕ, ◌+◌, ◌≤◌, List, [], ◌∷◌, length, Result, Ok, Err, refl, sym, ap, subst, arith}
 use Rattle.std.specs.Prelude.{OnOk}
-use Rattle.device.specs.Disk.{Moment, Trace, next, wrote, synced, Writes, Syncs}
+use Rattle.device.specs.Disk.{DiskMoment, Trace, next, wrote, synced, Writes, Syncs}
 use Rattle.device.specs.Moments.{Goes}
 use Rattle.device.specs.Places.{Has, OnDisk, ChangesOnly}
 use Rattle.device.proofs.Going.{steps, goes_on, writes_goes, syncs_goes}
@@ -9,7 +9,7 @@ use Rattle.device.proofs.Standing.{wrote_only, synced_only, only_more, only_wide
 use Rattle.redo_log.specs.Publish.{IsShut, IsShutOrWhole}
 
 module _ (gate : ℕ) (body : List ℕ) (t : Trace) (room : gate + (length body + 1) ≤ length t.now.seen) where
-  abbrev P : Moment → Type 0
+  abbrev P : DiskMoment → Type 0
   P = IsShutOrWhole gate body t.now
 
   body_only : (b : List ℕ) → length b ≡ length body → ChangesOnly gate (length body + 1) t.now (wrote (gate + 1) b t.now)
@@ -34,7 +34,7 @@ module _ (gate : ℕ) (body : List ℕ) (t : Trace) (room : gate + (length body 
     now_is = ap (λ (v : Trace). v.now) is
 
     body_has : Has (gate + 1) body u.now.seen
-    body_has = subst (λ (m : Moment). Has (gate + 1) body m.seen) (sym now_is) (wrote_has (gate + 1) body t.now (omega arith))
+    body_has = subst (λ (m : DiskMoment). Has (gate + 1) body m.seen) (sym now_is) (wrote_has (gate + 1) body t.now (omega arith))
 
     u_only : ChangesOnly gate (length body + 1) t.now u.now
     u_only = subst (ChangesOnly gate (length body + 1) t.now) (sym now_is) (body_only body refl)
@@ -89,7 +89,7 @@ module _ (gate : ℕ) (body : List ℕ) (t : Trace) (room : gate + (length body 
 
         w_has : Has gate (1 ∷ body) w.now.seen
         w_has =
-            subst (λ (m : Moment). Has gate (1 ∷ body) m.seen) (sym w_is)
+            subst (λ (m : DiskMoment). Has gate (1 ∷ body) m.seen) (sym w_is)
             (has_both gate (1 ∷ []) body _ (wrote_has gate (1 ∷ []) v.now v_room)
             (has_kept gate 1 (gate + 1) body v.now _ (wrote_only gate (1 ∷ []) v.now v_room) (inr (omega arith)) v_body.has))
 

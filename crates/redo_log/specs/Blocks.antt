@@ -7,18 +7,18 @@ use Rattle.redo_log.specs.Images.{images_bytes}
 use Rattle.redo_log.specs.Groups.{AreImages}
 
 -- the blocks of these images, in order
-abbrev pub blocks_of : List Page → List ℕ
-blocks_of [] = []
-blocks_of (p ∷ ps) = p.block ∷ blocks_of ps
+abbrev pub image_blocks : List Page → List ℕ
+image_blocks [] = []
+image_blocks (p ∷ ps) = p.block ∷ image_blocks ps
 
 -- the block is one of these
-abbrev pub is_among : List ℕ → ℕ → Bool
-is_among [] block = false
-is_among (b ∷ blocks) block = (b == block) || is_among blocks block
+abbrev pub is_among_blocks : List ℕ → ℕ → Bool
+is_among_blocks [] block = false
+is_among_blocks (b ∷ blocks) block = (b == block) || is_among_blocks blocks block
 
 -- these blocks, and behind them this one where it isn't among them
 abbrev pub with_block : List ℕ → ℕ → List ℕ
-with_block blocks block = if is_among blocks block then blocks else blocks ++ block ∷ []
+with_block blocks block = if is_among_blocks blocks block then blocks else blocks ++ block ∷ []
 
 -- these blocks, and behind them those of the images that aren't among them, each once
 abbrev pub with_blocks : List ℕ → List Page → List ℕ
@@ -29,7 +29,7 @@ with_blocks blocks (p ∷ ps) = with_blocks (with_block blocks p.block) ps
 abbrev pub new_count : List ℕ → List Page → ℕ
 new_count blocks [] = 0
 new_count blocks (p ∷ ps) =
-    if is_among blocks p.block || is_among (blocks_of ps) p.block
+    if is_among_blocks blocks p.block || is_among_blocks (image_blocks ps) p.block
     then new_count blocks ps else suc (new_count blocks ps)
 
 -- each of them is of a block below this number
@@ -50,5 +50,5 @@ with_images laid (p ∷ ps) = with_images (with_image laid p) ps
 pub record AreLaid (limits : Format) (order buffer : List ℕ) (laid : List Page) : Type 0 where
   pub counted : length laid ≡ length order
   pub images : AreImages limits laid
-  pub blocks : blocks_of laid ≡ order
+  pub blocks : image_blocks laid ≡ order
   pub buffered : take (4096 * length order) (drop 4 buffer) ≡ images_bytes laid

@@ -2,7 +2,7 @@
 use Rattle.std.specs.Prelude.{◌≡◌, ◌≢◌, ℕ, ◌^◌, ◌<◌, ◌≤◌, List, [], ◌∷◌, ◌++◌, length, take, drop}
 use Rattle.std.specs.Int.{w32, to_le_bytes}
 use Rattle.std.specs.List.{AllByRecursion}
-use Rattle.device_layout.specs.Layout.{log_start}
+use Rattle.page_codec.specs.Places.{log_start}
 use Rattle.index_model.specs.Limits.{Admits}
 use Rattle.index_model.specs.declared.format.Format.{Format}
 use Rattle.page_codec.specs.declared.page.Page.{Page}
@@ -40,9 +40,9 @@ abbrev pub body : List Page → List ℕ
 body group = to_le_bytes w32 (length group) ++ images_bytes group
 
 -- the groups, each behind an open gate
-abbrev pub spelled : List (List Page) → List ℕ
-spelled [] = []
-spelled (group ∷ groups) = 1 ∷ body group ++ spelled groups
+abbrev pub spelled_groups : List (List Page) → List ℕ
+spelled_groups [] = []
+spelled_groups (group ∷ groups) = 1 ∷ body group ++ spelled_groups groups
 
 -- the bytes are these groups, open, then a gate that isn't 1, and anything
 pub record SpellsGroups (limits : Format) (bytes : List ℕ) (groups : List (List Page))
@@ -51,7 +51,7 @@ pub record SpellsGroups (limits : Format) (bytes : List ℕ) (groups : List (Lis
   pub gate : ℕ
   pub closed : gate ≢ 1
   pub rest : List ℕ
-  pub is : bytes ≡ spelled groups ++ gate ∷ rest
+  pub is : bytes ≡ spelled_groups groups ++ gate ∷ rest
 
 -- the log's range of a device
 abbrev pub log_range : Format → List ℕ → List ℕ

@@ -1,15 +1,15 @@
 -- What a log stands for, at a moment of its device and after a crash.
 use Rattle.std.specs.Prelude.{◌≡◌, ◌≢◌, ◌⊎◌, ℕ, suc, Result, MatchResult, ◌+◌, ◌-◌, ◌*◌, ◌^◌, ◌≤◌, Bool, false, true, List, [], ◌∷◌, ◌++◌, length, take, drop}
-use Rattle.device.specs.Disk.{Moment, Trace, MayLeave}
+use Rattle.device.specs.Disk.{DiskMoment, Trace, MayLeave}
 use Rattle.device.specs.Moments.{Goes}
 use Rattle.device.specs.Places.{OnDisk, ChangesOnly, IsUntouched}
-use Rattle.device_layout.specs.Layout.{log_start}
+use Rattle.page_codec.specs.Places.{log_start}
 use Rattle.index_model.specs.declared.fault.Fault.{Fault}
 use Rattle.index_model.specs.declared.fault.Fault.TheVariants.{Io, Stopped}
 use Rattle.index_model.specs.declared.format.Format.{Format}
 use Rattle.page_codec.specs.declared.page.Page.{Page}
 use Rattle.redo_log.specs.Images.{SameImages, images_of}
-use Rattle.redo_log.specs.Groups.{AreGroups, spelled, SpellsGroups, log_range}
+use Rattle.redo_log.specs.Groups.{AreGroups, spelled_groups, SpellsGroups, log_range}
 use Rattle.redo_log.specs.Blocks.{AreLaid}
 use Rattle.redo_log.specs.declared.log.Log.{Log}
 
@@ -61,13 +61,13 @@ IoOrStopped result was_stopped old new = MatchResult result (λ _. new ≡ old)
     (λ e. ((e ≡ Io) × (new ≡ suc old)) ⊎ ((e ≡ Stopped) × (was_stopped ≡ true) × (new ≡ old)))
 
 -- its groups stand on the disk, and behind them a gate that isn't 1
-pub record IsSettled (limits : Format) (start at : ℕ) (groups : List (List Page)) (m : Moment)
+pub record IsSettled (limits : Format) (start at : ℕ) (groups : List (List Page)) (m : DiskMoment)
     : Type 0 where
   pub good : AreGroups limits groups
-  pub end : at ≡ length (spelled groups)
+  pub end : at ≡ length (spelled_groups groups)
   pub gate : ℕ
   pub closed : gate ≢ 1
-  pub on_disk : OnDisk start (spelled groups ++ gate ∷ []) m
+  pub on_disk : OnDisk start (spelled_groups groups ++ gate ∷ []) m
 
 -- these images wait in its buffer, one of each block that waits
 abbrev pub Waits : Log → List Page → Type 0
@@ -75,7 +75,7 @@ Waits log waiting = AreLaid log.limits (waiting_blocks log) log.buffer.items wai
 
 -- the log keeps these actions, of which the first so many are forced: on the disk stand the last
 -- images of these, and the last images of the others wait
-pub record Keeps (log : Log) (m : Moment) (acts : List (List Page)) (forced : ℕ) : Type 0 where
+pub record Keeps (log : Log) (m : DiskMoment) (acts : List (List Page)) (forced : ℕ) : Type 0 where
   pub alive : log.stopped ≡ false
   pub groups : List (List Page)
   pub settled : IsSettled log.limits log_start log.at groups m
@@ -101,27 +101,27 @@ pub record HoldsFirst (limits : Format) (acts : List (List Page)) (forced : ℕ)
   pub holds : Holds limits image (take part acts)
 
 -- a crash at this moment leaves some first part of the actions with every forced one
-abbrev pub Restarts : Format → List (List Page) → ℕ → Moment → Type 0
+abbrev pub Restarts : Format → List (List Page) → ℕ → DiskMoment → Type 0
 Restarts limits acts forced m =
     (image : List ℕ) → MayLeave m image → HoldsFirst limits acts forced image
 
 -- a crash at this moment leaves these actions, or nothing
-abbrev pub RestartsOrEmpty : Format → List (List Page) → Moment → Type 0
+abbrev pub RestartsOrEmpty : Format → List (List Page) → DiskMoment → Type 0
 RestartsOrEmpty limits acts m =
     (image : List ℕ) → MayLeave m image → Holds limits image acts ⊎ Holds limits image []
 
 -- whatever actions the log kept, it keeps these images as one more, which isn't forced
 abbrev pub AddsAction : List Page → Log → Log → Type 0
-AddsAction images old new = (m : Moment) (acts : List (List Page)) (forced : ℕ)
+AddsAction images old new = (m : DiskMoment) (acts : List (List Page)) (forced : ℕ)
     → Keeps old m acts forced → Keeps new m (acts ++ images ∷ []) forced
 
 -- whatever actions the log kept, all of them are forced now
-abbrev pub ForcesAll : Log → Moment → Log → Moment → Type 0
+abbrev pub ForcesAll : Log → DiskMoment → Log → DiskMoment → Type 0
 ForcesAll old before new after = (acts : List (List Page)) (forced : ℕ)
     → Keeps old before acts forced → Keeps new after acts (length acts)
 
 -- whatever actions the log kept, it keeps those that weren't forced, and none of them is forced now
-abbrev pub ForgetsForced : Log → Moment → Log → Moment → Type 0
+abbrev pub ForgetsForced : Log → DiskMoment → Log → DiskMoment → Type 0
 ForgetsForced old before new after = (acts : List (List Page)) (forced : ℕ)
     → Keeps old before acts forced → Keeps new after (drop forced acts) 0
 
@@ -142,16 +142,16 @@ abbrev pub ChangesItsRange : Format → Trace → Trace → Type 0
 ChangesItsRange limits old new = Goes (ChangesOnly log_start limits.log_bytes old.now) old new
 
 -- nothing in the log's range has changed, and no crash changes more of it
-abbrev pub RangeIsUntouched : Format → Moment → Moment → Type 0
+abbrev pub RangeIsUntouched : Format → DiskMoment → DiskMoment → Type 0
 RangeIsUntouched limits old new = IsUntouched log_start limits.log_bytes old new
 
 -- whatever actions the log keeps at one moment, it keeps at each at which its range is untouched
 abbrev pub KeepsWhileUntouched : Log → Type 0
-KeepsWhileUntouched log = (old new : Moment) (acts : List (List Page)) (forced : ℕ)
+KeepsWhileUntouched log = (old new : DiskMoment) (acts : List (List Page)) (forced : ℕ)
     → RangeIsUntouched (limits_of log) old new
     → Keeps log old acts forced → Keeps log new acts forced
 
 -- whatever actions the log keeps, a crash leaves a first part of them with every forced one
 abbrev pub WhatItKeepsRestarts : Log → Type 0
-WhatItKeepsRestarts log = (m : Moment) (acts : List (List Page)) (forced : ℕ)
+WhatItKeepsRestarts log = (m : DiskMoment) (acts : List (List Page)) (forced : ℕ)
     → Keeps log m acts forced → Restarts (limits_of log) acts forced m

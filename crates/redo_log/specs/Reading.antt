@@ -1,15 +1,15 @@
 -- What reading a log finds.
 use Rattle.std.specs.Prelude.{◌≡◌, ◌⊎◌, ℕ, suc, Result, MatchResult, ◌+◌, ◌*◌, ◌<◌, ◌≤◌, ◌==◌, if◌then◌else◌, Bool, IsTrue, false, Option, Some, None, List, ◌++◌, length, take, drop, get_or, slice_range}
 use Rattle.std.specs.Option.{option_map}
-use Rattle.device.specs.Disk.{Moment}
-use Rattle.device_layout.specs.Layout.{log_start}
+use Rattle.device.specs.Disk.{DiskMoment}
+use Rattle.page_codec.specs.Places.{log_start}
 use Rattle.index_model.specs.declared.fault.Fault.{Fault}
 use Rattle.index_model.specs.declared.fault.Fault.TheVariants.{Io, NoMemory, LogDamaged}
 use Rattle.index_model.specs.declared.format.Format.{Format}
 use Rattle.page_codec.specs.declared.page.Page.{Page}
 use Rattle.page_codec.specs.Spelling.{page_bytes}
 use Rattle.redo_log.specs.Images.{images_bytes, images_of, last_image}
-use Rattle.redo_log.specs.Groups.{AreImages, IsGroup, body, spelled, SpellsGroups, log_range}
+use Rattle.redo_log.specs.Groups.{AreImages, IsGroup, body, spelled_groups, SpellsGroups, log_range}
 use Rattle.redo_log.specs.Kept.{Keeps, limits_of, actions_of, waiting_count, is_stopped}
 use Rattle.redo_log.specs.declared.log.Log.{Log}
 use Rattle.redo_log.specs.declared.log.Replayed.{Replayed}
@@ -53,7 +53,7 @@ pub record AreAllImages (limits : Format) (bytes : List ℕ) (images : List Page
   pub groups : List (List Page)
   pub spells : SpellsGroups limits bytes groups
   pub images_are : images ≡ images_of groups
-  pub end_is : end ≡ length (spelled groups)
+  pub end_is : end ≡ length (spelled_groups groups)
   pub within : end + 1 ≤ length bytes
   -- the bytes are no other groups
   pub only : (others : List (List Page)) → SpellsGroups limits bytes others → others ≡ groups
@@ -65,12 +65,12 @@ pub record AreAllNoted (limits : Format) (bytes lasts : List ℕ) (end : ℕ) : 
   pub noted : AreNoted limits bytes images lasts
 
 -- no crash changes the log's range
-pub record IsFirm (limits : Format) (m : Moment) : Type 0 where
+pub record IsFirm (limits : Format) (m : DiskMoment) : Type 0 where
   pub firm : (i : ℕ) → i < limits.log_bytes → m.loose (log_start + i) ≡ false
 
 -- reading found these images, which the log's range of the device stands for and no others; and if
 -- no crash changes that range, the log keeps each of its groups as a forced action
-pub record Replays (limits : Format) (m : Moment) (log : Log) (images : List Page) : Type 0 where
+pub record Replays (limits : Format) (m : DiskMoment) (log : Log) (images : List Page) : Type 0 where
   pub groups : List (List Page)
   pub spells : SpellsGroups limits (log_range limits m.seen) groups
   pub images_are : images ≡ images_of groups
@@ -90,7 +90,7 @@ pub record KeepsLast (found : Replayed) (images : List Page) : Type 0 where
 
 -- what a replay kept are the last ones of these images, whatever the device answered; and an honest
 -- device has them
-pub record IsReplay (limits : Format) (honest : Bool) (m : Moment) (found : Replayed)
+pub record IsReplay (limits : Format) (honest : Bool) (m : DiskMoment) (found : Replayed)
     : Type 0 where
   pub images : List Page
   pub good : AreImages limits images
@@ -111,6 +111,6 @@ ReplayFails result old new = MatchResult result (λ _. new ≡ old)
     (λ e. ((e ≡ Io) × (new ≡ suc old)) ⊎ (((e ≡ NoMemory) ⊎ (e ≡ LogDamaged)) × (new ≡ old)))
 
 -- no groups are spelled in the log's range: an open group there is none
-abbrev pub IsDamaged : Format → Moment → Type 0
+abbrev pub IsDamaged : Format → DiskMoment → Type 0
 IsDamaged limits m =
     (groups : List (List Page)) → SpellsGroups limits (log_range limits m.seen) groups → ⊥

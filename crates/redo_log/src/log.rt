@@ -3,7 +3,7 @@
 ghost use Rattle.std.specs.Prelude.{◌⊎◌, ◌≡◌, ◌≤◌, ◌<◌, ◌+◌, ◌*◌, ◌/◌, ◌^◌, ℕ, suc, true, Err, IsTrue, IsErrOf, OnOk, OnErr, IfOk, IfErr, is_err, length, slice_index, vec_capacity};
 ghost use Rattle.std.specs.Bool.{OnTrue, OnFalse};
 ghost use Rattle.index_model.specs.Limits.{AreLimits};
-ghost use Rattle.device_layout.specs.Layout.{log_end};
+ghost use Rattle.page_codec.specs.Places.{log_end};
 ghost use Rattle.redo_log.specs.Groups.{AreImages};
 ghost use Rattle.redo_log.specs.Blocks.{with_blocks, new_count};
 
@@ -12,9 +12,8 @@ use crate::publish::{publish, shut};
 use crate::reading::note_groups;
 use crate::waiting::Waiting;
 use device::Device;
-use device_layout::LOG_START;
 use index_model::{Fault, Format};
-use page_codec::Page;
+use page_codec::{LOG_START, Page};
 use std::alloc::Global;
 
 /// A log, which lies in its range of a device. The room for the group that waits was made when it

@@ -1,7 +1,7 @@
 //! The blocks whose images wait, and where each of these images lies.
 
 ghost use Rattle.std.specs.Prelude.{◌≡◌, ℕ, ◌<◌, ◌≤◌, false, [], ◌∷◌, ◌++◌, length, slice_index, vec_capacity, IfOk, IfSome, IfNone};
-ghost use Rattle.redo_log.specs.Blocks.{blocks_of, is_among, with_block, new_count, AreInside};
+ghost use Rattle.redo_log.specs.Blocks.{image_blocks, is_among_blocks, with_block, new_count, AreInside};
 
 use page_codec::Page;
 use std::alloc::{AllocError, Global};
@@ -46,7 +46,7 @@ impl Waiting {
         requires { block < length self.now.places.items }
         ensures found { IfSome result (λ k. (k < length self.now.blocks.items)
             × (slice_index self.now.blocks.items k ≡ block)) }
-        ensures none { IfNone result (is_among self.now.blocks.items block ≡ false) }
+        ensures none { IfNone result (is_among_blocks self.now.blocks.items block ≡ false) }
     {
         let place = self.places[block as usize] as usize;
         if place < self.blocks.len() && self.blocks[place] == block {
@@ -59,7 +59,7 @@ impl Waiting {
     /// Whether the block waits.
     fn is_waiting(&self, block: u32) -> bool
         requires { block < length self.now.places.items }
-        ensures { result ≡ is_among self.now.blocks.items block }
+        ensures { result ≡ is_among_blocks self.now.blocks.items block }
     {
         self.place_of(block).is_some()
     }
@@ -113,7 +113,7 @@ impl Waiting {
 
 /// Whether one of these images is of the block.
 fn has_block(images: &[Page], block: u32) -> bool
-    ensures { result ≡ is_among (blocks_of images.now) block }
+    ensures { result ≡ is_among_blocks (image_blocks images.now) block }
 {
     let mut rest = images;
     while let [image, behind @ ..] = rest {

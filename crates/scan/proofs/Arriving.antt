@@ -18,7 +18,7 @@ use Rattle.tree_acts.specs.Trees.{HasTree, HasCover}
 use Rattle.tree_acts.proofs.Finishing.{covered}
 use Rattle.tree_acts.proofs.Lasting.{on_level}
 use Rattle.tree_acts.proofs.Overlays.{node_there}
-use Rattle.scan.specs.Scans.{ScanFits}
+use Rattle.scan.specs.Scans.{ScanInvariant}
 use Rattle.scan.specs.declared.steps.ScanOp.{ScanOp}
 
 -- a page of the lowest level has entries
@@ -53,5 +53,5 @@ live_leaf page has alive admitted = by page.items has admitted.kind
     by (Entries v) has k = subst (λ (s : PageState). IsLeafIn s page v.items) alive k.rest
 
 -- a scan may latch a page
-pub scan_has_room : (st : State) (op : ScanOp) → ScanFits st op → HasRoom st.table op.session
+pub scan_has_room : (st : State) (op : ScanOp) → ScanInvariant st op → HasRoom st.table op.session
 scan_has_room st op fits = subst (λ (h : Holding). length h.latches < 8) (sym fits.held) (omega arith)

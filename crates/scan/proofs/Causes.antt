@@ -8,8 +8,8 @@ use Rattle.latch_table.specs.Holdings.{has_pin, is_held_by_another}
 use Rattle.latch_table.specs.declared.mode.Mode.TheVariants.{Shared}
 use Rattle.page_action.specs.Causes.{pinned_blocks, count_apart}
 use Rattle.page_action.specs.States.{State, Backing}
-use Rattle.descent.specs.Causes.{where_looked}
-use Rattle.scan.specs.Scans.{where_scanning}
+use Rattle.descent.specs.Causes.{causes_of_looked}
+use Rattle.scan.specs.Scans.{causes_of_scanning}
 
 one_more : (c : Bool) (n : ℕ) → (if c then n else suc n) ≤ 1 + n
 one_more true n = omega arith
@@ -25,8 +25,8 @@ not_damaged : (block many : ℕ) (honest : Bool) → honest ≡ true → block <
 not_damaged block many true is lt h = (let k : many ≤ block = leb-true many block h in omega arith)
 not_damaged block many false is lt h = absurd cc
 
-pub scanning_cause : (st : State) (old new : Backing) (session block : ℕ) (fault : Fault) → new.honest ≡ true → block < length st.pages → HasCause (where_looked st old new session block) fault
-    → HasCause (where_scanning st old new session) fault
+pub scanning_cause : (st : State) (old new : Backing) (session block : ℕ) (fault : Fault) → new.honest ≡ true → block < length st.pages → HasCause (causes_of_looked st old new session block) fault
+    → HasCause (causes_of_scanning st old new session) fault
 scanning_cause st old new session block (Blocked b) honest used h =
     let parts = and_parts (b == block) (is_held_by_another st.table session block Shared) h in
     subst (λ (c : ℕ). is_held_by_another st.table session c Shared ≡ true) (sym (eqb-true b block parts.0)) parts.1

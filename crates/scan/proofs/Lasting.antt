@@ -14,7 +14,7 @@ use Rattle.tree_acts.proofs.Sizes.{low_level, pages_few}
 use Rattle.descent.specs.Shared.{NumbersStay}
 use Rattle.scan.specs.Scans.{LeafIsLive, leaf_pinned, ScanStands}
 use Rattle.descent.specs.Onward.{walk_length}
-use Rattle.scan.specs.Work.{count_ahead, leaves_left, walk_left}
+use Rattle.scan.specs.Work.{count_ahead, leaves_left, scan_walk_left}
 use Rattle.scan.specs.Laws.{PinnedLeavesLast, ScansAreUndisturbed, FreshScansAreBounded, ScansAreBounded}
 use Rattle.scan.specs.declared.steps.ScanAt.{ScanAt}
 use Rattle.scan.specs.declared.steps.ScanAt.TheVariants.{Start, At, Last}
@@ -62,7 +62,7 @@ leaves_few f pages (At way) = count_few f pages
 leaves_few f pages Last = omega arith
 
 -- what is left of the present walk is no more than a whole one
-walk_few : (st : State) (start most : ℕ) (leaf : Option ℕ) (f : Bound) (at : ScanAt) → HasTree st → ScanStands st start leaf f at → walk_left most at ≤ walk_length most
+walk_few : (st : State) (start most : ℕ) (leaf : Option ℕ) (f : Bound) (at : ScanAt) → HasTree st → ScanStands st start leaf f at → scan_walk_left most at ≤ walk_length most
 walk_few st start most leaf f Start has stands = omega arith
 walk_few st start most leaf f (At way) has stands =
     let low = low_level st start way.level (frontier_aim f) false way.block has stands.place in

@@ -18,8 +18,8 @@ use Rattle.descent.specs.Shared.{IsInOrder, Does}
 use Rattle.descent.specs.declared.way.Way.{Way}
 use Rattle.descent.proofs.Acting.{holds_else}
 use Rattle.descent.proofs.Shortening.{walk_is_long, way_shortens}
-use Rattle.scan.specs.Scans.{waiting, without_leaf, gone_to, behind, behind_leaf, frontier_past, ScanStands, ScanFits}
-use Rattle.scan.specs.Work.{scan_left, leaves_left, walk_left, count_ahead, is_ahead}
+use Rattle.scan.specs.Scans.{waiting, without_leaf, gone_to, behind, behind_leaf, frontier_past, ScanStands, ScanInvariant}
+use Rattle.scan.specs.Work.{scan_left, leaves_left, scan_walk_left, count_ahead, is_ahead}
 use Rattle.scan.specs.declared.steps.ScanAt.{ScanAt}
 use Rattle.scan.specs.declared.steps.ScanAt.TheVariants.{Start, At, Last}
 use Rattle.scan.specs.declared.steps.ScanOp.{ScanOp}
@@ -29,7 +29,7 @@ use Rattle.scan.proofs.Resting.{way_with}
 use Rattle.scan.proofs.Standing.{without_many, without_apart, without_other, without_held, stood_many, stood_apart, stood_other, stood_held}
 
 -- a scan that goes on to another page
-module _ (old new : State) (before : ScanOp) (order : IsInOrder old) (fits : ScanFits old before) (is : new ≡ with_table old (without_leaf old.table before.session before.leaf)) where
+module _ (old new : State) (before : ScanOp) (order : IsInOrder old) (fits : ScanInvariant old before) (is : new ≡ with_table old (without_leaf old.table before.session before.leaf)) where
   below : before.session < length old.table
   below = (let many = order.holdings in let low = fits.session in omega arith)
 
@@ -37,8 +37,8 @@ module _ (old new : State) (before : ScanOp) (order : IsInOrder old) (fits : Sca
   going_does = holds_else before.session old new (without_leaf old.table before.session before.leaf) is order (without_apart old.table before.session before.leaf below order.apart)
       (without_many old.table before.session before.leaf ∙ order.holdings) (λ other differ. without_other old.table before.session before.leaf other differ)
 
-  pub going_fits : (way : Way) → IsOnWay old fits.start (frontier_aim before.frontier) false 0 way → ScanFits new (gone_to before way)
-  going_fits way on = subst (λ (st : State). ScanFits st (gone_to before way)) (sym is) (record {
+  pub going_fits : (way : Way) → IsOnWay old fits.start (frontier_aim before.frontier) false 0 way → ScanInvariant new (gone_to before way)
+  going_fits way on = subst (λ (st : State). ScanInvariant st (gone_to before way)) (sym is) (record {
     session = fits.session;
     start = fits.start;
     running = fits.running;
@@ -50,7 +50,8 @@ module _ (old new : State) (before : ScanOp) (order : IsInOrder old) (fits : Sca
   })
 
 -- behind a leaf the scan goes right
-way_behind : (st : State) (start : ℕ) (f : Bound) (page : Page) (high : Bound) (right : ℕ) → HasTree st → slice_get st.pages page.block ≡ Some page → HasPlace st start 0 (frontier_aim f) false page.block
+way_behind : (st : State) (start : ℕ) (f : Bound) (page : Page) (high : Bound) (right : ℕ) → HasTree st → slice_get st.pages page.block ≡ Some page
+    → HasPlace st start 0 (frontier_aim f) false page.block
     → page.high ≡ Some high → page.right ≡ Some right → IsOnWay st start (frontier_aim (frontier_past f (Some high))) false 0 (record { block = right; level = 0; moves = 1 })
 way_behind st start f page high right h found place high_is right_is = go (passed_tells st start 0 aim false page h found wide passed)
   where
@@ -77,7 +78,8 @@ way_behind st start f page high right h found place high_is right_is = go (passe
     }
 
 -- ... unless nothing is there
-stands_behind : (st : State) (start : ℕ) (leaf : Option ℕ) (f : Bound) (page : Page) (below : Option (List ℕ)) → HasTree st → slice_get st.pages page.block ≡ Some page → HasPlace st start 0 (frontier_aim f) false page.block
+stands_behind : (st : State) (start : ℕ) (leaf : Option ℕ) (f : Bound) (page : Page) (below : Option (List ℕ)) → HasTree st
+    → slice_get st.pages page.block ≡ Some page → HasPlace st start 0 (frontier_aim f) false page.block
     → ScanStands st start leaf (frontier_past f page.high) (behind_leaf page.high page.right below)
 stands_behind st start leaf f page below h found place = go page.high page.right refl refl
   where
@@ -96,18 +98,19 @@ stands_with st table start leaf f (At way) h = way_with st table start (frontier
 stands_with st table start leaf f Last h = h
 
 -- a scan that has read the leaf behind the frontier
-module _ (old new : State) (before : ScanOp) (block : ℕ) (order : IsInOrder old) (fits : ScanFits old before)
+module _ (old new : State) (before : ScanOp) (block : ℕ) (order : IsInOrder old) (fits : ScanInvariant old before)
     (is : new ≡ with_table old (pinned (without_leaf old.table before.session before.leaf) before.session block)) where
   low : before.session < length old.table
   low = (let many = order.holdings in let low = fits.session in omega arith)
 
   pub reading_does : Does before.session None old new
-  reading_does = holds_else before.session old new (pinned (without_leaf old.table before.session before.leaf) before.session block) is order (stood_apart old.table before.session before.leaf block low order.apart)
+  reading_does = holds_else before.session old new (pinned (without_leaf old.table before.session before.leaf) before.session block) is order
+      (stood_apart old.table before.session before.leaf block low order.apart)
       (stood_many old.table before.session before.leaf block low ∙ order.holdings) (λ other differ. stood_other old.table before.session before.leaf block low other differ)
 
   pub reading_fits : (page : Page) (es : List Entry) → slice_get old.pages page.block ≡ Some page → HasPlace old fits.start 0 (frontier_aim before.frontier) false page.block
-      → WasLeaf old.pages block → length es ≤ 50 → ScanFits new (behind (record before { leaf = Some block }) page.high page.right es)
-  reading_fits page es found place live few = subst (λ (st : State). ScanFits st (behind (record before { leaf = Some block }) page.high page.right es)) (sym is) (record {
+      → WasLeaf old.pages block → length es ≤ 50 → ScanInvariant new (behind (record before { leaf = Some block }) page.high page.right es)
+  reading_fits page es found place live few = subst (λ (st : State). ScanInvariant st (behind (record before { leaf = Some block }) page.high page.right es)) (sym is) (record {
     session = fits.session;
     start = fits.start;
     running = fits.running;
@@ -151,12 +154,12 @@ leaves_behind f pages b page below found arrived = go page.high page.right refl
         by true = count_drops f (frontier_past f (Some high)) (not_back f (Some high)) pages b page found ahead (passed_not_ahead f high page is)
         by false = last
 
-walk_behind : (most : ℕ) (high : Option Bound) (right : Option ℕ) (below : Option (List ℕ)) → walk_left most (behind_leaf high right below) < most + 4
+walk_behind : (most : ℕ) (high : Option Bound) (right : Option ℕ) (below : Option (List ℕ)) → scan_walk_left most (behind_leaf high right below) < most + 4
 walk_behind most None right below = omega arith
 walk_behind most (Some high) None below = omega arith
 walk_behind most (Some high) (Some right) below = by (below_admits below high.key)
   where
-    by : (w : Bool) → walk_left most (if w then At (record { block = right; level = 0; moves = 1 }) else Last) < most + 4
+    by : (w : Bool) → scan_walk_left most (if w then At (record { block = right; level = 0; moves = 1 }) else Last) < most + 4
     by true = omega arith
     by false = omega arith
 
@@ -166,5 +169,5 @@ reading_less most pages before leaf way b page es is found arrived few =
     let fewer = leaves_behind before.frontier pages b page before.range.below found arrived in
     let walk = walk_behind most page.high page.right before.range.below in
     let t = leaf_less most (leaves_left (frontier_past before.frontier page.high) pages (behind_leaf page.high page.right before.range.below)) (count_ahead before.frontier pages)
-    (walk_left most (behind_leaf page.high page.right before.range.below) + length es) (way_left most way + length (waiting before)) fewer (omega arith) in
+    (scan_walk_left most (behind_leaf page.high page.right before.range.below) + length es) (way_left most way + length (waiting before)) fewer (omega arith) in
     rw is (omega arith)

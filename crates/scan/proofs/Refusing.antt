@@ -15,14 +15,14 @@ use Rattle.descent.specs.Shared.{IsInOrder}
 use Rattle.descent.specs.declared.way.Way.{Way}
 use Rattle.descent.specs.declared.way.Onward.{Onward}
 use Rattle.descent.proofs.Acting.{one_nothing}
-use Rattle.scan.specs.Scans.{waiting, ScanStands, ScanFits, ScanSteps, where_scanning}
+use Rattle.scan.specs.Scans.{waiting, ScanStands, ScanInvariant, ScanSteps, causes_of_scanning}
 use Rattle.scan.specs.declared.steps.ScanAt.TheVariants.{At}
 use Rattle.scan.specs.declared.steps.ScanOp.{ScanOp}
 
 -- a step that is refused before anything is changed
 pub refuses : {S : Type 0} (g : Ghosts S) (op : ScanOp) (old new : S) (fault : Fault) → Continues g.follows old new → g.state new ≡ g.state old → waiting op ≡ []
     → ((g.backing old).stopped ≡ true → fault ≡ Stopped)
-    → ((g.backing new).honest ≡ true → IsInOrder (g.state old) → ScanFits (g.state old) op → HasCause (where_scanning (g.state old) (g.backing old) (g.backing new) op.session) fault)
+    → ((g.backing new).honest ≡ true → IsInOrder (g.state old) → ScanInvariant (g.state old) op → HasCause (causes_of_scanning (g.state old) (g.backing old) (g.backing new) op.session) fault)
     → ScanSteps g op op old new (Err fault)
 refuses g op old new fault steps same none stops cause = record {
   steps = steps;
@@ -41,7 +41,7 @@ refuses g op old new fault steps same none stops cause = record {
 }
 
 -- where a page leads a scan on its way
-pub scan_led : (st : State) (op : ScanOp) (way : Way) (page : Page) (most : Limits) (result : Option Onward) → op.at ≡ At way → IsInOrder st → (fits : ScanFits st op)
+pub scan_led : (st : State) (op : ScanOp) (way : Way) (page : Page) (most : Limits) (result : Option Onward) → op.at ≡ At way → IsInOrder st → (fits : ScanInvariant st op)
     → slice_get st.pages way.block ≡ Some page → most ≡ sizes_of st.limits → length st.pages ≤ st.limits.pages
     → ((s : State) (start : ℕ) (clear : Bool) → HasTree s → slice_get s.pages way.block ≡ Some page → IsOnWay s start (frontier_aim op.frontier) clear 0 way → (clear ≡ true → page.split ≡ false)
     → length s.pages ≤ most.pages → LeadsOnward s start (frontier_aim op.frontier) clear 0 way result)

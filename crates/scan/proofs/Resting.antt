@@ -17,7 +17,8 @@ trail_with : (st : State) (table : Table) (start level block moves : ℕ) → Ha
 trail_with st table start level block moves t =
     record { tree = t.tree; in_tree = t.in_tree; passed = t.passed; count = t.count; distinct = t.distinct; steps = t.steps; trail = t.trail }
 
-pub way_with : (st : State) (table : Table) (start : ℕ) (aim : Bound → Bool) (clear : Bool) (to : ℕ) (way : Way) → IsOnWay st start aim clear to way → IsOnWay (with_table st table) start aim clear to way
+pub way_with : (st : State) (table : Table) (start : ℕ) (aim : Bound → Bool) (clear : Bool) (to : ℕ) (way : Way) → IsOnWay st start aim clear to way
+    → IsOnWay (with_table st table) start aim clear to way
 way_with st table start aim clear to way on = record {
   not_below = on.not_below;
   place = place_with st table start way.level aim clear way.block on.place;

@@ -6,7 +6,7 @@ use Rattle.page_codec.specs.declared.page.Page.{Page}
 use Rattle.page_action.specs.States.{State}
 use Rattle.tree_acts.specs.Leaves.{WasLeaf}
 use Rattle.descent.specs.Shared.{IsInOrder, MayRely}
-use Rattle.scan.specs.Scans.{ScanFits, fresh_scan}
+use Rattle.scan.specs.Scans.{ScanInvariant, fresh_scan}
 use Rattle.scan.specs.Work.{scan_left}
 use Rattle.scan.specs.declared.steps.ScanOp.{ScanOp}
 
@@ -20,7 +20,7 @@ PinnedLeavesLast session old new =
 abbrev pub ScansAreUndisturbed : Type 0
 ScansAreUndisturbed =
     (old new : State) (op : ScanOp) → MayRely op.session old new
-    → PinnedLeavesLast op.session old new → ScanFits old op → ScanFits new op
+    → PinnedLeavesLast op.session old new → ScanInvariant old op → ScanInvariant new op
 
 -- what is left to do for a scan that hasn't begun, within the limits
 abbrev pub FreshScansAreBounded : Type 0
@@ -32,5 +32,5 @@ FreshScansAreBounded =
 -- ... and for one at each moment of its steps
 abbrev pub ScansAreBounded : Type 0
 ScansAreBounded =
-    (st : State) (op : ScanOp) → IsInOrder st → st.limits.pages ≤ 65536 → ScanFits st op
+    (st : State) (op : ScanOp) → IsInOrder st → st.limits.pages ≤ 65536 → ScanInvariant st op
     → scan_left st.limits.pages st.pages op < 4398046511104

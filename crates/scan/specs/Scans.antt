@@ -24,7 +24,7 @@ use Rattle.descent.specs.Onward.{IsOnWay}
 use Rattle.descent.specs.Shared.{IsInOrder, Does, IsOneStep}
 use Rattle.descent.specs.declared.way.Way.{Way}
 pub use Rattle.scan.specs.Ready.{waiting}
-use Rattle.scan.specs.Straight.{IsStraight, CountsDown}
+use Rattle.scan.specs.Straight.{ScanIsStraight, ScanCountsDown}
 use Rattle.scan.specs.Work.{scan_left}
 use Rattle.scan.specs.declared.steps.ScanAt.{ScanAt}
 use Rattle.scan.specs.declared.steps.ScanAt.TheVariants.{Start, At, Last}
@@ -108,7 +108,7 @@ ScanStands st start leaf frontier (At way) = IsOnWay st start (frontier_aim fron
 ScanStands st start leaf frontier Last = Unit {0}
 
 -- what a scan knows between its steps
-pub record ScanFits (st : State) (op : ScanOp) : Type 0 where
+pub record ScanInvariant (st : State) (op : ScanOp) : Type 0 where
   pub session : op.session < 64
   -- its call runs, with a start number
   pub start : ℕ
@@ -147,8 +147,8 @@ pub record LeafIsRead (st : State) (before after : ScanOp) : Type 0 where
       → IsBehind after.frontier after.at e
 
 -- why a step of a scan is refused, on pages that are a tree and a device that keeps its model
-abbrev pub where_scanning : State → Backing → Backing → ℕ → Circumstances
-where_scanning st old new session = record nothing_wrong {
+abbrev pub causes_of_scanning : State → Backing → Backing → ℕ → Circumstances
+causes_of_scanning st old new session = record nothing_wrong {
   device_failed = has_failed old new;
   is_stopped = old.stopped;
   is_held_by_another = λ b. is_held_by_another st.table session b Shared;
@@ -164,7 +164,7 @@ IsUnderway Last = ⊥
 -- a page is read that isn't the leaf behind the frontier
 pub record IsMoving (old new : State) (before after : ScanOp) : Type 0 where
   pub does : Does before.session None old new
-  pub fits : ScanFits new after
+  pub fits : ScanInvariant new after
   pub none : waiting before ≡ []
   pub from : IsUnderway before.at
   pub way : Way
@@ -173,7 +173,7 @@ pub record IsMoving (old new : State) (before after : ScanOp) : Type 0 where
 -- the leaf behind the frontier is read: the scan stands on it, and what is ready is of its entries
 pub record IsReading (old new : State) (before after : ScanOp) (count : ℕ) : Type 0 where
   pub does : Does before.session None old new
-  pub fits : ScanFits new after
+  pub fits : ScanInvariant new after
   pub none : waiting before ≡ []
   pub way : Way
   pub from : before.at ≡ At way
@@ -207,7 +207,7 @@ ScanStepped old old_backing new new_backing before after (Ok (Ready count)) =
     IsWaiting old new before after count ⊎ IsReading old new before after count
 ScanStepped old old_backing new new_backing before after (Ok Done) = IsDone old new before after
 ScanStepped old old_backing new new_backing before after (Err fault) =
-    HasCause (where_scanning old old_backing new_backing before.session) fault
+    HasCause (causes_of_scanning old old_backing new_backing before.session) fault
 
 -- a refused step changes neither the pages, nor who holds what, nor the call
 pub record ScanStays (old new : State) (before after : ScanOp) : Type 0 where
@@ -249,9 +249,9 @@ pub record ScanSteps {S : Type 0} (g : Ghosts S) (before after : ScanOp) (old ne
       → scan_left (g.state old).limits.pages (g.state old).pages after
       ≤ scan_left (g.state old).limits.pages (g.state old).pages before
   pub stepped : (g.backing new).honest ≡ true → IsInOrder (g.state old)
-      → ScanFits (g.state old) before
+      → ScanInvariant (g.state old) before
       → ScanStepped (g.state old) (g.backing old) (g.state new) (g.backing new) before after result
   pub straight : (g.backing new).honest ≡ true → IsInOrder (g.state old)
       → AreWhole (g.state old).pages → waiting before ≡ []
-      → IsStraight (g.state old) before.frontier before.at
-      → CountsDown (g.state old) before after result
+      → ScanIsStraight (g.state old) before.frontier before.at
+      → ScanCountsDown (g.state old) before after result

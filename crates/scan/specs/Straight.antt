@@ -14,21 +14,21 @@ use Rattle.scan.specs.declared.steps.ScanStep.{ScanStep}
 use Rattle.scan.specs.declared.steps.ScanStep.TheVariants.{Going, Ready, Done}
 
 -- the metapage, and a page of each level
-abbrev pub straight_steps : List Page → ScanAt → ℕ
-straight_steps pages Start = root_level pages + 2
-straight_steps pages (At way) = suc way.level
-straight_steps pages Last = 0
+abbrev pub scan_straight_steps : List Page → ScanAt → ℕ
+scan_straight_steps pages Start = root_level pages + 2
+scan_straight_steps pages (At way) = suc way.level
+scan_straight_steps pages Last = 0
 
 -- a scan that hasn't begun, or whose next page covers what lies behind the frontier
-abbrev pub IsStraight : State → Bound → ScanAt → Type 0
-IsStraight st frontier Start = Unit {0}
-IsStraight st frontier (At way) = HasCover st way.level (frontier_aim frontier) way.block
-IsStraight st frontier Last = ⊥
+abbrev pub ScanIsStraight : State → Bound → ScanAt → Type 0
+ScanIsStraight st frontier Start = Unit {0}
+ScanIsStraight st frontier (At way) = HasCover st way.level (frontier_aim frontier) way.block
+ScanIsStraight st frontier Last = ⊥
 
 -- the last of these steps makes entries ready, and each before it leaves one fewer
-abbrev pub CountsDown : State → ScanOp → ScanOp → Result ScanStep Fault → Type 0
-CountsDown st before after (Ok Going) = IsStraight st after.frontier after.at
-    × (suc (straight_steps st.pages after.at) ≡ straight_steps st.pages before.at)
-CountsDown st before after (Ok (Ready count)) = straight_steps st.pages before.at ≡ 1
-CountsDown st before after (Ok Done) = ⊥
-CountsDown st before after (Err fault) = Unit {0}
+abbrev pub ScanCountsDown : State → ScanOp → ScanOp → Result ScanStep Fault → Type 0
+ScanCountsDown st before after (Ok Going) = ScanIsStraight st after.frontier after.at
+    × (suc (scan_straight_steps st.pages after.at) ≡ scan_straight_steps st.pages before.at)
+ScanCountsDown st before after (Ok (Ready count)) = scan_straight_steps st.pages before.at ≡ 1
+ScanCountsDown st before after (Ok Done) = ⊥
+ScanCountsDown st before after (Err fault) = Unit {0}

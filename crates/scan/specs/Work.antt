@@ -33,14 +33,14 @@ leaves_left frontier pages (At way) = count_ahead frontier pages
 leaves_left frontier pages Last = 0
 
 -- how many more pages it reads until it has read a leaf, at most
-abbrev pub walk_left : ℕ → ScanAt → ℕ
-walk_left most Start = walk_length most
-walk_left most (At way) = way_left most way
-walk_left most Last = 0
+abbrev pub scan_walk_left : ℕ → ScanAt → ℕ
+scan_walk_left most Start = walk_length most
+scan_walk_left most (At way) = way_left most way
+scan_walk_left most Last = 0
 
 -- what is left to do for a scan, while the pages are as they are and there are at most so many: a
 -- leaf brings a walk and 50 entries at most
 abbrev pub scan_left : ℕ → List Page → ScanOp → ℕ
 scan_left most pages op =
-    leaves_left op.frontier pages op.at * (walk_length most + 52) + walk_left most op.at
+    leaves_left op.frontier pages op.at * (walk_length most + 52) + scan_walk_left most op.at
     + length (waiting op)

@@ -6,7 +6,7 @@ ghost use Rattle.index_model.specs.Order.{IsAscending};
 ghost use Rattle.latch_table.specs.Holdings.{pinned};
 ghost use Rattle.page_action.specs.States.{Continues, with_table};
 ghost use Rattle.tree_shape.specs.Leaf.{IsCopiedFrom};
-ghost use Rattle.descent.specs.Shared.{where_reading_any};
+ghost use Rattle.descent.specs.Shared.{causes_of_reading_any};
 ghost use Rattle.scan.specs.Scans.{without_leaf};
 
 use crate::onward::{behind_leaf, frontier_past};
@@ -99,7 +99,7 @@ impl ScanOp {
     /// on pages that are no tree. A refused step changes nothing.
     pub fn step<S: PageStore>(&mut self, store: &mut S) -> Result<ScanStep, Fault>
         ensures all { ScanSteps S.PageStore self.old self.new store.old store.new result }
-        ensures faults { IfErr result (HasCause where_reading_any) }
+        ensures faults { IfErr result (HasCause causes_of_reading_any) }
     {
         if store.is_stopped() {
             return Err(Fault::Stopped);
@@ -120,7 +120,7 @@ impl ScanOp {
         requires at { self.old.at ≡ ScanAt.Start }
         requires none { waiting self.old ≡ [] }
         ensures all { ScanSteps S.PageStore self.old self.new store.old store.new result }
-        ensures faults { IfErr result (HasCause where_reading_any) }
+        ensures faults { IfErr result (HasCause causes_of_reading_any) }
     {
         look(store, self.session, 0)?;
         let Some(way) = way_down(store.view(0)) else {
@@ -135,7 +135,7 @@ impl ScanOp {
         requires at { self.old.at ≡ ScanAt.At way }
         requires none { waiting self.old ≡ [] }
         ensures all { ScanSteps S.PageStore self.old self.new store.old store.new result }
-        ensures faults { IfErr result (HasCause where_reading_any) }
+        ensures faults { IfErr result (HasCause causes_of_reading_any) }
     {
         look(store, self.session, way.block)?;
         let page = store.view(way.block);

@@ -9,7 +9,7 @@ use Rattle.index_model.proofs.Ascending.{same_entry-self}
 use Rattle.index_model.proofs.Histories.{contents_after-add}
 use Rattle.page_action.specs.declared.page_store.PageStore.{Ghosts}
 use Rattle.schedule.specs.Keys.{AddedKeysAreNew}
-use Rattle.schedule.specs.TheoremMoments.{Snapshot}
+use Rattle.schedule.specs.TheoremMoments.{Moment}
 use Rattle.schedule.specs.TheoremRuns.{Fits}
 
 -- a first part of one action more
@@ -22,8 +22,9 @@ or_true : (b : Bool) → (b || true) ≡ true
 or_true true = refl
 or_true false = refl
 
-module _ {S : Type 0} (g : Ghosts S) (start : Entry → Bool) (now : Snapshot S) (number before : ℕ) (call : Call) (e x : Entry) (fits : Fits g start now)
-    (asked : (g.state now.store).limits.unique ≡ true) (found : slice_get now.calls number ≡ Some call) (ask : call.ask ≡ AskInsert e) (added : call.added ≡ Some (suc before)) (same : x.key ≡ e.key) where
+module _ {S : Type 0} (g : Ghosts S) (start : Entry → Bool) (now : Moment S) (number before : ℕ) (call : Call) (e x : Entry) (fits : Fits g start now)
+    (asked : (g.state now.store).limits.unique ≡ true) (found : slice_get now.calls number ≡ Some call) (ask : call.ask ≡ AskInsert e)
+    (added : call.added ≡ Some (suc before)) (same : x.key ≡ e.key) where
   answer : IsInsertAnswer start now.history number call.began (end_of now.history call.ending call.until) e call.added call.ending
   answer = subst (λ (a : Ask). AnswersRight start now.history number call.began (end_of now.history call.ending call.until) a call.given call.added call.ending) ask
       (fits.explains.meets number call found).right

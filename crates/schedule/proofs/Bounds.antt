@@ -5,7 +5,7 @@ use Rattle.page_action.specs.declared.page_store.PageStore.{Ghosts}
 use Rattle.session_calls.specs.Sessions.{work_in}
 use Rattle.session_calls.specs.declared.op.Op.{Op}
 use Rattle.session_calls.proofs.Bounds.{calls_bounded}
-use Rattle.schedule.specs.Snapshots.{SlotMatches}
+use Rattle.schedule.specs.MomentInvariants.{SlotMatches}
 use Rattle.schedule.specs.Bounds.{WorkIsBounded}
 use Rattle.schedule.proofs.Fitting.{running_of}
 

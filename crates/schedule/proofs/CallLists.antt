@@ -8,9 +8,9 @@ use Rattle.index_model.specs.declared.fault.Fault.{Fault}
 use Rattle.index_model.specs.declared.fault.Fault.TheVariants.{Exists, KeyExists}
 use Rattle.page_action.specs.declared.page_store.PageStore.{Ghosts}
 use Rattle.session_calls.specs.declared.op.Op.{Op}
-use Rattle.schedule.specs.CallLists.{with_call, refused_call, OneCallRuns, RefusedCallsFit}
-use Rattle.schedule.specs.Snapshots.{SlotMatches}
-use Rattle.schedule.specs.TheoremMoments.{Snapshot, IsRunningCall}
+use Rattle.schedule.specs.CallLists.{with_one_call, refused_call, OneCallRuns, RefusedCallsFit}
+use Rattle.schedule.specs.MomentInvariants.{SlotMatches}
+use Rattle.schedule.specs.TheoremMoments.{Moment, IsRunningCall}
 use Rattle.schedule.specs.TheoremRuns.{Fits}
 use Rattle.schedule.proofs.Fitting.{matches_of, running_of, beyond_of, fits_from}
 use Rattle.schedule.proofs.Lists.{get_append_some, get_append_cases}
@@ -33,12 +33,13 @@ module _ (start : Entry → Bool) (history : List Action) (number session : ℕ)
   refused_meets AskCleanup = record { began = omega arith; until = omega arith; right = tt }
 
 -- a moment that fits, with a call more that was refused as it began
-module _ {S : Type 0} (g : Ghosts S) (start : Entry → Bool) (now : Snapshot S) (session : ℕ) (ask : Ask) (fault : Fault) (fits : Fits g start now) (within : session < length now.slots) (apart : fault ≢ Exists) (unlike : (row : Row) → fault ≢ KeyExists row) where
+module _ {S : Type 0} (g : Ghosts S) (start : Entry → Bool) (now : Moment S) (session : ℕ) (ask : Ask) (fault : Fault) (fits : Fits g start now)
+    (within : session < length now.slots) (apart : fault ≢ Exists) (unlike : (row : Row) → fault ≢ KeyExists row) where
   abbrev more : Call
   more = refused_call session ask fault (length now.history)
 
-  abbrev then : Snapshot S
-  then = with_call now more
+  abbrev then : Moment S
+  then = with_one_call now more
 
   -- a running call is one of those before
   was_running : (u number : ℕ) (call : Call) → IsRunningCall then.calls u number call → IsRunningCall now.calls u number call

@@ -26,7 +26,7 @@ use Rattle.tree_shape.specs.Chains.{IsIn}
 use Rattle.tree_shape.specs.Nodes.{node_from, nodes_of, links_of}
 use Rattle.descent.specs.Shared.{any_is_reusable, is_out_of_blocks, fresh_block, count_new, lacks_room, frames_for, sibling}
 use Rattle.descent.specs.Ways.{level_with, level_of, root_level}
-use Rattle.split_finish.specs.Finishes.{blocks_linked, images_of, frames_of, is_to_link, is_to_grow}
+use Rattle.split_finish.specs.Finishes.{blocks_linked, finish_blocks, frames_of, is_to_link, is_to_grow}
 use Rattle.split_finish.specs.declared.finish.FinishAt.{FinishAt}
 use Rattle.split_finish.specs.declared.finish.FinishAt.TheVariants.{Start as FinishStart, Down, Link, Root}
 use Rattle.split_finish.specs.declared.finish.Target.{Target}
@@ -39,13 +39,13 @@ use Rattle.vacuum.specs.BulkDeletes.{is_full_count, is_counted_out, has_dead, bl
 use Rattle.page_delete.specs.Needs.{blocks_unlinked, blocks_unlinked_of, blocks_written}
 use Rattle.page_delete.specs.declared.steps.CleanupAt.{CleanupAt}
 use Rattle.page_delete.specs.declared.steps.CleanupAt.TheVariants.{Look, Start as CleanupStart, Down as CleanupDown, Judge, Unlink}
-use Rattle.page_delete.specs.Ops.{is_last_number, is_counted_out as is_cleanup_full}
+use Rattle.page_delete.specs.Ops.{is_last_number, cleanup_counted_out as is_cleanup_full}
 use Rattle.session_calls.specs.TheoremCalls.{DeadSets}
-use Rattle.session_calls.specs.Ops.{set_at, asked_of, session_of, where_stepped}
+use Rattle.session_calls.specs.Ops.{set_at, asked_of, session_of, causes_of_stepped}
 use Rattle.session_calls.specs.declared.op.Op.{Op}
 use Rattle.session_calls.specs.declared.op.Op.TheVariants.{Insert, Scan, Bulk, Cleanup}
 use Rattle.session_calls.proofs.Meeting.{other_row_is}
-use Rattle.schedule.specs.TheoremMoments.{Snapshot}
+use Rattle.schedule.specs.TheoremMoments.{Moment}
 use Rattle.schedule.specs.TheoremKinds.{Steps}
 use Rattle.schedule.proofs.Lists.{get_within}
 use Rattle.schedule.specs.TheoremRefusals.{StandsInWay, IsHeldByAnother, HasNoBlock, MoveFails}
@@ -117,23 +117,32 @@ other_excludes from (holding ∷ table) session block asked h =
 
 -- ... so it stands in the way of a call
 module _ (table : Table) (session block : ℕ) where
-  no_pin : (holding : Holding) (asked : Mode) → (pins_exclude holding.pins block asked ≡ true → ⊥) → holding_excludes holding block asked ≡ true → IsIn block (map (λ (latch : Latch). latch.block) holding.latches)
-  no_pin holding asked none h = elim (or_cases (latches_exclude holding.latches block asked) (pins_exclude holding.pins block asked) h) [ inl latch ↦ latch_in holding.latches block asked latch | inr pin ↦ absurd (none pin) ]
+  no_pin : (holding : Holding) (asked : Mode) → (pins_exclude holding.pins block asked ≡ true → ⊥) → holding_excludes holding block asked ≡ true
+      → IsIn block (map (λ (latch : Latch). latch.block) holding.latches)
+  no_pin holding asked none h =
+      elim (or_cases (latches_exclude holding.latches block asked) (pins_exclude holding.pins block asked) h) [ inl latch ↦ latch_in holding.latches block asked latch | inr pin ↦ absurd (none pin) ]
 
-  held_by : (ask : Ask) (asked : Mode) → ((holding : Holding) → holding_excludes holding block asked ≡ true → StandsInWay ask holding block) → is_held_by_another table session block asked ≡ true → IsHeldByAnother table session ask block
+  held_by : (ask : Ask) (asked : Mode) → ((holding : Holding) → holding_excludes holding block asked ≡ true → StandsInWay ask holding block)
+      → is_held_by_another table session block asked ≡ true → IsHeldByAnother table session ask block
   held_by ask asked stands h =
       let found = other_excludes 0 table session block asked h in
       record { other = found.0; apart = λ same. found.3 (let e : found.0 ≡ session = same in omega arith); holding = found.1; held = found.2; stands = stands found.1 found.4 }
 
-  held_shared : (ask : Ask) → ((holding : Holding) → IsIn block (map (λ (latch : Latch). latch.block) holding.latches) → StandsInWay ask holding block) → is_held_by_another table session block Shared ≡ true → IsHeldByAnother table session ask block
+  held_shared : (ask : Ask)
+      → ((holding : Holding) → IsIn block (map (λ (latch : Latch). latch.block) holding.latches) → StandsInWay ask holding block)
+      → is_held_by_another table session block Shared ≡ true → IsHeldByAnother table session ask block
   held_shared ask stands h = held_by ask Shared (λ holding excludes. stands holding (no_pin holding Shared false≢true excludes)) h
 
-  held_exclusive : (ask : Ask) → ((holding : Holding) → IsIn block (map (λ (latch : Latch). latch.block) holding.latches) → StandsInWay ask holding block) → is_held_by_another table session block Exclusive ≡ true → IsHeldByAnother table session ask block
+  held_exclusive : (ask : Ask)
+      → ((holding : Holding) → IsIn block (map (λ (latch : Latch). latch.block) holding.latches) → StandsInWay ask holding block)
+      → is_held_by_another table session block Exclusive ≡ true → IsHeldByAnother table session ask block
   held_exclusive ask stands h = held_by ask Exclusive (λ holding excludes. stands holding (no_pin holding Exclusive false≢true excludes)) h
 
   held_for_cleanup : (dead : _) → is_held_by_another table session block CleanupMode ≡ true → IsHeldByAnother table session (AskBulkDelete dead) block
   held_for_cleanup dead h = held_by (AskBulkDelete dead) CleanupMode
-      (λ holding excludes. elim (or_cases (latches_exclude holding.latches block CleanupMode) (pins_exclude holding.pins block CleanupMode) excludes) [ inl latch ↦ inl (latch_in holding.latches block CleanupMode latch) | inr pin ↦ inr (pin_in holding.pins block pin) ]) h
+      (λ holding excludes.
+      elim (or_cases (latches_exclude holding.latches block CleanupMode) (pins_exclude holding.pins block CleanupMode) excludes)
+      [ inl latch ↦ inl (latch_in holding.latches block CleanupMode latch) | inr pin ↦ inr (pin_in holding.pins block pin) ]) h
 
 -- a call that began before the page was deleted runs
 kept_by : (number from : ℕ) (running : List (Option ℕ)) → others_began_after number from None running ≡ false → (session start : ℕ) × (slice_get running session ≡ Some (Some start)) × (start < number)
@@ -225,7 +234,7 @@ one_or_none : (c : Bool) (blocks : List ℕ) → length blocks ≤ 4 → length 
 one_or_none true blocks few = few
 one_or_none false blocks few = omega arith
 
-images_few : (st : State) (target : Target) (at : FinishAt) → length (images_of st target at) ≤ 4
+images_few : (st : State) (target : Target) (at : FinishAt) → length (finish_blocks st target at) ≤ 4
 images_few st target FinishStart = omega arith
 images_few st target (Down way) = omega arith
 images_few st target (Link way) =
@@ -237,7 +246,7 @@ frames_for_few most [] some few = some
 frames_for_few most (block ∷ images) some few = few
 
 pub frames_few : (st : State) (target : Target) (at : FinishAt) → frames_of st target at ≤ 4
-frames_few st target at = frames_for_few 4 (images_of st target at) (omega arith) (images_few st target at)
+frames_few st target at = frames_for_few 4 (finish_blocks st target at) (omega arith) (images_few st target at)
 
 between_few : (block : ℕ) (left right : Option ℕ) → length (sibling left ++ block ∷ sibling right) ≤ 3
 between_few block None None = omega arith
@@ -299,7 +308,7 @@ pub block_few : (writes : Bool) (block : ℕ) → length (block_if writes block)
 block_few true block = omega arith
 block_few false block = omega arith
 
-module _ {S : Type 0} (g : Ghosts S) (old : Snapshot S) (new : S) where
+module _ {S : Type 0} (g : Ghosts S) (old : Moment S) (new : S) where
   -- these circumstances, where each is so, are a reason for a step of a call that was asked this
   record AreReasons (at : Circumstances) (session : ℕ) (ask : Ask) (op : Op) : Type 0 where
     pub growth : at.growth_refused ≡ true → ⊥
@@ -353,7 +362,8 @@ module _ {S : Type 0} (g : Ghosts S) (old : Snapshot S) (new : S) where
   few_frames : (frames : ℕ) → frames ≤ 4 → nat_lt (g.state old.store).frames (frames + count_apart (pinned_blocks (g.state old.store).table)) ≡ true
       → (g.state old.store).frames < 4 + length (pinned_blocks (g.state old.store).table)
   few_frames frames le h =
-      let lt : (g.state old.store).frames < frames + count_apart (pinned_blocks (g.state old.store).table) = ltb-true (g.state old.store).frames (frames + count_apart (pinned_blocks (g.state old.store).table)) h in
+      let lt : (g.state old.store).frames < frames + count_apart (pinned_blocks (g.state old.store).table) =
+      ltb-true (g.state old.store).frames (frames + count_apart (pinned_blocks (g.state old.store).table)) h in
       let few : count_apart (pinned_blocks (g.state old.store).table) ≤ length (pinned_blocks (g.state old.store).table) = apart_few (pinned_blocks (g.state old.store).table) in
       omega arith
 
@@ -366,9 +376,9 @@ module _ {S : Type 0} (g : Ghosts S) (old : Snapshot S) (new : S) where
       let new_few : count_new (g.backing new).waiting images ≤ length images = few_new (g.backing new).waiting images in
       (omega (arith, few, le), omega (arith, full, new_few, le))
 
-  pub step_fails : (sets : DeadSets) (op : Op) (fault : Fault) → HasCause (where_stepped sets op (g.state old.store) (g.backing old.store) (g.backing new)) fault
+  pub step_fails : (sets : DeadSets) (op : Op) (fault : Fault) → HasCause (causes_of_stepped sets op (g.state old.store) (g.backing old.store) (g.backing new)) fault
       → MoveFails g Steps (session_of op) (asked_of sets op) op old new fault
-  step_fails sets (Insert op) fault h = fails_by (where_stepped sets (Insert op) (g.state old.store) (g.backing old.store) (g.backing new)) op.session (AskInsert op.entry) (Insert op) (record {
+  step_fails sets (Insert op) fault h = fails_by (causes_of_stepped sets (Insert op) (g.state old.store) (g.backing old.store) (g.backing new)) op.session (AskInsert op.entry) (Insert op) (record {
     growth = false≢true;
     device = failed;
     stopped = λ k. elim (or_cases (g.backing old.store).stopped (is_at_end (g.state old.store).acts) k) [ inl a ↦ inl a | inr b ↦ inr (inl (at_end (g.state old.store).acts b)) ];
@@ -385,9 +395,10 @@ module _ {S : Type 0} (g : Ghosts S) (old : Snapshot S) (new : S) where
     session_is = false≢true;
     busy = false≢true;
     damaged = λ b. false≢true;
-    root = λ k. tall (g.state old.store).pages (leb-true 31 (root_level (g.state old.store).pages) (and_parts (splits_root_at (g.state old.store) op.at) (nat_le 31 (root_level (g.state old.store).pages)) k).1);
+    root = λ k. tall (g.state old.store).pages
+        (leb-true 31 (root_level (g.state old.store).pages) (and_parts (splits_root_at (g.state old.store) op.at) (nat_le 31 (root_level (g.state old.store).pages)) k).1);
   }) fault h
-  step_fails sets (Scan op) fault h = fails_by (where_stepped sets (Scan op) (g.state old.store) (g.backing old.store) (g.backing new)) op.session (AskScan op.range) (Scan op) (record {
+  step_fails sets (Scan op) fault h = fails_by (causes_of_stepped sets (Scan op) (g.state old.store) (g.backing old.store) (g.backing new)) op.session (AskScan op.range) (Scan op) (record {
     growth = false≢true;
     device = failed;
     stopped = λ k. inl k;
@@ -403,30 +414,33 @@ module _ {S : Type 0} (g : Ghosts S) (old : Snapshot S) (new : S) where
     damaged = λ b. false≢true;
     root = λ k. absurd (false≢true k);
   }) fault h
-  step_fails sets (Bulk set op) fault h = fails_by (where_stepped sets (Bulk set op) (g.state old.store) (g.backing old.store) (g.backing new)) op.session (asked_of sets (Bulk set op)) (Bulk set op) (record {
-    growth = false≢true;
-    device = failed;
-    stopped = λ k. elim (or_cases (g.backing old.store).stopped (is_at_end (g.state old.store).acts || is_counted_out op) k) [
-      | inl a ↦ inl a
-      | inr b ↦ elim (or_cases (is_at_end (g.state old.store).acts) (is_counted_out op) b) [
-        | inl end ↦ inr (inl (at_end (g.state old.store).acts end))
-        | inr full ↦ inr (inr (elim (or_cases (is_full_count op.left) (is_full_count op.removed) full) [ inl left ↦ inl (ltb-true 18446744073709551565 op.left left) | inr removed ↦ inr (ltb-true 18446744073709551565 op.removed removed) ]))
-      ]
-    ];
-    held = λ b k. held_for_cleanup (g.state old.store).table op.session b _ k;
-    entry = λ k. absurd (false≢true k);
-    key = λ row k. absurd (false≢true k);
-    block = λ k. absurd (false≢true k);
-    log = λ k. (let one = block_few (has_dead (set_at sets set) (g.state old.store) op) (next_block op.cursor op.back) in
-        few_images (block_if (has_dead (set_at sets set) (g.state old.store) op) (next_block op.cursor op.back)) (omega (arith, one)) k);
-    frames = λ k. few_frames 1 (omega arith) k;
-    vacuum = false≢true;
-    session_is = false≢true;
-    busy = false≢true;
-    damaged = λ b. false≢true;
-    root = λ k. absurd (false≢true k);
-  }) fault h
-  step_fails sets (Cleanup op) fault h = fails_by (where_stepped sets (Cleanup op) (g.state old.store) (g.backing old.store) (g.backing new)) op.session AskCleanup (Cleanup op) (record {
+  step_fails sets (Bulk set op) fault h =
+      fails_by (causes_of_stepped sets (Bulk set op) (g.state old.store) (g.backing old.store) (g.backing new)) op.session (asked_of sets (Bulk set op)) (Bulk set op) (record {
+        growth = false≢true;
+        device = failed;
+        stopped = λ k. elim (or_cases (g.backing old.store).stopped (is_at_end (g.state old.store).acts || is_counted_out op) k) [
+          | inl a ↦ inl a
+          | inr b ↦ elim (or_cases (is_at_end (g.state old.store).acts) (is_counted_out op) b) [
+            | inl end ↦ inr (inl (at_end (g.state old.store).acts end))
+            | inr full ↦ inr (inr
+                (elim (or_cases (is_full_count op.left) (is_full_count op.removed) full)
+                [ inl left ↦ inl (ltb-true 18446744073709551565 op.left left) | inr removed ↦ inr (ltb-true 18446744073709551565 op.removed removed) ]))
+          ]
+        ];
+        held = λ b k. held_for_cleanup (g.state old.store).table op.session b _ k;
+        entry = λ k. absurd (false≢true k);
+        key = λ row k. absurd (false≢true k);
+        block = λ k. absurd (false≢true k);
+        log = λ k. (let one = block_few (has_dead (set_at sets set) (g.state old.store) op) (next_block op.cursor op.back) in
+            few_images (block_if (has_dead (set_at sets set) (g.state old.store) op) (next_block op.cursor op.back)) (omega (arith, one)) k);
+        frames = λ k. few_frames 1 (omega arith) k;
+        vacuum = false≢true;
+        session_is = false≢true;
+        busy = false≢true;
+        damaged = λ b. false≢true;
+        root = λ k. absurd (false≢true k);
+      }) fault h
+  step_fails sets (Cleanup op) fault h = fails_by (causes_of_stepped sets (Cleanup op) (g.state old.store) (g.backing old.store) (g.backing new)) op.session AskCleanup (Cleanup op) (record {
     growth = false≢true;
     device = failed;
     stopped = λ k. elim (or_cases (g.backing old.store).stopped (is_at_end (g.state old.store).acts || is_cleanup_full op) k) [
@@ -435,7 +449,8 @@ module _ {S : Type 0} (g : Ghosts S) (old : Snapshot S) (new : S) where
         | inl end ↦ inr (inl (at_end (g.state old.store).acts end))
         | inr full ↦ inr (inr (elim (or_cases (is_full_count op.left) (is_last_number op.cursor || is_last_number op.deleted) full) [
           | inl left ↦ inl (ltb-true 18446744073709551565 op.left left)
-          | inr number ↦ inr (elim (or_cases (is_last_number op.cursor) (is_last_number op.deleted) number) [ inl cursor ↦ inl (eqb-true op.cursor 4294967295 cursor) | inr deleted ↦ inr (eqb-true op.deleted 4294967295 deleted) ])
+          | inr number ↦ inr (elim (or_cases (is_last_number op.cursor) (is_last_number op.deleted) number)
+              [ inl cursor ↦ inl (eqb-true op.cursor 4294967295 cursor) | inr deleted ↦ inr (eqb-true op.deleted 4294967295 deleted) ])
         ]))
       ]
     ];
@@ -447,7 +462,9 @@ module _ {S : Type 0} (g : Ghosts S) (old : Snapshot S) (new : S) where
     key = λ row k. absurd (false≢true k);
     block = λ k. absurd (false≢true k);
     log = λ k. (let few = written_few op.at op.cursor (g.state old.store) in few_images (blocks_written op.at op.cursor (g.state old.store)) (omega (arith, few)) k);
-    frames = λ k. (let frames = frames_for_few 3 (blocks_written op.at op.cursor (g.state old.store)) (omega arith) (written_few op.at op.cursor (g.state old.store)) in few_frames (frames_for (blocks_written op.at op.cursor (g.state old.store))) (omega (arith, frames)) k);
+    frames = λ k. (let frames =
+        frames_for_few 3 (blocks_written op.at op.cursor (g.state old.store)) (omega arith) (written_few op.at op.cursor (g.state old.store)) in
+        few_frames (frames_for (blocks_written op.at op.cursor (g.state old.store))) (omega (arith, frames)) k);
     vacuum = false≢true;
     session_is = false≢true;
     busy = false≢true;

@@ -10,7 +10,7 @@ use Rattle.index_model.specs.declared.entry.Entry.{Entry}
 use Rattle.index_model.specs.declared.format.Format.{Format}
 use Rattle.index_model.specs.declared.fault.Fault.{Fault}
 use Rattle.index_model.specs.declared.fault.Fault.TheVariants.{Stopped, NoSession, SessionBusy}
-use Rattle.page_action.specs.Causes.{where_forced}
+use Rattle.page_action.specs.Causes.{causes_of_forced}
 use Rattle.page_action.specs.States.{State, IsLater}
 use Rattle.page_action.specs.declared.page_store.PageStore.{Ghosts}
 use Rattle.descent.specs.Shared.{OthersRely}
@@ -32,14 +32,14 @@ use Rattle.session_calls.proofs.Meeting.{grown}
 use Rattle.session_calls.proofs.Sweeping.{sweeps_undisturbed}
 use Rattle.session_calls.proofs.Telling.{told_same}
 use Rattle.session_calls.proofs.Undisturbed.{undisturbed, idle_undisturbed}
-use Rattle.schedule.specs.TheoremMoments.{Snapshot, IsRunningCall}
+use Rattle.schedule.specs.TheoremMoments.{Moment, IsRunningCall}
 use Rattle.schedule.specs.Making.{EventDoes}
 use Rattle.schedule.specs.TheoremRuns.{Fits}
 use Rattle.session_calls.specs.Slots.{slot_of, slot_vacuums, one_vacuums, slot_has_call, is_of_sets, session_to_begin}
-use Rattle.schedule.specs.Snapshots.{here_at, SlotRuns, IsFree, SlotMatches, slot_sweeps, OneVacuums}
+use Rattle.schedule.specs.MomentInvariants.{here_at, SlotRuns, IsFreeSession, SlotMatches, slot_sweeps, OneVacuums}
 use Rattle.schedule.specs.TheoremKinds.{Move, Steps, Takes, GivesUp, Upkeep, Forces, Flushes, Checkpoints, Kind, BeginsCall, MovesCall, KeepsStore}
 use Rattle.schedule.specs.TheoremEvents.{IsDurable}
-use Rattle.schedule.specs.Events.{UpkeepIsTold, IsToldDurable, IsOfSession, Stays, kept_answer, MovesOn, MayBegin, where_begun_at, where_moving, Happens, where_happening, OthersStay, session_at, EventAlways, CallIsFollowed, LeavesBe}
+use Rattle.schedule.specs.Events.{UpkeepIsTold, IsToldDurable, IsOfSession, Stays, kept_answer, MovesOn, MayBegin, causes_of_begun_at, causes_of_moving, Happens, causes_of_happening, OthersStay, session_at, EventAlways, CallIsFollowed, LeavesBe}
 use Rattle.schedule.specs.Making.{EventRuns}
 use Rattle.schedule.proofs.Frames.{began_within, slot_is, goes_fits}
 use Rattle.schedule.proofs.Keeping.{no_growth}
@@ -54,7 +54,7 @@ true_false : true ≡ false → ⊥
 true_false h = cc
 
 -- what an event leaves as it was: a call is due after as many steps on the same pages, within the same limits
-leaves_be : {S : Type 0} (g : Ghosts S) (kind : Kind) (old new : Snapshot S) → (g.state new.store).limits ≡ (g.state old.store).limits → (g.state new.store).frames ≡ (g.state old.store).frames
+leaves_be : {S : Type 0} (g : Ghosts S) (kind : Kind) (old new : Moment S) → (g.state new.store).limits ≡ (g.state old.store).limits → (g.state new.store).frames ≡ (g.state old.store).frames
     → (new.history ≡ old.history → (g.state new.store).pages ≡ (g.state old.store).pages)
     → ((session : ℕ) → IsOfSession session kind → OthersStay session old.slots new.slots) → LeavesBe g kind old new
 leaves_be g kind old new limits frames pages others = record {
@@ -67,7 +67,7 @@ leaves_be g kind old new limits frames pages others = record {
 }
 
 -- nothing at all is changed but the log and the device
-stays_be : {S : Type 0} (g : Ghosts S) (kind : Kind) (old new : Snapshot S) → g.state new.store ≡ g.state old.store → new.slots ≡ old.slots → LeavesBe g kind old new
+stays_be : {S : Type 0} (g : Ghosts S) (kind : Kind) (old new : Moment S) → g.state new.store ≡ g.state old.store → new.slots ≡ old.slots → LeavesBe g kind old new
 stays_be g kind old new same slots = leaves_be g kind old new (ap (λ (st : State). st.limits) same) (ap (λ (st : State). st.frames) same) (λ quiet. ap (λ (st : State). st.pages) same)
     (λ session of other apart. ap (λ (s : List (Option Op)). slice_get s other) slots)
 
@@ -84,12 +84,13 @@ pub others_stay_set : (slots : List (Option Op)) (session : ℕ) (slot : Option 
 others_stay_set slots session slot s same other apart = get_set_other slots session other slot (λ e. apart (e ∙ same))
 
 -- the running call of a session fits
-pub call_fits : {S : Type 0} (g : Ghosts S) (start : Entry → Bool) (old : Snapshot S) (session : ℕ) (op : Op) → Fits g start old
+pub call_fits : {S : Type 0} (g : Ghosts S) (start : Entry → Bool) (old : Moment S) (session : ℕ) (op : Op) → Fits g start old
     → (runs : SlotRuns g start old session op) → CallFits (g.state old.store) old.sets start old.history runs.number runs.call op
-call_fits g start old session op fits runs = record { world = (matches_of fits); running = runs.is.running; meets = fits.explains.meets runs.number runs.call runs.is.found; runs = runs.runs; sweeps = runs.sweeps }
+call_fits g start old session op fits runs =
+    record { world = (matches_of fits); running = runs.is.running; meets = fits.explains.meets runs.number runs.call runs.is.found; runs = runs.runs; sweeps = runs.sweeps }
 
 -- nothing that a moment shows is changed but the log and the device
-pub fits_still : {S : Type 0} (g : Ghosts S) (start : Entry → Bool) (old : Snapshot S) (store : S) → g.state store ≡ g.state old.store → Fits g start old
+pub fits_still : {S : Type 0} (g : Ghosts S) (start : Entry → Bool) (old : Moment S) (store : S) → g.state store ≡ g.state old.store → Fits g start old
     → Fits g start (record { store = store; slots = old.slots; sets = old.sets; history = old.history; calls = old.calls })
 fits_still {S} g start old store same fits = fits_from (record {
   matches = subst (λ (st : State). Matches st start old.history) (sym same) (matches_of fits);
@@ -102,7 +103,8 @@ fits_still {S} g start old store same fits = fits_from (record {
   owned = fits.explains.owned;
 })
   where
-    slot_still : (u : ℕ) (o : Option Op) → SlotMatches g start old u o → SlotMatches g start (record { store = store; slots = old.slots; sets = old.sets; history = old.history; calls = old.calls }) u o
+    slot_still : (u : ℕ) (o : Option Op) → SlotMatches g start old u o
+        → SlotMatches g start (record { store = store; slots = old.slots; sets = old.sets; history = old.history; calls = old.calls }) u o
     slot_still u None h = record { none = h.none; idle = subst (λ (st : State). IsIdle st u) (sym same) h.idle }
     slot_still u (Some op) h = record {
       number = h.number;
@@ -114,12 +116,14 @@ fits_still {S} g start old store same fits = fits_from (record {
     }
 
 -- a move of a running call
-module _ {S : Type 0} (g : Ghosts S) (start : Entry → Bool) (old : Snapshot S) (store : S) (session : ℕ) (op : Op) (slot : Option Op) (move : Move) (at : Circumstances) (answer : Answer)
+module _ {S : Type 0} (g : Ghosts S) (start : Entry → Bool) (old : Moment S) (store : S) (session : ℕ) (op : Op) (slot : Option Op) (move : Move) (at : Circumstances) (answer : Answer)
     (fits : Fits g start old) (found : slice_get old.slots session ≡ Some (Some op)) (follows : g.follows old.store store) (later : IsLater (g.backing old.store) (g.backing store))
-    (goes : (number : ℕ) (call : Call) → SlotFits (g.state old.store) old.sets start old.history number call (Some op) → SessionGoes at (g.state old.store) (g.state store) old.sets start old.history number call slot answer)
-    (where_is : where_moving g old.sets old.store store move (Some (Some op)) ≡ at)
+    (goes : (number : ℕ) (call : Call) → SlotFits (g.state old.store) old.sets start old.history number call (Some op)
+    → SessionGoes at (g.state old.store) (g.state store) old.sets start old.history number call slot answer)
+    (where_is : causes_of_moving g old.sets old.store store move (Some (Some op)) ≡ at)
     (always : EventAlways g (MovesCall session move) answer (here_at old) (record { store = store; slots = slice_set old.slots session slot; sets = old.sets }))
-    (followed : (start' : Entry → Bool) (l : List Action) (n : ℕ) (c : Call) → SlotFits (g.state old.store) old.sets start' l n c (Some op) → CallIsFollowed (MovesCall session move) old.sets answer (g.state old.store) (g.state store) (Some op) slot) where
+    (followed : (start' : Entry → Bool) (l : List Action) (n : ℕ) (c : Call) → SlotFits (g.state old.store) old.sets start' l n c (Some op)
+    → CallIsFollowed (MovesCall session move) old.sets answer (g.state old.store) (g.state store) (Some op) slot) where
   runs : SlotRuns g start old session op
   runs = running_of fits session (Some op) found
 
@@ -135,7 +139,7 @@ module _ {S : Type 0} (g : Ghosts S) (start : Entry → Bool) (old : Snapshot S)
   pinned : PinnedLeavesStay session (g.state old.store) (g.state store)
   pinned = subst (λ (t : ℕ). PinnedLeavesStay t (g.state old.store) (g.state store)) runs.is.session_is one.pinned
 
-  new : Snapshot S
+  new : Moment S
   new = record { store = store; slots = slice_set old.slots session slot; sets = old.sets; history = old.history ++ acts_of runs.number one.effect; calls = slice_set old.calls runs.number one.after }
 
   new_fits : Fits g start new
@@ -166,8 +170,10 @@ module _ {S : Type 0} (g : Ghosts S) (start : Entry → Bool) (old : Snapshot S)
       shape = one.shape;
     });
     grows = record { acts = acts_of runs.number one.effect; is = refl; few = acts_few runs.number one.effect };
-    caused = subst (λ (o : Option (Option Op)). IsCaused (where_moving g old.sets old.store store move o) answer) (sym found) (subst (λ (x : Circumstances). IsCaused x answer) (sym where_is) one.caused);
-    followed = at_slots old.slots session (Some op) slot (λ x y. CallIsFollowed (MovesCall session move) old.sets answer (g.state old.store) (g.state store) x y) found (followed start old.history runs.number runs.call fit);
+    caused = subst (λ (o : Option (Option Op)). IsCaused (causes_of_moving g old.sets old.store store move o) answer) (sym found)
+        (subst (λ (x : Circumstances). IsCaused x answer) (sym where_is) one.caused);
+    followed = at_slots old.slots session (Some op) slot
+        (λ x y. CallIsFollowed (MovesCall session move) old.sets answer (g.state old.store) (g.state store) x y) found (followed start old.history runs.number runs.call fit);
     leaves = λ other block page apart there held. pinned other block page (λ e. apart (sym e)) there held;
     lows = lows_relied session (g.state old.store) (g.state store) others;
     quiet = leaves_be g (MovesCall session move) old new one.limits one.frames (λ same. one.pages (no_effect one.effect same)) (others_stay_set old.slots session slot);
@@ -183,32 +189,36 @@ module _ {S : Type 0} (g : Ghosts S) (start : Entry → Bool) (old : Snapshot S)
   moves_on = record { then_history = old.history ++ acts_of runs.number one.effect; then_calls = slice_set old.calls runs.number one.after; does = move_does }
 
 -- an event that is refused, with nothing changed
-module _ {S : Type 0} (g : Ghosts S) (start : Entry → Bool) (old : Snapshot S) (store : S) (fault : Fault) (fits : Fits g start old) (same : g.state store ≡ g.state old.store)
+module _ {S : Type 0} (g : Ghosts S) (start : Entry → Bool) (old : Moment S) (store : S) (fault : Fault) (fits : Fits g start old) (same : g.state store ≡ g.state old.store)
     (follows : g.follows old.store store) (later : IsLater (g.backing old.store) (g.backing store)) where
-  abbrev then_now : Snapshot S
+  abbrev then_now : Moment S
   then_now = record { store = store; slots = old.slots; sets = old.sets; history = old.history; calls = old.calls }
 
   stays : Stays g (Refused fault) old then_now
   stays = record { fault = fault; refused = refl; still = record { state_is = same; slots_is = refl; history_is = refl; calls_is = refl } }
 
-  follows_on : (kind : Kind) (before : Option Op) → ((session : ℕ) → kind ≡ MovesCall session Steps → before ≡ None) → CallIsFollowed kind old.sets (Refused fault) (g.state old.store) (g.state store) before before
+  follows_on : (kind : Kind) (before : Option Op) → ((session : ℕ) → kind ≡ MovesCall session Steps → before ≡ None)
+      → CallIsFollowed kind old.sets (Refused fault) (g.state old.store) (g.state store) before before
   follows_on (BeginsCall session request) before idle = λ begun. absurd cc
-  follows_on (MovesCall session Steps) before idle = subst (λ (o : Option Op). CallIsFollowed (MovesCall session Steps) old.sets (Refused fault) (g.state old.store) (g.state store) o o) (sym (idle session refl)) (record {
-    due = λ left due. absurd due;
-    no_more = λ acts. omega arith;
-    flagged = λ only. subst (λ (st : State). OnlyOwnAreFlagged st None) (sym same) only;
-    stands = tt;
-    waits = tt;
-    entries = tt;
-    deletes = tt;
-    frees = tt;
-    spares = tt;
-  })
-  follows_on (MovesCall session Takes) before idle = λ steps due. due_still (g.state old.store) (g.state store) before steps (ap (λ (st : State). st.limits) same) (ap (λ (st : State). st.pages) same) due
+  follows_on (MovesCall session Steps) before idle =
+      subst (λ (o : Option Op). CallIsFollowed (MovesCall session Steps) old.sets (Refused fault) (g.state old.store) (g.state store) o o) (sym (idle session refl)) (record {
+        due = λ left due. absurd due;
+        no_more = λ acts. omega arith;
+        flagged = λ only. subst (λ (st : State). OnlyOwnAreFlagged st None) (sym same) only;
+        stands = tt;
+        waits = tt;
+        entries = tt;
+        deletes = tt;
+        frees = tt;
+        spares = tt;
+      })
+  follows_on (MovesCall session Takes) before idle = λ steps due.
+      due_still (g.state old.store) (g.state store) before steps (ap (λ (st : State). st.limits) same) (ap (λ (st : State). st.pages) same) due
   follows_on (MovesCall session GivesUp) before idle = tt
   follows_on (KeepsStore upkeep) before idle = tt
 
-  stay_with : (kind : Kind) → Happens g start kind (Refused fault) old then_now → EventAlways g kind (Refused fault) (here_at old) (here_at then_now) → IsCaused (where_happening g kind (here_at old) (here_at then_now)) (Refused fault)
+  stay_with : (kind : Kind) → Happens g start kind (Refused fault) old then_now → EventAlways g kind (Refused fault) (here_at old) (here_at then_now)
+      → IsCaused (causes_of_happening g kind (here_at old) (here_at then_now)) (Refused fault)
       → ((session : ℕ) → kind ≡ MovesCall session Steps → slot_of old.slots (session_at kind) ≡ None)
       → EventDoes g start kind (Refused fault) old then_now
   stay_with kind happens always caused idle = does_of fits (fits_still g start old store same fits) refl (record {
@@ -227,7 +237,8 @@ module _ {S : Type 0} (g : Ghosts S) (start : Entry → Bool) (old : Snapshot S)
   })
 
   -- there is a continuation by what is refused, which is none
-  pub stays_on : (kind : Kind) → Happens g start kind (Refused fault) old then_now → EventAlways g kind (Refused fault) (here_at old) (here_at then_now) → IsCaused (where_happening g kind (here_at old) (here_at then_now)) (Refused fault)
+  pub stays_on : (kind : Kind) → Happens g start kind (Refused fault) old then_now
+      → EventAlways g kind (Refused fault) (here_at old) (here_at then_now) → IsCaused (causes_of_happening g kind (here_at old) (here_at then_now)) (Refused fault)
       → ((session : ℕ) → kind ≡ MovesCall session Steps → slot_of old.slots (session_at kind) ≡ None)
       → EventRuns g (here_at old) (here_at then_now) kind (Refused fault) start old.history old.calls
   stays_on kind happens always caused idle = record { then_history = old.history; then_calls = old.calls; does = stay_with kind happens always caused idle }
@@ -236,7 +247,7 @@ module _ {S : Type 0} (g : Ghosts S) (start : Entry → Bool) (old : Snapshot S)
   refused_stay = stays
 
 -- what is done for the store
-module _ {S : Type 0} (g : Ghosts S) (start : Entry → Bool) (old : Snapshot S) (store : S) (upkeep : Upkeep) (fits : Fits g start old) (same : g.state store ≡ g.state old.store)
+module _ {S : Type 0} (g : Ghosts S) (start : Entry → Bool) (old : Moment S) (store : S) (upkeep : Upkeep) (fits : Fits g start old) (same : g.state store ≡ g.state old.store)
     (follows : g.follows old.store store) (later : IsLater (g.backing old.store) (g.backing store)) where
   kept_durable : (u : Upkeep) (count durable : ℕ) (answer : Answer) → kept_answer u count ≡ Some answer → count ≤ durable → IsDurable durable answer
   kept_durable Forces count durable answer is le = subst (λ (a : Answer). IsDurable durable a) (same_some (kept_answer Forces count) (Forced count) answer refl is) le
@@ -248,7 +259,7 @@ module _ {S : Type 0} (g : Ghosts S) (start : Entry → Bool) (old : Snapshot S)
   kept_caused Flushes count at answer is = absurd (let none : kept_answer Flushes count ≡ Some answer = is in cc)
   kept_caused Checkpoints count at answer is = subst (λ (a : Answer). IsCaused at a) (same_some (kept_answer Checkpoints count) (Checkpointed count) answer refl is) tt
 
-  kept_told : (u : Upkeep) (count : ℕ) (answer : Answer) (new : Snapshot S) → kept_answer u count ≡ Some answer → IsToldDurable g u answer old new → UpkeepIsTold g u answer old new
+  kept_told : (u : Upkeep) (count : ℕ) (answer : Answer) (new : Moment S) → kept_answer u count ≡ Some answer → IsToldDurable g u answer old new → UpkeepIsTold g u answer old new
   kept_told Forces count answer new is all = all
   kept_told Flushes count answer new is all = absurd (let none : kept_answer Flushes count ≡ Some answer = is in cc)
   kept_told Checkpoints count answer new is all = all
@@ -257,7 +268,7 @@ module _ {S : Type 0} (g : Ghosts S) (start : Entry → Bool) (old : Snapshot S)
       → EventAlways g (KeepsStore upkeep) answer (here_at old) (record { store = store; slots = old.slots; sets = old.sets })
       → EventRuns g (here_at old) (record { store = store; slots = old.slots; sets = old.sets }) (KeepsStore upkeep) answer start old.history old.calls
   keeps_on_store count answer told number durable always =
-      let then : Snapshot S = record { store = store; slots = old.slots; sets = old.sets; history = old.history; calls = old.calls } in
+      let then : Moment S = record { store = store; slots = old.slots; sets = old.sets; history = old.history; calls = old.calls } in
       record {
         then_history = old.history;
         then_calls = old.calls;
@@ -271,12 +282,13 @@ module _ {S : Type 0} (g : Ghosts S) (start : Entry → Bool) (old : Snapshot S)
             still = record { state_is = same; slots_is = refl; history_is = refl; calls_is = refl };
           });
           grows = no_growth old.history;
-          caused = kept_caused upkeep count (where_forced (g.backing old.store) (g.backing store)) answer told;
+          caused = kept_caused upkeep count (causes_of_forced (g.backing old.store) (g.backing store)) answer told;
           followed = tt;
           leaves = λ other block page apart there pinned. leaf_same (g.state old.store) (g.state store) (ap (λ (st : State). st.pages) same) block page there;
           lows = lows_still (g.state old.store) (g.state store) (ap (λ (st : State). st.pages) same);
           quiet = stays_be g (KeepsStore upkeep) old then same refl;
-          durable = kept_durable upkeep count (g.backing store).durable answer told (let n : count ≡ (g.state old.store).acts = number in let d : (g.backing store).durable ≡ (g.state old.store).acts = durable in omega arith);
+          durable = kept_durable upkeep count (g.backing store).durable answer told
+              (let n : count ≡ (g.state old.store).acts = number in let d : (g.backing store).durable ≡ (g.state old.store).acts = durable in omega arith);
           follows = follows;
           later = later;
           invariant = (fits_still g start old store same fits).invariant;
@@ -284,12 +296,12 @@ module _ {S : Type 0} (g : Ghosts S) (start : Entry → Bool) (old : Snapshot S)
       }
 
 -- a changed page is written to its place
-pub flushes_on_store : {S : Type 0} (g : Ghosts S) (start : Entry → Bool) (old : Snapshot S) (store : S) (fits : Fits g start old) (same : g.state store ≡ g.state old.store)
+pub flushes_on_store : {S : Type 0} (g : Ghosts S) (start : Entry → Bool) (old : Moment S) (store : S) (fits : Fits g start old) (same : g.state store ≡ g.state old.store)
     (follows : g.follows old.store store) (later : IsLater (g.backing old.store) (g.backing store)) (block : Option ℕ) → block ≡ slice_get (g.backing old.store).changed 0
     → EventAlways g (KeepsStore Flushes) (Flushed block) (here_at old) (record { store = store; slots = old.slots; sets = old.sets })
     → EventRuns g (here_at old) (record { store = store; slots = old.slots; sets = old.sets }) (KeepsStore Flushes) (Flushed block) start old.history old.calls
 flushes_on_store {S} g start old store fits same follows later block first always =
-    let then : Snapshot S = record { store = store; slots = old.slots; sets = old.sets; history = old.history; calls = old.calls } in
+    let then : Moment S = record { store = store; slots = old.slots; sets = old.sets; history = old.history; calls = old.calls } in
     record {
       then_history = old.history;
       then_calls = old.calls;
@@ -327,14 +339,15 @@ request_acts true session st = refl
 request_acts false session st = refl
 
 -- a call is begun
-module _ {S : Type 0} (g : Ghosts S) (start : Entry → Bool) (old : Snapshot S) (store : S) (session : ℕ) (request : Request) (op : Op)
-    (fits : Fits g start old) (free : slice_get old.slots session ≡ Some None) (begins : SessionBegins (g.state old.store) (g.state store) old.sets start old.history (length old.calls) session request (Some op))
+module _ {S : Type 0} (g : Ghosts S) (start : Entry → Bool) (old : Moment S) (store : S) (session : ℕ) (request : Request) (op : Op)
+    (fits : Fits g start old) (free : slice_get old.slots session ≡ Some None)
+    (begins : SessionBegins (g.state old.store) (g.state store) old.sets start old.history (length old.calls) session request (Some op))
     (named : IsOfSets old.sets request) (alone : asks_vacuum request ≡ true → one_vacuums old.slots ≡ false) (fresh : op ≡ op_before session request)
     (state : g.state store ≡ after_request (asks_sweep request) session (g.state old.store)) where
   abbrev call : Call
   call = begun_call session (asked_by old.sets request) (length old.history)
 
-  abbrev begun : Snapshot S
+  abbrev begun : Moment S
   begun = record { store = store; slots = slice_set old.slots session (Some op); sets = old.sets; history = old.history; calls = old.calls ++ call ∷ [] }
 
   -- a running call was so before, or it is the one that begins
@@ -375,7 +388,8 @@ module _ {S : Type 0} (g : Ghosts S) (start : Entry → Bool) (old : Snapshot S)
   sweep_theirs u (Cleanup x) number began is within h = tt
   sweep_theirs u (Bulk set x) number began is within h =
       subst (λ (l : List Action). OpSweeps (g.state store) old.sets start l number began (Bulk set x)) (append-nil old.history)
-      (sweeps_undisturbed (g.state old.store) (g.state store) old.sets start old.history number (suc number) began None (Bulk set x) (stay_for u (ap slot_vacuums is)) (λ e. absurd (let n : suc number ≡ number = e in omega arith)) within h)
+      (sweeps_undisturbed (g.state old.store) (g.state store) old.sets start old.history number (suc number) began None (Bulk set x)
+      (stay_for u (ap slot_vacuums is)) (λ e. absurd (let n : suc number ≡ number = e in omega arith)) within h)
 
   -- what a bulk delete has to remove that begins: a cycle number is given for it
   given_cycle : (o : Op) → is_sweep o ≡ true → OpSweeps (g.state store) old.sets start old.history (length old.calls) (length old.history) o → is_sweeping (g.state store) ≡ true
@@ -393,7 +407,8 @@ module _ {S : Type 0} (g : Ghosts S) (start : Entry → Bool) (old : Snapshot S)
       by : (b : Bool) → asks_vacuum request ≡ b → (c : Bool) → asks_sweep request ≡ c → OneVacuums (g.state store) (slice_set old.slots session (Some op))
       by true is true sweeps = sweep_begins (g.state old.store) old.slots session (Some op) within_slots (vacuum_is ∙ is) (alone is) fits.invariant.vacuums (g.state store) (sweep_is ∙ sweeps)
           (given_cycle op (sweep_is ∙ sweeps) (begins.sweeps named))
-      by true is false calm = cleanup_begins (g.state old.store) old.slots session (Some op) within_slots (vacuum_is ∙ is) (alone is) fits.invariant.vacuums (g.state store) (sweep_is ∙ calm) (begins.cycle calm)
+      by true is false calm =
+          cleanup_begins (g.state old.store) old.slots session (Some op) within_slots (vacuum_is ∙ is) (alone is) fits.invariant.vacuums (g.state store) (sweep_is ∙ calm) (begins.cycle calm)
       by false is c sweeps = vacuums_still (g.state old.store) (g.state store) old.slots session (Some op) within_slots (vacuum_is ∙ is ∙ sym (ap slot_vacuums was_none))
           (sweep_is ∙ calm_request request is ∙ sym (ap slot_sweeps was_none)) (begins.cycle (calm_request request is)) fits.invariant.vacuums
 
@@ -415,7 +430,7 @@ module _ {S : Type 0} (g : Ghosts S) (start : Entry → Bool) (old : Snapshot S)
 
   begun_fits : Fits g start begun
   begun_fits =
-      let was_free : IsFree g old session = running_of fits session None free in
+      let was_free : IsFreeSession g old session = running_of fits session None free in
       let within : session < length old.slots = get_within old.slots session None free in
       fits_from (record {
         matches = begins.world;
@@ -484,15 +499,17 @@ named_of sets ToCleanup h = tt
 named_of sets (ToBulk set) h = ltb-true set (length sets) h
 
 -- a refused beginning is one of these, whatever the session has
-pub not_begun : {S : Type 0} (g : Ghosts S) (o : Option (Option Op)) (session : ℕ) (request : Request) (answer : Answer) (old new : Snapshot S) → Stays g answer old new → MayBegin g o session request answer old new
+pub not_begun : {S : Type 0} (g : Ghosts S) (o : Option (Option Op)) (session : ℕ) (request : Request) (answer : Answer) (old new : Moment S)
+    → Stays g answer old new → MayBegin g o session request answer old new
 not_begun g None session request answer old new h = h
 not_begun g (Some None) session request answer old new h = inr h
 not_begun g (Some (Some op)) session request answer old new h = h
 
 -- a session that isn't found has its cause
 module _ {S : Type 0} (g : Ghosts S) (store : S) (vacuums : Bool) (sets : DeadSets) (request : Request) (session : ℕ) where
-  pub not_found_why : (is_stopped has_set : Bool) (o : Option (Option Op)) (fault : Fault) → is_stopped ≡ no_call_begins (g.state store) (g.backing store) → has_set ≡ is_of_sets sets request → Err fault ≡ session_to_begin is_stopped has_set o session
-      → HasCause (where_begun_at g store vacuums sets request o) fault
+  pub not_found_why : (is_stopped has_set : Bool) (o : Option (Option Op)) (fault : Fault)
+      → is_stopped ≡ no_call_begins (g.state store) (g.backing store) → has_set ≡ is_of_sets sets request → Err fault ≡ session_to_begin is_stopped has_set o session
+      → HasCause (causes_of_begun_at g store vacuums sets request o) fault
   not_found_why true has_set None fault same there h = (let e : fault ≡ Stopped = cc in rw e (sym same))
   not_found_why true has_set (Some slot) fault same there h = (let e : fault ≡ Stopped = cc in rw e (sym same))
   not_found_why false has_set None fault same there h = (let e : fault ≡ NoSession = cc in rw e refl)
@@ -505,7 +522,8 @@ pub none_begins : (is_stopped at_end : Bool) → is_stopped ≡ true → (is_sto
 none_begins true at_end h = refl
 none_begins false at_end h = absurd cc
 
-pub not_found_first : (is_stopped has_set : Bool) (o : Option (Option Op)) (session : ℕ) (fault : Fault) → Err fault ≡ session_to_begin is_stopped has_set o session → is_stopped ≡ true → Refused fault ≡ Refused Stopped
+pub not_found_first : (is_stopped has_set : Bool) (o : Option (Option Op)) (session : ℕ) (fault : Fault)
+    → Err fault ≡ session_to_begin is_stopped has_set o session → is_stopped ≡ true → Refused fault ≡ Refused Stopped
 not_found_first true has_set o session fault h is = (let e : fault ≡ Stopped = cc in ap Refused e)
 not_found_first false has_set o session fault h is = absurd cc
 

@@ -8,8 +8,8 @@ use Rattle.session_calls.specs.Sessions.{Matches, OpRuns, IsIdle}
 use Rattle.session_calls.specs.Sweeps.{OpSweeps}
 use Rattle.session_calls.specs.declared.answer.Answer.{Answer}
 use Rattle.session_calls.specs.declared.op.Op.{Op}
-use Rattle.schedule.specs.TheoremMoments.{Snapshot, RunsOne, IsRunningCall, HasOneCall}
-use Rattle.schedule.specs.Snapshots.{SlotRuns, SlotMatches, OneVacuums}
+use Rattle.schedule.specs.TheoremMoments.{Moment, RunsOne, IsRunningCall, HasOneCall}
+use Rattle.schedule.specs.MomentInvariants.{SlotRuns, SlotMatches, OneVacuums}
 use Rattle.schedule.specs.TheoremKinds.{Kind, kind_of}
 use Rattle.schedule.specs.TheoremRuns.{Fits, EventGoes}
 use Rattle.schedule.specs.Making.{EventDoes}
@@ -24,7 +24,7 @@ none_beyond (x ∷ xs) zero h = absurd cc
 none_beyond (x ∷ xs) (suc i) h = let le : length xs ≤ i = none_beyond xs i h in omega arith
 
 -- the parts of a moment that fits, session by session
-pub record Parts {S : Type 0} (g : Ghosts S) (start : Entry → Bool) (now : Snapshot S) : Type 0 where
+pub record Parts {S : Type 0} (g : Ghosts S) (start : Entry → Bool) (now : Moment S) : Type 0 where
   pub matches : Matches (g.state now.store) start now.history
   pub unique : (g.state now.store).limits.unique ≡ true → (k : ℕ) → KeysDiffer (is_there_after start now.history k)
   pub running : (session : ℕ) (slot : Option Op) → slice_get now.slots session ≡ Some slot → SlotMatches g start now session slot
@@ -34,11 +34,11 @@ pub record Parts {S : Type 0} (g : Ghosts S) (start : Entry → Bool) (now : Sna
   pub meets : (number : ℕ) (call : Call) → slice_get now.calls number ≡ Some call → Meets start now.history number call
   pub owned : ActionsAreOwned start now.history now.calls
 
-pub matches_of : {S : Type 0} {g : Ghosts S} {start : Entry → Bool} {now : Snapshot S} → Fits g start now → Matches (g.state now.store) start now.history
+pub matches_of : {S : Type 0} {g : Ghosts S} {start : Entry → Bool} {now : Moment S} → Fits g start now → Matches (g.state now.store) start now.history
 matches_of fits = record { contents = fits.explains.contents; count = fits.explains.count; order = fits.invariant.order; starts = fits.invariant.starts }
 
 -- a session is free, or has what its running call runs
-pub running_of : {S : Type 0} {g : Ghosts S} {start : Entry → Bool} {now : Snapshot S} → Fits g start now
+pub running_of : {S : Type 0} {g : Ghosts S} {start : Entry → Bool} {now : Moment S} → Fits g start now
     → (session : ℕ) (slot : Option Op) → slice_get now.slots session ≡ Some slot → SlotMatches g start now session slot
 running_of {S} {g} {start} {now} fits session None at = record {
   none = λ number call is. (
@@ -52,12 +52,12 @@ running_of {S} {g} {start} {now} fits session (Some op) at =
     record { number = one.number; call = one.call; is = one.is; only = one.only; runs = runs.0; sweeps = runs.1 }
 
 -- a session that isn't there holds nothing
-pub beyond_of : {S : Type 0} {g : Ghosts S} {start : Entry → Bool} {now : Snapshot S} → Fits g start now
+pub beyond_of : {S : Type 0} {g : Ghosts S} {start : Entry → Bool} {now : Moment S} → Fits g start now
     → (session : ℕ) → length now.slots ≤ session → IsIdle (g.state now.store) session
 beyond_of {S} {g} {start} {now} fits session far =
     fits.invariant.idle session (λ runs. (let within : session < length now.slots = get_within now.slots session (Some runs.0) runs.1 in omega arith))
 
-module _ {S : Type 0} (g : Ghosts S) (start : Entry → Bool) (now : Snapshot S)
+module _ {S : Type 0} (g : Ghosts S) (start : Entry → Bool) (now : Moment S)
     (running : (session : ℕ) (slot : Option Op) → slice_get now.slots session ≡ Some slot → SlotMatches g start now session slot)
     (beyond : (session : ℕ) → length now.slots ≤ session → IsIdle (g.state now.store) session)
     (known : (number : ℕ) (call : Call) → slice_get now.calls number ≡ Some call → call.session < length now.slots) where
@@ -96,7 +96,7 @@ module _ {S : Type 0} (g : Ghosts S) (start : Entry → Bool) (now : Snapshot S)
       of (Some (Some op)) at = absurd (none (op, at))
 
 -- a moment fits that has these parts
-pub fits_from : {S : Type 0} {g : Ghosts S} {start : Entry → Bool} {now : Snapshot S} → Parts g start now → Fits g start now
+pub fits_from : {S : Type 0} {g : Ghosts S} {start : Entry → Bool} {now : Moment S} → Parts g start now → Fits g start now
 fits_from {S} {g} {start} {now} parts = record {
   explains = record {
     contents = parts.matches.contents;
@@ -120,8 +120,9 @@ fits_from {S} {g} {start} {now} parts = record {
 }
 
 -- what fits behind an event
-pub fits_behind : {S : Type 0} {g : Ghosts S} {start : Entry → Bool} {kind : Kind} {answer : Answer} {old new : Snapshot S} → EventDoes g start kind answer old new → Fits g start new
+pub fits_behind : {S : Type 0} {g : Ghosts S} {start : Entry → Bool} {kind : Kind} {answer : Answer} {old new : Moment S} → EventDoes g start kind answer old new → Fits g start new
 fits_behind does = record { explains = does.means.explains; invariant = does.also.invariant }
 
-pub goes_does : {S : Type 0} {g : Ghosts S} {start : Entry → Bool} {event : Event} {answer : Answer} {old new : Snapshot S} → EventGoes g start event answer old new → EventDoes g start (kind_of event) answer old new
+pub goes_does : {S : Type 0} {g : Ghosts S} {start : Entry → Bool} {event : Event} {answer : Answer} {old new : Moment S}
+    → EventGoes g start event answer old new → EventDoes g start (kind_of event) answer old new
 goes_does goes = record { means = goes.means; also = goes.also }

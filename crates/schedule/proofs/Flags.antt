@@ -21,7 +21,7 @@ use Rattle.schedule.specs.Making.{EventDoes}
 use Rattle.schedule.specs.Events.{IsOfSession, Stays, MayBegin}
 use Rattle.schedule.specs.Spans.{IsUnfailed, LeavesNoneUnfinished, SplitsAreFinished}
 use Rattle.schedule.specs.TheoremKinds.{Steps, Takes, GivesUp, Kind, BeginsCall, MovesCall, KeepsStore, kind_of}
-use Rattle.schedule.specs.TheoremMoments.{Snapshot}
+use Rattle.schedule.specs.TheoremMoments.{Moment}
 use Rattle.schedule.proofs.Fitting.{goes_does}
 
 -- flags are of the pages and of what the session runs
@@ -73,14 +73,15 @@ scan_stays : (st : State) (after : Option Op) (op : ScanOp) → RunsOn (Some (Sc
 scan_stays st None op on h = h
 scan_stays st (Some next) op on h = scan_flags st next on h
 
-taken : (st : State) (before after : Option Op) (answer : Answer) → AnswersNext before answer → GivesLess before after answer → RunsOn before after → OnlyOwnAreFlagged st before → OnlyOwnAreFlagged st after
+taken : (st : State) (before after : Option Op) (answer : Answer) → AnswersNext before answer → GivesLess before after answer → RunsOn before after
+    → OnlyOwnAreFlagged st before → OnlyOwnAreFlagged st after
 taken st (Some (Scan op)) after (Gave (Some e)) may less on h = scan_stays st after op on h
 taken st (Some (Scan op)) after (Gave None) may less on h = subst (λ (o : Option Op). OnlyOwnAreFlagged st o) (sym less.0) h
 taken st (Some (Scan op)) after answer may less on h = absurd may
 taken st before after (Refused fault) may less on h = subst (λ (o : Option Op). OnlyOwnAreFlagged st o) (sym less.0) h
 taken st before after answer may less on h = absurd may
 
-module _ {S : Type 0} (g : Ghosts S) (start : Entry → Bool) (session : ℕ) (old new : Snapshot S) (own : OnlyOwnAreFlagged (g.state old.store) (slot_of old.slots session)) where
+module _ {S : Type 0} (g : Ghosts S) (start : Entry → Bool) (session : ℕ) (old new : Moment S) (own : OnlyOwnAreFlagged (g.state old.store) (slot_of old.slots session)) where
   abbrev Own : Type 0
   Own = OnlyOwnAreFlagged (g.state new.store) (slot_of new.slots session)
 
@@ -96,7 +97,8 @@ module _ {S : Type 0} (g : Ghosts S) (start : Entry → Bool) (session : ℕ) (o
   still kind answer does calm = does.also.always.kept.quiet calm
 
   -- its own beginning
-  begins : (request : Request) (answer : Answer) → EventDoes g start (BeginsCall session request) answer old new → (o : Option (Option Op)) → slice_get old.slots session ≡ o → MayBegin g o session request answer old new → Own
+  begins : (request : Request) (answer : Answer) → EventDoes g start (BeginsCall session request) answer old new → (o : Option (Option Op))
+      → slice_get old.slots session ≡ o → MayBegin g o session request answer old new → Own
   begins request answer does o at may = by o at may
     where
       unchanged : Stays g answer old new → Own
@@ -136,13 +138,14 @@ module _ {S : Type 0} (g : Ghosts S) (start : Entry → Bool) (session : ℕ) (o
   event_flags (MovesCall of Steps) answer does quiet clean = elim (cases_eq of session) [
     | inl e ↦ (
         let its : EventDoes g start (MovesCall session Steps) answer old new = subst (λ (s : ℕ). EventDoes g start (MovesCall s Steps) answer old new) e does in
-        step_flags (g.state old.store) (g.state new.store) (slot_of old.slots session) (slot_of new.slots session) answer (its.also.followed.flagged own) its.also.always.until_last its.also.always.refused (clean e))
+        step_flags (g.state old.store) (g.state new.store) (slot_of old.slots session) (slot_of new.slots session) answer
+        (its.also.followed.flagged own) its.also.always.until_last its.also.always.refused (clean e))
     | inr n ↦ elsewhere (MovesCall of Steps) answer does of refl (λ e. n (sym e)) (does.also.quiet.pages (quiet n))
   ]
 
 pub splits_are_finished : {S : Type 0} (g : Ghosts S) → SplitsAreFinished g
 splits_are_finished {S} g start told [] [] first last run session quiet clean own =
-    subst (λ (m : Snapshot S). OnlyOwnAreFlagged (g.state m.store) (slot_of m.slots session)) run own
+    subst (λ (m : Moment S). OnlyOwnAreFlagged (g.state m.store) (slot_of m.slots session)) run own
 splits_are_finished g start told (event ∷ events) (answer ∷ answers) first last run session quiet clean own =
     let one = event_flags g start session first run.1.0 own (kind_of event) answer (goes_does run.1.1) quiet.0 clean.0 in
     splits_are_finished g start (told ++ answer ∷ []) events answers run.1.0 last run.1.2 session quiet.1 clean.1 one

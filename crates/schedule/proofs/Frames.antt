@@ -20,10 +20,10 @@ use Rattle.session_calls.specs.declared.op.Op.TheVariants.{Insert, Scan, Bulk, C
 use Rattle.session_calls.proofs.Sweeping.{sweeps_undisturbed}
 use Rattle.session_calls.proofs.Telling.{IsSameCall}
 use Rattle.session_calls.proofs.Undisturbed.{undisturbed, idle_undisturbed}
-use Rattle.schedule.specs.TheoremMoments.{Snapshot, IsRunningCall}
+use Rattle.schedule.specs.TheoremMoments.{Moment, IsRunningCall}
 use Rattle.schedule.specs.TheoremRuns.{Fits}
 use Rattle.session_calls.specs.Slots.{slot_of, slot_vacuums}
-use Rattle.schedule.specs.Snapshots.{SlotRuns, SlotMatches}
+use Rattle.schedule.specs.MomentInvariants.{SlotRuns, SlotMatches}
 use Rattle.schedule.proofs.Leaves.{leaves_last}
 use Rattle.schedule.proofs.Lists.{get_set_same, get_set_other, length_set, get_within, get_append, get_append_right, same_some}
 use Rattle.schedule.proofs.Keys.{keys_go_on}
@@ -74,7 +74,8 @@ until_of history acts GivenUp k n h = h
 until_of history acts (Failed f) k n h = h
 
 -- a running call began within the history
-pub began_within : {S : Type 0} (g : Ghosts S) (start : Entry → Bool) (now : Snapshot S) (session number : ℕ) (call : Call) → Fits g start now → IsRunningCall now.calls session number call → call.began ≤ length now.history
+pub began_within : {S : Type 0} (g : Ghosts S) (start : Entry → Bool) (now : Moment S) (session number : ℕ) (call : Call) → Fits g start now
+    → IsRunningCall now.calls session number call → call.began ≤ length now.history
 began_within g start now session number call fits is =
     let meets : call.began ≤ end_of now.history call.ending call.until = (fits.explains.meets number call is.found).began in
     subst (λ (x : Ending). call.began ≤ end_of now.history x call.until) is.running meets
@@ -83,13 +84,16 @@ began_within g start now session number call fits is =
 pub slot_is : (slots : List (Option Op)) (session : ℕ) (slot : Option Op) → slice_get slots session ≡ Some slot → slot_of slots session ≡ slot
 slot_is slots session slot found = ap (λ (o : Option (Option Op)). unwrap_or o None) found
 
-module _ {S : Type 0} (g : Ghosts S) (start : Entry → Bool) (old : Snapshot S) (store : S) (session : ℕ) (after : Call) (effect : Option Effect) (op : Op) (slot : Option Op)
+module _ {S : Type 0} (g : Ghosts S) (start : Entry → Bool) (old : Moment S) (store : S) (session : ℕ) (after : Call) (effect : Option Effect) (op : Op) (slot : Option Op)
     (fits : Fits g start old) (at : slice_get old.slots session ≡ Some (Some op)) (runs : SlotRuns g start old session op)
     (same : IsSameCall (old.history ++ acts_of runs.number effect) (length old.history) effect runs.call after)
     (asked : IsAsked (contents_after start old.history) runs.call.ask runs.call.added effect)
-    (others : OthersRely session (g.state old.store) (g.state store)) (pinned : PinnedLeavesStay session (g.state old.store) (g.state store)) (limits : (g.state store).limits ≡ (g.state old.store).limits) (world : Matches (g.state store) start (old.history ++ acts_of runs.number effect)) (meets : Meets start (old.history ++ acts_of runs.number effect) runs.number after)
+    (others : OthersRely session (g.state old.store) (g.state store)) (pinned : PinnedLeavesStay session (g.state old.store) (g.state store))
+    (limits : (g.state store).limits ≡ (g.state old.store).limits)
+    (world : Matches (g.state store) start (old.history ++ acts_of runs.number effect)) (meets : Meets start (old.history ++ acts_of runs.number effect) runs.number after)
     (holds : SlotIs (g.state store) old.sets start (old.history ++ acts_of runs.number effect) after slot)
-    (cycle : (g.state store).cycle ≡ cycle_behind runs.call.ask slot (g.state old.store).cycle) (leaves : asks_cleanup runs.call.ask ≡ false → (g.state store).cycle ≡ (g.state old.store).cycle → LeavesStay effect (g.state old.store) (g.state store))
+    (cycle : (g.state store).cycle ≡ cycle_behind runs.call.ask slot (g.state old.store).cycle)
+    (leaves : asks_cleanup runs.call.ask ≡ false → (g.state store).cycle ≡ (g.state old.store).cycle → LeavesStay effect (g.state old.store) (g.state store))
     (sweeps : SlotSweeps (g.state store) old.sets start (old.history ++ acts_of runs.number effect) runs.number after.began slot) where
   abbrev acts : List Action
   acts = acts_of runs.number effect
@@ -121,7 +125,8 @@ module _ {S : Type 0} (g : Ghosts S) (start : Entry → Bool) (old : Snapshot S)
   ]
 
   slot_mine : (o : Option Op) → SlotIs (g.state store) old.sets start (old.history ++ acts) after o → SlotSweeps (g.state store) old.sets start (old.history ++ acts) runs.number after.began o
-      → SlotMatches g start (record { store = store; slots = slice_set old.slots session slot; sets = old.sets; history = old.history ++ acts; calls = slice_set old.calls runs.number after }) session o
+      → SlotMatches g start
+      (record { store = store; slots = slice_set old.slots session slot; sets = old.sets; history = old.history ++ acts; calls = slice_set old.calls runs.number after }) session o
   slot_mine None h to_sweep = record {
     none = λ j c r. h.0 (subst (λ (x : Call). x.ending ≡ Running) (mine j c r).1 r.running);
     idle = subst (λ (u : ℕ). IsIdle (g.state store) u) session_is h.1;
@@ -233,11 +238,20 @@ module _ {S : Type 0} (g : Ghosts S) (start : Entry → Bool) (old : Snapshot S)
       | inl e ↦ (
           let k : o ≡ slot = same_some (slice_get (slice_set old.slots session slot) session) o slot (subst (λ (i : ℕ). slice_get (slice_set old.slots session slot) i ≡ Some o) e h)
           (get_set_same old.slots session slot (get_within old.slots session (Some op) at)) in
-          subst (λ (i : ℕ). SlotMatches g start (record { store = store; slots = slice_set old.slots session slot; sets = old.sets; history = old.history ++ acts; calls = slice_set old.calls runs.number after }) i o) (sym e)
-          (subst (λ (x : Option Op). SlotMatches g start (record { store = store; slots = slice_set old.slots session slot; sets = old.sets; history = old.history ++ acts; calls = slice_set old.calls runs.number after }) session x) (sym k) (slot_mine slot holds sweeps)))
+          subst (λ (i : ℕ). SlotMatches g start
+          (record { store = store; slots = slice_set old.slots session slot; sets = old.sets; history = old.history ++ acts; calls = slice_set old.calls runs.number after }) i o) (sym e)
+          (subst (λ (x : Option Op).
+          SlotMatches g start (record {
+            store = store;
+            slots = slice_set old.slots session slot;
+            sets = old.sets;
+            history = old.history ++ acts;
+            calls = slice_set old.calls runs.number after;
+          }) session x) (sym k) (slot_mine slot holds sweeps)))
       | inr n ↦ slot_theirs u o n (sym (get_set_other old.slots session u slot n) ∙ h) (running_of fits u o (sym (get_set_other old.slots session u slot n) ∙ h))
     ];
-    vacuums = vacuums_go (g.state old.store) (g.state store) old.sets old.slots session op slot (get_within old.slots session (Some op) at) (slot_is old.slots session (Some op) at) cycle_by asks_still fits.invariant.vacuums;
+    vacuums = vacuums_go (g.state old.store) (g.state store) old.sets old.slots session op slot (get_within old.slots session (Some op) at)
+        (slot_is old.slots session (Some op) at) cycle_by asks_still fits.invariant.vacuums;
     beyond = λ u far. (
         let many : length (slice_set old.slots session slot) ≡ length old.slots = length_set old.slots session slot in
         let within : session < length old.slots = get_within old.slots session (Some op) at in

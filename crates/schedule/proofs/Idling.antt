@@ -8,16 +8,16 @@ use Rattle.page_action.specs.States.{State}
 use Rattle.page_action.specs.declared.page_store.PageStore.{Ghosts}
 use Rattle.session_calls.specs.Following.{StepTells}
 use Rattle.session_calls.specs.TheoremCalls.{DeadSets}
-use Rattle.session_calls.specs.Ops.{where_slot_stepped_any, RunsOn, AnswersStopped}
+use Rattle.session_calls.specs.Ops.{causes_of_slot_stepped_any, RunsOn, StoppedAnswersFirst}
 use Rattle.session_calls.specs.Sessions.{no_call, slot_add, after_slot, GivesLess, AnswersStep, AnswersNext, AnswersEnd, RefusalChangesNothing, RunsUntilLast, OnlyWritersAct}
 use Rattle.session_calls.specs.declared.answer.Answer.{Answer}
 use Rattle.session_calls.specs.declared.answer.Answer.TheVariants.{Refused}
 use Rattle.session_calls.specs.declared.op.Op.{Op}
 use Rattle.schedule.specs.TheoremMoments.{snapshot_of}
 use Rattle.session_calls.specs.Slots.{slot_of, slot_has_call, has_call}
-use Rattle.schedule.specs.Snapshots.{here_with}
+use Rattle.schedule.specs.MomentInvariants.{here_with}
 use Rattle.schedule.specs.TheoremKinds.{Move, Steps, Takes, GivesUp, MovesCall}
-use Rattle.schedule.specs.Events.{MovesOn, where_moving, EventAlways, DoesOneAct}
+use Rattle.schedule.specs.Events.{MovesOn, causes_of_moving, EventAlways, DoesOneAct}
 use Rattle.schedule.specs.Making.{Makes}
 use Rattle.schedule.proofs.Events.{stays_on, refused_stay}
 use Rattle.schedule.proofs.Keeping.{Laws}
@@ -38,7 +38,7 @@ module _ {S : Type 0} (g : Ghosts S) (laws : Laws g) (store : S) (slots : List (
 
   -- a move with its cause changes nothing
   stays : (move : Move) (fault : Fault) → EventAlways g (MovesCall session move) (Refused fault) (here_with store slots sets) (here_with store slots sets)
-      → HasCause (where_moving g sets store store move (slice_get slots session)) fault
+      → HasCause (causes_of_moving g sets store store move (slice_get slots session)) fault
       → Makes g (MovesCall session move) (Refused fault) (here_with store slots sets) (here_with store slots sets)
   stays move fault always cause = record {
     sessions = refl;
@@ -52,35 +52,36 @@ module _ {S : Type 0} (g : Ghosts S) (laws : Laws g) (store : S) (slots : List (
         always cause (λ s e. none));
   }
 
-  no_step : (o : Option (Option Op)) → slot_has_call o ≡ false → (g.backing store).stopped ≡ false → HasCause (where_moving g sets store store Steps o) NoSession
+  no_step : (o : Option (Option Op)) → slot_has_call o ≡ false → (g.backing store).stopped ≡ false → HasCause (causes_of_moving g sets store store Steps o) NoSession
   no_step None h alive = refl
   no_step (Some None) h alive = refl
   no_step (Some (Some op)) h alive = absurd cc
 
-  stopped_step : (o : Option (Option Op)) → slot_has_call o ≡ false → (g.backing store).stopped ≡ true → HasCause (where_moving g sets store store Steps o) Stopped
+  stopped_step : (o : Option (Option Op)) → slot_has_call o ≡ false → (g.backing store).stopped ≡ true → HasCause (causes_of_moving g sets store store Steps o) Stopped
   stopped_step None h is = is
   stopped_step (Some None) h is = is
   stopped_step (Some (Some op)) h is = absurd cc
 
-  no_next : (o : Option (Option Op)) → slot_has_call o ≡ false → HasCause (where_moving g sets store store Takes o) NoSession
+  no_next : (o : Option (Option Op)) → slot_has_call o ≡ false → HasCause (causes_of_moving g sets store store Takes o) NoSession
   no_next None h = refl
   no_next (Some None) h = refl
   no_next (Some (Some op)) h = absurd cc
 
-  no_end : (o : Option (Option Op)) → slot_has_call o ≡ false → HasCause (where_moving g sets store store GivesUp o) NoSession
+  no_end : (o : Option (Option Op)) → slot_has_call o ≡ false → HasCause (causes_of_moving g sets store store GivesUp o) NoSession
   no_end None h = refl
   no_end (Some None) h = refl
   no_end (Some (Some op)) h = absurd cc
 
-  step_always : (fault : Fault) → ((g.backing store).stopped ≡ true → Refused fault ≡ Refused Stopped) → HasCause (where_slot_stepped_any None) fault
+  step_always : (fault : Fault) → ((g.backing store).stopped ≡ true → Refused fault ≡ Refused Stopped) → HasCause (causes_of_slot_stepped_any None) fault
       → EventAlways g (MovesCall session Steps) (Refused fault) (here_with store slots sets) (here_with store slots sets)
   step_always fault stopped cause = record {
     answers = subst (λ (x : Option Op). AnswersStep x x (Refused fault)) (sym none) tt;
     until_last = subst (λ (x : Option Op). RunsUntilLast x x (Refused fault)) (sym none) refl;
     stands = tt;
-    tells = subst (λ (x : Option Op). StepTells (g.backing store).stopped (g.state store) (g.state store) x x (Refused fault)) (sym none) (record { faults = cause; logged = tt; unfinished = tt; stats = tt; waits = λ alive some. absurd (some tt); starts = λ on. refl });
+    tells = subst (λ (x : Option Op). StepTells (g.backing store).stopped (g.state store) (g.state store) x x (Refused fault)) (sym none)
+        (record { faults = cause; logged = tt; unfinished = tt; stats = tt; waits = λ alive some. absurd (some tt); starts = λ on. refl });
     refused = subst (λ (x : Option Op). RefusalChangesNothing (g.state store) (g.state store) x x (Refused fault)) (sym none) (refl, refl);
-    stopped = λ h. subst (λ (x : Option Op). AnswersStopped (slot_add x) (Refused fault)) (sym none) (stopped h);
+    stopped = λ h. subst (λ (x : Option Op). StoppedAnswersFirst (slot_add x) (Refused fault)) (sym none) (stopped h);
     less = λ honest. tt;
     kept = nothing_done (g.state store);
     calm = subst (λ (x : Option Op). OnlyWritersAct x (g.state store) (g.state store)) (sym none) refl;

@@ -4,7 +4,7 @@ use Rattle.std.proofs.lemmas.List.{append-nil}
 use Rattle.index_model.specs.declared.entry.Entry.{Entry}
 use Rattle.page_action.specs.declared.page_store.PageStore.{Ghosts}
 use Rattle.session_calls.specs.declared.answer.Answer.{Answer}
-use Rattle.schedule.specs.TheoremMoments.{Snapshot}
+use Rattle.schedule.specs.TheoremMoments.{Moment}
 use Rattle.schedule.specs.Events.{AreOf}
 use Rattle.schedule.specs.TheoremRuns.{AreDurable, IsRun, Ran}
 use Rattle.schedule.specs.declared.event.Event.{Event}
@@ -21,7 +21,7 @@ both_durable durable [] two h k = k
 both_durable durable (x ∷ xs) two h k = (h.0, both_durable durable xs two h.1 k)
 
 -- a run is one behind more answers, if they were durable before it
-run_behind : {S : Type 0} (g : Ghosts S) (start : Entry → Bool) (before told : List Answer) (events : List Event) (answers : List Answer) (first last : Snapshot S)
+run_behind : {S : Type 0} (g : Ghosts S) (start : Entry → Bool) (before told : List Answer) (events : List Event) (answers : List Answer) (first last : Moment S)
     → AreDurable (g.backing first.store).durable before → IsRun g start told events answers first last → IsRun g start (before ++ told) events answers first last
 run_behind g start before told [] [] first last durable run = run
 run_behind g start before told (x ∷ xs) (y ∷ ys) first last durable run = (
@@ -37,11 +37,11 @@ run_behind g start before told (x ∷ xs) (y ∷ ys) first last durable run = (
 run_behind g start before told [] (y ∷ ys) first last durable run = absurd run
 run_behind g start before told (x ∷ xs) [] first last durable run = absurd run
 
-run_then : {S : Type 0} (g : Ghosts S) (start : Entry → Bool) (told : List Answer) (events then_events : List Event) (answers then_answers : List Answer) (first mid last : Snapshot S)
+run_then : {S : Type 0} (g : Ghosts S) (start : Entry → Bool) (told : List Answer) (events then_events : List Event) (answers then_answers : List Answer) (first mid last : Moment S)
     → IsRun g start told events answers first mid → IsRun g start (told ++ answers) then_events then_answers mid last
     → IsRun g start told (events ++ then_events) (answers ++ then_answers) first last
 run_then {S} g start told [] more [] then_answers first mid last run next =
-    subst (λ (m : Snapshot S). IsRun g start told more then_answers m last) (sym run)
+    subst (λ (m : Moment S). IsRun g start told more then_answers m last) (sym run)
     (subst (λ (t : List Answer). IsRun g start t more then_answers mid last) (append-nil told) next)
 run_then g start told (x ∷ xs) more (y ∷ ys) then_answers first mid last run next = (
   run.0,
@@ -56,7 +56,7 @@ run_then g start told [] more (y ∷ ys) then_answers first mid last run next = 
 run_then g start told (x ∷ xs) more [] then_answers first mid last run next = absurd run
 
 -- a run followed by a run is a run, with all that holds at its end
-pub ran_then : {S : Type 0} (g : Ghosts S) (laws : Laws g) (start : Entry → Bool) (events then_events : List Event) (answers then_answers : List Answer) (first mid last : Snapshot S)
+pub ran_then : {S : Type 0} (g : Ghosts S) (laws : Laws g) (start : Entry → Bool) (events then_events : List Event) (answers then_answers : List Answer) (first mid last : Moment S)
     → g.follows first.store last.store → Ran g start events answers first mid → Ran g start then_events then_answers mid last
     → Ran g start (events ++ then_events) (answers ++ then_answers) first last
 ran_then {S} g laws start events then_events answers then_answers first mid last follows one two = record {

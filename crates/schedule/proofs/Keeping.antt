@@ -9,7 +9,7 @@ use Rattle.page_codec.specs.declared.page.Page.{Page}
 use Rattle.page_action.specs.Laws.{IsPageStore}
 use Rattle.page_action.specs.declared.page_store.PageStore.{Ghosts}
 use Rattle.session_calls.specs.Sessions.{Matches}
-use Rattle.schedule.specs.TheoremMoments.{Snapshot}
+use Rattle.schedule.specs.TheoremMoments.{Moment}
 use Rattle.schedule.proofs.Keys.{keyed_now}
 use Rattle.schedule.specs.TheoremCrashes.{ArePagesAfter, KeepsHistory, IsCrashSafe}
 use Rattle.schedule.specs.Events.{GrowsByOne}
@@ -24,14 +24,15 @@ no_growth history = record { acts = []; is = sym (append-nil history); few = ome
 
 module _ {S : Type 0} (g : Ghosts S) (laws : Laws g) (start : Entry → Bool) where
   -- the pages of now are those after all of the history
-  pub pages_now : (new : Snapshot S) → g.own new.store → Matches (g.state new.store) start new.history → (part : ℕ) → length new.history ≤ part → ArePagesAfter (g.state new.store).limits.unique start (take part new.history) (g.past new.store (length new.history))
+  pub pages_now : (new : Moment S) → g.own new.store → Matches (g.state new.store) start new.history → (part : ℕ) → length new.history ≤ part
+      → ArePagesAfter (g.state new.store).limits.unique start (take part new.history) (g.past new.store (length new.history))
   pages_now new own matches part all =
       subst (λ (l : List Action). ArePagesAfter (g.state new.store).limits.unique start l (g.past new.store (length new.history))) (sym (take_all part new.history all))
       (subst (λ (ps : List Page). ArePagesAfter (g.state new.store).limits.unique start new.history ps) (sym (ap (λ (n : ℕ). g.past new.store n) (sym matches.count) ∙ laws.past_now new.store own))
       (record { contents = matches.contents; tree = matches.order.tree.tree; keyed = keyed_now (g.state new.store) start new.history matches }))
 
   -- the history is kept where there is none yet
-  pub kept_at_start : (new : Snapshot S) → new.history ≡ [] → g.own new.store → Matches (g.state new.store) start new.history → KeepsHistory g start new
+  pub kept_at_start : (new : Moment S) → new.history ≡ [] → g.own new.store → Matches (g.state new.store) start new.history → KeepsHistory g start new
   kept_at_start new none own matches =
       let empty : length new.history ≡ 0 = ap (λ (l : List Action). length l) none in
       record {
@@ -41,7 +42,7 @@ module _ {S : Type 0} (g : Ghosts S) (laws : Laws g) (start : Entry → Bool) wh
         durable = (let d = laws.durable_few new.store in omega (arith, matches.count, d));
       }
 
-  module _ (old new : Snapshot S) (follows : g.follows old.store new.store) where
+  module _ (old new : Moment S) (follows : g.follows old.store new.store) where
     -- what a crash leaves, where the history is kept before and after
     pub safe : g.own old.store → Matches (g.state new.store) start new.history → KeepsHistory g start new → IsCrashSafe g start old new
     safe own matches keeps = record {
@@ -53,7 +54,8 @@ module _ {S : Type 0} (g : Ghosts S) (laws : Laws g) (start : Entry → Bool) wh
     }
 
     -- the history is kept with one action more
-    pub keeps_on : (g.state new.store).limits ≡ (g.state old.store).limits → GrowsByOne old.history new.history → (g.state old.store).acts ≡ length old.history → Matches (g.state new.store) start new.history → KeepsHistory g start old → KeepsHistory g start new
+    pub keeps_on : (g.state new.store).limits ≡ (g.state old.store).limits → GrowsByOne old.history new.history
+        → (g.state old.store).acts ≡ length old.history → Matches (g.state new.store) start new.history → KeepsHistory g start old → KeepsHistory g start new
     keeps_on limits grows count matches keeps =
         let own = laws.own_stays old.store new.store keeps.own follows in
         let longer : length new.history ≡ length old.history + length grows.acts = ap (λ (l : List Action). length l) grows.is ∙ length-append old.history grows.acts in
@@ -69,6 +71,7 @@ module _ {S : Type 0} (g : Ghosts S) (laws : Laws g) (start : Entry → Bool) wh
                 let same : take part new.history ≡ take part old.history = ap (λ (l : List Action). take part l) grows.is ∙ take-append-le part old.history grows.acts less in
                 subst (λ (l : List Action). ArePagesAfter (g.state new.store).limits.unique start l (g.past new.store part)) (sym same)
                 (subst (λ (u : Bool). ArePagesAfter u start (take part old.history) (g.past new.store part)) (ap (λ (f : Format). f.unique) (sym limits))
-                (subst (λ (ps : List Page). ArePagesAfter (g.state old.store).limits.unique start (take part old.history) ps) (sym (laws.past_stays old.store new.store part keeps.own follows (omega (arith, count, less)))) (keeps.parts part less))))
+                (subst (λ (ps : List Page). ArePagesAfter (g.state old.store).limits.unique start (take part old.history) ps)
+                (sym (laws.past_stays old.store new.store part keeps.own follows (omega (arith, count, less)))) (keeps.parts part less))))
           ];
         }

@@ -7,14 +7,14 @@ use Rattle.index_model.specs.Faults.{Circumstances, HasCause}
 use Rattle.index_model.specs.declared.entry.Entry.{Entry}
 use Rattle.index_model.specs.declared.fault.Fault.{Fault}
 use Rattle.index_model.specs.declared.fault.Fault.TheVariants.{Stopped}
-use Rattle.page_action.specs.Causes.{nothing_wrong, is_at_end, where_forced}
+use Rattle.page_action.specs.Causes.{nothing_wrong, is_at_end, causes_of_forced}
 use Rattle.page_action.specs.States.{State}
 use Rattle.page_action.specs.declared.page_store.PageStore.{Ghosts}
 use Rattle.session_calls.specs.Due.{IsDueIn, HasSteps}
 use Rattle.session_calls.specs.Following.{StepTells, StepAlways, IsFitted, StepFollows}
 use Rattle.session_calls.specs.TheoremCalls.{DeadSets}
-use Rattle.session_calls.specs.Ops.{op_before, asks_vacuum, asks_sweep, is_sweep, session_of, asked_of, where_slot_stepped, where_asked_next, no_call_begins, where_requesting, where_beginning, RunsOn, AnswersStopped}
-use Rattle.session_calls.specs.Sessions.{Matches, IsIdle, SlotFits, SessionGoes, SessionBegins, IsBegun, BeginsBy, after_call, after_slot, let_go, is_busy, slot_add, LeavesLess, GivesLess, AnswersStep, AnswersNext, AnswersEnd, RefusalChangesNothing, RunsUntilLast, leaf_of, OnlyWritersAct}
+use Rattle.session_calls.specs.Ops.{op_before, asks_vacuum, asks_sweep, is_sweep, session_of, asked_of, causes_of_slot_stepped, causes_of_asked_next, no_call_begins, causes_of_requesting, causes_of_beginning, RunsOn, StoppedAnswersFirst}
+use Rattle.session_calls.specs.Sessions.{Matches, IsIdle, SlotFits, SessionGoes, SessionBegins, IsBegun, BeginsBy, op_after_call, after_slot, let_go, is_busy, slot_add, StepLeavesLess, GivesLess, AnswersStep, AnswersNext, AnswersEnd, RefusalChangesNothing, RunsUntilLast, leaf_of, OnlyWritersAct}
 use Rattle.session_calls.specs.declared.answer.Answer.{Answer}
 use Rattle.session_calls.specs.declared.answer.Answer.TheVariants.{Begun, Going, Added, Ready, Done, Finished, Gave, Ended, Forced, Flushed, Checkpointed, Refused}
 use Rattle.session_calls.specs.declared.op.Op.{Op}
@@ -23,9 +23,9 @@ use Rattle.session_calls.proofs.RunningOn.{runs_over, ends_with_last}
 use Rattle.schedule.specs.TheoremMoments.{snapshot_of}
 use Rattle.schedule.specs.TheoremRuns.{Fits}
 use Rattle.session_calls.specs.Slots.{slot_of, one_vacuums, is_of_sets, session_to_begin}
-use Rattle.schedule.specs.Snapshots.{here_with}
+use Rattle.schedule.specs.MomentInvariants.{here_with}
 use Rattle.schedule.specs.TheoremKinds.{Steps, Takes, GivesUp, Upkeep, Forces, Flushes, Checkpoints, BeginsCall, MovesCall, KeepsStore}
-use Rattle.schedule.specs.Events.{kept_answer, where_begun_at, DoesOneAct, EventAlways, CallIsFollowed, AnswersUpkeep, IsFlushed, UpkeepLeaves}
+use Rattle.schedule.specs.Events.{kept_answer, causes_of_begun_at, DoesOneAct, EventAlways, CallIsFollowed, AnswersUpkeep, IsFlushed, UpkeepLeaves}
 use Rattle.schedule.specs.Making.{EventRuns, Makes}
 use Rattle.schedule.proofs.Events.{at_slots, others_stay_set, moves_on, stays_on, refused_stay, keeps_on_store, flushes_on_store, begins_on, named_of, request_pages, request_limits, request_frames, request_acts, not_begun, not_found_why, not_found_first, none_begins, set_same}
 use Rattle.schedule.proofs.Keeping.{Laws}
@@ -63,7 +63,8 @@ over_begun true session st = refl
 over_begun false session st = refl
 
 -- a step of a session's running call
-module _ {S : Type 0} (g : Ghosts S) (laws : Laws g) (old new : S) (follows_store : g.follows old new) (slots : List (Option Op)) (sets : DeadSets) (session : ℕ) (before slot : Option Op) (op : Op) (answer : Answer)
+module _ {S : Type 0} (g : Ghosts S) (laws : Laws g) (old new : S) (follows_store : g.follows old new) (slots : List (Option Op)) (sets : DeadSets)
+    (session : ℕ) (before slot : Option Op) (op : Op) (answer : Answer)
     (is : before ≡ Some op) (found_at : slice_get slots session ≡ Some before) where
   slot_was : slot_of slots session ≡ before
   slot_was = ap (λ (o : Option (Option Op)). unwrap_or o None) found_at
@@ -73,15 +74,18 @@ module _ {S : Type 0} (g : Ghosts S) (laws : Laws g) (old new : S) (follows_stor
 
   pub step_makes : StepAlways g old new before slot answer
       → ((g.backing new).honest ≡ true → (start : Entry → Bool) (history : List Action) (number : ℕ) (call : Call) → SlotFits (g.state old) sets start history number call before
-      → SessionGoes (where_slot_stepped sets before (g.state old) (g.backing old) (g.backing new)) (g.state old) (g.state new) sets start history number call slot answer)
+      → SessionGoes (causes_of_slot_stepped sets before (g.state old) (g.backing old) (g.backing new)) (g.state old) (g.state new) sets start history number call slot answer)
       → ((g.backing new).honest ≡ true → StepFollows sets (g.state old) (g.state new) before slot answer)
       → Makes g (MovesCall session Steps) answer (here_with old slots sets) (here_with new (slice_set slots session slot) sets)
   step_makes made goes follows = record {
     sessions = length_set slots session slot;
     always = always;
     does = λ honest start history calls fits.
-        moves_on g start (snapshot_of (here_with old slots sets) history calls) new session op slot Steps (where_slot_stepped sets (Some op) (g.state old) (g.backing old) (g.backing new)) answer fits found_op follows_store (laws.follows_later old new follows_store)
-        (λ number call runs. subst (λ (x : Option Op). SessionGoes (where_slot_stepped sets x (g.state old) (g.backing old) (g.backing new)) (g.state old) (g.state new) sets start history number call slot answer) is
+        moves_on g start (snapshot_of (here_with old slots sets) history calls) new session op slot Steps
+        (causes_of_slot_stepped sets (Some op) (g.state old) (g.backing old) (g.backing new)) answer fits found_op follows_store (laws.follows_later old new follows_store)
+        (λ number call runs.
+        subst (λ (x : Option Op).
+        SessionGoes (causes_of_slot_stepped sets x (g.state old) (g.backing old) (g.backing new)) (g.state old) (g.state new) sets start history number call slot answer) is
         (goes honest start history number call (subst (λ (x : Option Op). SlotFits (g.state old) sets start history number call x) (sym is) runs))) refl always
         (λ s l n c runs. subst (λ (x : Option Op). CallIsFollowed (MovesCall session Steps) sets answer (g.state old) (g.state new) x slot) is
         (followed honest (record { start = s; history = l; number = n; call = c; fits = subst (λ (x : Option Op). SlotFits (g.state old) sets s l n c x) (sym is) runs })));
@@ -90,7 +94,18 @@ module _ {S : Type 0} (g : Ghosts S) (laws : Laws g) (old new : S) (follows_stor
       followed : (g.backing new).honest ≡ true → IsFitted (g.state old) sets before → CallIsFollowed (MovesCall session Steps) sets answer (g.state old) (g.state new) before slot
       followed honest fitted =
           let told = follows honest in
-          record { due = told.due fitted; no_more = made.no_more honest; flagged = told.flagged fitted; stands = told.stands fitted; waits = told.waits; entries = told.entries; deletes = told.deletes; frees = told.frees fitted; spares = told.spares }
+          record {
+            due = told.due fitted;
+            no_more = made.no_more honest;
+            flagged = told.flagged fitted;
+            stands = told.stands fitted;
+            waits =
+                told.waits;
+            entries = told.entries;
+            deletes = told.deletes;
+            frees = told.frees fitted;
+            spares = told.spares;
+          }
 
       always : EventAlways g (MovesCall session Steps) answer (here_with old slots sets) (here_with new (slice_set slots session slot) sets)
       always = record {
@@ -99,8 +114,8 @@ module _ {S : Type 0} (g : Ghosts S) (laws : Laws g) (old new : S) (follows_stor
         stands = tt;
         tells = at_slots slots session before slot (λ x y. StepTells (g.backing old).stopped (g.state old) (g.state new) x y answer) found_at made.tells;
         refused = at_slots slots session before slot (λ x y. RefusalChangesNothing (g.state old) (g.state new) x y answer) found_at made.refused;
-        stopped = λ h. subst (λ (x : Option Op). AnswersStopped (slot_add x) answer) (sym slot_was) (made.stopped h);
-        less = λ honest. at_slots slots session before slot (λ x y. LeavesLess (g.state old) (g.state new) x y answer) found_at (made.less honest);
+        stopped = λ h. subst (λ (x : Option Op). StoppedAnswersFirst (slot_add x) answer) (sym slot_was) (made.stopped h);
+        less = λ honest. at_slots slots session before slot (λ x y. StepLeavesLess (g.state old) (g.state new) x y answer) found_at (made.less honest);
         kept = record { acts = made.kept.acts; quiet = made.kept.quiet; limits = made.kept.limits; frames = made.kept.frames };
         calm = subst (λ (x : Option Op). OnlyWritersAct x (g.state old) (g.state new)) (sym slot_was) made.calm;
         others = others_stay_set slots session slot;
@@ -114,8 +129,9 @@ module _ {S : Type 0} (g : Ghosts S) (laws : Laws g) (old new : S) (follows_stor
         runs_on = at_slots slots session before slot (λ x y. RunsOn x y) found_at made.runs_on;
       }
 
-  pub end_makes : AnswersEnd before answer → slot ≡ None → g.backing new ≡ g.backing old → g.state new ≡ after_call op (g.state old)
-      → ((start : Entry → Bool) (history : List Action) (number : ℕ) (call : Call) → SlotFits (g.state old) sets start history number call before → SessionGoes nothing_wrong (g.state old) (g.state new) sets start history number call slot answer)
+  pub end_makes : AnswersEnd before answer → slot ≡ None → g.backing new ≡ g.backing old → g.state new ≡ op_after_call op (g.state old)
+      → ((start : Entry → Bool) (history : List Action) (number : ℕ) (call : Call) → SlotFits (g.state old) sets start history number call before
+      → SessionGoes nothing_wrong (g.state old) (g.state new) sets start history number call slot answer)
       → Makes g (MovesCall session GivesUp) answer (here_with old slots sets) (here_with new (slice_set slots session slot) sets)
   end_makes kind over backing given_up goes = record {
     sessions = length_set slots session slot;
@@ -138,11 +154,20 @@ module _ {S : Type 0} (g : Ghosts S) (laws : Laws g) (old new : S) (follows_stor
         refused = λ fault h. absurd (let a : answer ≡ Ended = ended in cc);
         stopped = tt;
         less = tt;
-        kept = no_act (g.state old) (g.state new) (ap (λ (st : State). st.acts) given_up ∙ over_acts (is_sweep op) (session_of op) (g.state old)) (ap (λ (st : State). st.pages) given_up ∙ over_pages (is_sweep op) (session_of op) (g.state old))
-            (ap (λ (st : State). st.limits) given_up ∙ over_limits (is_sweep op) (session_of op) (g.state old)) (ap (λ (st : State). st.frames) given_up ∙ over_frames (is_sweep op) (session_of op) (g.state old));
+        kept = no_act (g.state old) (g.state new) (ap (λ (st : State). st.acts) given_up ∙ over_acts (is_sweep op) (session_of op) (g.state old))
+            (ap (λ (st : State). st.pages) given_up ∙ over_pages (is_sweep op) (session_of op) (g.state old))
+            (ap (λ (st : State). st.limits) given_up ∙ over_limits (is_sweep op) (session_of op) (g.state old))
+            (ap (λ (st : State). st.frames) given_up ∙ over_frames (is_sweep op) (session_of op) (g.state old));
         calm = ap (λ (st : State). st.acts) given_up ∙ over_acts (is_sweep op) (session_of op) (g.state old);
         others = others_stay_set slots session slot;
-        left = record { over = at_slots slots session before slot (λ x y. y ≡ None) found_at over; backing = backing; begun = ap (λ (st : State). st.begun) given_up ∙ over_begun (is_sweep op) (session_of op) (g.state old); state_is = given_up ∙ sym (ap (λ (o : Option Op). after_slot o (g.state old)) (slot_was ∙ is)) };
+        left = record {
+          over = at_slots slots session before slot (λ x y. y ≡ None) found_at over;
+          backing = backing;
+          begun =
+              ap (λ (st : State). st.begun) given_up ∙ over_begun (is_sweep op) (session_of op) (g.state old);
+          state_is = given_up
+              ∙ sym (ap (λ (o : Option Op). after_slot o (g.state old)) (slot_was ∙ is));
+        };
         causes = tt;
         order = tt;
         fresh = tt;
@@ -170,16 +195,18 @@ module _ {S : Type 0} (g : Ghosts S) (laws : Laws g) (store : S) (slots : List (
   refused_same (Refused f) h fault e = h.0
 
   pub next_makes : AnswersNext before answer → GivesLess before slot answer → RunsOn before slot → RunsUntilLast before slot answer
-      → ((st : State) (start : Entry → Bool) (history : List Action) (number : ℕ) (call : Call) → SlotFits st sets start history number call before → SessionGoes (where_asked_next call.ask) st st sets start history number call slot answer)
+      → ((st : State) (start : Entry → Bool) (history : List Action) (number : ℕ) (call : Call) → SlotFits st sets start history number call before
+      → SessionGoes (causes_of_asked_next call.ask) st st sets start history number call slot answer)
       → ((st : State) (steps : ℕ) → IsDueIn st before steps → IsDueIn st slot steps)
       → leaf_of slot ≡ leaf_of before → Makes g (MovesCall session Takes) answer (here_with store slots sets) (here_with store (slice_set slots session slot) sets)
   next_makes kind less runs_on until_last goes due stands = record {
     sessions = length_set slots session slot;
     always = always;
     does = λ honest start history calls fits.
-        moves_on g start (snapshot_of (here_with store slots sets) history calls) store session op slot Takes (where_asked_next (asked_of sets op)) answer fits (found_at ∙ ap (λ (o : Option Op). Some o) is) (laws.follows_same store)
+        moves_on g start (snapshot_of (here_with store slots sets) history calls) store session op slot Takes
+        (causes_of_asked_next (asked_of sets op)) answer fits (found_at ∙ ap (λ (o : Option Op). Some o) is) (laws.follows_same store)
         (laws.follows_later store store (laws.follows_same store))
-        (λ number call runs. subst (λ (a : Ask). SessionGoes (where_asked_next a) (g.state store) (g.state store) sets start history number call slot answer) runs.runs.ask
+        (λ number call runs. subst (λ (a : Ask). SessionGoes (causes_of_asked_next a) (g.state store) (g.state store) sets start history number call slot answer) runs.runs.ask
         (goes (g.state store) start history number call (subst (λ (x : Option Op). SlotFits (g.state store) sets start history number call x) (sym is) runs))) refl always
         (λ s l n c runs steps h. due (g.state store) steps (subst (λ (x : Option Op). IsDueIn (g.state store) x steps) (sym is) h));
   }
@@ -210,7 +237,8 @@ module _ {S : Type 0} (g : Ghosts S) (laws : Laws g) (store : S) (slots : List (
       }
 
 -- what is done for the store
-module _ {S : Type 0} (g : Ghosts S) (laws : Laws g) (old new : S) (follows : g.follows old new) (slots : List (Option Op)) (sets : DeadSets) (upkeep : Upkeep) (answer : Answer) (same : g.state new ≡ g.state old) (leaves : UpkeepLeaves g upkeep answer old new) where
+module _ {S : Type 0} (g : Ghosts S) (laws : Laws g) (old new : S) (follows : g.follows old new) (slots : List (Option Op)) (sets : DeadSets)
+    (upkeep : Upkeep) (answer : Answer) (same : g.state new ≡ g.state old) (leaves : UpkeepLeaves g upkeep answer old new) where
   told_so : (u : Upkeep) (count : ℕ) (answer : Answer) → kept_answer u count ≡ Some answer → AnswersUpkeep u answer
   told_so Forces count answer is = subst (λ (a : Answer). AnswersUpkeep Forces a) (same_some (kept_answer Forces count) (Forced count) answer refl is) tt
   told_so Flushes count answer is = absurd (let none : kept_answer Flushes count ≡ Some answer = is in cc)
@@ -270,7 +298,7 @@ module _ {S : Type 0} (g : Ghosts S) (laws : Laws g) (old new : S) (follows : g.
         runs_on = tt;
       }
 
-  pub not_kept_makes : (fault : Fault) → answer ≡ Refused fault → ((g.backing old).stopped ≡ true → fault ≡ Stopped) → HasCause (where_forced (g.backing old) (g.backing new)) fault
+  pub not_kept_makes : (fault : Fault) → answer ≡ Refused fault → ((g.backing old).stopped ≡ true → fault ≡ Stopped) → HasCause (causes_of_forced (g.backing old) (g.backing new)) fault
       → Makes g (KeepsStore upkeep) (Refused fault) (here_with old slots sets) (here_with new slots sets)
   not_kept_makes fault is stopped cause = record {
     sessions = refl;
@@ -302,14 +330,15 @@ module _ {S : Type 0} (g : Ghosts S) (laws : Laws g) (old new : S) (follows : g.
           state_is = same;
           number = λ c h. absurd (not_refused upkeep c (Refused fault) fault h refl);
           durable = λ c h. absurd (not_refused upkeep c (Refused fault) fault h refl);
-          caused = λ f h. subst (λ (x : Fault). HasCause (where_forced (g.backing old) (g.backing new)) x) (same_fault fault f h) cause;
+          caused = λ f h. subst (λ (x : Fault). HasCause (causes_of_forced (g.backing old) (g.backing new)) x) (same_fault fault f h) cause;
         };
         keeps_up = subst (λ (a : Answer). UpkeepLeaves g upkeep a old new) is leaves;
         runs_on = tt;
       }
 
 -- a changed page is written to its place
-pub flush_makes : {S : Type 0} (g : Ghosts S) (laws : Laws g) (old new : S) (follows : g.follows old new) (slots : List (Option Op)) (sets : DeadSets) (same : g.state new ≡ g.state old) (block : Option ℕ)
+pub flush_makes : {S : Type 0} (g : Ghosts S) (laws : Laws g) (old new : S) (follows : g.follows old new) (slots : List (Option Op)) (sets : DeadSets)
+    (same : g.state new ≡ g.state old) (block : Option ℕ)
     → IsFlushed g block old new → ((g.backing old).stopped ≡ true → ⊥) → Makes g (KeepsStore Flushes) (Flushed block) (here_with old slots sets) (here_with new slots sets)
 flush_makes g laws old new follows slots sets same block flushed alive = record {
   sessions = refl;
@@ -341,11 +370,13 @@ flush_makes g laws old new follows slots sets same block flushed alive = record 
     }
 
 -- the cause of a beginning that is refused, where there is the set that it names
-asked_why : (vacuums : Bool) (b : Bool) (c : Circumstances) (fault : Fault) → b ≡ true → HasCause (record c { no_such_session = false; vacuum_runs = vacuums }) fault → HasCause (record c { no_such_session = not b; vacuum_runs = vacuums }) fault
+asked_why : (vacuums : Bool) (b : Bool) (c : Circumstances) (fault : Fault) → b ≡ true
+    → HasCause (record c { no_such_session = false; vacuum_runs = vacuums }) fault → HasCause (record c { no_such_session = not b; vacuum_runs = vacuums }) fault
 asked_why vacuums b c fault named h = subst (λ (x : Bool). HasCause (record c { no_such_session = not x; vacuum_runs = vacuums }) fault) (sym named) h
 
 -- a beginning in a session that was found
-module _ {S : Type 0} (g : Ghosts S) (laws : Laws g) (old new : S) (follows : g.follows old new) (slots : List (Option Op)) (sets : DeadSets) (session : ℕ) (request : Request) (before slot : Option Op) (answer : Answer)
+module _ {S : Type 0} (g : Ghosts S) (laws : Laws g) (old new : S) (follows : g.follows old new) (slots : List (Option Op)) (sets : DeadSets)
+    (session : ℕ) (request : Request) (before slot : Option Op) (answer : Answer)
     (alive : no_call_begins (g.state old) (g.backing old) ≡ false) (named : is_of_sets sets request ≡ true) (free : slice_get slots session ≡ Some None) (before_is : before ≡ None) where
   abbrev excluded : Bool
   excluded = asks_vacuum request && one_vacuums slots
@@ -363,14 +394,15 @@ module _ {S : Type 0} (g : Ghosts S) (laws : Laws g) (old new : S) (follows : g.
       cc
 
   -- the cause of a refusal
-  cause_of : (fault : Fault) → HasCause (where_requesting excluded (g.state old) (g.backing old) (is_busy before)) fault
-      → HasCause (where_begun_at g old (one_vacuums slots) sets request (slice_get slots session)) fault
+  cause_of : (fault : Fault) → HasCause (causes_of_requesting excluded (g.state old) (g.backing old) (is_busy before)) fault
+      → HasCause (causes_of_begun_at g old (one_vacuums slots) sets request (slice_get slots session)) fault
   cause_of fault cause =
-      subst (λ (o : Option (Option Op)). HasCause (where_begun_at g old (one_vacuums slots) sets request o) fault) (sym free)
-      (asked_why excluded (is_of_sets sets request) (where_beginning (g.state old) (g.backing old) false) fault named
-      (subst (λ (o : Option Op). HasCause (where_requesting excluded (g.state old) (g.backing old) (is_busy o)) fault) before_is cause))
+      subst (λ (o : Option (Option Op)). HasCause (causes_of_begun_at g old (one_vacuums slots) sets request o) fault) (sym free)
+      (asked_why excluded (is_of_sets sets request) (causes_of_beginning (g.state old) (g.backing old) false) fault named
+      (subst (λ (o : Option Op). HasCause (causes_of_requesting excluded (g.state old) (g.backing old) (is_busy o)) fault) before_is cause))
 
-  always_of : (a : Answer) → BeginsBy (g.state old) (g.backing old) (g.state new) session request excluded before slot a → EventAlways g (BeginsCall session request) a (here_with old slots sets) (here_with new (slice_set slots session slot) sets)
+  always_of : (a : Answer) → BeginsBy (g.state old) (g.backing old) (g.state new) session request excluded before slot a
+      → EventAlways g (BeginsCall session request) a (here_with old slots sets) (here_with new (slice_set slots session slot) sets)
   always_of Begun h = record {
     answers = tt;
     until_last = tt;
@@ -379,8 +411,10 @@ module _ {S : Type 0} (g : Ghosts S) (laws : Laws g) (old new : S) (follows : g.
     refused = λ fault e. absurd cc;
     stopped = λ is. absurd (true_false (sym (none_begins (g.backing old).stopped (is_at_end (g.state old).begun) is) ∙ alive));
     less = tt;
-    kept = no_act (g.state old) (g.state new) (ap (λ (st : State). st.acts) h.state ∙ request_acts (asks_sweep request) session (g.state old)) (ap (λ (st : State). st.pages) h.state ∙ request_pages (asks_sweep request) session (g.state old))
-        (ap (λ (st : State). st.limits) h.state ∙ request_limits (asks_sweep request) session (g.state old)) (ap (λ (st : State). st.frames) h.state ∙ request_frames (asks_sweep request) session (g.state old));
+    kept = no_act (g.state old) (g.state new) (ap (λ (st : State). st.acts) h.state ∙ request_acts (asks_sweep request) session (g.state old))
+        (ap (λ (st : State). st.pages) h.state ∙ request_pages (asks_sweep request) session (g.state old))
+        (ap (λ (st : State). st.limits) h.state ∙ request_limits (asks_sweep request) session (g.state old))
+        (ap (λ (st : State). st.frames) h.state ∙ request_frames (asks_sweep request) session (g.state old));
     calm = ap (λ (st : State). st.acts) h.state ∙ request_acts (asks_sweep request) session (g.state old);
     others = others_stay_set slots session slot;
     left = tt;
@@ -423,19 +457,24 @@ module _ {S : Type 0} (g : Ghosts S) (laws : Laws g) (old new : S) (follows : g.
   always_of (Flushed b) h = absurd h
   always_of (Checkpointed n) h = absurd h
 
-  module _ (begins : (start : Entry → Bool) (history : List Action) (number : ℕ) → answer ≡ Begun → Matches (g.state old) start history → IsIdle (g.state old) session → SessionBegins (g.state old) (g.state new) sets start history number session request slot)
-      (counts : answer ≡ Begun → HasSteps (g.state old) (g.state new) request slot) (start : Entry → Bool) (history : List Action) (calls : List Call) (fits : Fits g start (snapshot_of (here_with old slots sets) history calls)) where
-    does_of : (a : Answer) → answer ≡ a → BeginsBy (g.state old) (g.backing old) (g.state new) session request excluded before slot a → EventRuns g (here_with old slots sets) (here_with new (slice_set slots session slot) sets) (BeginsCall session request) a start history calls
+  module _ (begins : (start : Entry → Bool) (history : List Action) (number : ℕ) → answer ≡ Begun → Matches (g.state old) start history
+      → IsIdle (g.state old) session → SessionBegins (g.state old) (g.state new) sets start history number session request slot)
+      (counts : answer ≡ Begun → HasSteps (g.state old) (g.state new) request slot) (start : Entry → Bool) (history : List Action) (calls : List Call)
+      (fits : Fits g start (snapshot_of (here_with old slots sets) history calls)) where
+    does_of : (a : Answer) → answer ≡ a → BeginsBy (g.state old) (g.backing old) (g.state new) session request excluded before slot a
+        → EventRuns g (here_with old slots sets) (here_with new (slice_set slots session slot) sets) (BeginsCall session request) a start history calls
     does_of Begun is h =
         let idle : IsIdle (g.state old) session = (running_of fits session None free).idle in
         begun_with slot h (always_of Begun h) (begins start history (length calls) is (matches_of fits) idle) (counts is)
       where
-        begun_with : (o : Option Op) → IsBegun (g.state old) (g.state new) session request excluded before o → EventAlways g (BeginsCall session request) Begun (here_with old slots sets) (here_with new (slice_set slots session o) sets)
+        begun_with : (o : Option Op) → IsBegun (g.state old) (g.state new) session request excluded before o
+            → EventAlways g (BeginsCall session request) Begun (here_with old slots sets) (here_with new (slice_set slots session o) sets)
             → SessionBegins (g.state old) (g.state new) sets start history (length calls) session request o → HasSteps (g.state old) (g.state new) request o
             → EventRuns g (here_with old slots sets) (here_with new (slice_set slots session o) sets) (BeginsCall session request) Begun start history calls
         begun_with None b always began steps = absurd (began.holds.0 refl)
         begun_with (Some op) b always began steps =
-            begins_on g start (snapshot_of (here_with old slots sets) history calls) new session request op fits free began (named_of sets request named) (not_excluded (asks_vacuum request) (one_vacuums slots) b.alone) (let e : Some op ≡ Some (op_before session request) = b.runs in cc)
+            begins_on g start (snapshot_of (here_with old slots sets) history calls) new session request op fits free began
+            (named_of sets request named) (not_excluded (asks_vacuum request) (one_vacuums slots) b.alone) (let e : Some op ≡ Some (op_before session request) = b.runs in cc)
             b.state follows (laws.follows_later old new follows) steps always
     does_of (Refused fault) is h =
         let slots_is : slice_set slots session slot ≡ slots = ap (λ (x : Option Op). slice_set slots session x) (h.slot_is ∙ before_is) ∙ set_same slots session None free in
@@ -459,7 +498,8 @@ module _ {S : Type 0} (g : Ghosts S) (laws : Laws g) (old new : S) (follows : g.
     does_of (Checkpointed n) is h = absurd h
 
   pub begin_makes : BeginsBy (g.state old) (g.backing old) (g.state new) session request (asks_vacuum request && one_vacuums slots) before slot answer
-      → ((start : Entry → Bool) (history : List Action) (number : ℕ) → answer ≡ Begun → Matches (g.state old) start history → IsIdle (g.state old) session → SessionBegins (g.state old) (g.state new) sets start history number session request slot)
+      → ((start : Entry → Bool) (history : List Action) (number : ℕ) → answer ≡ Begun → Matches (g.state old) start history
+      → IsIdle (g.state old) session → SessionBegins (g.state old) (g.state new) sets start history number session request slot)
       → (answer ≡ Begun → HasSteps (g.state old) (g.state new) request slot)
       → Makes g (BeginsCall session request) answer (here_with old slots sets) (here_with new (slice_set slots session slot) sets)
   begin_makes by begins counts = record {
@@ -470,7 +510,8 @@ module _ {S : Type 0} (g : Ghosts S) (laws : Laws g) (old new : S) (follows : g.
 
 -- a beginning that finds no session
 pub not_found_makes : {S : Type 0} (g : Ghosts S) (laws : Laws g) (store : S) (slots : List (Option Op)) (sets : DeadSets) (session : ℕ) (request : Request) (fault : Fault)
-    → Err fault ≡ session_to_begin (no_call_begins (g.state store) (g.backing store)) (is_of_sets sets request) (slice_get slots session) session → Makes g (BeginsCall session request) (Refused fault) (here_with store slots sets) (here_with store slots sets)
+    → Err fault ≡ session_to_begin (no_call_begins (g.state store) (g.backing store)) (is_of_sets sets request) (slice_get slots session) session
+    → Makes g (BeginsCall session request) (Refused fault) (here_with store slots sets) (here_with store slots sets)
 not_found_makes g laws store slots sets session request fault none = record {
   sessions = refl;
   always = always;
@@ -480,7 +521,8 @@ not_found_makes g laws store slots sets session request fault none = record {
       let later = laws.follows_later store store follows in
       stays_on g start snap store fault fits refl follows later (BeginsCall session request)
       (not_begun g (slice_get slots session) session request (Refused fault) snap _ (refused_stay g start snap store fault fits refl follows later)) always
-      (not_found_why g store (one_vacuums slots) sets request session (no_call_begins (g.state store) (g.backing store)) (is_of_sets sets request) (slice_get slots session) fault refl refl none) (λ s e. absurd cc));
+      (not_found_why g store (one_vacuums slots) sets request session (no_call_begins (g.state store) (g.backing store)) (is_of_sets sets request)
+      (slice_get slots session) fault refl refl none) (λ s e. absurd cc));
 }
   where
     always : EventAlways g (BeginsCall session request) (Refused fault) (here_with store slots sets) (here_with store slots sets)
@@ -497,7 +539,8 @@ not_found_makes g laws store slots sets session request fault none = record {
       calm = refl;
       others = λ s of other apart. refl;
       left = tt;
-      causes = not_found_why g store (one_vacuums slots) sets request session (no_call_begins (g.state store) (g.backing store)) (is_of_sets sets request) (slice_get slots session) fault refl refl none;
+      causes = not_found_why g store (one_vacuums slots) sets request session (no_call_begins (g.state store) (g.backing store))
+          (is_of_sets sets request) (slice_get slots session) fault refl refl none;
       order = λ f e. ap Refused (let both : Err fault ≡ Err f = none ∙ e in cc);
       fresh = λ e. absurd cc;
       numbered = λ e. absurd cc;

@@ -9,14 +9,14 @@ use Rattle.index_model.specs.Row.{Row}
 use Rattle.index_model.specs.declared.entry.Entry.{Entry}
 use Rattle.index_model.specs.declared.fault.Fault.{Fault}
 use Rattle.index_model.specs.declared.fault.Fault.TheVariants.{NoMemory, Io, Stopped, Blocked, Exists, KeyTooLong, BadRow, IndexFull, LogFull, NoFrame, VacuumRunning, NoSession, SessionBusy, BadSuper, BadVersion, LogDamaged, PageDamaged, BadLimits, TooTall, DeviceTooSmall, KeyExists}
-use Rattle.page_action.specs.Causes.{nothing_wrong, is_at_end, has_failed, where_forced}
+use Rattle.page_action.specs.Causes.{nothing_wrong, is_at_end, has_failed, causes_of_forced}
 use Rattle.page_action.specs.States.{State}
 use Rattle.page_action.specs.declared.page_store.PageStore.{Ghosts}
 use Rattle.tree_shape.specs.Nodes.{nodes_of}
 use Rattle.tree_acts.specs.Flags.{FlagsMove}
 use Rattle.descent.specs.Shared.{FinishesASplit, DeletesALeaf, IsRaised, is_flagged, level_in}
 use Rattle.session_calls.specs.TheoremCalls.{asked_by, acts_of, becomes, MayComeWith}
-use Rattle.session_calls.specs.Ops.{asked_of, session_of, asks_vacuum, is_vacuum, where_asked_next, no_call_begins, once_added, IsCaused, ends_call}
+use Rattle.session_calls.specs.Ops.{asked_of, session_of, asks_vacuum, is_vacuum, causes_of_asked_next, no_call_begins, once_added, IsCaused, ends_call}
 use Rattle.session_calls.specs.Sessions.{Told, MovesShape, act_count, noted, ended, is_busy}
 use Rattle.session_calls.specs.declared.answer.Answer.{Answer}
 use Rattle.session_calls.specs.declared.answer.Answer.TheVariants.{Begun, Going, Added, Ready, Done, Finished, Gave, Ended, Forced, Flushed, Checkpointed, Refused}
@@ -24,15 +24,15 @@ use Rattle.session_calls.specs.declared.op.Op.{Op}
 use Rattle.session_calls.specs.declared.op.Op.TheVariants.{Insert, Scan, Bulk, Cleanup}
 use Rattle.session_calls.specs.declared.request.Request.{Request}
 use Rattle.session_calls.specs.declared.request.Request.TheVariants.{Insert as ToInsert, Scan as ToScan, Bulk as ToBulk, Cleanup as ToCleanup}
-use Rattle.schedule.specs.TheoremMoments.{Snapshot, RunsOne, IsRunningCall}
+use Rattle.schedule.specs.TheoremMoments.{Moment, RunsOne, IsRunningCall}
 use Rattle.schedule.specs.TheoremKinds.{Move, Steps, Takes, GivesUp, Upkeep, Forces, Flushes, Checkpoints, Kind, BeginsCall, MovesCall, KeepsStore}
 use Rattle.schedule.specs.TheoremRefusals.{MoveFails, Vacuums, EventFails}
 use Rattle.schedule.specs.TheoremEvents.{IsStill, ClearsOneSplit, DeletesOneLeaf, ShapeMoves, IsRefusedFor, CallGoesOn, AllAreDurable, Means}
 use Rattle.schedule.specs.TheoremRuns.{Fits}
 use Rattle.schedule.specs.Making.{EventDoes}
 use Rattle.session_calls.specs.Slots.{slot_of, slot_vacuums, one_vacuums, slot_has_call, has_call, is_of_sets}
-use Rattle.schedule.specs.Snapshots.{SlotRuns, here_at}
-use Rattle.schedule.specs.Events.{CallMoves, Stays, kept_answer, IsToldDurable, UpkeepIsDone, MovesOn, MayBegin, Happens, where_no_call, where_begun_at, where_moving, where_happening, EventAlso}
+use Rattle.schedule.specs.MomentInvariants.{SlotRuns, here_at}
+use Rattle.schedule.specs.Events.{CallMoves, Stays, kept_answer, IsToldDurable, UpkeepIsDone, MovesOn, MayBegin, Happens, causes_of_no_call, causes_of_begun_at, causes_of_moving, causes_of_happening, EventAlso}
 use Rattle.schedule.proofs.Causes.{one_of_few, step_fails}
 use Rattle.schedule.proofs.Fitting.{none_beyond, running_of}
 use Rattle.schedule.proofs.Lists.{same_some}
@@ -177,9 +177,11 @@ no_cause : (fault : Fault) → HasCause nothing_wrong fault → ⊥
 no_cause fault h = one_of_few false false false false false (λ f. ⊥) (record { device = false≢true; stopped = false≢true; vacuum = false≢true; session = false≢true; busy = false≢true }) fault h
 
 -- there is no such session, or no call in it, and the log may have failed
-no_session : (s : Bool) (Fails : Fault → Type 0) → (s ≡ true → Fails Stopped) → Fails NoSession → (fault : Fault) → HasCause (record nothing_wrong { is_stopped = s; no_such_session = true }) fault → Fails fault
+no_session : (s : Bool) (Fails : Fault → Type 0) → (s ≡ true → Fails Stopped) → Fails NoSession → (fault : Fault)
+    → HasCause (record nothing_wrong { is_stopped = s; no_such_session = true }) fault → Fails fault
 no_session s Fails stopped session fault h =
-    one_of_few false s false true false Fails (record { device = λ k. absurd (false≢true k); stopped = stopped; vacuum = λ k. absurd (false≢true k); session = λ k. session; busy = λ k. absurd (false≢true k) }) fault h
+    one_of_few false s false true false Fails
+    (record { device = λ k. absurd (false≢true k); stopped = stopped; vacuum = λ k. absurd (false≢true k); session = λ k. session; busy = λ k. absurd (false≢true k) }) fault h
 
 -- what an insert leaves unfinished is never because its entry or its key was there, nor because another session stands in the way
 not_there : (at : Circumstances) (fault : Fault) → HasCause (once_added at) fault → HasCause at fault × (fault ≢ Exists) × ((row : Row) → fault ≢ KeyExists row) × ((block : ℕ) → fault ≢ Blocked block)
@@ -220,22 +222,23 @@ refused_for at Fails fails (Flushed b) h = tt
 refused_for at Fails fails (Checkpointed k) h = tt
 refused_for at Fails fails (Refused fault) h = fails fault h
 
-module _ {S : Type 0} (g : Ghosts S) (start : Entry → Bool) (old : Snapshot S) (fits : Fits g start old) (new : Snapshot S) where
+module _ {S : Type 0} (g : Ghosts S) (start : Entry → Bool) (old : Moment S) (fits : Fits g start old) (new : Moment S) where
   -- asking for the next entry is refused where the call is no scan
-  next_fails : (session : ℕ) (ask : Ask) (op : Op) (fault : Fault) → HasCause (where_asked_next ask) fault → MoveFails g Takes session ask op old new.store fault
+  next_fails : (session : ℕ) (ask : Ask) (op : Op) (fault : Fault) → HasCause (causes_of_asked_next ask) fault → MoveFails g Takes session ask op old new.store fault
   next_fails session (AskScan range) op fault h = absurd (no_cause fault h)
   next_fails session (AskInsert e) op fault h = no_session false (MoveFails g Takes session (AskInsert e) op old new.store) (λ k. absurd (false≢true k)) tt fault h
   next_fails session (AskBulkDelete dead) op fault h = no_session false (MoveFails g Takes session (AskBulkDelete dead) op old new.store) (λ k. absurd (false≢true k)) tt fault h
   next_fails session AskCleanup op fault h = no_session false (MoveFails g Takes session AskCleanup op old new.store) (λ k. absurd (false≢true k)) tt fault h
 
-  move_fails : (move : Move) (op : Op) (fault : Fault) → HasCause (where_moving g old.sets old.store new.store move (Some (Some op))) fault → MoveFails g move (session_of op) (asked_of old.sets op) op old new.store fault
+  move_fails : (move : Move) (op : Op) (fault : Fault) → HasCause (causes_of_moving g old.sets old.store new.store move (Some (Some op))) fault
+      → MoveFails g move (session_of op) (asked_of old.sets op) op old new.store fault
   move_fails Steps op fault h = step_fails g old new.store old.sets op fault h
   move_fails Takes op fault h = next_fails (session_of op) (asked_of old.sets op) op fault h
   move_fails GivesUp op fault h = absurd (no_cause fault h)
 
   -- a move of the session's running call
   goes_on : (session : ℕ) (move : Move) (answer : Answer) (op : Op) → slice_get old.slots session ≡ Some (Some op)
-      → IsCaused (where_moving g old.sets old.store new.store move (slice_get old.slots session)) answer → CallMoves g start session answer old new → CallGoesOn g session move answer old new
+      → IsCaused (causes_of_moving g old.sets old.store new.store move (slice_get old.slots session)) answer → CallMoves g start session answer old new → CallGoesOn g session move answer old new
   goes_on session move answer op at caused h =
       let runs : SlotRuns g start old session op = running_of fits session (Some op) at in
       let number_is : h.number ≡ runs.number = runs.only h.number h.call h.is in
@@ -257,8 +260,8 @@ module _ {S : Type 0} (g : Ghosts S) (start : Entry → Bool) (old : Snapshot S)
         shape = shape_moves h.call.ask h.effect (g.state old.store) (g.state new.store) h.shape;
         caused = subst (λ (s : ℕ). IsRefusedFor (MoveFails g move s h.call.ask op old new.store) answer) session_is
             (subst (λ (a : Ask). IsRefusedFor (MoveFails g move (session_of op) a op old new.store) answer) ask_is
-            (refused_for (where_moving g old.sets old.store new.store move (Some (Some op))) (MoveFails g move (session_of op) (asked_of old.sets op) op old new.store) (move_fails move op) answer
-            (subst (λ (o : Option (Option Op)). IsCaused (where_moving g old.sets old.store new.store move o) answer) at caused)));
+            (refused_for (causes_of_moving g old.sets old.store new.store move (Some (Some op))) (MoveFails g move (session_of op) (asked_of old.sets op) op old new.store) (move_fails move op) answer
+            (subst (λ (o : Option (Option Op)). IsCaused (causes_of_moving g old.sets old.store new.store move o) answer) at caused)));
       }
     where
       longer : (effect : Option Effect) (number : ℕ) → length (old.history ++ acts_of number effect) ≡ act_count effect + length old.history
@@ -266,13 +269,14 @@ module _ {S : Type 0} (g : Ghosts S) (start : Entry → Bool) (old : Snapshot S)
       longer (Some effect) number = length-append old.history (record { by = number; effect = effect } ∷ []) ∙ omega arith
 
   -- a session that runs nothing
-  no_step : (session : ℕ) (fault : Fault) → HasCause (where_no_call (g.backing old.store).stopped) fault → EventFails g (MovesCall session Steps) old new.store fault
+  no_step : (session : ℕ) (fault : Fault) → HasCause (causes_of_no_call (g.backing old.store).stopped) fault → EventFails g (MovesCall session Steps) old new.store fault
   no_step session fault h = no_session (g.backing old.store).stopped (EventFails g (MovesCall session Steps) old new.store) (λ k. k) tt fault h
 
-  not_asked : (session : ℕ) (move : Move) (fault : Fault) → HasCause (where_no_call false) fault → EventFails g (MovesCall session move) old new.store fault
+  not_asked : (session : ℕ) (move : Move) (fault : Fault) → HasCause (causes_of_no_call false) fault → EventFails g (MovesCall session move) old new.store fault
   not_asked session move fault h = no_session false (EventFails g (MovesCall session move) old new.store) (λ k. absurd (false≢true k)) tt fault h
 
-  idle_fails : (session : ℕ) (move : Move) (o : Option (Option Op)) → slot_has_call o ≡ false → (fault : Fault) → HasCause (where_moving g old.sets old.store new.store move o) fault → EventFails g (MovesCall session move) old new.store fault
+  idle_fails : (session : ℕ) (move : Move) (o : Option (Option Op)) → slot_has_call o ≡ false → (fault : Fault)
+      → HasCause (causes_of_moving g old.sets old.store new.store move o) fault → EventFails g (MovesCall session move) old new.store fault
   idle_fails session move (Some (Some op)) idle fault h = absurd (true≢false idle)
   idle_fails session Steps None idle fault h = no_step session fault h
   idle_fails session Steps (Some None) idle fault h = no_step session fault h
@@ -283,7 +287,7 @@ module _ {S : Type 0} (g : Ghosts S) (start : Entry → Bool) (old : Snapshot S)
 
   -- a move, by what the session runs
   moves_mean : (session : ℕ) (move : Move) (answer : Answer) → MovesOn g start (has_call old.slots session) session answer old new
-      → IsCaused (where_moving g old.sets old.store new.store move (slice_get old.slots session)) answer → Means g (MovesCall session move) answer old new
+      → IsCaused (causes_of_moving g old.sets old.store new.store move (slice_get old.slots session)) answer → Means g (MovesCall session move) answer old new
   moves_mean session move answer h caused = of (slice_get old.slots session) refl
     where
       goes : (a : Answer) → CallGoesOn g session move a old new → Means g (MovesCall session move) a old new
@@ -303,8 +307,9 @@ module _ {S : Type 0} (g : Ghosts S) (start : Entry → Bool) (old : Snapshot S)
       idle : (o : Option (Option Op)) → slice_get old.slots session ≡ o → slot_has_call o ≡ false → (RunsOne old.slots session → ⊥) → Means g (MovesCall session move) answer old new
       idle o at none free =
           let stays : Stays g answer old new = subst (λ (b : Bool). MovesOn g start b session answer old new) (ap slot_has_call at ∙ none) h in
-          let cause : HasCause (where_moving g old.sets old.store new.store move o) stays.fault =
-          subst (λ (a : Answer). IsCaused (where_moving g old.sets old.store new.store move o) a) stays.refused (subst (λ (x : Option (Option Op)). IsCaused (where_moving g old.sets old.store new.store move x) answer) at caused) in
+          let cause : HasCause (causes_of_moving g old.sets old.store new.store move o) stays.fault =
+          subst (λ (a : Answer). IsCaused (causes_of_moving g old.sets old.store new.store move o) a) stays.refused
+          (subst (λ (x : Option (Option Op)). IsCaused (causes_of_moving g old.sets old.store new.store move x) answer) at caused) in
           subst (λ (a : Answer). Means g (MovesCall session move) a old new) (sym stays.refused) (inr (free, stays.still, idle_fails session move o none stays.fault cause))
 
       of : (o : Option (Option Op)) → slice_get old.slots session ≡ o → Means g (MovesCall session move) answer old new
@@ -361,7 +366,7 @@ module _ {S : Type 0} (g : Ghosts S) (start : Entry → Bool) (old : Snapshot S)
   ]
 
   begin_fails : (session : ℕ) (request : Request) (o : Option (Option Op)) → slice_get old.slots session ≡ o → (fault : Fault)
-      → HasCause (where_begun_at g old.store (one_vacuums old.slots) old.sets request o) fault → EventFails g (BeginsCall session request) old new.store fault
+      → HasCause (causes_of_begun_at g old.store (one_vacuums old.slots) old.sets request o) fault → EventFails g (BeginsCall session request) old new.store fault
   begin_fails session request None at fault h =
       no_session (no_call_begins (g.state old.store) (g.backing old.store)) (EventFails g (BeginsCall session request) old new.store) none_begin (inl (none_beyond old.slots session at)) fault h
   begin_fails session request (Some slot) at fault h =
@@ -376,13 +381,13 @@ module _ {S : Type 0} (g : Ghosts S) (start : Entry → Bool) (old : Snapshot S)
 
   -- a beginning, by what the session runs
   begins_mean : (session : ℕ) (request : Request) (answer : Answer) → MayBegin g (slice_get old.slots session) session request answer old new
-      → IsCaused (where_begun_at g old.store (one_vacuums old.slots) old.sets request (slice_get old.slots session)) answer → Means g (BeginsCall session request) answer old new
+      → IsCaused (causes_of_begun_at g old.store (one_vacuums old.slots) old.sets request (slice_get old.slots session)) answer → Means g (BeginsCall session request) answer old new
   begins_mean session request answer h caused = of (slice_get old.slots session) refl h
     where
       refused : Stays g answer old new → Means g (BeginsCall session request) answer old new
       refused stays =
-          let cause : HasCause (where_begun_at g old.store (one_vacuums old.slots) old.sets request (slice_get old.slots session)) stays.fault =
-          subst (λ (a : Answer). IsCaused (where_begun_at g old.store (one_vacuums old.slots) old.sets request (slice_get old.slots session)) a) stays.refused caused in
+          let cause : HasCause (causes_of_begun_at g old.store (one_vacuums old.slots) old.sets request (slice_get old.slots session)) stays.fault =
+          subst (λ (a : Answer). IsCaused (causes_of_begun_at g old.store (one_vacuums old.slots) old.sets request (slice_get old.slots session)) a) stays.refused caused in
           subst (λ (a : Answer). Means g (BeginsCall session request) a old new) (sym stays.refused) (stays.still, begin_fails session request (slice_get old.slots session) refl stays.fault cause)
 
       of : (o : Option (Option Op)) → slice_get old.slots session ≡ o → MayBegin g o session request answer old new → Means g (BeginsCall session request) answer old new
@@ -394,7 +399,7 @@ module _ {S : Type 0} (g : Ghosts S) (start : Entry → Bool) (old : Snapshot S)
       ]
 
   -- what is done for the store is refused
-  upkeep_fails : (upkeep : Upkeep) (fault : Fault) → HasCause (where_forced (g.backing old.store) (g.backing new.store)) fault → EventFails g (KeepsStore upkeep) old new.store fault
+  upkeep_fails : (upkeep : Upkeep) (fault : Fault) → HasCause (causes_of_forced (g.backing old.store) (g.backing new.store)) fault → EventFails g (KeepsStore upkeep) old new.store fault
   upkeep_fails upkeep fault h =
       one_of_few (has_failed (g.backing old.store) (g.backing new.store)) (g.backing old.store).stopped false false false (EventFails g (KeepsStore upkeep) old new.store) (record {
         device = λ k. ltb-true (g.backing old.store).failures (g.backing new.store).failures k;
@@ -422,23 +427,24 @@ module _ {S : Type 0} (g : Ghosts S) (start : Entry → Bool) (old : Snapshot S)
   upkeep_refused Flushes fault still fails = (still, fails)
   upkeep_refused Checkpoints fault still fails = (still, fails)
 
-  upkeep_means : (upkeep : Upkeep) (answer : Answer) → UpkeepIsDone g upkeep answer old new ⊎ Stays g answer old new → IsCaused (where_forced (g.backing old.store) (g.backing new.store)) answer → Means g (KeepsStore upkeep) answer old new
+  upkeep_means : (upkeep : Upkeep) (answer : Answer) → UpkeepIsDone g upkeep answer old new ⊎ Stays g answer old new
+      → IsCaused (causes_of_forced (g.backing old.store) (g.backing new.store)) answer → Means g (KeepsStore upkeep) answer old new
   upkeep_means upkeep answer h caused = elim h [
     | inl done ↦ done_means upkeep answer done
     | inr stays ↦ (
-        let cause : HasCause (where_forced (g.backing old.store) (g.backing new.store)) stays.fault =
-        subst (λ (a : Answer). IsCaused (where_forced (g.backing old.store) (g.backing new.store)) a) stays.refused caused in
+        let cause : HasCause (causes_of_forced (g.backing old.store) (g.backing new.store)) stays.fault =
+        subst (λ (a : Answer). IsCaused (causes_of_forced (g.backing old.store) (g.backing new.store)) a) stays.refused caused in
         subst (λ (a : Answer). Means g (KeepsStore upkeep) a old new) (sym stays.refused) (upkeep_refused upkeep stays.fault stays.still (upkeep_fails upkeep stays.fault cause)))
   ]
 
   -- what happens, with its cause, is what the event means
-  event_means : (kind : Kind) (answer : Answer) → Happens g start kind answer old new → IsCaused (where_happening g kind (here_at old) (here_at new)) answer → Means g kind answer old new
+  event_means : (kind : Kind) (answer : Answer) → Happens g start kind answer old new → IsCaused (causes_of_happening g kind (here_at old) (here_at new)) answer → Means g kind answer old new
   event_means (BeginsCall session request) answer h caused = begins_mean session request answer h caused
   event_means (MovesCall session move) answer h caused = moves_mean session move answer h caused
   event_means (KeepsStore upkeep) answer h caused = upkeep_means upkeep answer h caused
 
 -- an event that also leaves this means what it says
-pub does_of : {S : Type 0} {g : Ghosts S} {start : Entry → Bool} {kind : Kind} {answer : Answer} {old new : Snapshot S} → Fits g start old → Fits g start new → new.sets ≡ old.sets
+pub does_of : {S : Type 0} {g : Ghosts S} {start : Entry → Bool} {kind : Kind} {answer : Answer} {old new : Moment S} → Fits g start old → Fits g start new → new.sets ≡ old.sets
     → EventAlso g start kind answer old new → EventDoes g start kind answer old new
 does_of {S} {g} {start} {kind} {answer} {old} {new} fits then_fits sets also = record {
   means = record { means = event_means g start old fits new kind answer also.happens also.caused; sets = sets; explains = then_fits.explains };

@@ -13,7 +13,7 @@ use Rattle.session_calls.specs.declared.op.Op.{Op}
 use Rattle.session_calls.specs.declared.request.Request.{Request}
 use Rattle.session_calls.proofs.Slots.{op_at, found}
 use Rattle.schedule.specs.Making.{Makes}
-use Rattle.schedule.specs.Snapshots.{here_with}
+use Rattle.schedule.specs.MomentInvariants.{here_with}
 use Rattle.schedule.specs.TheoremKinds.{Steps, Takes, GivesUp, Kind, BeginsCall, MovesCall}
 use Rattle.schedule.proofs.Idling.{idle_makes}
 use Rattle.schedule.proofs.Keeping.{Laws}
@@ -52,7 +52,8 @@ module _ {S : Type 0} (g : Ghosts S) (laws : Laws g) (old new : S) (follows : g.
           let r = changes (is ∙ ap (λ (n : ℕ). Ok n) at.3) in
           let free : r.before ≡ _ = cc in
           subst (λ (l : List (Option Op)). Makes g (BeginsCall session request) answer (here_with old slots sets) (here_with new l sets)) (sym r.is)
-          (begin_makes g laws old new follows slots sets session request r.before r.after answer at.0 at.1 at.2 free r.how.by (λ start history number begun. r.how.begins begun sets start history number) r.how.counts)
+          (begin_makes g laws old new follows slots sets session request r.before r.after answer at.0 at.1 at.2 free
+          r.how.by (λ start history number begun. r.how.begins begun sets start history number) r.how.counts)
 
   pub step_event : (has_call slots session ≡ false → (answer ≡ no_call (g.backing old).stopped) × (then_calls ≡ calls) × (new ≡ old))
       → (has_call slots session ≡ true → ChangesSlot session slots then_slots (SlotSteps g sets old new answer))
@@ -94,9 +95,11 @@ next_event g laws store calls then_calls sets session answer idle changes = by (
     by : (b : Bool) → has_call calls.slots.items session ≡ b → Makes g (MovesCall session Takes) answer (here_with store calls.slots.items sets) (here_with store then_calls.slots.items sets)
     by false is =
         let h = idle is in
-        subst (λ (l : List (Option Op)). Makes g (MovesCall session Takes) answer (here_with store calls.slots.items sets) (here_with store l sets)) (sym (ap (λ (k : Calls). k.slots.items) h.1)) (idle_makes g laws store calls.slots.items sets session is Takes answer h.0)
+        subst (λ (l : List (Option Op)). Makes g (MovesCall session Takes) answer (here_with store calls.slots.items sets) (here_with store l sets))
+        (sym (ap (λ (k : Calls). k.slots.items) h.1)) (idle_makes g laws store calls.slots.items sets session is Takes answer h.0)
     by true is =
         let r = changes is in
         let op = op_at (slice_get calls.slots.items session) r.before is r.found in
         subst (λ (l : List (Option Op)). Makes g (MovesCall session Takes) answer (here_with store calls.slots.items sets) (here_with store l sets)) (sym r.is)
-        (next_makes g laws store calls.slots.items sets session r.before r.after op.0 answer op.1 r.found r.how.kind r.how.less r.how.runs_on r.how.until_last (λ st. r.how.goes st sets) r.how.due r.how.stands)
+        (next_makes g laws store calls.slots.items sets session r.before r.after op.0 answer op.1 r.found r.how.kind r.how.less r.how.runs_on
+        r.how.until_last (λ st. r.how.goes st sets) r.how.due r.how.stands)

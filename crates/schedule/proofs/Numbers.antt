@@ -19,7 +19,7 @@ use Rattle.tree_shape.proofs.Told.{places_lead_on}
 use Rattle.tree_acts.specs.Trees.{IsStart, HasTree, HasPlace, HasTrail}
 use Rattle.tree_acts.proofs.Lasting.{fresh_free, fresh_reusable}
 use Rattle.tree_acts.proofs.Words.{place_in, trail_in}
-use Rattle.split_finish.specs.Targets.{targets_of, FinishFits, FinishStands}
+use Rattle.split_finish.specs.Targets.{targets_of, FinishInvariant, FinishStands}
 use Rattle.split_finish.specs.declared.finish.FinishAt.{FinishAt}
 use Rattle.split_finish.specs.declared.finish.FinishAt.TheVariants.{Start as FinishStart, Down as FinishDown, Link, Root}
 use Rattle.split_finish.specs.declared.finish.FinishOp.{FinishOp}
@@ -34,14 +34,14 @@ use Rattle.scan.specs.declared.steps.ScanAt.{ScanAt}
 use Rattle.scan.specs.declared.steps.ScanAt.TheVariants.{Start as ScanStart, At as ScansAt, Last}
 use Rattle.vacuum.specs.BulkDeletes.{GoesBack}
 use Rattle.vacuum.specs.declared.steps.Back.{Back}
-use Rattle.page_delete.specs.Cleanups.{IsUnderway}
+use Rattle.page_delete.specs.Cleanups.{CleanupIsUnderway}
 use Rattle.page_delete.specs.declared.steps.CleanupAt.{CleanupAt}
 use Rattle.page_delete.specs.declared.steps.CleanupAt.TheVariants.{Look, Start as CleanupStart, Down as CleanupDown, Judge, Unlink}
-use Rattle.session_calls.specs.Ops.{OpFits}
+use Rattle.session_calls.specs.Ops.{OpInvariant}
 use Rattle.session_calls.specs.declared.op.Op.{Op}
 use Rattle.session_calls.specs.declared.op.Op.TheVariants.{Insert, Scan, Bulk, Cleanup}
 use Rattle.schedule.specs.Numbers.{KeptNumber, cover_of, page_of, target_number, finish_numbers, insert_numbers, scan_numbers, back_numbers, cleanup_numbers, kept_numbers, StandsOnLevel, LeadsPast, there, onward, NumberLeads, AllLead, NumbersLeadOn}
-use Rattle.schedule.specs.Snapshots.{SlotMatches}
+use Rattle.schedule.specs.MomentInvariants.{SlotMatches}
 use Rattle.schedule.proofs.Fitting.{running_of}
 
 -- a page of a chain that covers what is looked for is live
@@ -93,7 +93,8 @@ module _ (st : State) (has : HasTree st) where
       onward (kept_not_fresh start b runs (linked_in_use b _ right) late) right (leads_past start _ d runs rest last)
 
   -- a place leads on to the page that covers what is looked for
-  place_leads : (start level : ℕ) (aim : Bound → Bool) (clear : Bool) (b : ℕ) → IsStart st.running start → HasPlace st start level aim clear b → NumberLeads st (record { block = b; sought = cover_of level aim })
+  place_leads : (start level : ℕ) (aim : Bound → Bool) (clear : Bool) (b : ℕ) → IsStart st.running start → HasPlace st start level aim clear b
+      → NumberLeads st (record { block = b; sought = cover_of level aim })
   place_leads start level aim clear b runs place =
       let p = place_in st has.tree start level aim clear b place in
       let led = places_lead_on (nodes_of st.pages) (slice_index st.counted) (length st.pages) has.tree.root has.tree.meta.level has.tree.chain level start aim clear b has.tree.is p.in_tree p.place in
@@ -105,7 +106,8 @@ module _ (st : State) (has : HasTree st) where
       }
 
   -- where a walk has come to leads on to a page of its level
-  walk_leads : (start level : ℕ) (passed : List ℕ) (steps b : ℕ) → IsStart st.running start → level ≤ has.tree.meta.level → IsTrail (nodes_of st.pages) (slice_index st.counted) (has.tree.chain level) start passed steps b
+  walk_leads : (start level : ℕ) (passed : List ℕ) (steps b : ℕ) → IsStart st.running start → level ≤ has.tree.meta.level
+      → IsTrail (nodes_of st.pages) (slice_index st.counted) (has.tree.chain level) start passed steps b
       → NumberLeads st (record { block = b; sought = page_of level })
   walk_leads start level passed steps b runs in_top (reached i left) =
       let on = on_level level b in_top i in
@@ -133,7 +135,7 @@ module _ (st : State) (has : HasTree st) where
   finish_leads start target (Link way) runs stands = (place_leads start way.level (bound_aim target.separator) true way.block runs stands.1.place, tt)
   finish_leads start target Root runs stands = tt
 
-  splits_lead : (op : FinishOp) → FinishFits st op → AllLead st (map target_number (targets_of op) ++ finish_numbers op.target op.at)
+  splits_lead : (op : FinishOp) → FinishInvariant st op → AllLead st (map target_number (targets_of op) ++ finish_numbers op.target op.at)
   splits_lead op fits =
       let runs : IsStart st.running fits.start = record { session = op.session; is = fits.running } in
       both_lead (map target_number (targets_of op)) (finish_numbers op.target op.at)
@@ -155,7 +157,7 @@ module _ (st : State) (has : HasTree st) where
   back_leads start None runs goes = tt
   back_leads start (Some back) runs goes = (trail_leads start 0 back.block back.moves runs goes, tt)
 
-  cleanup_leads : (start cursor : ℕ) (at : CleanupAt) → IsStart st.running start → IsUnderway st start cursor at → AllLead st (cleanup_numbers cursor at)
+  cleanup_leads : (start cursor : ℕ) (at : CleanupAt) → IsStart st.running start → CleanupIsUnderway st start cursor at → AllLead st (cleanup_numbers cursor at)
   cleanup_leads start cursor Look runs on = tt
   cleanup_leads start cursor (CleanupStart high) runs on = (trail_leads start 0 cursor 0 runs on, tt)
   cleanup_leads start cursor (CleanupDown high way) runs on =
@@ -164,7 +166,7 @@ module _ (st : State) (has : HasTree st) where
   cleanup_leads start cursor Unlink runs on = (trail_leads start 0 cursor 0 runs on, tt)
 
   -- those of a call, by what it knows between its steps
-  pub op_leads : (op : Op) → OpFits st op → AllLead st (kept_numbers (Some op))
+  pub op_leads : (op : Op) → OpInvariant st op → AllLead st (kept_numbers (Some op))
   op_leads (Insert op) fits = insert_leads op.session fits.start op.entry op.at (record { session = op.session; is = fits.running }) fits.stands
   op_leads (Scan op) fits = scan_leads fits.start op.leaf op.frontier op.at (record { session = op.session; is = fits.running }) fits.stands
   op_leads (Bulk set op) fits = back_leads fits.start op.back (record { session = op.session; is = fits.running }) fits.back

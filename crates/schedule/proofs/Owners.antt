@@ -32,7 +32,8 @@ acts_few number None = omega arith
 acts_few number (Some effect) = omega arith
 
 -- a call that has an Add keeps it behind what it was asked for
-pub add_stays : (was_there : Entry → Bool) (ask : Ask) (added : Option ℕ) (count : ℕ) (effect : Option Effect) → IsAsked was_there ask added effect → (action : ℕ) → added ≡ Some action → add_after added count effect ≡ Some action
+pub add_stays : (was_there : Entry → Bool) (ask : Ask) (added : Option ℕ) (count : ℕ) (effect : Option Effect) → IsAsked was_there ask added effect
+    → (action : ℕ) → added ≡ Some action → add_after added count effect ≡ Some action
 add_stays was_there ask added count None h action is = is
 add_stays was_there (AskInsert x) added count (Some (Add e)) h action is = absurd (let none : added ≡ None = h.0.1 in cc)
 add_stays was_there (AskScan r) added count (Some (Add e)) h action is = absurd h.0
@@ -42,7 +43,8 @@ add_stays was_there ask added count (Some (Remove es)) h action is = is
 add_stays was_there ask added count (Some Shape) h action is = is
 
 -- what a call was asked for, it may do
-may_act : (was_there : Entry → Bool) (ask : Ask) (added : Option ℕ) (action : ℕ) (effect : Effect) → IsAsked was_there ask added (Some effect) → MayAct was_there action effect ask (add_after added action (Some effect))
+may_act : (was_there : Entry → Bool) (ask : Ask) (added : Option ℕ) (action : ℕ) (effect : Effect) → IsAsked was_there ask added (Some effect)
+    → MayAct was_there action effect ask (add_after added action (Some effect))
 may_act was_there (AskInsert x) added action (Add e) h = (h.0.0, refl, h.1)
 may_act was_there (AskScan r) added action (Add e) h = absurd h.0
 may_act was_there (AskBulkDelete d) added action (Add e) h = absurd h.0

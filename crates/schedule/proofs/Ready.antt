@@ -18,7 +18,7 @@ use Rattle.session_calls.specs.TheoremCalls.{DeadSets}
 use Rattle.session_calls.specs.declared.op.Op.{Op}
 use Rattle.session_calls.specs.declared.op.Op.TheVariants.{Insert, Scan, Bulk, Cleanup}
 use Rattle.schedule.specs.Ready.{MayComeNext, ReadyMayComeNext}
-use Rattle.schedule.specs.TheoremMoments.{Snapshot, IsRunningCall}
+use Rattle.schedule.specs.TheoremMoments.{Moment, IsRunningCall}
 
 or_true : (a b : Bool) → b ≡ true → (a || b) ≡ true
 or_true true b h = refl
@@ -44,10 +44,12 @@ next_of start history began given (e ∷ rest) op is some k =
 same_range : (r t : Range) → AskScan r ≡ AskScan t → r ≡ t
 same_range r t e = cc
 
-next_in : (st : State) (sets : DeadSets) (start : Entry → Bool) (history : List Action) (call : Call) (range : Range) (op : Op) → OpRuns st sets start history call op → call.ask ≡ AskScan range → 0 < length (ready_of op)
+next_in : (st : State) (sets : DeadSets) (start : Entry → Bool) (history : List Action) (call : Call) (range : Range) (op : Op)
+    → OpRuns st sets start history call op → call.ask ≡ AskScan range → 0 < length (ready_of op)
     → MayComeNext start history range call.began (length history) call.given
 next_in st sets start history call range (Scan op) runs asks some =
-    subst (λ (r : Range). MayComeNext start history r call.began (length history) call.given) (same_range op.range range (sym runs.ask ∙ asks)) (next_of start history call.began call.given (waiting op) op refl some runs.knows)
+    subst (λ (r : Range). MayComeNext start history r call.began (length history) call.given) (same_range op.range range (sym runs.ask ∙ asks))
+    (next_of start history call.began call.given (waiting op) op refl some runs.knows)
 next_in st sets start history call range (Insert op) runs asks some = absurd (omega (arith, some))
 next_in st sets start history call range (Bulk set op) runs asks some = absurd (omega (arith, some))
 next_in st sets start history call range (Cleanup op) runs asks some = absurd (omega (arith, some))

@@ -12,7 +12,7 @@ use Rattle.tree_shape.specs.Walks.{IsNoHigher}
 use Rattle.tree_shape.proofs.Order.{upto_self, upto_trans}
 use Rattle.tree_acts.specs.Lows.{HasLow}
 use Rattle.descent.specs.Ways.{root_level}
-use Rattle.session_calls.specs.Due.{IsDueIn, CountsDown, IsServable, steps_for}
+use Rattle.session_calls.specs.Due.{IsDueIn, DueCountsDown, IsServable, steps_for}
 use Rattle.session_calls.specs.Slots.{slot_of}
 use Rattle.session_calls.specs.declared.answer.Answer.{Answer}
 use Rattle.session_calls.specs.declared.answer.Answer.TheVariants.{Begun, Going, Added, Ready, Done, Finished, Gave, Ended, Forced, Flushed, Checkpointed, Refused}
@@ -24,7 +24,7 @@ use Rattle.schedule.specs.Events.{IsOfSession, Stays, MayBegin, StaysAsDue, Step
 use Rattle.schedule.specs.Spans.{IsNotDeleted, LowsStay, IsUnanswered, LeavesUnanswered, AllLeaveUnanswered, goes_on, steps_gone, IsStillDue, CallsComeInTime}
 use Rattle.schedule.specs.Stands.{BeforeEach}
 use Rattle.schedule.specs.TheoremKinds.{Steps, Takes, GivesUp, Kind, BeginsCall, MovesCall, KeepsStore, kind_of}
-use Rattle.schedule.specs.TheoremMoments.{Snapshot}
+use Rattle.schedule.specs.TheoremMoments.{Moment}
 use Rattle.schedule.specs.TheoremRuns.{IsRun}
 use Rattle.schedule.specs.declared.event.Event.{Event}
 use Rattle.schedule.proofs.Fitting.{goes_does}
@@ -42,7 +42,7 @@ no_higher_trans (Some a) (Some b) None h k = absurd k
 no_higher_trans (Some a) (Some b) (Some c) h k = upto_trans a b c h k
 
 -- what holds before each event of a run and at its end holds at its beginning
-holds_first : {S : Type 0} (g : Ghosts S) (start : Entry → Bool) (Holds : Snapshot S → Type 0) (told : List Answer) (events : List Event) (answers : List Answer) (first last : Snapshot S)
+holds_first : {S : Type 0} (g : Ghosts S) (start : Entry → Bool) (Holds : Moment S → Type 0) (told : List Answer) (events : List Event) (answers : List Answer) (first last : Moment S)
     → (run : IsRun g start told events answers first last) → BeforeEach g start Holds told events answers first last run → Holds last → Holds first
 holds_first g start Holds told [] [] first last run each there = subst Holds (sym run) there
 holds_first g start Holds told (event ∷ events) (answer ∷ answers) first last run each there = each.0
@@ -51,7 +51,7 @@ holds_first g start Holds told (event ∷ events) [] first last run each there =
 
 pub lows_stay : {S : Type 0} (g : Ghosts S) → LowsStay g
 lows_stay {S} g start told [] [] first last run level block low each there has =
-    record { low = low; has = subst (λ (m : Snapshot S). HasLow (g.state m.store).pages level block low) run has; no_higher = no_higher_self low }
+    record { low = low; has = subst (λ (m : Moment S). HasLow (g.state m.store).pages level block low) run has; no_higher = no_higher_self low }
 lows_stay {S} g start told (event ∷ events) (answer ∷ answers) first last run level block low each there has =
     let kept = holds_first g start (IsNotDeleted g block) (told ++ answer ∷ []) events answers run.1.0 last run.1.2 each.1 there in
     let moved = run.1.1.also.lows level block low has kept in
@@ -61,9 +61,9 @@ lows_stay g start told [] (answer ∷ answers) first last run level block low ea
 lows_stay g start told (event ∷ events) [] first last run level block low each there has = absurd run
 
 -- a history only grows over a run
-pub history_grows : {S : Type 0} (g : Ghosts S) (start : Entry → Bool) (told : List Answer) (events : List Event) (answers : List Answer) (first last : Snapshot S)
+pub history_grows : {S : Type 0} (g : Ghosts S) (start : Entry → Bool) (told : List Answer) (events : List Event) (answers : List Answer) (first last : Moment S)
     → IsRun g start told events answers first last → length first.history ≤ length last.history
-history_grows {S} g start told [] [] first last run = subst (λ (m : Snapshot S). length first.history ≤ length m.history) run (omega arith)
+history_grows {S} g start told [] [] first last run = subst (λ (m : Moment S). length first.history ≤ length m.history) run (omega arith)
 history_grows g start told (event ∷ events) (answer ∷ answers) first last run =
     let grown = run.1.1.also.grows in
     let longer : length run.1.0.history ≡ length first.history + length grown.acts = ap length grown.is ∙ length-append first.history grown.acts in
@@ -78,7 +78,7 @@ none_more [] history le = append-nil history
 none_more (a ∷ acts) history le = absurd (let long : length (history ++ a ∷ acts) ≡ length history + suc (length acts) = length-append history (a ∷ acts) in omega arith)
 
 -- where nothing is logged over a run, nothing is by its first event
-pub first_quiet : {S : Type 0} (g : Ghosts S) (start : Entry → Bool) (told : List Answer) (event : Event) (events : List Event) (answer : Answer) (answers : List Answer) (first last : Snapshot S)
+pub first_quiet : {S : Type 0} (g : Ghosts S) (start : Entry → Bool) (told : List Answer) (event : Event) (events : List Event) (answer : Answer) (answers : List Answer) (first last : Moment S)
     → (run : IsRun g start told (event ∷ events) (answer ∷ answers) first last) → last.history ≡ first.history → run.1.0.history ≡ first.history
 first_quiet g start told event events answer answers first last run same =
     let grown = run.1.1.also.grows in
@@ -112,7 +112,8 @@ none_gone session of (Checkpointed count) apart = refl
 none_gone session of (Refused fault) apart = refl
 
 -- one event leaves a call due that has no answer yet
-module _ {S : Type 0} (g : Ghosts S) (start : Entry → Bool) (session : ℕ) (old new : Snapshot S) (quiet : new.history ≡ old.history) (steps : ℕ) (due : IsDueIn (g.state old.store) (slot_of old.slots session) (suc steps)) where
+module _ {S : Type 0} (g : Ghosts S) (start : Entry → Bool) (session : ℕ) (old new : Moment S) (quiet : new.history ≡ old.history) (steps : ℕ)
+    (due : IsDueIn (g.state old.store) (slot_of old.slots session) (suc steps)) where
   abbrev Due : ℕ → Type 0
   Due gone = (left : ℕ) × (gone + suc left ≡ suc steps) × IsDueIn (g.state new.store) (slot_of new.slots session) (suc left)
 
@@ -120,7 +121,8 @@ module _ {S : Type 0} (g : Ghosts S) (start : Entry → Bool) (session : ℕ) (o
   as_before h = (steps, omega arith, h)
 
   -- an event of no session, or of another one
-  elsewhere : (kind : Kind) (answer : Answer) → EventDoes g start kind answer old new → (of : ℕ) → IsOfSession of kind → session ≢ of → IsDueIn (g.state new.store) (slot_of new.slots session) (suc steps)
+  elsewhere : (kind : Kind) (answer : Answer) → EventDoes g start kind answer old new → (of : ℕ) → IsOfSession of kind → session ≢ of
+      → IsDueIn (g.state new.store) (slot_of new.slots session) (suc steps)
   elsewhere kind answer does of is apart = does.also.quiet.due quiet of session is apart (suc steps) due
 
   -- its own step, which goes on or is blocked
@@ -128,7 +130,8 @@ module _ {S : Type 0} (g : Ghosts S) (start : Entry → Bool) (session : ℕ) (o
   went_on zero some h = absurd (omega arith)
   went_on (suc n) some h = (n, omega arith, h)
 
-  own_step : (of : ℕ) (answer : Answer) → of ≡ session → CountsDown (g.state old.store) (g.state new.store) (slot_of old.slots session) (slot_of new.slots session) steps answer → IsUnanswered answer
+  own_step : (of : ℕ) (answer : Answer) → of ≡ session
+      → DueCountsDown (g.state old.store) (g.state new.store) (slot_of old.slots session) (slot_of new.slots session) steps answer → IsUnanswered answer
       → Due (goes_on session (MovesCall of Steps) answer)
   own_step of Going is counts waits =
       subst (λ (b : Bool). Due (if b then 1 else 0)) (sym (eq-eqb of session is)) (went_on steps counts.0 counts.1.due)
@@ -161,12 +164,12 @@ module _ {S : Type 0} (g : Ghosts S) (start : Entry → Bool) (session : ℕ) (o
   ]
 
 -- ... and so do all events of a run
-due_over : {S : Type 0} (g : Ghosts S) (start : Entry → Bool) (session : ℕ) (told : List Answer) (events : List Event) (answers : List Answer) (first last : Snapshot S)
+due_over : {S : Type 0} (g : Ghosts S) (start : Entry → Bool) (session : ℕ) (told : List Answer) (events : List Event) (answers : List Answer) (first last : Moment S)
     → IsRun g start told events answers first last → last.history ≡ first.history → AllLeaveUnanswered session events answers → (steps : ℕ)
     → IsDueIn (g.state first.store) (slot_of first.slots session) (suc steps)
     → (left : ℕ) × (steps_gone session events answers + suc left ≡ suc steps) × IsDueIn (g.state last.store) (slot_of last.slots session) (suc left)
 due_over {S} g start session told [] [] first last run same waits steps due =
-    (steps, omega arith, subst (λ (m : Snapshot S). IsDueIn (g.state m.store) (slot_of m.slots session) (suc steps)) run due)
+    (steps, omega arith, subst (λ (m : Moment S). IsDueIn (g.state m.store) (slot_of m.slots session) (suc steps)) run due)
 due_over g start session told (event ∷ events) (answer ∷ answers) first last run same waits steps due =
     let quiet = first_quiet g start told event events answer answers first last run same in
     let one = event_due g start session first run.1.0 quiet steps due (kind_of event) answer (goes_does run.1.1) waits.0 in
@@ -185,7 +188,9 @@ calls_come_in_time {S} g start told event events answers first last session requ
 
     begun : IsServable (g.state first.store) request → IsDueIn (g.state run.1.0.store) (slot_of run.1.0.slots session) (root_level (g.state first.store).pages + steps_for request)
     begun may =
-        let followed = subst (λ (k : Kind). CallIsFollowed k first.sets Begun (g.state first.store) (g.state run.1.0.store) (slot_of first.slots (session_at k)) (slot_of run.1.0.slots (session_at k))) is run.1.1.also.followed in
+        let followed = subst
+        (λ (k : Kind). CallIsFollowed k first.sets Begun (g.state first.store) (g.state run.1.0.store) (slot_of first.slots (session_at k))
+        (slot_of run.1.0.slots (session_at k))) is run.1.1.also.followed in
         (followed refl).due whole may
 
     over : (steps : ℕ) → IsDueIn (g.state run.1.0.store) (slot_of run.1.0.slots session) (suc steps) → IsStillDue g session (suc steps) (steps_gone session events answers) last
@@ -197,7 +202,9 @@ calls_come_in_time {S} g start told event events answers first last session requ
     more steps before is due = subst (λ (n : ℕ). IsStillDue g session n (steps_gone session events answers) last) (sym is)
         (over steps (subst (λ (n : ℕ). IsDueIn (g.state run.1.0.store) (slot_of run.1.0.slots session) n) is due))
 
-    by : (r : Request) → (IsServable (g.state first.store) r → IsDueIn (g.state run.1.0.store) (slot_of run.1.0.slots session) (root_level (g.state first.store).pages + steps_for r)) → IsServable (g.state first.store) r
+    by : (r : Request) →
+        (IsServable (g.state first.store) r
+        → IsDueIn (g.state run.1.0.store) (slot_of run.1.0.slots session) (root_level (g.state first.store).pages + steps_for r)) → IsServable (g.state first.store) r
         → IsStillDue g session (root_level (g.state first.store).pages + steps_for r) (steps_gone session events answers) last
     by (ToInsert e) due may = more (root_level (g.state first.store).pages + 2) (root_level (g.state first.store).pages + 3) (omega arith) (due may)
     by (ToScan range) due may = more (root_level (g.state first.store).pages + 1) (root_level (g.state first.store).pages + 2) (omega arith) (due may)

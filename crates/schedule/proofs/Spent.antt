@@ -7,7 +7,7 @@ use Rattle.index_model.specs.declared.format.Format.{Format}
 use Rattle.page_action.specs.States.{State}
 use Rattle.page_action.specs.declared.page_store.PageStore.{Ghosts}
 use Rattle.page_codec.specs.declared.page.Page.{Page}
-use Rattle.session_calls.specs.Sessions.{work_in, work_left, IsDrained, OwesLess, LeavesLess, GivesLess, ready_count}
+use Rattle.session_calls.specs.Sessions.{work_in, work_left, IsDrained, OwesLess, StepLeavesLess, GivesLess, ready_count}
 use Rattle.session_calls.specs.Ops.{ready_of}
 use Rattle.session_calls.specs.Slots.{slot_of}
 use Rattle.session_calls.specs.declared.answer.Answer.{Answer}
@@ -19,7 +19,7 @@ use Rattle.schedule.specs.Making.{EventDoes}
 use Rattle.schedule.specs.Events.{IsOfSession, AnswersBeginning}
 use Rattle.schedule.specs.Spans.{spends, steps_spent, BeginsNone, WorkIsSpent}
 use Rattle.schedule.specs.TheoremKinds.{Steps, Takes, GivesUp, Kind, BeginsCall, MovesCall, KeepsStore, kind_of}
-use Rattle.schedule.specs.TheoremMoments.{Snapshot}
+use Rattle.schedule.specs.TheoremMoments.{Moment}
 use Rattle.schedule.specs.TheoremRuns.{Fits, IsRun}
 use Rattle.schedule.specs.declared.event.Event.{Event}
 use Rattle.schedule.proofs.Fitting.{goes_does, fits_behind}
@@ -67,7 +67,8 @@ none_spent session of (Ready count) zero apart = by (of == session) refl
     by false is = rw is refl
 none_spent session of answer ready apart = refl
 
-module _ {S : Type 0} (g : Ghosts S) (start : Entry → Bool) (session : ℕ) (old new : Snapshot S) (fits : Fits g start old) (quiet : new.history ≡ old.history) (honest : (g.backing new.store).honest ≡ true) where
+module _ {S : Type 0} (g : Ghosts S) (start : Entry → Bool) (session : ℕ) (old new : Moment S) (fits : Fits g start old)
+    (quiet : new.history ≡ old.history) (honest : (g.backing new.store).honest ≡ true) where
   abbrev before : Option Op
   before = slot_of old.slots session
 
@@ -111,7 +112,7 @@ module _ {S : Type 0} (g : Ghosts S) (start : Entry → Bool) (session : ℕ) (o
       empty (e ∷ l) h = absurd (omega (arith, h))
 
   -- its own step
-  own_step : (answer : Answer) → LeavesLess (g.state old.store) (g.state new.store) before after answer → OwesLess before (g.state old.store) (g.state new.store) → left ≤ was
+  own_step : (answer : Answer) → StepLeavesLess (g.state old.store) (g.state new.store) before after answer → OwesLess before (g.state old.store) (g.state new.store) → left ≤ was
       → spends session (MovesCall session Steps) answer ready + left ≤ was
   own_step Going less owed most =
       (let one : spends session (MovesCall session Steps) Going ready ≡ 1 = ap (λ (b : Bool). if b then (let n : ℕ = 1 in n) else 0) (eq-eqb session session refl) in
@@ -181,9 +182,9 @@ module _ {S : Type 0} (g : Ghosts S) (start : Entry → Bool) (session : ℕ) (o
   ]
 
 -- a device that has kept its model has kept it before
-honest_before : {S : Type 0} (g : Ghosts S) (start : Entry → Bool) (told : List Answer) (events : List Event) (answers : List Answer) (first last : Snapshot S)
+honest_before : {S : Type 0} (g : Ghosts S) (start : Entry → Bool) (told : List Answer) (events : List Event) (answers : List Answer) (first last : Moment S)
     → IsRun g start told events answers first last → (g.backing last.store).honest ≡ true → (g.backing first.store).honest ≡ true
-honest_before {S} g start told [] [] first last run h = subst (λ (m : Snapshot S). (g.backing m.store).honest ≡ true) (sym run) h
+honest_before {S} g start told [] [] first last run h = subst (λ (m : Moment S). (g.backing m.store).honest ≡ true) (sym run) h
 honest_before g start told (event ∷ events) (answer ∷ answers) first last run h =
     run.1.1.also.later.honest (honest_before g start (told ++ answer ∷ []) events answers run.1.0 last run.1.2 h)
 honest_before g start told [] (answer ∷ answers) first last run h = absurd run
@@ -191,7 +192,7 @@ honest_before g start told (event ∷ events) [] first last run h = absurd run
 
 pub work_is_spent : {S : Type 0} (g : Ghosts S) → WorkIsSpent g
 work_is_spent {S} g start told [] [] first last fits run session honest same none =
-    subst (λ (m : Snapshot S). 0 + work_in (g.state m.store) (slot_of m.slots session) ≤ work_in (g.state first.store) (slot_of first.slots session)) run (omega arith)
+    subst (λ (m : Moment S). 0 + work_in (g.state m.store) (slot_of m.slots session) ≤ work_in (g.state first.store) (slot_of first.slots session)) run (omega arith)
 work_is_spent g start told (event ∷ events) (answer ∷ answers) first last fits run session honest same none =
     let quiet = first_quiet g start told event events answer answers first last run same in
     let mid = honest_before g start (told ++ answer ∷ []) events answers run.1.0 last run.1.2 honest in

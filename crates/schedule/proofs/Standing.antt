@@ -24,11 +24,11 @@ use Rattle.session_calls.specs.declared.request.Request.{Request}
 use Rattle.session_calls.specs.declared.request.Request.TheVariants.{Insert as ToInsert, Scan as ToScan, Bulk as ToBulk, Cleanup as ToCleanup}
 use Rattle.session_calls.proofs.Meeting.{grown}
 use Rattle.session_calls.proofs.Telling.{IsSameCall, told_same}
-use Rattle.schedule.specs.TheoremMoments.{Snapshot}
+use Rattle.schedule.specs.TheoremMoments.{Moment}
 use Rattle.schedule.specs.Making.{EventDoes}
 use Rattle.schedule.specs.TheoremRuns.{Fits}
 use Rattle.session_calls.specs.Slots.{slot_of, slot_vacuums, slot_has_call}
-use Rattle.schedule.specs.Snapshots.{SlotRuns, slot_sweeps}
+use Rattle.schedule.specs.MomentInvariants.{SlotRuns, slot_sweeps}
 use Rattle.vacuum.specs.declared.steps.BulkDeleteOp.{BulkDeleteOp}
 use Rattle.schedule.specs.TheoremKinds.{Move, Steps, Takes, GivesUp, Upkeep, Kind, BeginsCall, MovesCall, KeepsStore, kind_of}
 use Rattle.schedule.specs.Events.{CallMoves, Stays, MovesOn, AnswersBeginning}
@@ -98,7 +98,7 @@ still_come block (Some (Bulk set op)) answer h = by answer h
 
 module _ {S : Type 0} (g : Ghosts S) (start : Entry → Bool) where
   -- the leaf on which a scan stands is pinned
-  stands_pinned : (session block : ℕ) (now : Snapshot S) → Fits g start now → StandsOn session block now → has_pin (holding_of (g.state now.store).table session).pins block ≡ true
+  stands_pinned : (session block : ℕ) (now : Moment S) → Fits g start now → StandsOn session block now → has_pin (holding_of (g.state now.store).table session).pins block ≡ true
   stands_pinned session block now fits stands =
       let runs : SlotRuns g start now session (Scan stands.op) = running_of fits session (Some (Scan stands.op)) (slot_found now.slots session (Scan stands.op) stands.runs) in
       let is : stands.op.session ≡ session = runs.runs.session ∙ runs.is.session_is in
@@ -107,33 +107,37 @@ module _ {S : Type 0} (g : Ghosts S) (start : Entry → Bool) where
       ap (λ (h : Holding). has_pin h.pins block) held ∙ ap (λ (b : Bool). b || false) (eq-eqb block block refl)
 
   -- ... and it is a live leaf
-  stands_leaf : (session block : ℕ) (now : Snapshot S) → Fits g start now → StandsOn session block now → HasLeaf g block now
+  stands_leaf : (session block : ℕ) (now : Moment S) → Fits g start now → StandsOn session block now → HasLeaf g block now
   stands_leaf session block now fits stands =
       let runs : SlotRuns g start now session (Scan stands.op) = running_of fits session (Some (Scan stands.op)) (slot_found now.slots session (Scan stands.op) stands.runs) in
       subst (LeafIsLive (g.state now.store).pages) stands.leaf runs.runs.fits.live
 
   -- behind an event of a session's running call, what it runs was asked the same
-  moved_asks : (session : ℕ) (move : Move) (answer : Answer) (old new : Snapshot S) → Fits g start old → EventDoes g start (MovesCall session move) answer old new
+  moved_asks : (session : ℕ) (move : Move) (answer : Answer) (old new : Moment S) → Fits g start old → EventDoes g start (MovesCall session move) answer old new
       → (op next : Op) → slice_get old.slots session ≡ Some (Some op) → slice_get new.slots session ≡ Some (Some next) → asked_of new.sets next ≡ asked_of old.sets op
   moved_asks session move answer old new fits does op next was is =
       let before : SlotRuns g start old session op = running_of fits session (Some op) was in
       let behind : SlotRuns g start new session next = running_of (fits_behind does) session (Some next) is in
       let goes : CallMoves g start session answer old new = subst (λ (b : Bool). MovesOn g start b session answer old new) (ap slot_has_call was) does.also.happens in
       let number_is : goes.number ≡ before.number = before.only goes.number goes.call goes.is in
-      let call_is : goes.call ≡ before.call = same_some (slice_get old.calls before.number) goes.call before.call (subst (λ (n : ℕ). slice_get old.calls n ≡ Some goes.call) number_is goes.is.found) before.is.found in
-      let found : slice_get (slice_set old.calls goes.number goes.after) behind.number ≡ Some behind.call = subst (λ (l : List Call). slice_get l behind.number ≡ Some behind.call) goes.calls_is behind.is.found in
+      let call_is : goes.call ≡ before.call =
+      same_some (slice_get old.calls before.number) goes.call before.call (subst (λ (n : ℕ). slice_get old.calls n ≡ Some goes.call) number_is goes.is.found) before.is.found in
+      let found : slice_get (slice_set old.calls goes.number goes.after) behind.number ≡ Some behind.call =
+      subst (λ (l : List Call). slice_get l behind.number ≡ Some behind.call) goes.calls_is behind.is.found in
       let same : behind.number ≡ goes.number = elim (cases_eq behind.number goes.number) [
         | inl e ↦ e
-        | inr n ↦ absurd (n (before.only behind.number behind.call (record { found = sym (get_set_other old.calls goes.number behind.number goes.after n) ∙ found; session_is = behind.is.session_is; running = behind.is.running }) ∙ sym number_is))
+        | inr n ↦ absurd (n (before.only behind.number behind.call
+            (record { found = sym (get_set_other old.calls goes.number behind.number goes.after n) ∙ found; session_is = behind.is.session_is; running = behind.is.running }) ∙ sym number_is))
       ] in
       let after_is : behind.call ≡ goes.after = same_some (slice_get (slice_set old.calls goes.number goes.after) goes.number) behind.call goes.after
-      (subst (λ (n : ℕ). slice_get (slice_set old.calls goes.number goes.after) n ≡ Some behind.call) same found) (get_set_same old.calls goes.number goes.after (get_within old.calls goes.number goes.call goes.is.found)) in
+      (subst (λ (n : ℕ). slice_get (slice_set old.calls goes.number goes.after) n ≡ Some behind.call) same found)
+      (get_set_same old.calls goes.number goes.after (get_within old.calls goes.number goes.call goes.is.found)) in
       let kept : IsSameCall (old.history ++ acts_of goes.number goes.effect) (length old.history) goes.effect goes.call goes.after =
       told_same (old.history ++ acts_of goes.number goes.effect) (length old.history) goes.effect goes.call goes.after goes.is.running (grown old.history goes.number goes.effect) answer goes.told in
       sym behind.runs.ask ∙ ap (λ (c : Call). c.ask) after_is ∙ kept.ask ∙ ap (λ (c : Call). c.ask) call_is ∙ before.runs.ask
 
   -- ... so it is a bulk delete only where it was one
-  moved_sweep : (session : ℕ) (move : Move) (answer : Answer) (old new : Snapshot S) → Fits g start old → EventDoes g start (MovesCall session move) answer old new
+  moved_sweep : (session : ℕ) (move : Move) (answer : Answer) (old new : Moment S) → Fits g start old → EventDoes g start (MovesCall session move) answer old new
       → slot_sweeps (slot_of old.slots session) ≡ false → slot_sweeps (slot_of new.slots session) ≡ false
   moved_sweep session move answer old new fits does idle = by (slice_get old.slots session) refl
     where
@@ -154,7 +158,7 @@ module _ {S : Type 0} (g : Ghosts S) (start : Entry → Bool) where
       by (Some None) was = same_slots (ap slot_has_call was)
       by (Some (Some op)) was = to op was (slice_get new.slots session) refl
 
-  module _ (stander block : ℕ) (old new : Snapshot S) (fits : Fits g start old) (stands : StandsOn stander block old) (leaf : HasLeaf g block old) (none : NoneHasCome block old) where
+  module _ (stander block : ℕ) (old new : Moment S) (fits : Fits g start old) (stands : StandsOn stander block old) (leaf : HasLeaf g block old) (none : NoneHasCome block old) where
     -- the slots of other sessions are as they were
     as_before : (session : ℕ) → slice_get new.slots session ≡ slice_get old.slots session → HasNotCome block (slot_of new.slots session)
     as_before session same = subst (λ (o : Option (Option Op)). HasNotCome block (unwrap_or o None)) (sym same) (none session)
@@ -170,7 +174,8 @@ module _ {S : Type 0} (g : Ghosts S) (start : Entry → Bool) where
     ]
       where
         by : (a : Answer) → answer ≡ a → AnswersBeginning a → HasNotCome block (slot_of new.slots session)
-        by Begun is h = subst (λ (o : Option Op). HasNotCome block o) (sym (does.also.always.fresh is)) (fresh_come block session request (leaf_above (g.state old.store) block leaf.page fits.invariant.order leaf.was))
+        by Begun is h = subst (λ (o : Option Op). HasNotCome block o) (sym (does.also.always.fresh is))
+            (fresh_come block session request (leaf_above (g.state old.store) block leaf.page fits.invariant.order leaf.was))
         by (Refused fault) is h = all_as_before (does.also.always.refused fault is).slots_is session
         by Going is h = absurd h
         by (Added x u) is h = absurd h
@@ -208,7 +213,8 @@ module _ {S : Type 0} (g : Ghosts S) (start : Entry → Bool) where
         let runs : SlotRuns g start old session (Bulk set op) = running_of fits session (Some (Bulk set op)) (slot_found old.slots session (Bulk set op) is) in
         let session_is : op.session ≡ session = runs.runs.session ∙ runs.is.session_is in
         let apart : stander ≢ op.session = λ e. (let both : Some (Scan stands.op) ≡ Some (Bulk set op) = sym stands.runs ∙ ap (λ (s : ℕ). slot_of old.slots s) (e ∙ session_is) ∙ is in cc) in
-        let waits : KeepsBeforePins (g.state old.store) (Some (Bulk set op)) (slot_of new.slots session) answer = subst (λ (o : Option Op). KeepsBeforePins (g.state old.store) o (slot_of new.slots session) answer) is does.also.followed.waits in
+        let waits : KeepsBeforePins (g.state old.store) (Some (Bulk set op)) (slot_of new.slots session) answer =
+        subst (λ (o : Option Op). KeepsBeforePins (g.state old.store) o (slot_of new.slots session) answer) is does.also.followed.waits in
         let before : op.cursor ≤ block = subst (λ (o : Option Op). HasNotCome block o) is (none session) in
         waits stander block leaf.page apart leaf.was (stands_pinned stander block old fits stands) before
 
@@ -275,17 +281,19 @@ module _ {S : Type 0} (g : Ghosts S) (start : Entry → Bool) where
     leaf_behind : (kind : Kind) (answer : Answer) → EventDoes g start kind answer old new → HasLeaf g block new
     leaf_behind (BeginsCall session request) answer does = leaf_quiet (BeginsCall session request) answer does does.also.always.calm
     leaf_behind (MovesCall session Steps) answer does = elim (cases_eq session stander) [
-      | inl e ↦ leaf_quiet (MovesCall session Steps) answer does (subst (λ (o : Option Op). OnlyWritersAct o (g.state old.store) (g.state new.store)) (ap (λ (s : ℕ). slot_of old.slots s) e ∙ stands.runs) does.also.always.calm)
+      | inl e ↦ leaf_quiet (MovesCall session Steps) answer does
+          (subst (λ (o : Option Op). OnlyWritersAct o (g.state old.store) (g.state new.store)) (ap (λ (s : ℕ). slot_of old.slots s) e ∙ stands.runs) does.also.always.calm)
       | inr n ↦ does.also.leaves stander block leaf.page n leaf.was (stands_pinned stander block old fits stands)
     ]
     leaf_behind (MovesCall session Takes) answer does = leaf_quiet (MovesCall session Takes) answer does does.also.always.calm
     leaf_behind (MovesCall session GivesUp) answer does = leaf_quiet (MovesCall session GivesUp) answer does does.also.always.calm
     leaf_behind (KeepsStore upkeep) answer does = leaf_quiet (KeepsStore upkeep) answer does does.also.always.calm
 
-waits_on_leaf : {S : Type 0} (g : Ghosts S) (start : Entry → Bool) (told : List Answer) (events : List Event) (answers : List Answer) (first last : Snapshot S) → Fits g start first
+waits_on_leaf : {S : Type 0} (g : Ghosts S) (start : Entry → Bool) (told : List Answer) (events : List Event) (answers : List Answer) (first last : Moment S) → Fits g start first
     → (run : IsRun g start told events answers first last) → (session block : ℕ) → BeforeEach g start (StandsOn session block) told events answers first last run
     → HasLeaf g block first → NoneHasCome block first → NoneFinishes g start told events answers first last run × NoneHasCome block last × HasLeaf g block last
-waits_on_leaf {S} g start told [] [] first last fits run session block stands leaf none = (tt, subst (λ (m : Snapshot S). NoneHasCome block m) run none, subst (λ (m : Snapshot S). HasLeaf g block m) run leaf)
+waits_on_leaf {S} g start told [] [] first last fits run session block stands leaf none =
+    (tt, subst (λ (m : Moment S). NoneHasCome block m) run none, subst (λ (m : Moment S). HasLeaf g block m) run leaf)
 waits_on_leaf g start told (event ∷ events) (answer ∷ answers) first last fits run session block stands leaf none =
     let one = event_keeps g start session block first run.1.0 fits stands.0 leaf none (kind_of event) answer (goes_does run.1.1) in
     let still = leaf_behind g start session block first run.1.0 fits stands.0 leaf none (kind_of event) answer (goes_does run.1.1) in
@@ -306,7 +314,7 @@ begun_bulk_deletes_wait {S} g start told vacuumer set events answers first last 
     let rest = waits_on_leaf g start (told ++ Begun ∷ []) events answers next last (fits_behind does) run.1.2 session block stands.1 still none in
     ((tt, rest.0), rest.1, rest.2)
   where
-    next : Snapshot S
+    next : Moment S
     next = run.1.0
 
     does : EventDoes g start (BeginsCall vacuumer (ToBulk set)) Begun first next

@@ -10,10 +10,10 @@ use Rattle.session_calls.specs.TheoremCalls.{DeadSets}
 use Rattle.session_calls.specs.Ops.{is_sweeping}
 use Rattle.session_calls.specs.declared.op.Op.{Op}
 use Rattle.session_calls.specs.declared.op.Op.TheVariants.{Insert, Scan, Bulk, Cleanup}
-use Rattle.schedule.specs.TheoremMoments.{Snapshot, snapshot_of}
+use Rattle.schedule.specs.TheoremMoments.{Moment, snapshot_of}
 use Rattle.schedule.specs.TheoremRuns.{Fits}
 use Rattle.session_calls.specs.Slots.{slot_of, slot_vacuums}
-use Rattle.schedule.specs.Snapshots.{SlotRuns, SlotMatches, IsUnused, here_with, one_sweeps}
+use Rattle.schedule.specs.MomentInvariants.{SlotRuns, SlotMatches, IsUnused, here_with, one_sweeps}
 use Rattle.schedule.specs.TheoremCrashes.{KeepsHistory}
 use Rattle.session_calls.specs.Sessions.{Matches}
 use Rattle.schedule.proofs.Keeping.{Laws, kept_at_start}
@@ -77,15 +77,42 @@ unused_fits {S} g store slots sets n is unused = fits_from (record {
     of session (Some op) e = absurd cc
 
 -- where no bulk delete runs, a moment fits with any sets
-module _ {S : Type 0} (g : Ghosts S) (start : Entry → Bool) (now : Snapshot S) (sets : DeadSets) where
-  abbrev then : Snapshot S
+module _ {S : Type 0} (g : Ghosts S) (start : Entry → Bool) (now : Moment S) (sets : DeadSets) where
+  abbrev then : Moment S
   then = record now { sets = sets }
 
   same_slot : (session : ℕ) (slot : Option Op) → ((set : ℕ) (op : BulkDeleteOp) → slot ≡ Some (Bulk set op) → ⊥) → SlotMatches g start now session slot → SlotMatches g start then session slot
   same_slot session None without h = record { none = h.none; idle = h.idle }
-  same_slot session (Some (Insert op)) without h = record { number = h.number; call = h.call; is = h.is; only = h.only; runs = record { ask = h.runs.ask; session = h.runs.session; added = h.runs.added; started = h.runs.started; fits = h.runs.fits; knows = h.runs.knows }; sweeps = tt }
-  same_slot session (Some (Scan op)) without h = record { number = h.number; call = h.call; is = h.is; only = h.only; runs = record { ask = h.runs.ask; session = h.runs.session; added = h.runs.added; started = h.runs.started; fits = h.runs.fits; knows = h.runs.knows }; sweeps = tt }
-  same_slot session (Some (Cleanup op)) without h = record { number = h.number; call = h.call; is = h.is; only = h.only; runs = record { ask = h.runs.ask; session = h.runs.session; added = h.runs.added; started = h.runs.started; fits = h.runs.fits; knows = h.runs.knows }; sweeps = tt }
+  same_slot session (Some (Insert op)) without h =
+      record {
+        number = h.number;
+        call = h.call;
+        is = h.is;
+        only = h.only;
+        runs =
+            record { ask = h.runs.ask; session = h.runs.session; added = h.runs.added; started = h.runs.started; fits = h.runs.fits; knows = h.runs.knows };
+        sweeps = tt;
+      }
+  same_slot session (Some (Scan op)) without h =
+      record {
+        number = h.number;
+        call = h.call;
+        is = h.is;
+        only = h.only;
+        runs =
+            record { ask = h.runs.ask; session = h.runs.session; added = h.runs.added; started = h.runs.started; fits = h.runs.fits; knows = h.runs.knows };
+        sweeps = tt;
+      }
+  same_slot session (Some (Cleanup op)) without h =
+      record {
+        number = h.number;
+        call = h.call;
+        is = h.is;
+        only = h.only;
+        runs =
+            record { ask = h.runs.ask; session = h.runs.session; added = h.runs.added; started = h.runs.started; fits = h.runs.fits; knows = h.runs.knows };
+        sweeps = tt;
+      }
   same_slot session (Some (Bulk set op)) without h = absurd (without set op refl)
 
   pub fits_with : ((session set : ℕ) (op : BulkDeleteOp) → slice_get now.slots session ≡ Some (Some (Bulk set op)) → ⊥) → Fits g start now → Fits g start then
@@ -101,7 +128,8 @@ module _ {S : Type 0} (g : Ghosts S) (start : Entry → Bool) (now : Snapshot S)
   })
 
 -- with no sets no bulk delete runs
-pub no_set_runs : {S : Type 0} (g : Ghosts S) (start : Entry → Bool) (now : Snapshot S) → now.sets ≡ [] → Fits g start now → (session set : ℕ) (op : BulkDeleteOp) → slice_get now.slots session ≡ Some (Some (Bulk set op)) → ⊥
+pub no_set_runs : {S : Type 0} (g : Ghosts S) (start : Entry → Bool) (now : Moment S) → now.sets ≡ [] → Fits g start now
+    → (session set : ℕ) (op : BulkDeleteOp) → slice_get now.slots session ≡ Some (Some (Bulk set op)) → ⊥
 no_set_runs g start now none fits session set op at =
     let runs : SlotRuns g start now session (Bulk set op) = running_of fits session (Some (Bulk set op)) at in
     let within : set < length now.sets = runs.sweeps.0 in

@@ -13,7 +13,7 @@ use Rattle.session_calls.specs.declared.op.Op.TheVariants.{Insert, Scan, Bulk, C
 use Rattle.session_calls.specs.declared.request.Request.{Request}
 use Rattle.session_calls.specs.declared.request.Request.TheVariants.{Insert as ToInsert, Scan as ToScan, Bulk as ToBulk, Cleanup as ToCleanup}
 use Rattle.session_calls.specs.Slots.{slot_of, slot_vacuums, one_vacuums}
-use Rattle.schedule.specs.Snapshots.{slot_sweeps, one_sweeps, OneVacuums}
+use Rattle.schedule.specs.MomentInvariants.{slot_sweeps, one_sweeps, OneVacuums}
 use Rattle.schedule.proofs.Lists.{get_set_same, get_set_other}
 
 true_false : true ≡ false → ⊥
@@ -58,7 +58,8 @@ module _ (test : Option Op → Bool) (none_fails : test None ≡ false) where
     | inr n ↦ ap test (set_other slots session other slot n)
   ]
 
-  set_any : (slots : List (Option Op)) (session : ℕ) (slot : Option Op) → session < length slots → test slot ≡ test (slot_of slots session) → list_any test (slice_set slots session slot) ≡ list_any test slots
+  set_any : (slots : List (Option Op)) (session : ℕ) (slot : Option Op) → session < length slots → test slot ≡ test (slot_of slots session)
+      → list_any test (slice_set slots session slot) ≡ list_any test slots
   set_any [] session slot within same = refl
   set_any (x ∷ xs) zero slot within same = ap (λ (b : Bool). b || list_any test xs) same
   set_any (x ∷ xs) (suc session) slot within same = ap (λ (b : Bool). test x || b) (set_any xs session slot (omega arith) same)
@@ -108,7 +109,8 @@ none_sweeping st slots h idle = h.cycle ∙ not_true (one_sweeps slots) (λ one.
     (let some = any_true slot_sweeps refl slots one in none_runs slots idle some.0 (sweep_vacuums (slot_of slots some.0) some.1)))
 
 -- one begins, where none ran
-module _ (old : State) (slots : List (Option Op)) (session : ℕ) (slot : Option Op) (within : session < length slots) (vacuums : slot_vacuums slot ≡ true) (idle : one_vacuums slots ≡ false) (h : OneVacuums old slots) where
+module _ (old : State) (slots : List (Option Op)) (session : ℕ) (slot : Option Op) (within : session < length slots)
+    (vacuums : slot_vacuums slot ≡ true) (idle : one_vacuums slots ≡ false) (h : OneVacuums old slots) where
   only_this : (a : ℕ) → slot_vacuums (slot_of (slice_set slots session slot) a) ≡ true → a ≡ session
   only_this a va = elim (cases_eq a session) [
     | inl e ↦ e

@@ -3,12 +3,12 @@ use Rattle.std.specs.Prelude.{ℕ, ◌<◌, ◌≤◌, Bool}
 use Rattle.index_model.specs.declared.entry.Entry.{Entry}
 use Rattle.page_action.specs.declared.page_store.PageStore.{Ghosts}
 use Rattle.session_calls.specs.Sessions.{work_in}
-use Rattle.schedule.specs.TheoremMoments.{Snapshot}
+use Rattle.schedule.specs.TheoremMoments.{Moment}
 use Rattle.schedule.specs.TheoremRuns.{Fits}
 use Rattle.session_calls.specs.Slots.{slot_of}
 
 -- so many steps at most, and entries to give, while the pages stay as they are
 abbrev pub WorkIsBounded : {S : Type 0} → Ghosts S → Type 0
 WorkIsBounded {S} g =
-    (start : Entry → Bool) (now : Snapshot S) → Fits g start now → (g.state now.store).limits.pages ≤ 65536 → (session : ℕ)
+    (start : Entry → Bool) (now : Moment S) → Fits g start now → (g.state now.store).limits.pages ≤ 65536 → (session : ℕ)
     → work_in (g.state now.store) (slot_of now.slots session) < 4398046511104

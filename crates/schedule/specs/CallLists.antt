@@ -8,12 +8,12 @@ use Rattle.index_model.specs.declared.fault.Fault.TheVariants.{Exists, KeyExists
 use Rattle.page_action.specs.declared.page_store.PageStore.{Ghosts}
 use Rattle.session_calls.specs.Sessions.{ended}
 use Rattle.session_calls.specs.TheoremCalls.{begun_call}
-use Rattle.schedule.specs.TheoremMoments.{Snapshot, IsRunningCall}
+use Rattle.schedule.specs.TheoremMoments.{Moment, IsRunningCall}
 use Rattle.schedule.specs.TheoremRuns.{Fits}
 
 -- the moment, with one call more
-abbrev pub with_call : {S : Type 0} → Snapshot S → Call → Snapshot S
-with_call now call = record now { calls = now.calls ++ call ∷ [] }
+abbrev pub with_one_call : {S : Type 0} → Moment S → Call → Moment S
+with_one_call now call = record now { calls = now.calls ++ call ∷ [] }
 
 -- a call that was refused as it began, so many actions being there then
 abbrev pub refused_call : ℕ → Ask → Fault → ℕ → Call
@@ -22,12 +22,12 @@ refused_call session ask fault count = ended (begun_call session ask count) (Fai
 -- a session has one running call at most
 abbrev pub OneCallRuns : {S : Type 0} → Ghosts S → Type 0
 OneCallRuns {S} g =
-    (start : Entry → Bool) (now : Snapshot S) (session number other : ℕ) (call another : Call) → Fits g start now → IsRunningCall now.calls session number call
+    (start : Entry → Bool) (now : Moment S) (session number other : ℕ) (call another : Call) → Fits g start now → IsRunningCall now.calls session number call
     → IsRunningCall now.calls session other another → other ≡ number
 
 -- What fits a moment fits with a call more that was refused as it began, in a session that is there. That isn't said of
 -- `Exists` and of `KeyExists`, with which no beginning is refused.
 abbrev pub RefusedCallsFit : {S : Type 0} → Ghosts S → Type 0
 RefusedCallsFit {S} g =
-    (start : Entry → Bool) (now : Snapshot S) (session : ℕ) (ask : Ask) (fault : Fault) → Fits g start now → session < length now.slots → fault ≢ Exists
-    → ((row : Row) → fault ≢ KeyExists row) → Fits g start (with_call now (refused_call session ask fault (length now.history)))
+    (start : Entry → Bool) (now : Moment S) (session : ℕ) (ask : Ask) (fault : Fault) → Fits g start now → session < length now.slots → fault ≢ Exists
+    → ((row : Row) → fault ≢ KeyExists row) → Fits g start (with_one_call now (refused_call session ask fault (length now.history)))

@@ -6,7 +6,7 @@ use Rattle.index_model.specs.Faults.{Circumstances, HasCause}
 use Rattle.index_model.specs.declared.entry.Entry.{Entry}
 use Rattle.index_model.specs.declared.fault.Fault.{Fault}
 use Rattle.index_model.specs.declared.fault.Fault.TheVariants.{Stopped}
-use Rattle.page_action.specs.Causes.{nothing_wrong, where_forced}
+use Rattle.page_action.specs.Causes.{nothing_wrong, causes_of_forced}
 use Rattle.page_action.specs.Order.{IsRestOf}
 use Rattle.page_action.specs.Room.{KeepsRoom, HasWholeRoom}
 use Rattle.page_action.specs.States.{State, IsLater}
@@ -16,20 +16,20 @@ use Rattle.page_codec.specs.declared.page.Page.{Page}
 use Rattle.tree_acts.specs.Leaves.{IsLeafAt, WasLeaf}
 use Rattle.tree_acts.specs.Lows.{NoLowRises}
 use Rattle.descent.specs.Shared.{OthersRely}
-use Rattle.session_calls.specs.Due.{IsDueIn, CountsDown, HasSteps}
+use Rattle.session_calls.specs.Due.{IsDueIn, DueCountsDown, HasSteps}
 use Rattle.session_calls.specs.Following.{StepTells}
 use Rattle.session_calls.specs.TheoremCalls.{DeadSets, asked_by, acts_of, begun_call}
-use Rattle.session_calls.specs.Ops.{op_before, asks_vacuum, asked_of, where_stepped, where_asked_next, where_beginning, RunsOn, IsCaused, AnswersStopped, asks_sweep, no_call_begins}
-use Rattle.session_calls.specs.Sessions.{Told, IsAsked, MovesShape, is_busy, slot_add, LeavesLess, LeavesNoMore, GivesLess, AnswersStep, AnswersNext, AnswersEnd, RefusalChangesNothing, RunsUntilLast, leaf_of, StandsByAnswer, OnlyWritersAct, OnlyOwnAreFlagged, LeavesOwnFlagged, KeepsBeforePins, CountsEntries, CountsPages, TellsFree, SparesLeaves, after_slot, after_request}
+use Rattle.session_calls.specs.Ops.{op_before, asks_vacuum, asked_of, causes_of_stepped, causes_of_asked_next, causes_of_beginning, RunsOn, IsCaused, StoppedAnswersFirst, asks_sweep, no_call_begins}
+use Rattle.session_calls.specs.Sessions.{Told, IsAsked, MovesShape, is_busy, slot_add, StepLeavesLess, LeavesNoMore, GivesLess, AnswersStep, AnswersNext, AnswersEnd, RefusalChangesNothing, RunsUntilLast, leaf_of, StandsByAnswer, OnlyWritersAct, OnlyOwnAreFlagged, LeavesOwnFlagged, KeepsBeforePins, CountsEntries, CountsPages, TellsFree, SparesLeaves, after_slot, after_request}
 use Rattle.session_calls.specs.declared.answer.Answer.{Answer}
 use Rattle.session_calls.specs.declared.answer.Answer.TheVariants.{Begun, Forced, Flushed, Checkpointed, Refused}
 use Rattle.session_calls.specs.declared.op.Op.{Op}
 use Rattle.session_calls.specs.declared.request.Request.{Request}
-use Rattle.schedule.specs.TheoremMoments.{StoreAndSlots, Snapshot, IsRunningCall}
+use Rattle.schedule.specs.TheoremMoments.{StoreAndSlots, Moment, IsRunningCall}
 use Rattle.schedule.specs.TheoremKinds.{Move, Steps, Takes, GivesUp, Upkeep, Forces, Flushes, Checkpoints, Kind, BeginsCall, MovesCall, KeepsStore, kind_of}
 use Rattle.schedule.specs.TheoremEvents.{IsStill, IsDurable}
 use Rattle.session_calls.specs.Slots.{slot_of, has_call, one_vacuums, is_of_sets, session_to_begin}
-use Rattle.schedule.specs.Snapshots.{here_at, Invariant}
+use Rattle.schedule.specs.MomentInvariants.{here_at, Invariant}
 use Rattle.schedule.specs.declared.event.Event.{Event}
 
 -- the kind is of this session, or of no session
@@ -49,7 +49,7 @@ AreOf session (event ∷ events) = IsOf session event × AreOf session events
 
 -- an event of a session's running call: it appends an action of this effect, or none, which the call was asked for; what is
 -- told of it; no other call is changed, and other sessions may rely; and what it does to the shape of the pages
-pub record CallMoves {S : Type 0} (g : Ghosts S) (start : Entry → Bool) (session : ℕ) (answer : Answer) (old new : Snapshot S) : Type 0 where
+pub record CallMoves {S : Type 0} (g : Ghosts S) (start : Entry → Bool) (session : ℕ) (answer : Answer) (old new : Moment S) : Type 0 where
   pub number : ℕ
   pub call : Call
   pub is : IsRunningCall old.calls session number call
@@ -63,14 +63,14 @@ pub record CallMoves {S : Type 0} (g : Ghosts S) (start : Entry → Bool) (sessi
   pub shape : MovesShape call.ask effect (g.state old.store) (g.state new.store)
 
 -- a call is begun: it gets the next number
-pub record CallBegins {S : Type 0} (g : Ghosts S) (session : ℕ) (request : Request) (answer : Answer) (old new : Snapshot S) : Type 0 where
+pub record CallBegins {S : Type 0} (g : Ghosts S) (session : ℕ) (request : Request) (answer : Answer) (old new : Moment S) : Type 0 where
   pub told : answer ≡ Begun
   pub history_is : new.history ≡ old.history
   pub calls_is : new.calls ≡ old.calls ++ begun_call session (asked_by old.sets request) (length old.history) ∷ []
   pub others : OthersRely session (g.state old.store) (g.state new.store)
 
 -- the event is refused, and nothing is changed
-pub record Stays {S : Type 0} (g : Ghosts S) (answer : Answer) (old new : Snapshot S) : Type 0 where
+pub record Stays {S : Type 0} (g : Ghosts S) (answer : Answer) (old new : Moment S) : Type 0 where
   pub fault : Fault
   pub refused : answer ≡ Refused fault
   pub still : IsStill g old new
@@ -82,18 +82,18 @@ kept_answer Flushes count = None
 kept_answer Checkpoints count = Some (Checkpointed count)
 
 -- all actions are durable, and so many
-pub record IsToldDurable {S : Type 0} (g : Ghosts S) (upkeep : Upkeep) (answer : Answer) (old new : Snapshot S) : Type 0 where
+pub record IsToldDurable {S : Type 0} (g : Ghosts S) (upkeep : Upkeep) (answer : Answer) (old new : Moment S) : Type 0 where
   pub told : kept_answer upkeep (length old.history) ≡ Some answer
   pub durable : (g.backing new.store).durable ≡ length old.history
 
 -- what is told of it: a flush answers the block of the page that waited longest, or that none waited
-abbrev pub UpkeepIsTold : {S : Type 0} → Ghosts S → Upkeep → Answer → Snapshot S → Snapshot S → Type 0
+abbrev pub UpkeepIsTold : {S : Type 0} → Ghosts S → Upkeep → Answer → Moment S → Moment S → Type 0
 UpkeepIsTold g Forces answer old new = IsToldDurable g Forces answer old new
 UpkeepIsTold g Flushes answer old new = answer ≡ Flushed (slice_get (g.backing old.store).changed 0)
 UpkeepIsTold g Checkpoints answer old new = IsToldDurable g Checkpoints answer old new
 
 -- what was to be done for the store is done; nothing that a history tells of is changed
-pub record UpkeepIsDone {S : Type 0} (g : Ghosts S) (upkeep : Upkeep) (answer : Answer) (old new : Snapshot S) : Type 0 where
+pub record UpkeepIsDone {S : Type 0} (g : Ghosts S) (upkeep : Upkeep) (answer : Answer) (old new : Moment S) : Type 0 where
   pub tells : UpkeepIsTold g upkeep answer old new
   pub still : IsStill g old new
 
@@ -103,7 +103,7 @@ pub record StoreIsKept {S : Type 0} (g : Ghosts S) (upkeep : Upkeep) (answer : A
   pub state_is : g.state new ≡ g.state old
   pub number : (count : ℕ) → kept_answer upkeep count ≡ Some answer → count ≡ (g.state old).acts
   pub durable : (count : ℕ) → kept_answer upkeep count ≡ Some answer → (g.backing new).durable ≡ (g.state old).acts
-  pub caused : (fault : Fault) → answer ≡ Refused fault → HasCause (where_forced (g.backing old) (g.backing new)) fault
+  pub caused : (fault : Fault) → answer ≡ Refused fault → HasCause (causes_of_forced (g.backing old) (g.backing new)) fault
 
 -- a force leaves the changed pages waiting to be written to their places
 pub record IsForced {S : Type 0} (g : Ghosts S) (old new : S) : Type 0 where
@@ -159,53 +159,53 @@ KeepsUp g (KeepsStore upkeep) answer old new = UpkeepLeaves g upkeep answer old 
 KeepsUp g kind answer old new = Unit {0}
 
 -- a session's running call goes on; without one the event is refused
-abbrev pub MovesOn : {S : Type 0} → Ghosts S → (Entry → Bool) → Bool → ℕ → Answer → Snapshot S → Snapshot S → Type 0
+abbrev pub MovesOn : {S : Type 0} → Ghosts S → (Entry → Bool) → Bool → ℕ → Answer → Moment S → Moment S → Type 0
 MovesOn g start true session answer old new = CallMoves g start session answer old new
 MovesOn g start false session answer old new = Stays g answer old new
 
 -- a session without a call may begin one
-abbrev pub MayBegin : {S : Type 0} → Ghosts S → Option (Option Op) → ℕ → Request → Answer → Snapshot S → Snapshot S → Type 0
+abbrev pub MayBegin : {S : Type 0} → Ghosts S → Option (Option Op) → ℕ → Request → Answer → Moment S → Moment S → Type 0
 MayBegin g None session request answer old new = Stays g answer old new
 MayBegin g (Some None) session request answer old new = CallBegins g session request answer old new ⊎ Stays g answer old new
 MayBegin g (Some (Some op)) session request answer old new = Stays g answer old new
 
 -- what an event of this kind does to the history and to the calls, by what it answers
-abbrev pub Happens : {S : Type 0} → Ghosts S → (Entry → Bool) → Kind → Answer → Snapshot S → Snapshot S → Type 0
+abbrev pub Happens : {S : Type 0} → Ghosts S → (Entry → Bool) → Kind → Answer → Moment S → Moment S → Type 0
 Happens g start (BeginsCall session request) answer old new = MayBegin g (slice_get old.slots session) session request answer old new
 Happens g start (MovesCall session move) answer old new = MovesOn g start (has_call old.slots session) session answer old new
 Happens g start (KeepsStore upkeep) answer old new = UpkeepIsDone g upkeep answer old new ⊎ Stays g answer old new
 
 -- the circumstances where there is no such session, or no call in it
-abbrev pub where_no_call : Bool → Circumstances
-where_no_call is_stopped = record nothing_wrong { is_stopped = is_stopped; no_such_session = true }
+abbrev pub causes_of_no_call : Bool → Circumstances
+causes_of_no_call is_stopped = record nothing_wrong { is_stopped = is_stopped; no_such_session = true }
 
 -- the circumstances of an event of a call: of one that runs, or of none
-abbrev pub where_moved : Circumstances → (Op → Circumstances) → Option (Option Op) → Circumstances
-where_moved idle running None = idle
-where_moved idle running (Some None) = idle
-where_moved idle running (Some (Some op)) = running op
+abbrev pub causes_of_moved : Circumstances → (Op → Circumstances) → Option (Option Op) → Circumstances
+causes_of_moved idle running None = idle
+causes_of_moved idle running (Some None) = idle
+causes_of_moved idle running (Some (Some op)) = running op
 
 -- the circumstances of a beginning with these sets, while a bulk delete or a cleanup runs or none
-abbrev pub where_begun_at : {S : Type 0} → Ghosts S → S → Bool → DeadSets → Request → Option (Option Op) → Circumstances
-where_begun_at g store vacuums sets request None = where_no_call (no_call_begins (g.state store) (g.backing store))
-where_begun_at g store vacuums sets request (Some slot) = record (where_beginning (g.state store) (g.backing store) (is_busy slot)) {
+abbrev pub causes_of_begun_at : {S : Type 0} → Ghosts S → S → Bool → DeadSets → Request → Option (Option Op) → Circumstances
+causes_of_begun_at g store vacuums sets request None = causes_of_no_call (no_call_begins (g.state store) (g.backing store))
+causes_of_begun_at g store vacuums sets request (Some slot) = record (causes_of_beginning (g.state store) (g.backing store) (is_busy slot)) {
   no_such_session = not (is_of_sets sets request);
   vacuum_runs = asks_vacuum request && vacuums;
 }
 
 -- the circumstances of a move of a session's call, with these sets, from this store to that
-abbrev pub where_moving : {S : Type 0} → Ghosts S → DeadSets → S → S → Move → Option (Option Op) → Circumstances
-where_moving g sets old new Steps slot =
-    where_moved (where_no_call (g.backing old).stopped) (λ op. where_stepped sets op (g.state old) (g.backing old) (g.backing new)) slot
-where_moving g sets old new Takes slot = where_moved (where_no_call false) (λ op. where_asked_next (asked_of sets op)) slot
-where_moving g sets old new GivesUp slot = where_moved (where_no_call false) (λ op. nothing_wrong) slot
+abbrev pub causes_of_moving : {S : Type 0} → Ghosts S → DeadSets → S → S → Move → Option (Option Op) → Circumstances
+causes_of_moving g sets old new Steps slot =
+    causes_of_moved (causes_of_no_call (g.backing old).stopped) (λ op. causes_of_stepped sets op (g.state old) (g.backing old) (g.backing new)) slot
+causes_of_moving g sets old new Takes slot = causes_of_moved (causes_of_no_call false) (λ op. causes_of_asked_next (asked_of sets op)) slot
+causes_of_moving g sets old new GivesUp slot = causes_of_moved (causes_of_no_call false) (λ op. nothing_wrong) slot
 
 -- the circumstances of an event
-abbrev pub where_happening : {S : Type 0} → Ghosts S → Kind → StoreAndSlots S → StoreAndSlots S → Circumstances
-where_happening g (BeginsCall session request) old new =
-    where_begun_at g old.store (one_vacuums old.slots) old.sets request (slice_get old.slots session)
-where_happening g (MovesCall session move) old new = where_moving g old.sets old.store new.store move (slice_get old.slots session)
-where_happening g (KeepsStore upkeep) old new = where_forced (g.backing old.store) (g.backing new.store)
+abbrev pub causes_of_happening : {S : Type 0} → Ghosts S → Kind → StoreAndSlots S → StoreAndSlots S → Circumstances
+causes_of_happening g (BeginsCall session request) old new =
+    causes_of_begun_at g old.store (one_vacuums old.slots) old.sets request (slice_get old.slots session)
+causes_of_happening g (MovesCall session move) old new = causes_of_moving g old.sets old.store new.store move (slice_get old.slots session)
+causes_of_happening g (KeepsStore upkeep) old new = causes_of_forced (g.backing old.store) (g.backing new.store)
 
 -- a beginning is told as begun, or refused
 abbrev pub AnswersBeginning : Answer → Type 0
@@ -251,7 +251,7 @@ RefusesStopped is_stopped answer = is_stopped ≡ true → answer ≡ Refused St
 -- insert whose entry is logged ends as added, with that fault
 abbrev pub StopsFirst : Kind → Bool → Answer → List (Option Op) → Type 0
 StopsFirst (BeginsCall session request) is_stopped answer slots = RefusesStopped is_stopped answer
-StopsFirst (MovesCall session Steps) is_stopped answer slots = is_stopped ≡ true → AnswersStopped (slot_add (slot_of slots session)) answer
+StopsFirst (MovesCall session Steps) is_stopped answer slots = is_stopped ≡ true → StoppedAnswersFirst (slot_add (slot_of slots session)) answer
 StopsFirst (MovesCall session Takes) is_stopped answer slots = Unit {0}
 StopsFirst (MovesCall session GivesUp) is_stopped answer slots = Unit {0}
 StopsFirst (KeepsStore upkeep) is_stopped answer slots = RefusesStopped is_stopped answer
@@ -269,7 +269,7 @@ RefusalKeeps g kind answer old new = (fault : Fault) → answer ≡ Refused faul
 
 -- while no act is done, a step that ends no call leaves less to do, and so does an entry that is given
 abbrev pub IsLessLeft : Bool → Kind → Answer → State → State → Option Op → Option Op → Type 0
-IsLessLeft honest (MovesCall session Steps) answer old new before after = honest ≡ true → LeavesLess old new before after answer
+IsLessLeft honest (MovesCall session Steps) answer old new before after = honest ≡ true → StepLeavesLess old new before after answer
 IsLessLeft honest (MovesCall session Takes) answer old new before after = GivesLess before after answer
 IsLessLeft honest kind answer old new before after = Unit {0}
 
@@ -283,10 +283,10 @@ pub record IsEnded {S : Type 0} (g : Ghosts S) (session : ℕ) (old new : StoreA
 
 -- what is so behind an event: an end leaves its session nothing to run; asking for the next entry leaves the pages, calls and
 -- holdings of the store as they were
-abbrev pub IsLeft : {S : Type 0} → Ghosts S → Kind → StoreAndSlots S → StoreAndSlots S → Type 0
-IsLeft g (MovesCall session GivesUp) old new = IsEnded g session old new
-IsLeft g (MovesCall session Takes) old new = g.state new.store ≡ g.state old.store
-IsLeft g kind old new = Unit {0}
+abbrev pub IsLeftByEvent : {S : Type 0} → Ghosts S → Kind → StoreAndSlots S → StoreAndSlots S → Type 0
+IsLeftByEvent g (MovesCall session GivesUp) old new = IsEnded g session old new
+IsLeftByEvent g (MovesCall session Takes) old new = g.state new.store ≡ g.state old.store
+IsLeftByEvent g kind old new = Unit {0}
 
 -- what the other sessions run is as it was
 abbrev pub OthersStay : ℕ → List (Option Op) → List (Option Op) → Type 0
@@ -313,7 +313,7 @@ OnlyStepsAct kind slot old new = new.acts ≡ old.acts
 -- a beginning that is refused has its cause
 abbrev pub BeginningIsCaused : {S : Type 0} → Ghosts S → Kind → Answer → StoreAndSlots S → Type 0
 BeginningIsCaused g (BeginsCall session request) answer old =
-    IsCaused (where_begun_at g old.store (one_vacuums old.slots) old.sets request (slice_get old.slots session)) answer
+    IsCaused (causes_of_begun_at g old.store (one_vacuums old.slots) old.sets request (slice_get old.slots session)) answer
 BeginningIsCaused g kind answer old = Unit {0}
 
 -- a beginning is refused for the first that stands in its way: no call begins, there is no such session or set, the session has
@@ -369,7 +369,7 @@ pub record EventAlways {S : Type 0} (g : Ghosts S) (kind : Kind) (answer : Answe
   -- no other session's slot is changed
   pub others : (session : ℕ) → IsOfSession session kind → OthersStay session old.slots new.slots
   -- behind an end its session runs nothing, and the log is as it was
-  pub left : IsLeft g kind old new
+  pub left : IsLeftByEvent g kind old new
   -- a beginning that is refused has its cause
   pub causes : BeginningIsCaused g kind answer old
   -- ... the first that there is of a log that has failed or a count of calls at its end, no such session or set, and a session
@@ -393,7 +393,7 @@ StaysAsDue old new before after = (steps : ℕ) → IsDueIn old before steps →
 -- what is followed of a running call, from one step to the next
 pub record StepIsFollowed (sets : DeadSets) (old new : State) (before after : Option Op) (answer : Answer) : Type 0 where
   -- a call that was due comes to what is awaited at its last step, and each step before leaves one fewer
-  pub due : (left : ℕ) → IsDueIn old before (suc left) → CountsDown old new before after left answer
+  pub due : (left : ℕ) → IsDueIn old before (suc left) → DueCountsDown old new before after left answer
   -- while no action is logged, no more is left to do than before, whether it was due or not
   pub no_more : LeavesNoMore old new before after
   -- where only pages were flagged whose splits its insert is to finish, only such are; and none behind its end, unless it tells of a fault
@@ -429,7 +429,7 @@ KeepsPinnedLeaves kind old new =
 
 -- What an event leaves as it was: the limits and the number of frames; and where it appends no action, the pages. So an event
 -- of others that appends no action costs a call that is due no step.
-pub record LeavesBe {S : Type 0} (g : Ghosts S) (kind : Kind) (old new : Snapshot S) : Type 0 where
+pub record LeavesBe {S : Type 0} (g : Ghosts S) (kind : Kind) (old new : Moment S) : Type 0 where
   pub limits : (g.state new.store).limits ≡ (g.state old.store).limits
   pub frames : (g.state new.store).frames ≡ (g.state old.store).frames
   pub pages : new.history ≡ old.history → (g.state new.store).pages ≡ (g.state old.store).pages
@@ -443,7 +443,7 @@ pub record GrowsByOne (old new : List Action) : Type 0 where
   pub few : length acts ≤ 1
 
 -- What an event also leaves, beside what it means. It needs no reading: each event leaves it.
-pub record EventAlso {S : Type 0} (g : Ghosts S) (start : Entry → Bool) (kind : Kind) (answer : Answer) (old new : Snapshot S) : Type 0 where
+pub record EventAlso {S : Type 0} (g : Ghosts S) (start : Entry → Bool) (kind : Kind) (answer : Answer) (old new : Moment S) : Type 0 where
   -- what holds of it whatever the pages are
   pub always : EventAlways g kind answer (here_at old) (here_at new)
   -- what it does to the history and to the calls, step by step
@@ -451,7 +451,7 @@ pub record EventAlso {S : Type 0} (g : Ghosts S) (start : Entry → Bool) (kind 
   -- it appends one action at most
   pub grows : GrowsByOne old.history new.history
   -- why it is refused, as its operation tells it
-  pub caused : IsCaused (where_happening g kind (here_at old) (here_at new)) answer
+  pub caused : IsCaused (causes_of_happening g kind (here_at old) (here_at new)) answer
   -- what is followed of its session's call
   pub followed : CallIsFollowed kind old.sets answer (g.state old.store) (g.state new.store) (slot_of old.slots (session_at kind)) (slot_of new.slots (session_at kind))
   -- a live leaf that another session has pinned stays one

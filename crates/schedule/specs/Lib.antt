@@ -2,7 +2,7 @@ pub mod TheoremMoments
 pub mod TheoremKinds
 pub mod TheoremRefusals
 pub mod TheoremEvents
-pub mod Snapshots
+pub mod MomentInvariants
 pub mod Sessions
 pub mod TheoremCrashes
 pub mod Events

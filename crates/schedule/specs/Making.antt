@@ -5,15 +5,15 @@ use Rattle.index_model.specs.Calls.{Call}
 use Rattle.index_model.specs.declared.entry.Entry.{Entry}
 use Rattle.page_action.specs.declared.page_store.PageStore.{Ghosts}
 use Rattle.session_calls.specs.declared.answer.Answer.{Answer}
-use Rattle.schedule.specs.TheoremMoments.{StoreAndSlots, Snapshot, snapshot_of}
+use Rattle.schedule.specs.TheoremMoments.{StoreAndSlots, Moment, snapshot_of}
 use Rattle.schedule.specs.TheoremKinds.{Kind, kind_of}
 use Rattle.schedule.specs.TheoremEvents.{EventMeans}
-use Rattle.schedule.specs.TheoremRuns.{Carries}
+use Rattle.schedule.specs.TheoremRuns.{ForEachHistory}
 use Rattle.schedule.specs.Events.{EventAlways, EventAlso}
 use Rattle.schedule.specs.declared.event.Event.{Event}
 
 -- one event of this kind with this answer: what it means, and what it also leaves
-pub record EventDoes {S : Type 0} (g : Ghosts S) (start : Entry → Bool) (kind : Kind) (answer : Answer) (old new : Snapshot S) : Type 0 where
+pub record EventDoes {S : Type 0} (g : Ghosts S) (start : Entry → Bool) (kind : Kind) (answer : Answer) (old new : Moment S) : Type 0 where
   pub means : EventMeans g start kind answer old new
   pub also : EventAlso g start kind answer old new
 
@@ -27,7 +27,7 @@ pub record EventRuns {S : Type 0} (g : Ghosts S) (old new : StoreAndSlots S) (ki
 pub record Makes {S : Type 0} (g : Ghosts S) (kind : Kind) (answer : Answer) (old new : StoreAndSlots S) : Type 0 where
   pub sessions : length new.slots ≡ length old.slots
   pub always : EventAlways g kind answer old new
-  pub does : Carries g old new (EventRuns g old new kind answer)
+  pub does : ForEachHistory g old new (EventRuns g old new kind answer)
 
 -- events with an answer each, from one moment to another: of each holds what always holds, and each store follows the one before
 abbrev pub EachAlways : {S : Type 0} → Ghosts S → List Event → List Answer → StoreAndSlots S → StoreAndSlots S → Type 0

@@ -25,7 +25,7 @@ use Rattle.page_delete.specs.declared.steps.CleanupAt.TheVariants.{Look, Start a
 use Rattle.session_calls.specs.Slots.{slot_of}
 use Rattle.session_calls.specs.declared.op.Op.{Op}
 use Rattle.session_calls.specs.declared.op.Op.TheVariants.{Insert, Scan, Bulk, Cleanup}
-use Rattle.schedule.specs.TheoremMoments.{Snapshot}
+use Rattle.schedule.specs.TheoremMoments.{Moment}
 use Rattle.schedule.specs.TheoremRuns.{Fits}
 
 -- what a page number is kept for: to come to the page of this level that covers what is looked for, or to any that stands on it
@@ -122,4 +122,4 @@ AllLead st (kept ∷ numbers) = NumberLeads st kept × AllLead st numbers
 -- `fresh` may name: no page that a call still comes to is used for another one meanwhile.
 abbrev pub NumbersLeadOn : {S : Type 0} → Ghosts S → Type 0
 NumbersLeadOn {S} g =
-    (start : Entry → Bool) (now : Snapshot S) → Fits g start now → (session : ℕ) → AllLead (g.state now.store) (kept_numbers (slot_of now.slots session))
+    (start : Entry → Bool) (now : Moment S) → Fits g start now → (session : ℕ) → AllLead (g.state now.store) (kept_numbers (slot_of now.slots session))

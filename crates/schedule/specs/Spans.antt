@@ -19,18 +19,18 @@ use Rattle.session_calls.specs.declared.request.Request.{Request}
 use Rattle.schedule.specs.Events.{IsOf}
 use Rattle.schedule.specs.Stands.{BeforeEach}
 use Rattle.schedule.specs.TheoremKinds.{Steps, Takes, GivesUp, Kind, BeginsCall, MovesCall, KeepsStore, kind_of}
-use Rattle.schedule.specs.TheoremMoments.{Snapshot}
+use Rattle.schedule.specs.TheoremMoments.{Moment}
 use Rattle.schedule.specs.TheoremRuns.{Fits, IsRun}
 use Rattle.schedule.specs.declared.event.Event.{Event}
 
 -- the page of the block isn't deleted at this moment
-abbrev pub IsNotDeleted : {S : Type 0} → Ghosts S → ℕ → Snapshot S → Type 0
+abbrev pub IsNotDeleted : {S : Type 0} → Ghosts S → ℕ → Moment S → Type 0
 IsNotDeleted g block now = (nodes_of (g.state now.store).pages block).state ≢ Deleted
 
 -- Over a run at no moment of which a page of the tree is deleted, its low doesn't rise.
 abbrev pub LowsStay : {S : Type 0} → Ghosts S → Type 0
 LowsStay {S} g =
-    (start : Entry → Bool) (told : List Answer) (events : List Event) (answers : List Answer) (first last : Snapshot S) (run : IsRun g start told events answers first last)
+    (start : Entry → Bool) (told : List Answer) (events : List Event) (answers : List Answer) (first last : Moment S) (run : IsRun g start told events answers first last)
     (level block : ℕ) (low : Option Bound) → BeforeEach g start (IsNotDeleted g block) told events answers first last run → IsNotDeleted g block last
     → HasLow (g.state first.store).pages level block low → HasLowUpTo (g.state last.store).pages level block low
 
@@ -65,7 +65,7 @@ steps_gone session events answers = 0
 
 -- behind a run from the beginning of a session's call on, one step more at least is to be made, and so many are made and to be
 -- made in sum
-pub record IsStillDue {S : Type 0} (g : Ghosts S) (session steps gone : ℕ) (last : Snapshot S) : Type 0 where
+pub record IsStillDue {S : Type 0} (g : Ghosts S) (session steps gone : ℕ) (last : Moment S) : Type 0 where
   pub left : ℕ
   pub due : IsDueIn (g.state last.store) (slot_of last.slots session) (suc left)
   pub sum : gone + suc left ≡ steps
@@ -76,7 +76,7 @@ pub record IsStillDue {S : Type 0} (g : Ghosts S) (session steps gone : ℕ) (la
 -- frames hinder it.
 abbrev pub CallsComeInTime : {S : Type 0} → Ghosts S → Type 0
 CallsComeInTime {S} g =
-    (start : Entry → Bool) (told : List Answer) (event : Event) (events : List Event) (answers : List Answer) (first last : Snapshot S) (session : ℕ) (request : Request)
+    (start : Entry → Bool) (told : List Answer) (event : Event) (events : List Event) (answers : List Answer) (first last : Moment S) (session : ℕ) (request : Request)
     → IsRun g start told (event ∷ events) (Begun ∷ answers) first last → kind_of event ≡ BeginsCall session request
     → NoneIsFlagged (g.state first.store).pages → IsServable (g.state first.store) request → last.history ≡ first.history → AllLeaveUnanswered session events answers
     → IsStillDue g session (root_level (g.state first.store).pages + steps_for request) (steps_gone session events answers) last
@@ -101,7 +101,7 @@ AllLeaveNoneUnfinished session (event ∷ events) (answer ∷ answers) = LeavesN
 AllLeaveNoneUnfinished session events answers = Unit {0}
 
 -- no event of another session appends an action in a run
-abbrev pub OthersLogNothing : {S : Type 0} (g : Ghosts S) (start : Entry → Bool) (session : ℕ) (told : List Answer) (events : List Event) (answers : List Answer) (first last : Snapshot S)
+abbrev pub OthersLogNothing : {S : Type 0} (g : Ghosts S) (start : Entry → Bool) (session : ℕ) (told : List Answer) (events : List Event) (answers : List Answer) (first last : Moment S)
     → IsRun g start told events answers first last → Type 0
 OthersLogNothing g start session told [] [] first last run = Unit {0}
 OthersLogNothing g start session told (event ∷ events) (answer ∷ answers) first last run =
@@ -114,7 +114,7 @@ OthersLogNothing g start session told (event ∷ events) [] first last run = ⊥
 -- nothing then.
 abbrev pub SplitsAreFinished : {S : Type 0} → Ghosts S → Type 0
 SplitsAreFinished {S} g =
-    (start : Entry → Bool) (told : List Answer) (events : List Event) (answers : List Answer) (first last : Snapshot S) (run : IsRun g start told events answers first last) (session : ℕ)
+    (start : Entry → Bool) (told : List Answer) (events : List Event) (answers : List Answer) (first last : Moment S) (run : IsRun g start told events answers first last) (session : ℕ)
     → OthersLogNothing g start session told events answers first last run → AllLeaveNoneUnfinished session events answers
     → OnlyOwnAreFlagged (g.state first.store) (slot_of first.slots session) → OnlyOwnAreFlagged (g.state last.store) (slot_of last.slots session)
 
@@ -136,7 +136,7 @@ spends session (MovesCall of Steps) (Ready count) zero = if of == session then 1
 spends session kind answer ready = 0
 
 -- how many of the session's steps in a run go on, or tell of entries ready where all that were had been taken
-abbrev pub steps_spent : {S : Type 0} (g : Ghosts S) (start : Entry → Bool) (session : ℕ) (told : List Answer) (events : List Event) (answers : List Answer) (first last : Snapshot S)
+abbrev pub steps_spent : {S : Type 0} (g : Ghosts S) (start : Entry → Bool) (session : ℕ) (told : List Answer) (events : List Event) (answers : List Answer) (first last : Moment S)
     → IsRun g start told events answers first last → ℕ
 steps_spent g start session told [] answers first last run = 0
 steps_spent g start session told (event ∷ events) (answer ∷ answers) first last run =
@@ -148,6 +148,6 @@ steps_spent g start session told (event ∷ events) [] first last run = 0
 -- (`work_is_bounded`).
 abbrev pub WorkIsSpent : {S : Type 0} → Ghosts S → Type 0
 WorkIsSpent {S} g =
-    (start : Entry → Bool) (told : List Answer) (events : List Event) (answers : List Answer) (first last : Snapshot S) → Fits g start first → (run : IsRun g start told events answers first last)
+    (start : Entry → Bool) (told : List Answer) (events : List Event) (answers : List Answer) (first last : Moment S) → Fits g start first → (run : IsRun g start told events answers first last)
     → (session : ℕ) → (g.backing last.store).honest ≡ true → last.history ≡ first.history → NoneBegins session events answers
     → steps_spent g start session told events answers first last run + work_in (g.state last.store) (slot_of last.slots session) ≤ work_in (g.state first.store) (slot_of first.slots session)

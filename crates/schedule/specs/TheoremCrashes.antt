@@ -7,7 +7,7 @@ use Rattle.page_action.specs.Contents.{entry_on_live_leaf}
 use Rattle.page_action.specs.declared.page_store.PageStore.{Ghosts}
 use Rattle.tree_acts.specs.TheoremKeys.{AreKeyed}
 use Rattle.tree_acts.specs.TheoremTree.{IsTree}
-use Rattle.schedule.specs.TheoremMoments.{Snapshot}
+use Rattle.schedule.specs.TheoremMoments.{Moment}
 
 -- the pages are a B-link tree whose contents are those after this history; those of a unique index are keyed
 pub record ArePagesAfter (unique : Bool) (start : Entry → Bool) (history : List Action) (pages : List Page) : Type 0 where
@@ -17,13 +17,13 @@ pub record ArePagesAfter (unique : Bool) (start : Entry → Bool) (history : Lis
 
 -- nobody else wrote to the store's device; the pages after each first part of its acts are those after that part of the
 -- history; and no more acts are durable than the history has actions
-pub record KeepsHistory {S : Type 0} (g : Ghosts S) (start : Entry → Bool) (now : Snapshot S) : Type 0 where
+pub record KeepsHistory {S : Type 0} (g : Ghosts S) (start : Entry → Bool) (now : Moment S) : Type 0 where
   pub own : g.own now.store
   pub parts : (part : ℕ) → part ≤ length now.history → ArePagesAfter (g.state now.store).limits.unique start (take part now.history) (g.past now.store part)
   pub durable : (g.backing now.store).durable ≤ length now.history
 
 -- these bytes restart to pages whose contents are those after a first part of the history, of at least so many actions
-pub record RestartsToFirstPart {S : Type 0} (g : Ghosts S) (start : Entry → Bool) (least : ℕ) (now : Snapshot S) (image : List ℕ) : Type 0 where
+pub record RestartsToFirstPart {S : Type 0} (g : Ghosts S) (start : Entry → Bool) (least : ℕ) (now : Moment S) (image : List ℕ) : Type 0 where
   pub part : ℕ
   pub from : least ≤ part
   pub to : part ≤ length now.history
@@ -33,7 +33,7 @@ pub record RestartsToFirstPart {S : Type 0} (g : Ghosts S) (start : Entry → Bo
 
 -- the history is kept still; and whatever a crash at some moment in between left restarts to a first part of it, with all
 -- the actions that were durable at the beginning
-pub record IsCrashSafe {S : Type 0} (g : Ghosts S) (start : Entry → Bool) (old new : Snapshot S) : Type 0 where
+pub record IsCrashSafe {S : Type 0} (g : Ghosts S) (start : Entry → Bool) (old new : Moment S) : Type 0 where
   pub keeps : KeepsHistory g start new
   pub restarts : (image : List ℕ) → g.leaves old.store new.store image
       → RestartsToFirstPart g start (g.backing old.store).durable new image

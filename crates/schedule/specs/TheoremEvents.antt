@@ -14,19 +14,19 @@ use Rattle.session_calls.specs.declared.answer.Answer.{Answer}
 use Rattle.session_calls.specs.declared.answer.Answer.TheVariants.{Begun, Added, Forced, Flushed, Checkpointed, Refused}
 use Rattle.session_calls.specs.declared.op.Op.{Op}
 use Rattle.session_calls.specs.declared.request.Request.{Request}
-use Rattle.schedule.specs.TheoremMoments.{Snapshot, RunsOne, IsRunningCall, Explains}
+use Rattle.schedule.specs.TheoremMoments.{Moment, RunsOne, IsRunningCall, Explains}
 use Rattle.schedule.specs.TheoremKinds.{Move, Forces, Flushes, Checkpoints, Kind, BeginsCall, MovesCall, KeepsStore}
 use Rattle.schedule.specs.TheoremRefusals.{MoveFails, EventFails}
 
 -- neither the pages, holdings and counts of the store are changed, nor what the sessions run, nor what tells of it
-pub record IsStill {S : Type 0} (g : Ghosts S) (old new : Snapshot S) : Type 0 where
+pub record IsStill {S : Type 0} (g : Ghosts S) (old new : Moment S) : Type 0 where
   pub state_is : g.state new.store ≡ g.state old.store
   pub slots_is : new.slots ≡ old.slots
   pub history_is : new.history ≡ old.history
   pub calls_is : new.calls ≡ old.calls
 
 -- a session that ran nothing begins a call, which gets the next number
-pub record CallIsBegun {S : Type 0} (session : ℕ) (request : Request) (old new : Snapshot S) : Type 0 where
+pub record CallIsBegun {S : Type 0} (session : ℕ) (request : Request) (old new : Moment S) : Type 0 where
   pub was_free : slice_get old.slots session ≡ Some None
   pub history_is : new.history ≡ old.history
   pub calls_is : new.calls ≡ old.calls ++ begun_call session (asked_by old.sets request) (length old.history) ∷ []
@@ -61,7 +61,7 @@ IsRefusedFor Fails answer = Unit {0}
 
 -- The session's running call goes on: one action at most is appended, which is its own, and the call is what the answer makes of it,
 -- with the number of its Add, if it has one then. A refusal has its cause.
-pub record CallGoesOn {S : Type 0} (g : Ghosts S) (session : ℕ) (move : Move) (answer : Answer) (old new : Snapshot S) : Type 0 where
+pub record CallGoesOn {S : Type 0} (g : Ghosts S) (session : ℕ) (move : Move) (answer : Answer) (old new : Moment S) : Type 0 where
   pub op : Op
   pub runs : slice_get old.slots session ≡ Some (Some op)
   pub number : ℕ
@@ -76,14 +76,14 @@ pub record CallGoesOn {S : Type 0} (g : Ghosts S) (session : ℕ) (move : Move) 
   pub caused : IsRefusedFor (MoveFails g move session call.ask op old new.store) answer
 
 -- so many actions there are, and all are durable
-pub record AllAreDurable {S : Type 0} (g : Ghosts S) (count : ℕ) (old new : Snapshot S) : Type 0 where
+pub record AllAreDurable {S : Type 0} (g : Ghosts S) (count : ℕ) (old new : Moment S) : Type 0 where
   pub still : IsStill g old new
   pub count_is : count ≡ length old.history
   pub durable : (g.backing new.store).durable ≡ count
 
 -- What an event means by its answer. A session that runs nothing has no call to move: that is refused, and nothing is changed. A flush
 -- tells which of the changed pages it wrote, the one that waited longest.
-abbrev pub Means : {S : Type 0} → Ghosts S → Kind → Answer → Snapshot S → Snapshot S → Type 0
+abbrev pub Means : {S : Type 0} → Ghosts S → Kind → Answer → Moment S → Moment S → Type 0
 Means g (BeginsCall session request) Begun old new = CallIsBegun session request old new
 Means g (BeginsCall session request) (Refused fault) old new = IsStill g old new × EventFails g (BeginsCall session request) old new.store fault
 Means g (BeginsCall session request) answer old new = ⊥
@@ -104,7 +104,7 @@ IsDurable durable (Checkpointed count) = count ≤ durable
 IsDurable durable answer = Unit {0}
 
 -- an event of this kind with this answer: what it means, by a history and calls that explain the moment behind it
-pub record EventMeans {S : Type 0} (g : Ghosts S) (start : Entry → Bool) (kind : Kind) (answer : Answer) (old new : Snapshot S) : Type 0 where
+pub record EventMeans {S : Type 0} (g : Ghosts S) (start : Entry → Bool) (kind : Kind) (answer : Answer) (old new : Moment S) : Type 0 where
   pub means : Means g kind answer old new
   pub sets : new.sets ≡ old.sets
   pub explains : Explains g start new

@@ -17,7 +17,7 @@ pub record StoreAndSlots (S : Type 0) : Type 0 where
   pub sets : DeadSets
 
 -- one moment: a store with its slots and sets, and the history of actions and the list of calls that tell of it
-pub record Snapshot (S : Type 0) : Type 0 where
+pub record Moment (S : Type 0) : Type 0 where
   pub store : S
   pub slots : List (Option Op)
   pub sets : DeadSets
@@ -25,7 +25,7 @@ pub record Snapshot (S : Type 0) : Type 0 where
   pub calls : List Call
 
 -- the moment of this store with its slots and sets, told by this history and these calls
-abbrev pub snapshot_of : {S : Type 0} → StoreAndSlots S → List Action → List Call → Snapshot S
+abbrev pub snapshot_of : {S : Type 0} → StoreAndSlots S → List Action → List Call → Moment S
 snapshot_of here history calls = record { store = here.store; slots = here.slots; sets = here.sets; history = history; calls = calls }
 
 -- the session runs a call
@@ -46,7 +46,7 @@ pub record HasOneCall (calls : List Call) (session : ℕ) : Type 0 where
   pub only : (other : ℕ) (c : Call) → IsRunningCall calls session other c → other ≡ number
 
 -- the history and the calls explain the moment: from these contents at the start
-pub record Explains {S : Type 0} (g : Ghosts S) (start : Entry → Bool) (now : Snapshot S) : Type 0 where
+pub record Explains {S : Type 0} (g : Ghosts S) (start : Entry → Bool) (now : Moment S) : Type 0 where
   -- the contents of the pages are those after the history
   pub contents : (e : Entry) → entry_on_live_leaf (g.state now.store).pages e ≡ contents_after start now.history e
   -- as many acts were done as the history has actions

@@ -15,7 +15,7 @@ use Rattle.session_calls.specs.TheoremCalls.{asked_by}
 use Rattle.session_calls.specs.declared.op.Op.{Op}
 use Rattle.session_calls.specs.declared.op.Op.TheVariants.{Insert, Scan, Bulk, Cleanup}
 use Rattle.session_calls.specs.declared.request.Request.TheVariants.{Bulk as ToBulk}
-use Rattle.schedule.specs.TheoremMoments.{Snapshot, RunsOne, IsRunningCall}
+use Rattle.schedule.specs.TheoremMoments.{Moment, RunsOne, IsRunningCall}
 use Rattle.schedule.specs.TheoremKinds.{Move, Steps, Takes, Kind, BeginsCall, MovesCall, KeepsStore}
 
 -- what stands in the way of a call that was asked this: a latch of the block; of a bulk delete also a pin
@@ -49,7 +49,7 @@ HasFullCount (Cleanup op) = (18446744073709551565 < op.left) ⊎ (op.cursor ≡ 
 -- its key, whose row the fault names; no block can be had; no more than four images, the most that a step writes, are promised, and
 -- the log has no room for four; four pages, the most that it looks at, may be more than the frames that are not pinned; the root is
 -- on level 31. Asking for the next entry: the call is no scan.
-abbrev pub MoveFails : {S : Type 0} → Ghosts S → Move → ℕ → Ask → Op → Snapshot S → S → Fault → Type 0
+abbrev pub MoveFails : {S : Type 0} → Ghosts S → Move → ℕ → Ask → Op → Moment S → S → Fault → Type 0
 MoveFails g Steps session ask op old new Io = (g.backing old.store).failures < (g.backing new).failures
 MoveFails g Steps session ask op old new Stopped =
     ((g.backing old.store).stopped ≡ true) ⊎ ((g.state old.store).acts ≡ 18446744073709551615) ⊎ HasFullCount op
@@ -77,7 +77,7 @@ Vacuums AskCleanup = Unit {0}
 -- set; the session runs a call; a bulk delete or a cleanup runs. A move of a session that runs nothing: that, or the log failed before.
 -- What is done for the store: a device call failed in it, or the log
 -- failed before.
-abbrev pub EventFails : {S : Type 0} → Ghosts S → Kind → Snapshot S → S → Fault → Type 0
+abbrev pub EventFails : {S : Type 0} → Ghosts S → Kind → Moment S → S → Fault → Type 0
 EventFails g (BeginsCall session request) old new Stopped =
     ((g.backing old.store).stopped ≡ true) ⊎ ((g.state old.store).begun ≡ 18446744073709551615)
 EventFails g (BeginsCall session request) old new NoSession =

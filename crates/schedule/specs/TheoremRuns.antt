@@ -5,16 +5,16 @@ use Rattle.index_model.specs.Calls.{Call}
 use Rattle.index_model.specs.declared.entry.Entry.{Entry}
 use Rattle.page_action.specs.declared.page_store.PageStore.{Ghosts}
 use Rattle.session_calls.specs.declared.answer.Answer.{Answer}
-use Rattle.schedule.specs.TheoremMoments.{StoreAndSlots, Snapshot, snapshot_of, Explains}
+use Rattle.schedule.specs.TheoremMoments.{StoreAndSlots, Moment, snapshot_of, Explains}
 use Rattle.schedule.specs.TheoremEvents.{IsDurable, EventMeans}
 use Rattle.schedule.specs.TheoremKinds.{kind_of}
-use Rattle.schedule.specs.Snapshots.{Invariant}
+use Rattle.schedule.specs.MomentInvariants.{Invariant}
 use Rattle.schedule.specs.Events.{EventAlso}
 use Rattle.schedule.specs.TheoremCrashes.{KeepsHistory, IsCrashSafe}
 use Rattle.schedule.specs.declared.event.Event.{Event}
 
 -- the history and the calls fit the moment: they explain it, and what keeps them so is known
-pub record Fits {S : Type 0} (g : Ghosts S) (start : Entry → Bool) (now : Snapshot S) : Type 0 where
+pub record Fits {S : Type 0} (g : Ghosts S) (start : Entry → Bool) (now : Moment S) : Type 0 where
   pub explains : Explains g start now
   pub invariant : Invariant g start now
 
@@ -25,23 +25,23 @@ AreDurable durable (answer ∷ answers) = IsDurable durable answer × AreDurable
 
 -- One event with its answer: what it means, and what it also leaves; and what a crash at any moment of it leaves, where the history was
 -- kept before.
-pub record EventGoes {S : Type 0} (g : Ghosts S) (start : Entry → Bool) (event : Event) (answer : Answer) (old new : Snapshot S) : Type 0 where
+pub record EventGoes {S : Type 0} (g : Ghosts S) (start : Entry → Bool) (event : Event) (answer : Answer) (old new : Moment S) : Type 0 where
   pub means : EventMeans g start (kind_of event) answer old new
   pub also : EventAlso g start (kind_of event) answer old new
   pub crash : KeepsHistory g start old → IsCrashSafe g start old new
 
 -- A run behind these answers: events with an answer each, from one moment to another, each store following the one before.
 -- Before each event, every number of actions that was told as durable is.
-abbrev pub IsRun : {S : Type 0} → Ghosts S → (Entry → Bool) → List Answer → List Event → List Answer → Snapshot S → Snapshot S → Type 0
+abbrev pub IsRun : {S : Type 0} → Ghosts S → (Entry → Bool) → List Answer → List Event → List Answer → Moment S → Moment S → Type 0
 IsRun g start told [] [] first last = first ≡ last
 IsRun {S} g start told (event ∷ events) (answer ∷ answers) first last =
     AreDurable (g.backing first.store).durable told
-    × ((next : Snapshot S) × EventGoes g start event answer first next × IsRun g start (told ++ answer ∷ []) events answers next last)
+    × ((next : Moment S) × EventGoes g start event answer first next × IsRun g start (told ++ answer ∷ []) events answers next last)
 IsRun g start told [] (answer ∷ answers) first last = ⊥
 IsRun g start told (event ∷ events) [] first last = ⊥
 
 -- a run with all that holds at its end
-pub record Ran {S : Type 0} (g : Ghosts S) (start : Entry → Bool) (events : List Event) (answers : List Answer) (first last : Snapshot S) : Type 0 where
+pub record Ran {S : Type 0} (g : Ghosts S) (start : Entry → Bool) (events : List Event) (answers : List Answer) (first last : Moment S) : Type 0 where
   pub run : IsRun g start [] events answers first last
   pub fits : Fits g start last
   -- what was acknowledged is durable
@@ -51,8 +51,8 @@ pub record Ran {S : Type 0} (g : Ghosts S) (start : Entry → Bool) (events : Li
   pub crash : KeepsHistory g start first → IsCrashSafe g start first last
 
 -- where the device has kept its model up to now, this holds of whatever fitted before
-abbrev pub Carries : {S : Type 0} → Ghosts S → StoreAndSlots S → StoreAndSlots S → ((Entry → Bool) → List Action → List Call → Type 0) → Type 0
-Carries g old new goes =
+abbrev pub ForEachHistory : {S : Type 0} → Ghosts S → StoreAndSlots S → StoreAndSlots S → ((Entry → Bool) → List Action → List Call → Type 0) → Type 0
+ForEachHistory g old new goes =
     (g.backing new.store).honest ≡ true → (start : Entry → Bool) (history : List Action) (calls : List Call)
     → Fits g start (snapshot_of old history calls) → goes start history calls
 

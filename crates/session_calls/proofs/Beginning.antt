@@ -54,7 +54,8 @@ begun_matches st session start history low m = record {
 begun_numbers : (st : State) (session start : ℕ) → NumbersStay start st (after_begin session st)
 begun_numbers st session start = record {
   places = λ level aim clear block aims place. record { tree = place.tree; in_tree = place.in_tree; place = place.place };
-  trails = λ level block moves trail. record { tree = trail.tree; in_tree = trail.in_tree; passed = trail.passed; count = trail.count; distinct = trail.distinct; steps = trail.steps; trail = trail.trail };
+  trails = λ level block moves trail.
+      record { tree = trail.tree; in_tree = trail.in_tree; passed = trail.passed; count = trail.count; distinct = trail.distinct; steps = trail.steps; trail = trail.trail };
 }
 
 begun_others : (st : State) (session : ℕ) → OthersRely session st (after_begin session st)
@@ -78,7 +79,8 @@ cycled_order st order = record {
 cycled_numbers : (st : State) (session start : ℕ) → NumbersStay start st (after_start_cycle (after_begin session st))
 cycled_numbers st session start = record {
   places = λ level aim clear block aims place. record { tree = place.tree; in_tree = place.in_tree; place = place.place };
-  trails = λ level block moves trail. record { tree = trail.tree; in_tree = trail.in_tree; passed = trail.passed; count = trail.count; distinct = trail.distinct; steps = trail.steps; trail = trail.trail };
+  trails = λ level block moves trail.
+      record { tree = trail.tree; in_tree = trail.in_tree; passed = trail.passed; count = trail.count; distinct = trail.distinct; steps = trail.steps; trail = trail.trail };
 }
 
 requested_matches : (v : Bool) (st : State) (session : ℕ) (start : Entry → Bool) (history : List Action) → session < 64 → Matches st start history → Matches (after_request v session st) start history
@@ -160,7 +162,16 @@ module _ (old : State) (sets : DeadSets) (start : Entry → Bool) (history : Lis
   begun_meets ToCleanup = record { began = omega arith; until = omega arith; right = tt }
 
   begun_runs : (request : Request) → OpRuns (then_state request) sets start history (begun_call session (asked_by sets request) (length history)) (op_before session request)
-  begun_runs (ToInsert e) = record { ask = refl; session = refl; added = refl; started = record { number = old.begun; is = started_is }; fits = record { session = low; start = old.begun; running = starts; stands = idle.holds; to_come = refl }; knows = tt }
+  begun_runs (ToInsert e) =
+      record {
+        ask = refl;
+        session = refl;
+        added = refl;
+        started = record { number = old.begun; is = started_is };
+        fits =
+            record { session = low; start = old.begun; running = starts; stands = idle.holds; to_come = refl };
+        knows = tt;
+      }
   begun_runs (ToScan range) = record {
     ask = refl;
     session = refl;
@@ -176,10 +187,30 @@ module _ (old : State) (sets : DeadSets) (start : Entry → Bool) (history : Lis
       onward = λ e not. tt;
     };
   }
-  begun_runs (ToBulk set) = record { ask = refl; session = refl; added = refl; started = record { number = old.begun; is = started_is }; fits = record { session = low; start = old.begun; running = starts; held = idle.holds; back = tt }; knows = tt }
-  begun_runs ToCleanup = record { ask = refl; session = refl; added = refl; started = record { number = old.begun; is = started_is }; fits = record { session = low; start = old.begun; running = starts; held = idle.holds; at = tt }; knows = tt }
+  begun_runs (ToBulk set) =
+      record {
+        ask = refl;
+        session = refl;
+        added = refl;
+        started = record { number = old.begun; is = started_is };
+        fits =
+            record { session = low; start = old.begun; running = starts; held = idle.holds; back = tt };
+        knows = tt;
+      }
+  begun_runs ToCleanup =
+      record {
+        ask = refl;
+        session = refl;
+        added = refl;
+        started = record { number = old.begun; is = started_is };
+        fits =
+            record { session = low; start = old.begun; running = starts; held = idle.holds; at = tt };
+        knows = tt;
+      }
 
-  begun_sweep : (set : ℕ) → IsSweepSoFar (after_start_cycle (after_begin session old)) (set_at sets set) start history number (length history) (record { session = session; cursor = 1; back = None; left = 0; removed = 0 })
+  begun_sweep : (set : ℕ)
+      → IsSweepSoFar (after_start_cycle (after_begin session old)) (set_at sets set) start history number (length history)
+      (record { session = session; cursor = 1; back = None; left = 0; removed = 0 })
   begun_sweep set = record {
     runs = cycle_runs old.counter;
     to_come = λ due are. all_to_come due (after_start_cycle (after_begin session old)) session (cycled_order (after_begin session old) (begun_order old session low m.order));
@@ -195,7 +226,8 @@ module _ (old : State) (sets : DeadSets) (start : Entry → Bool) (history : Lis
   running_from : (request : Request) → (begun_call session (asked_by sets request) (length history)).ending ≡ Running
   running_from request = refl
 
-  pub begins : (new : State) (request : Request) (slot : Option Op) → new ≡ after_request (asks_sweep request) session old → slot ≡ Some (op_before session request) → SessionBegins old new sets start history number session request slot
+  pub begins : (new : State) (request : Request) (slot : Option Op) → new ≡ after_request (asks_sweep request) session old
+      → slot ≡ Some (op_before session request) → SessionBegins old new sets start history number session request slot
   begins new request slot is slot_is =
       subst (λ (st : State). SessionBegins old st sets start history number session request slot) (sym is)
       (subst (λ (x : Option Op). SessionBegins old (then_state request) sets start history number session request x) (sym slot_is) (record {
@@ -232,6 +264,8 @@ pub has_steps : (old new : State) (session : ℕ) (request : Request) (slot : Op
 has_steps old new session request slot is slot_is low few =
     subst (λ (st : State). HasSteps old st request slot) (sym is) (subst (λ (x : Option Op). HasSteps old (after_request (asks_sweep request) session old) request x) (sym slot_is)
     (record {
-      due = λ whole servable. due_still old (after_request (asks_sweep request) session old) (Some (op_before session request)) (root_level old.pages + steps_for request) (requested_limits (asks_sweep request) old session) (requested_pages (asks_sweep request) old session) (due_from old session request whole servable);
+      due = λ whole servable.
+          due_still old (after_request (asks_sweep request) session old) (Some (op_before session request)) (root_level old.pages + steps_for request)
+          (requested_limits (asks_sweep request) old session) (requested_pages (asks_sweep request) old session) (due_from old session request whole servable);
       bounded = few_begun (asks_sweep request) old session request low few;
     }))

@@ -11,13 +11,13 @@ use Rattle.page_action.specs.States.{State, Backing}
 use Rattle.split_finish.specs.Targets.{OnlyTargetsAreFlagged}
 use Rattle.descent.specs.Steps.{Changes}
 use Rattle.descent.specs.Shared.{DeletesLeaves, is_flagged}
-use Rattle.page_delete.specs.Cleanups.{CleanupGoesOn, CleanupEnds, CleanupStays, where_cleaning}
+use Rattle.page_delete.specs.Cleanups.{CleanupGoesOn, CleanupEnds, CleanupStays, causes_of_cleaning}
 use Rattle.page_delete.specs.Counts.{IsCleaned}
 use Rattle.page_delete.specs.declared.steps.CleanupOp.{CleanupOp}
 use Rattle.page_delete.specs.Parts.{PinnedLeavesStay}
 use Rattle.session_calls.specs.Ops.{ends_call}
 use Rattle.session_calls.specs.TheoremCalls.{DeadSets}
-use Rattle.session_calls.specs.Ops.{where_stepped}
+use Rattle.session_calls.specs.Ops.{causes_of_stepped}
 use Rattle.session_calls.specs.Sessions.{CallFits, IsAsked, add_after, ended, OpGoes, slot_after, SlotIsCounted}
 use Rattle.session_calls.specs.declared.answer.Answer.TheVariants.{Going, Finished, Refused}
 use Rattle.session_calls.specs.declared.op.Op.TheVariants.{Cleanup}
@@ -59,7 +59,7 @@ cleaned_still sets st op fault h = by (ends_call fault)
 module _ {sets : DeadSets} (old new : State) (first second : Backing) (start : Entry → Bool) (history : List Action) (number : ℕ) (call : Call) (before after : CleanupOp)
     (fits : CallFits old sets start history number call (Cleanup before)) (session : after.session ≡ before.session) where
   abbrev at_op : Circumstances
-  at_op = where_stepped sets (Cleanup before) old first second
+  at_op = causes_of_stepped sets (Cleanup before) old first second
 
   asked : (effect : Option Effect) → DeletesLeaves effect old new → IsAsked (contents_after start history) call.ask call.added effect
   asked effect h = subst (λ (a : Ask). IsAsked (contents_after start history) a call.added effect) (sym fits.runs.ask) (may_do (contents_after start history) call.added old new effect h)
@@ -86,7 +86,7 @@ module _ {sets : DeadSets} (old new : State) (first second : Backing) (start : E
     sweeps = λ more. absurd (true_false more);
   }
 
-  pub cleanup_is_refused : (fault : Fault) → CleanupStays old new before after → HasCause (where_cleaning old first second before) fault
+  pub cleanup_is_refused : (fault : Fault) → CleanupStays old new before after → HasCause (causes_of_cleaning old first second before) fault
       → OpGoes at_op old new sets start history number call (Cleanup after) (Refused fault)
   cleanup_is_refused fault stays cause =
       step_is_refused at_op old new start history number call (Cleanup before) (Cleanup after) fits session refl fault stays.state

@@ -22,11 +22,11 @@ use Rattle.insert_split.specs.declared.insert.InsertAt.TheVariants.{Coming, Fini
 use Rattle.insert_split.specs.declared.insert.Stage.TheVariants.{Start as InsertStart, At as InsertReads, Holding}
 use Rattle.insert_split.specs.declared.insert.InsertOp.{InsertOp}
 use Rattle.scan.specs.Scans.{waiting, IsMoving}
-use Rattle.scan.specs.Straight.{straight_steps as scan_steps, IsStraight as IsOnFrontierWay}
+use Rattle.scan.specs.Straight.{scan_straight_steps as scan_steps, ScanIsStraight as IsOnFrontierWay}
 use Rattle.scan.specs.declared.steps.ScanAt.{ScanAt}
 use Rattle.scan.specs.declared.steps.ScanAt.TheVariants.{Start as ScanStart, At as ScanReads, Last}
 use Rattle.scan.specs.declared.steps.ScanOp.{ScanOp}
-use Rattle.session_calls.specs.Due.{IsKeyAbsent, InsertIsDue, ScanIsDue, IsDueIn, IsHindered, CountsDown}
+use Rattle.session_calls.specs.Due.{IsKeyAbsent, InsertIsDue, ScanIsDue, IsDueIn, IsHindered, DueCountsDown}
 use Rattle.index_model.specs.declared.fault.Fault.{Fault}
 use Rattle.index_model.specs.declared.fault.Fault.TheVariants.{NoMemory, Io, Stopped, Blocked, Exists, KeyTooLong, BadRow, IndexFull, LogFull, NoFrame, VacuumRunning, NoSession, SessionBusy, BadSuper, BadVersion, LogDamaged, PageDamaged, BadLimits, TooTall, DeviceTooSmall, KeyExists}
 use Rattle.session_calls.specs.Sessions.{OnlyOwnAreFlagged, LeavesOwnFlagged}
@@ -120,7 +120,7 @@ some_steps st e (Finishing op) way = absurd way
 -- an insert that goes on is due one step sooner
 pub insert_counts : (old new : State) (before after : InsertOp) (left : ℕ) → InsertIsDue old before (suc left) → after.entry ≡ before.entry → InsertGoesOn old new before after
     → IsOnEntryWay new after.entry after.at → suc (insert_steps new.pages after.at) ≡ insert_steps old.pages before.at
-    → CountsDown old new (Some (Insert before)) (Some (Insert after)) left Going
+    → DueCountsDown old new (Some (Insert before)) (Some (Insert after)) left Going
 insert_counts old new before after left due same step way fewer =
     let none = not_logged new after.entry after.at after.added way step.fits.to_come in
     let pages = quiet_on_way old new before.entry before.added after.added step.effect step.does.changes step.does.flags step.noted none due.whole in
@@ -148,7 +148,7 @@ some_reads st frontier Last way = absurd way
 -- a scan that goes on is due one step sooner
 pub scan_counts : (old new : State) (before after : ScanOp) (left : ℕ) → ScanIsDue old before (suc left) → IsMoving old new before after
     → IsOnFrontierWay old after.frontier after.at → suc (scan_steps old.pages after.at) ≡ scan_steps old.pages before.at
-    → CountsDown old new (Some (Scan before)) (Some (Scan after)) left Going
+    → DueCountsDown old new (Some (Scan before)) (Some (Scan after)) left Going
 scan_counts old new before after left due step way fewer =
     let pages : new.pages ≡ old.pages = ap (λ (st : State). st.pages) step.does.changes in
     let left_is : left ≡ scan_steps old.pages after.at = (let is : suc left ≡ suc (scan_steps old.pages after.at) = due.steps_are ∙ sym fewer in omega arith) in
@@ -206,7 +206,7 @@ hindered_over old mid new steps TooTall h = h
 hindered_over old mid new steps DeviceTooSmall h = h
 hindered_over old mid new steps (KeyExists r) h = h
 
-pub counts_over : (old mid new : State) (before : Option Op) (left : ℕ) (answer : Answer) → CountsDown old mid before None left answer → CountsDown old new before None left answer
+pub counts_over : (old mid new : State) (before : Option Op) (left : ℕ) (answer : Answer) → DueCountsDown old mid before None left answer → DueCountsDown old new before None left answer
 counts_over old mid new before left Going h = absurd h.1.due
 counts_over old mid new before left (Refused fault) h = hindered_over old mid new (suc left) fault h
 counts_over old mid new before left Begun h = h

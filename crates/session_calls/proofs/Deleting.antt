@@ -18,7 +18,7 @@ use Rattle.index_model.proofs.Histories.{there_now}
 use Rattle.page_action.specs.Contents.{entry_on_live_leaf}
 use Rattle.page_action.specs.States.{State, Backing}
 use Rattle.descent.specs.Steps.{Changes}
-use Rattle.vacuum.specs.BulkDeletes.{BulkDeleteGoesOn, BulkDeleteEnds, BulkDeleteStays, removes, dead_at, where_deleting, IsDueOf}
+use Rattle.vacuum.specs.BulkDeletes.{BulkDeleteGoesOn, BulkDeleteEnds, BulkDeleteStays, removes, dead_at, causes_of_deleting, IsDueOf}
 use Rattle.page_codec.specs.declared.page.Page.{Page}
 use Rattle.vacuum.specs.Counts.{stats_of, IsCounted, entries_below}
 use Rattle.vacuum.specs.Ops.{next_block}
@@ -28,7 +28,7 @@ use Rattle.page_delete.specs.Counts.{AllIsCleaned}
 use Rattle.page_delete.proofs.Tallying.{deleted_alike}
 use Rattle.session_calls.specs.Ops.{set_at, ends_call}
 use Rattle.session_calls.specs.TheoremCalls.{DeadSets, acts_of}
-use Rattle.session_calls.specs.Ops.{where_stepped, is_sweeping}
+use Rattle.session_calls.specs.Ops.{causes_of_stepped, is_sweeping}
 use Rattle.session_calls.specs.Sessions.{CallFits, IsAsked, add_after, ended, OpGoes, let_go, slot_after, SlotIsCounted, TellsAllEntries, TellsAllCleaned, CountsPages, CountsEntries, SparesLeaves, LeavesNeeded}
 use Rattle.page_delete.specs.Spares.{OnlyNeededStay}
 use Rattle.session_calls.specs.Sweeps.{IsDue, IsSweepSoFar}
@@ -96,7 +96,8 @@ needed_still : (v : Bool) (session : ℕ) (mid : State) → OnlyNeededStay mid �
 needed_still false session mid h block e = h block (record { above = e.above; inside = e.inside; alive = e.alive; leaf = e.leaf; empty = e.empty })
 needed_still true session mid h block e = h block (record { above = e.above; inside = e.inside; alive = e.alive; leaf = e.leaf; empty = e.empty })
 
-pub spares_over : (v : Bool) (session : ℕ) (old mid : State) (before after : Option Op) (answer : Answer) → SparesLeaves old mid before after answer → SparesLeaves old (let_go v session mid) before None answer
+pub spares_over : (v : Bool) (session : ℕ) (old mid : State) (before after : Option Op) (answer : Answer) → SparesLeaves old mid before after answer
+    → SparesLeaves old (let_go v session mid) before None answer
 spares_over v session old mid None after answer h = tt
 spares_over v session old mid (Some (Insert op)) after answer h = tt
 spares_over v session old mid (Some (Scan op)) after answer h = tt
@@ -118,7 +119,8 @@ spares_over v session old mid (Some (Cleanup op)) after answer h = λ order belo
     needs (Refused f) t = tt
 
 -- at the end of a call as many pages are deleted as were
-pub deletes_over : (v : Bool) (session : ℕ) (old mid : State) (before after : Option Op) (answer : Answer) → CountsPages old mid before after answer → CountsPages old (let_go v session mid) before None answer
+pub deletes_over : (v : Bool) (session : ℕ) (old mid : State) (before after : Option Op) (answer : Answer) → CountsPages old mid before after answer
+    → CountsPages old (let_go v session mid) before None answer
 deletes_over v session old mid (Some (Cleanup op)) after Going h = tt
 deletes_over v session old mid (Some (Cleanup op)) after (Finished stats) h = ap (λ (n : ℕ). n + op.deleted) (deleted_alike mid (let_go v session mid) (go_pages v session mid)) ∙ h
 deletes_over v session old mid before after answer h = tt
@@ -129,7 +131,8 @@ all_cleaned false session mid count h = record { counted = h.counted; none_dead 
 all_cleaned true session mid count h = record { counted = h.counted; none_dead = h.none_dead }
 
 -- at the end of a call the pages are as they were
-pub tells_over : (sets : DeadSets) (v : Bool) (session : ℕ) (old mid : State) (before after : Option Op) (answer : Answer) → CountsEntries sets old mid before after answer → CountsEntries sets old (let_go v session mid) before None answer
+pub tells_over : (sets : DeadSets) (v : Bool) (session : ℕ) (old mid : State) (before after : Option Op) (answer : Answer)
+    → CountsEntries sets old mid before after answer → CountsEntries sets old (let_go v session mid) before None answer
 tells_over sets v session old mid None after answer h = tt
 tells_over sets v session old mid (Some (Insert op)) after answer h = tt
 tells_over sets v session old mid (Some (Scan op)) after answer h = tt
@@ -173,7 +176,7 @@ module _ {sets : DeadSets} (old new : State) (first second : Backing) (start : E
   dead = set_at sets set
 
   abbrev at_op : Circumstances
-  at_op = where_stepped sets (Bulk set before) old first second
+  at_op = causes_of_stepped sets (Bulk set before) old first second
 
   within : call.began ≤ length history
   within = began_before start history number call fits.meets fits.running
@@ -192,7 +195,8 @@ module _ {sets : DeadSets} (old new : State) (first second : Backing) (start : E
   none_added (e ∷ es) = refl
 
   -- what is due is to come behind a step
-  module _ (step : BulkDeleteGoesOn dead old new before after) (comes : (due : Entry → Bool) → IsDueOf dead due → DueIsToCome due old before.cursor before.back → DueIsToCome due new after.cursor after.back) where
+  module _ (step : BulkDeleteGoesOn dead old new before after)
+      (comes : (due : Entry → Bool) → IsDueOf dead due → DueIsToCome due old before.cursor before.back → DueIsToCome due new after.cursor after.back) where
     abbrev gone : List Entry
     gone = dead_at dead old (next_block before.cursor before.back)
 
@@ -212,7 +216,8 @@ module _ {sets : DeadSets} (old new : State) (first second : Backing) (start : E
     }
 
     pub bulk_goes_on : OpGoes at_op old new sets start history number call (Bulk set after) Going
-    bulk_goes_on = step_goes_on at_op old new start history number call (Bulk set before) (Bulk set after) fits session refl (removes gone) (works_on before.session (AskBulkDelete dead) (removes gone) old new refl step.does)
+    bulk_goes_on = step_goes_on at_op old new start history number call (Bulk set before) (Bulk set after) fits session refl (removes gone)
+        (works_on before.session (AskBulkDelete dead) (removes gone) old new refl step.does)
         (asked gone step.does.changes step.dead_rows) (none_added gone) step.fits tt (fits.sweeps.0, sweep)
 
   -- at the end none is there that was due
@@ -259,7 +264,7 @@ module _ {sets : DeadSets} (old new : State) (first second : Backing) (start : E
       sweeps = λ more. absurd (true_false more);
     }
 
-  pub bulk_is_refused : (fault : Fault) → BulkDeleteStays old new before after → HasCause (where_deleting dead old first second before) fault
+  pub bulk_is_refused : (fault : Fault) → BulkDeleteStays old new before after → HasCause (causes_of_deleting dead old first second before) fault
       → OpGoes at_op old new sets start history number call (Bulk set after) (Refused fault)
   bulk_is_refused fault stays cause =
       step_is_refused at_op old new start history number call (Bulk set before) (Bulk set after) fits session refl fault stays.state

@@ -145,7 +145,8 @@ pages_stay session ask old new does = ap (λ (st : State). st.pages) does.change
 ended_numbers : (st : State) (session start : ℕ) → NumbersStay start st (after_end session st)
 ended_numbers st session start = record {
   places = λ level aim clear block aims place. record { tree = place.tree; in_tree = place.in_tree; place = place.place };
-  trails = λ level block moves trail. record { tree = trail.tree; in_tree = trail.in_tree; passed = trail.passed; count = trail.count; distinct = trail.distinct; steps = trail.steps; trail = trail.trail };
+  trails = λ level block moves trail.
+      record { tree = trail.tree; in_tree = trail.in_tree; passed = trail.passed; count = trail.count; distinct = trail.distinct; steps = trail.steps; trail = trail.trail };
 }
 
 ended_raised : (old new : State) (session level : ℕ) (raised : Option ℕ) → IsRaised old new level raised → IsRaised old (after_end session new) level raised
@@ -210,7 +211,8 @@ stopped_order st order = record {
 stopped_numbers : (st : State) (start : ℕ) → NumbersStay start st (after_stop_cycle st)
 stopped_numbers st start = record {
   places = λ level aim clear block aims place. record { tree = place.tree; in_tree = place.in_tree; place = place.place };
-  trails = λ level block moves trail. record { tree = trail.tree; in_tree = trail.in_tree; passed = trail.passed; count = trail.count; distinct = trail.distinct; steps = trail.steps; trail = trail.trail };
+  trails = λ level block moves trail.
+      record { tree = trail.tree; in_tree = trail.in_tree; passed = trail.passed; count = trail.count; distinct = trail.distinct; steps = trail.steps; trail = trail.trail };
 }
 
 stopped_raised : (old new : State) (level : ℕ) (raised : Option ℕ) → IsRaised old new level raised → IsRaised old (after_stop_cycle new) level raised
@@ -295,7 +297,8 @@ go_pages false session st = refl
 go_pages true session st = refl
 
 -- leaves stay, as the pages do
-pub go_leaves : (v : Bool) (old mid : State) (session : ℕ) (effect : Option Effect) → LeavesStay effect old mid → (let_go v session mid).cycle ≡ old.cycle → LeavesStay effect old (let_go v session mid)
+pub go_leaves : (v : Bool) (old mid : State) (session : ℕ) (effect : Option Effect) → LeavesStay effect old mid
+    → (let_go v session mid).cycle ≡ old.cycle → LeavesStay effect old (let_go v session mid)
 go_leaves false old mid session effect h same = record { cycle = same; each = h.each; others = h.others }
 go_leaves true old mid session effect h same = record { cycle = same; each = h.each; others = h.others }
 

@@ -69,8 +69,10 @@ go_running true session st = refl
 go_running false session st = refl
 
 -- a step that finishes has no effect, and then the call is over
-module _ {at : Circumstances} {sets : DeadSets} {start : Entry → Bool} {history : List Action} {number : ℕ} {call : Call} (v : Bool) (session : ℕ) (old mid new : State) (after : Op) (new_is : new ≡ let_go v session mid) where
-  told_free : (stats : VacuumStats) (own : ℕ) → session ≡ own → stats.pages_free ≡ free_count old own (length old.pages) → OpGoes at old mid sets start history number call after (Finished stats) → stats.pages_free ≡ reusable_in new
+module _ {at : Circumstances} {sets : DeadSets} {start : Entry → Bool} {history : List Action} {number : ℕ} {call : Call} (v : Bool) (session : ℕ)
+    (old mid new : State) (after : Op) (new_is : new ≡ let_go v session mid) where
+  told_free : (stats : VacuumStats) (own : ℕ) → session ≡ own → stats.pages_free ≡ free_count old own (length old.pages)
+      → OpGoes at old mid sets start history number call after (Finished stats) → stats.pages_free ≡ reusable_in new
   told_free stats own is told goes =
       let quiet : mid ≡ with_table old mid.table = subst (λ (effect : Option Effect). Changes effect old mid) goes.told.none goes.works.changes in
       told ∙ free_all own old new

@@ -14,8 +14,8 @@ use Rattle.page_action.specs.States.{State}
 use Rattle.descent.proofs.Acting.{nothing_else}
 use Rattle.session_calls.specs.Ops.{ends_call}
 use Rattle.session_calls.specs.TheoremCalls.{DeadSets, acts_of}
-use Rattle.session_calls.specs.Ops.{session_of, is_sweep, asked_of, add_of, OpFits, OpKnows, IsCaused, once_added, IsFaultCaused, is_last}
-use Rattle.session_calls.specs.Sessions.{Matches, OpRuns, CallFits, act_count, IsAsked, add_after, noted, ended, Told, let_go, after_call, cycle_behind, Works, SessionGoes, OpGoes, HoldsOn}
+use Rattle.session_calls.specs.Ops.{session_of, is_sweep, asked_of, add_of, OpInvariant, OpKnows, IsCaused, once_added, IsFaultCaused, is_last}
+use Rattle.session_calls.specs.Sessions.{Matches, OpRuns, CallFits, act_count, IsAsked, add_after, noted, ended, Told, let_go, op_after_call, cycle_behind, Works, SessionGoes, OpGoes, HoldsOn}
 use Rattle.session_calls.specs.Sweeps.{OpSweeps}
 use Rattle.session_calls.specs.declared.answer.Answer.{Answer}
 use Rattle.session_calls.specs.declared.answer.Answer.TheVariants.{Going, Added, Ready, Ended, Refused}
@@ -42,7 +42,8 @@ module _ {sets : DeadSets} (at : Circumstances) (old mid new : State) (start : E
   abbrev ends_cycle : Bool
   ends_cycle = is_sweep before
 
-  by_last : (b : Bool) → is_last answer ≡ b → new ≡ (if b then let_go ends_cycle call.session mid else mid) → HoldsOn b mid sets start (history ++ acts_of number goes.effect) goes.then_call op → goes.then_call.session ≡ call.session
+  by_last : (b : Bool) → is_last answer ≡ b → new ≡ (if b then let_go ends_cycle call.session mid else mid)
+      → HoldsOn b mid sets start (history ++ acts_of number goes.effect) goes.then_call op → goes.then_call.session ≡ call.session
       → SessionGoes at old new sets start history number call (if b then None else Some op) answer
   by_last true last is holds same = subst (λ (st : State). SessionGoes at old st sets start history number call None answer) (sym is) (record {
     effect = goes.effect;
@@ -95,14 +96,15 @@ module _ {sets : DeadSets} (at : Circumstances) (old mid new : State) (start : E
       (subst (λ (b : Bool). HoldsOn b mid sets start (history ++ acts_of number goes.effect) goes.then_call op) more goes.holds) (same_session running)
 
 -- an operation is one of a session that exists
-pub low_of : (st : State) (op : Op) → OpFits st op → session_of op < 64
+pub low_of : (st : State) (op : Op) → OpInvariant st op → session_of op < 64
 low_of st (Insert op) fits = fits.session
 low_of st (Scan op) fits = fits.session
 low_of st (Bulk set op) fits = fits.session
 low_of st (Cleanup op) fits = fits.session
 
 -- a running call that is given up
-pub event_of_end : {sets : DeadSets} (old new : State) (start : Entry → Bool) (history : List Action) (number : ℕ) (call : Call) (op : Op) → CallFits old sets start history number call op → new ≡ after_call op old
+pub event_of_end : {sets : DeadSets} (old new : State) (start : Entry → Bool) (history : List Action) (number : ℕ) (call : Call) (op : Op)
+    → CallFits old sets start history number call op → new ≡ op_after_call op old
     → SessionGoes nothing_wrong old new sets start history number call None Ended
 event_of_end {sets} old new start history number call op fits is =
     let low : call.session < 64 = subst (λ (t : ℕ). t < 64) fits.runs.session (low_of old op fits.runs.fits) in
@@ -130,7 +132,8 @@ event_of_end {sets} old new start history number call op fits is =
 
 -- an event with no action, which changes nothing of the pages
 pub event_of_nothing : {sets : DeadSets} (at : Circumstances) (old new : State) (start : Entry → Bool) (history : List Action) (number : ℕ) (call after : Call) (op : Op) (answer : Answer)
-    → Matches old start history → new ≡ old → Told answer (length history) None call after → IsCaused at answer → Meets start history number after → after.ending ≡ Running → OpRuns new sets start history after op
+    → Matches old start history → new ≡ old → Told answer (length history) None call after → IsCaused at answer → Meets start history number after
+    → after.ending ≡ Running → OpRuns new sets start history after op
     → OpSweeps new sets start history number after.began op
     → SessionGoes at old new sets start history number call (Some op) answer
 event_of_nothing {sets} at old new start history number call after op answer m same told caused meets running runs sweeps = record {
@@ -164,7 +167,7 @@ module _ {sets : DeadSets} (at : Circumstances) (old new : State) (start : Entry
 
   -- one that goes on
   pub step_goes_on : (effect : Option Effect) → Works (session_of before) (asked_of sets before) effect old new → IsAsked (contents_after start history) call.ask call.added effect
-      → add_of after ≡ add_after (add_of before) (suc (length history)) effect → OpFits new after → OpKnows start (history ++ acts_of number effect) call.began call.given after
+      → add_of after ≡ add_after (add_of before) (suc (length history)) effect → OpInvariant new after → OpKnows start (history ++ acts_of number effect) call.began call.given after
       → OpSweeps new sets start (history ++ acts_of number effect) number call.began after
       → OpGoes at old new sets start history number call after Going
   step_goes_on effect works asked add then_fits knows sweeps =
@@ -192,7 +195,8 @@ module _ {sets : DeadSets} (at : Circumstances) (old new : State) (start : Entry
       }
 
   -- one that finds entries
-  pub step_is_ready : (count : ℕ) → Works (session_of before) (asked_of sets before) None old new → add_of after ≡ add_of before → OpFits new after → OpKnows start history call.began call.given after
+  pub step_is_ready : (count : ℕ) → Works (session_of before) (asked_of sets before) None old new → add_of after ≡ add_of before
+      → OpInvariant new after → OpKnows start history call.began call.given after
       → OpSweeps new sets start history number call.began after → OpGoes at old new sets start history number call after (Ready count)
   step_is_ready count works add then_fits knows sweeps =
       let mine = my_works None works in
@@ -234,7 +238,8 @@ module _ {sets : DeadSets} (at : Circumstances) (old new : State) (start : Entry
         told = record { noted_is = noted_is; after_is = refl; quiet = quiet };
         caused = caused;
         meets = subst (λ (n : ℕ). Meets start more number (ended then_call (EndsAdded action unfinished) n)) (grown history number effect)
-            (meets_ended_added start more number then_call (meets_noted start history number call fits.meets fits.running effect asked) fits.running e action unfinished (fits.runs.ask ∙ inserts) noted_is);
+            (meets_ended_added start more number then_call (meets_noted start history number call fits.meets fits.running effect asked) fits.running e
+            action unfinished (fits.runs.ask ∙ inserts) noted_is);
         holds = λ h. absurd cc;
         sweeps = λ more. absurd (true_false more);
       }
@@ -288,5 +293,6 @@ module _ {sets : DeadSets} (at : Circumstances) (old new : State) (start : Entry
               (subst (λ (st : State). OpRuns st sets start history call after) (sym same) (subst (λ (op : Op). OpRuns old sets start history call op) (sym same_op) fits.runs)),
         );
         sweeps = λ more. subst (λ (l : List Action). OpSweeps new sets start l number call.began after) (sym (append-nil history))
-            (subst (λ (st : State). OpSweeps st sets start history number call.began after) (sym same) (subst (λ (op : Op). OpSweeps old sets start history number call.began op) (sym same_op) fits.sweeps));
+            (subst (λ (st : State). OpSweeps st sets start history number call.began after) (sym same)
+            (subst (λ (op : Op). OpSweeps old sets start history number call.began op) (sym same_op) fits.sweeps));
       }

@@ -7,7 +7,7 @@ use Rattle.index_model.specs.declared.fault.Fault.TheVariants.{NoMemory, Io, Sto
 use Rattle.page_action.specs.States.{State, Backing}
 use Rattle.descent.specs.Shared.{IsInOrder, is_out_of_blocks}
 use Rattle.descent.specs.Ways.{root_level}
-use Rattle.insert_split.specs.Inserts.{InsertFits, InsertStays, takes_block_at, splits_root_at, where_inserting}
+use Rattle.insert_split.specs.Inserts.{InsertInvariant, InsertStays, takes_block_at, splits_root_at, causes_of_inserting}
 use Rattle.insert_split.specs.declared.insert.InsertOp.{InsertOp}
 use Rattle.insert_split.proofs.Roomy.{straight_takes_none}
 use Rattle.session_calls.specs.Due.{InsertIsDue, IsHindered}
@@ -22,8 +22,8 @@ not_so is h = cc
 
 -- an insert that is due is refused neither for what is on its leaf, nor for the want of a block, nor for a root that can't
 -- be split
-pub insert_hindered : (old new : State) (first second : Backing) (before after : InsertOp) (left : ℕ) (fault : Fault) → IsInOrder old → InsertFits old before → InsertIsDue old before (suc left)
-    → InsertStays old new before after → HasCause (where_inserting old first second before.session before.entry before.at) fault
+pub insert_hindered : (old new : State) (first second : Backing) (before after : InsertOp) (left : ℕ) (fault : Fault) → IsInOrder old → InsertInvariant old before → InsertIsDue old before (suc left)
+    → InsertStays old new before after → HasCause (causes_of_inserting old first second before.session before.entry before.at) fault
     → IsHindered old new (slot_after (Refused fault) (Insert after)) (suc left) fault
 insert_hindered old new first second before after left fault order fits due stays cause = by fault cause
   where
@@ -33,7 +33,7 @@ insert_hindered old new first second before after left fault order fits due stay
     still : InsertIsDue new after (suc left)
     still = subst (λ (st : State). InsertIsDue st after (suc left)) (sym stays.state) (subst (λ (op : InsertOp). InsertIsDue old op (suc left)) (sym stays.op) due)
 
-    by : (f : Fault) → HasCause (where_inserting old first second before.session before.entry before.at) f → IsHindered old new (slot_after (Refused f) (Insert after)) (suc left) f
+    by : (f : Fault) → HasCause (causes_of_inserting old first second before.session before.entry before.at) f → IsHindered old new (slot_after (Refused f) (Insert after)) (suc left) f
     by (Blocked b) h = record { pages = ap (λ (st : State). st.pages) stays.state; limits = ap (λ (st : State). st.limits) stays.state; due = still }
     by Io h = tt
     by Stopped h = tt

@@ -10,12 +10,12 @@ use Rattle.page_action.specs.Causes.{other_row_is_there}
 use Rattle.page_action.specs.Contents.{entry_on_live_leaf}
 use Rattle.page_action.specs.States.{State, Backing}
 use Rattle.descent.specs.Steps.{Changes}
-use Rattle.insert_split.specs.Inserts.{IsNoted, IsLeft, InsertGoesOn, InsertEnds, InsertStays, where_inserting}
+use Rattle.insert_split.specs.Inserts.{IsNoted, IsLeft, InsertGoesOn, InsertEnds, InsertStays, causes_of_inserting}
 use Rattle.insert_split.specs.Turns.{is_blocked, IsRefusedRightly}
 use Rattle.insert_split.specs.declared.insert.InsertOp.{InsertOp}
 use Rattle.session_calls.specs.Ops.{ends_call}
 use Rattle.session_calls.specs.TheoremCalls.{DeadSets}
-use Rattle.session_calls.specs.Ops.{where_stepped, once_added, IsFaultCaused}
+use Rattle.session_calls.specs.Ops.{causes_of_stepped, once_added, IsFaultCaused}
 use Rattle.session_calls.specs.Sessions.{CallFits, IsAsked, add_after, OpGoes}
 use Rattle.session_calls.specs.declared.answer.Answer.TheVariants.{Going, Added, Refused}
 use Rattle.session_calls.specs.declared.op.Op.TheVariants.{Insert}
@@ -54,7 +54,7 @@ none_logged (Some action) fault h ends = absurd (blocked_goes_on fault h ends)
 module _ {sets : DeadSets} (old new : State) (first second : Backing) (start : Entry → Bool) (history : List Action) (number : ℕ) (call : Call) (before after : InsertOp)
     (fits : CallFits old sets start history number call (Insert before)) (session : after.session ≡ before.session) (entry : after.entry ≡ before.entry) where
   abbrev at_op : Circumstances
-  at_op = where_stepped sets (Insert before) old first second
+  at_op = causes_of_stepped sets (Insert before) old first second
 
   -- what is noted of a step is the number of its Add
   noted_is : (effect : Option Effect) (now : Option ℕ) → IsNoted effect old.acts before.entry before.added now → now ≡ add_after before.added (suc (length history)) effect
@@ -78,7 +78,8 @@ module _ {sets : DeadSets} (old new : State) (first second : Backing) (start : E
 
   pub insert_goes_on : InsertGoesOn old new before after → OpGoes at_op old new sets start history number call (Insert after) Going
   insert_goes_on step =
-      step_goes_on at_op old new start history number call (Insert before) (Insert after) fits session (ap AskInsert entry) step.effect (works_on before.session (AskInsert before.entry) step.effect old new refl step.does)
+      step_goes_on at_op old new start history number call (Insert before) (Insert after) fits session (ap AskInsert entry) step.effect
+      (works_on before.session (AskInsert before.entry) step.effect old new refl step.does)
       (asked step.effect after.added step.does.changes step.noted) (noted_is step.effect after.added step.noted) step.fits tt tt
 
   left_caused : (effect : Option Effect) (unfinished : Option Fault) → IsLeft old first new second before effect unfinished → IsFaultCaused (once_added at_op) unfinished
@@ -92,12 +93,13 @@ module _ {sets : DeadSets} (old new : State) (first second : Backing) (start : E
   pub insert_ends : (action : ℕ) (unfinished : Option Fault) → InsertEnds old first new second before action unfinished
       → OpGoes at_op old new sets start history number call (Insert after) (Added action unfinished)
   insert_ends action unfinished step =
-      step_adds at_op old new start history number call (Insert before) (Insert after) fits session (ap AskInsert entry) before.entry action unfinished step.effect refl (works_on before.session (AskInsert before.entry) step.effect old new refl step.does)
+      step_adds at_op old new start history number call (Insert before) (Insert after) fits session (ap AskInsert entry) before.entry action
+      unfinished step.effect refl (works_on before.session (AskInsert before.entry) step.effect old new refl step.does)
       (asked step.effect (Some action) step.does.changes step.noted) (sym (noted_is step.effect (Some action) step.noted)) (left_caused step.effect unfinished step.left)
       (left_quiet step.effect unfinished step.left)
 
   pub insert_is_refused : (fault : Fault) → InsertStays old new before after → IsRefusedRightly before.added (Err fault)
-      → HasCause (where_inserting old first second before.session before.entry before.at) fault → OpGoes at_op old new sets start history number call (Insert after) (Refused fault)
+      → HasCause (causes_of_inserting old first second before.session before.entry before.at) fault → OpGoes at_op old new sets start history number call (Insert after) (Refused fault)
   insert_is_refused fault stays rightly cause =
       step_is_refused at_op old new start history number call (Insert before) (Insert after) fits session (ap AskInsert entry) fault stays.state
       (ap Insert stays.op) cause (none_logged before.added fault rightly)

@@ -71,7 +71,8 @@ module _ (start : Entry → Bool) (history : List Action) (number : ℕ) (call :
   meets_noted (Some (Remove es)) h = meets_later start history (acts_of number (Some (Remove es))) number call meets
   meets_noted (Some Shape) h = meets_later start history (acts_of number (Some Shape)) number call meets
 
-  given_up_ask : (ask : Ask) → AnswersRight start history number call.began (length history) ask call.given call.added Running → AnswersRight start history number call.began (length history) ask call.given call.added GivenUp
+  given_up_ask : (ask : Ask) → AnswersRight start history number call.began (length history) ask call.given call.added Running
+      → AnswersRight start history number call.began (length history) ask call.given call.added GivenUp
   given_up_ask (AskInsert e) h = record { add = h.add; end = tt }
   given_up_ask (AskScan r) h = h
   given_up_ask (AskBulkDelete dead) h = tt
@@ -82,18 +83,21 @@ module _ (start : Entry → Bool) (history : List Action) (number : ℕ) (call :
   meets_given_up = record { began = began_before; until = omega arith; right = given_up_ask call.ask right_now }
 
   failed_ask : (f : Fault) (ask : Ask) → ((e : Entry) → ask ≡ AskInsert e → (call.added ≡ None) × InsertMayFail start history call.began (length history) e f)
-      → AnswersRight start history number call.began (length history) ask call.given call.added Running → AnswersRight start history number call.began (length history) ask call.given call.added (Failed f)
+      → AnswersRight start history number call.began (length history) ask call.given call.added Running
+      → AnswersRight start history number call.began (length history) ask call.given call.added (Failed f)
   failed_ask f (AskInsert e) may h = record { add = h.add; end = may e refl }
   failed_ask f (AskScan r) may h = h
   failed_ask f (AskBulkDelete dead) may h = tt
   failed_ask f AskCleanup may h = tt
 
   -- so does one that a fault ends
-  pub meets_failed : (f : Fault) → ((e : Entry) → call.ask ≡ AskInsert e → (call.added ≡ None) × InsertMayFail start history call.began (length history) e f) → Meets start history number (ended call (Failed f) (length history))
+  pub meets_failed : (f : Fault)
+      → ((e : Entry) → call.ask ≡ AskInsert e → (call.added ≡ None) × InsertMayFail start history call.began (length history) e f) → Meets start history number (ended call (Failed f) (length history))
   meets_failed f may = record { began = began_before; until = omega arith; right = failed_ask f call.ask may right_now }
 
   -- an insert that ends with its Add meets its definition
-  pub meets_ended_added : (e : Entry) (action : ℕ) (unfinished : Option Fault) → call.ask ≡ AskInsert e → call.added ≡ Some action → Meets start history number (ended call (EndsAdded action unfinished) (length history))
+  pub meets_ended_added : (e : Entry) (action : ℕ) (unfinished : Option Fault) → call.ask ≡ AskInsert e → call.added ≡ Some action
+      → Meets start history number (ended call (EndsAdded action unfinished) (length history))
   meets_ended_added e action unfinished ask added =
       let right = subst (λ (a : Ask). AnswersRight start history number call.began (length history) a call.given call.added Running) ask right_now in
       let answer : IsInsertAnswer start history number call.began (length history) e call.added (EndsAdded action unfinished) = record { add = right.add; end = added } in
@@ -128,5 +132,6 @@ pub other_row_so : (st : State) (e : Entry) (r : Row) → st.limits.unique ≡ t
 other_row_so st e r unique differ there = rw unique (rw (apart_rows e r differ) there)
 
 -- an entry that the pages hold now was there at some moment
-pub there_at_present : (st : State) (start : Entry → Bool) (history : List Action) (began : ℕ) (e : Entry) → Matches st start history → began ≤ length history → entry_on_live_leaf st.pages e ≡ true → ThereAtSomeMoment start history began (length history) e
+pub there_at_present : (st : State) (start : Entry → Bool) (history : List Action) (began : ℕ) (e : Entry) → Matches st start history
+    → began ≤ length history → entry_on_live_leaf st.pages e ≡ true → ThereAtSomeMoment start history began (length history) e
 there_at_present st start history began e m le h = record { moment = length history; since = le; until = omega arith; there = there_now start history e ∙ sym (m.contents e) ∙ h }

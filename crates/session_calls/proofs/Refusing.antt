@@ -6,13 +6,13 @@ use Rattle.index_model.specs.declared.fault.Fault.{Fault}
 use Rattle.index_model.specs.declared.fault.Fault.TheVariants.{Stopped, NoSession}
 use Rattle.page_action.specs.States.{State, Continues}
 use Rattle.page_action.specs.declared.page_store.PageStore.{Ghosts}
-use Rattle.descent.specs.Shared.{IsOneStep, where_writing_any}
+use Rattle.descent.specs.Shared.{IsOneStep, causes_of_writing_any}
 use Rattle.insert_split.specs.Inserts.{AnswersStopped as InsertAnswersStopped}
 use Rattle.insert_split.specs.Turns.{IsRefusedRightly}
 use Rattle.scan.specs.Scans.{waiting, ScanWaits}
 use Rattle.scan.specs.declared.steps.ScanOp.{ScanOp}
 use Rattle.session_calls.specs.Ops.{ends_call}
-use Rattle.session_calls.specs.Ops.{OpAnswers, session_of, is_sweep, call_kind, add_of, where_stepped_any, AnswersStopped, AnswersLogged}
+use Rattle.session_calls.specs.Ops.{OpAnswers, session_of, is_sweep, call_kind, add_of, causes_of_stepped_any, StoppedAnswersFirst, AnswersLogged}
 use Rattle.session_calls.specs.Sessions.{OpSteps, OnlyWritersAct, TellsStats, WaitsToGive, work_in}
 use Rattle.session_calls.specs.declared.answer.Answer.TheVariants.{Refused}
 use Rattle.session_calls.specs.declared.op.Op.{Op}
@@ -43,9 +43,9 @@ no_more false before after old new same op = rw (same, op) (omega arith)
 
 -- what a refused step says, of whichever operation
 pub refused_steps : {S : Type 0} (g : Ghosts S) (before after : Op) (old new : S) (fault : Fault) → Continues g.follows old new → IsOneStep (g.state old) (g.state new)
-    → g.state new ≡ g.state old → after ≡ before → ((g.backing old).stopped ≡ true → AnswersStopped (add_of before) (Refused fault))
+    → g.state new ≡ g.state old → after ≡ before → ((g.backing old).stopped ≡ true → StoppedAnswersFirst (add_of before) (Refused fault))
     → WaitsToGive (g.backing old).stopped (g.state old) (g.state new) (Some before) (Some after) (Refused fault)
-    → HasCause (where_stepped_any before) fault → AnswersLogged (add_of before) (Refused fault) → OpSteps g before after old new (Refused fault)
+    → HasCause (causes_of_stepped_any before) fault → AnswersLogged (add_of before) (Refused fault) → OpSteps g before after old new (Refused fault)
 refused_steps g before after old new fault steps kept same op stopped waits cause logged = record {
   steps = steps;
   session = ap session_of op;
@@ -68,7 +68,7 @@ refused_steps g before after old new fault steps kept same op stopped waits caus
 pub told_stopped : {T : Type 0} (fault : Fault) → ◌≡◌ {A = Result T Fault} (Err fault) (Err Stopped) → Refused fault ≡ Refused Stopped
 told_stopped fault is = cc
 
-pub insert_told_stopped : (added : Option ℕ) (fault : Fault) → InsertAnswersStopped added (Err fault) → AnswersStopped added (Refused fault)
+pub insert_told_stopped : (added : Option ℕ) (fault : Fault) → InsertAnswersStopped added (Err fault) → StoppedAnswersFirst added (Refused fault)
 insert_told_stopped None fault is = cc
 insert_told_stopped (Some action) fault is = absurd cc
 
@@ -83,6 +83,6 @@ insert_told_logged None fault h = tt
 insert_told_logged (Some action) fault h = h
 
 -- what refuses a step of a bulk delete, where the set that it names is there
-pub bulk_cause : (fault : Fault) → HasCause where_writing_any fault → HasCause (record where_writing_any { no_such_session = true }) fault
+pub bulk_cause : (fault : Fault) → HasCause causes_of_writing_any fault → HasCause (record causes_of_writing_any { no_such_session = true }) fault
 bulk_cause NoSession h = refl
 bulk_cause fault h = h

@@ -19,12 +19,12 @@ use Rattle.page_action.specs.States.{State}
 use Rattle.page_codec.specs.declared.page.Page.{Page}
 use Rattle.tree_acts.specs.Leaves.{IsLeafAt}
 use Rattle.descent.specs.declared.way.Way.{Way}
-use Rattle.scan.specs.Scans.{waiting, gone_to, ScanFits, IsNext, IsBehind, LeafIsRead, IsUnderway, IsMoving, IsReading, IsWaiting, IsDone}
+use Rattle.scan.specs.Scans.{waiting, gone_to, ScanInvariant, IsNext, IsBehind, LeafIsRead, IsUnderway, IsMoving, IsReading, IsWaiting, IsDone}
 use Rattle.scan.specs.declared.steps.ScanAt.{ScanAt}
 use Rattle.scan.specs.declared.steps.ScanAt.TheVariants.{Start, At, Last}
 use Rattle.scan.specs.declared.steps.ScanOp.{ScanOp}
 use Rattle.session_calls.specs.TheoremCalls.{DeadSets}
-use Rattle.session_calls.specs.Ops.{IsScanSoFar, asked_of, where_asked_next, is_last}
+use Rattle.session_calls.specs.Ops.{IsScanSoFar, asked_of, causes_of_asked_next, is_last}
 use Rattle.session_calls.specs.Sessions.{Matches, OpRuns, CallFits, ended, given_one, SessionGoes, StandsOnLeaf, StandsByAnswer, OpGoes}
 use Rattle.session_calls.specs.declared.answer.Answer.{Answer}
 use Rattle.session_calls.specs.declared.answer.Answer.TheVariants.{Begun, Going, Added, Ready, Done, Finished, Gave, Ended, Forced, Flushed, Checkpointed, Refused}
@@ -128,7 +128,8 @@ module _ (st : State) (start : Entry → Bool) (history : List Action) (began : 
   }
 
 -- one entry more is given
-module _ (start : Entry → Bool) (history : List Action) (began : ℕ) (given rest : List Entry) (e : Entry) (op : ScanOp) (far : IsScanSoFar start history began given op) (is : waiting op ≡ e ∷ rest) where
+module _ (start : Entry → Bool) (history : List Action) (began : ℕ) (given rest : List Entry) (e : Entry) (op : ScanOp)
+    (far : IsScanSoFar start history began given op) (is : waiting op ≡ e ∷ rest) where
   pub joined : (given ++ e ∷ []) ++ rest ≡ given ++ waiting op
   joined = append_assoc given (e ∷ []) rest ∙ ap (λ (xs : List Entry). given ++ xs) (sym is)
 
@@ -168,7 +169,7 @@ module _ (start : Entry → Bool) (history : List Action) (began : ℕ) (given r
   }
 
 -- a scan that has given an entry knows the same of the pages
-given_fits : (st : State) (op : ScanOp) → ScanFits st op → ScanFits st (record op { given = suc op.given })
+given_fits : (st : State) (op : ScanOp) → ScanInvariant st op → ScanInvariant st (record op { given = suc op.given })
 given_fits st op f = record { session = f.session; start = f.start; running = f.running; held = f.held; live = f.live; stands = f.stands; started = f.started; few = f.few }
 
 -- an entry is given
@@ -193,7 +194,7 @@ gave_goes {sets} at st start history number call before after e fits next =
       session = session ∙ fits.runs.session;
       added = fits.runs.added;
       started = fits.runs.started;
-      fits = subst (λ (op : ScanOp). ScanFits st op) (sym next.1) (given_fits st before fits.runs.fits);
+      fits = subst (λ (op : ScanOp). ScanInvariant st op) (sym next.1) (given_fits st before fits.runs.fits);
       knows = record {
         ascending = rw same far.ascending;
         matched = rw (same, range) far.matched;
@@ -239,14 +240,17 @@ goes_to start history began given op way under far = record {
 module _ {sets : DeadSets} (at : Circumstances) (old new : State) (start : Entry → Bool) (history : List Action) (number : ℕ) (call : Call) (before after : ScanOp)
     (fits : CallFits old sets start history number call (Scan before)) (session : after.session ≡ before.session) (range : after.range ≡ before.range) where
   pub reading_goes : (count : ℕ) → IsReading old new before after count → OpGoes at old new sets start history number call (Scan after) (Ready count)
-  reading_goes count step = step_is_ready at old new start history number call (Scan before) (Scan after) fits session (ap AskScan range) count (works_on before.session (AskScan before.range) None old new refl step.does) refl step.fits
-      (so_far_read old start history call.began call.given before after fits.world (began_before start history number call fits.meets fits.running) range step.none step.way step.from step.read fits.runs.knows) tt
+  reading_goes count step =
+      step_is_ready at old new start history number call (Scan before) (Scan after) fits session (ap AskScan range) count
+      (works_on before.session (AskScan before.range) None old new refl step.does) refl step.fits
+      (so_far_read old start history call.began call.given before after fits.world (began_before start history number call fits.meets fits.running)
+      range step.none step.way step.from step.read fits.runs.knows) tt
 
   pub ready_goes : (count : ℕ) → IsWaiting old new before after count ⊎ IsReading old new before after count → OpGoes at old new sets start history number call (Scan after) (Ready count)
   ready_goes count (inr step) = reading_goes count step
   ready_goes count (inl step) = step_is_ready at old new start history number call (Scan before) (Scan after) fits session (ap AskScan range) count
       (works_nothing before.session (AskScan before.range) old new step.state fits.world.order) refl
-      (subst (λ (st : State). ScanFits st after) (sym step.state) (subst (λ (op : ScanOp). ScanFits old op) (sym step.op) fits.runs.fits))
+      (subst (λ (st : State). ScanInvariant st after) (sym step.state) (subst (λ (op : ScanOp). ScanInvariant old op) (sym step.op) fits.runs.fits))
       (subst (λ (op : ScanOp). IsScanSoFar start history call.began call.given op) (sym step.op) fits.runs.knows) tt
 
   -- the step that finds all given
@@ -280,22 +284,23 @@ module _ {sets : DeadSets} (at : Circumstances) (old new : State) (start : Entry
 
   -- a step that goes on to another page
   pub moving_goes : IsMoving old new before after → OpGoes at old new sets start history number call (Scan after) Going
-  moving_goes step = step_goes_on at old new start history number call (Scan before) (Scan after) fits session (ap AskScan range) None (works_on before.session (AskScan before.range) None old new refl step.does) tt refl step.fits
+  moving_goes step = step_goes_on at old new start history number call (Scan before) (Scan after) fits session (ap AskScan range) None
+      (works_on before.session (AskScan before.range) None old new refl step.does) tt refl step.fits
       (subst (λ (l : List Action). IsScanSoFar start l call.began call.given after) (sym (append-nil history))
       (subst (λ (op : ScanOp). IsScanSoFar start history call.began call.given op) (sym step.op) (goes_to start history call.began call.given before step.way step.from fits.runs.knows))) tt
 
 -- a call that is no scan has no next entry
-no_scan_next : (sets : DeadSets) (op : Op) → ((scan : ScanOp) → op ≡ Scan scan → ⊥) → (where_asked_next (asked_of sets op)).no_such_session ≡ true
+no_scan_next : (sets : DeadSets) (op : Op) → ((scan : ScanOp) → op ≡ Scan scan → ⊥) → (causes_of_asked_next (asked_of sets op)).no_such_session ≡ true
 no_scan_next sets (Insert op) none = refl
 no_scan_next sets (Scan op) none = absurd (none op refl)
 no_scan_next sets (Bulk set op) none = refl
 no_scan_next sets (Cleanup op) none = refl
 
 pub next_refused : {sets : DeadSets} (st : State) (start : Entry → Bool) (history : List Action) (number : ℕ) (call : Call) (op : Op) → ((scan : ScanOp) → op ≡ Scan scan → ⊥)
-    → CallFits st sets start history number call op → SessionGoes (where_asked_next call.ask) st st sets start history number call (Some op) (Refused NoSession)
+    → CallFits st sets start history number call op → SessionGoes (causes_of_asked_next call.ask) st st sets start history number call (Some op) (Refused NoSession)
 next_refused {sets} st start history number call op none fits =
-    event_of_nothing (where_asked_next call.ask) st st start history number call call op (Refused NoSession) fits.world refl (refl, refl)
-    (ap (λ (a : Ask). (where_asked_next a).no_such_session) fits.runs.ask ∙ no_scan_next sets op none) fits.meets fits.running fits.runs fits.sweeps
+    event_of_nothing (causes_of_asked_next call.ask) st st start history number call call op (Refused NoSession) fits.world refl (refl, refl)
+    (ap (λ (a : Ask). (causes_of_asked_next a).no_such_session) fits.runs.ask ∙ no_scan_next sets op none) fits.meets fits.running fits.runs fits.sweeps
 
 -- a scan that goes on to another page stands on no leaf,
 pub moving_stands : (old new : State) (before after : ScanOp) → IsMoving old new before after → after.leaf ≡ None

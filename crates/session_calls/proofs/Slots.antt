@@ -17,7 +17,8 @@ op_at (Some None) before has is = absurd cc
 op_at (Some (Some op)) before has is = (op, cc)
 
 -- the session that was found
-pub found : (is_stopped has_set : Bool) (o : Option (Option Op)) (session known : ℕ) → Ok known ≡ session_to_begin is_stopped has_set o session → (is_stopped ≡ false) × (has_set ≡ true) × (o ≡ Some None) × (known ≡ session)
+pub found : (is_stopped has_set : Bool) (o : Option (Option Op)) (session known : ℕ) → Ok known ≡ session_to_begin is_stopped has_set o session
+    → (is_stopped ≡ false) × (has_set ≡ true) × (o ≡ Some None) × (known ≡ session)
 found true has_set o session known h = absurd cc
 found false has_set None session known h = absurd cc
 found false false (Some slot) session known h = absurd cc

@@ -42,7 +42,8 @@ none_counted count effect none = subst (λ (x : Option Effect). act_count x + co
 
 module _ (history : List Action) (count : ℕ) (effect : Option Effect) (call after : Call) (running : call.ending ≡ Running) (many : length history ≡ act_count effect + count) where
   only_on : (given : List Entry) → OnlyBecomes effect (record call { given = given }) after → IsSameCall history count effect call after
-  only_on given h = runs_on history count effect call running many given after (h.after_is ∙ sym (ap (λ (c : Call). let d : Call = record c { given = given } in d) (none_noted call count effect h.none)))
+  only_on given h = runs_on history count effect call running many given after
+      (h.after_is ∙ sym (ap (λ (c : Call). let d : Call = record c { given = given } in d) (none_noted call count effect h.none)))
 
   only_ends : (x : Ending) → effect ≡ None → after ≡ ended call x count → ((n : ℕ) → end_of history x n ≡ n) → IsSameCall history count effect call after
   only_ends x none is until = ends history count effect call running many x after

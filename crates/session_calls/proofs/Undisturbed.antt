@@ -13,7 +13,7 @@ use Rattle.scan.specs.declared.steps.ScanOp.{ScanOp}
 use Rattle.scan.proofs.Lasting.{undisturbed as scan_undisturbed}
 use Rattle.vacuum.proofs.Lasting.{undisturbed as bulk_undisturbed}
 use Rattle.page_delete.proofs.Lasting.{undisturbed as cleanup_undisturbed}
-use Rattle.session_calls.specs.Ops.{session_of, OpFits, OpKnows, IsScanSoFar}
+use Rattle.session_calls.specs.Ops.{session_of, OpInvariant, OpKnows, IsScanSoFar}
 use Rattle.session_calls.specs.Sessions.{start_number, IsIdle}
 use Rattle.session_calls.specs.Undisturbed.{CallsAreUndisturbed}
 use Rattle.session_calls.specs.declared.op.Op.{Op}
@@ -33,7 +33,7 @@ so_far_later start history acts began given op h =
     }
 
 -- a call goes on standing on what it stood on, whatever other sessions do
-fits_still : (old new : State) (session : ℕ) (op : Op) → session_of op ≡ session → MayRely session old new → PinnedLeavesLast session old new → OpFits old op → OpFits new op
+fits_still : (old new : State) (session : ℕ) (op : Op) → session_of op ≡ session → MayRely session old new → PinnedLeavesLast session old new → OpInvariant old op → OpInvariant new op
 fits_still old new session (Insert op) is rely last h = insert_undisturbed old new op (subst (λ (t : ℕ). MayRely t old new) (sym is) rely) h
 fits_still old new session (Scan op) is rely last h =
     scan_undisturbed old new op (subst (λ (t : ℕ). MayRely t old new) (sym is) rely) (subst (λ (t : ℕ). PinnedLeavesLast t old new) (sym is) last) h

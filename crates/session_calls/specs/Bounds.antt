@@ -2,12 +2,12 @@
 use Rattle.std.specs.Prelude.{◌<◌, ◌≤◌, Some}
 use Rattle.page_action.specs.States.{State}
 use Rattle.descent.specs.Shared.{IsInOrder}
-use Rattle.session_calls.specs.Ops.{OpFits}
+use Rattle.session_calls.specs.Ops.{OpInvariant}
 use Rattle.session_calls.specs.Sessions.{work_in}
 use Rattle.session_calls.specs.declared.op.Op.{Op}
 
 -- so many steps at most, and entries to give, while the pages stay as they are
 abbrev pub CallsAreBounded : Type 0
 CallsAreBounded =
-    (st : State) (op : Op) → IsInOrder st → st.limits.pages ≤ 65536 → OpFits st op
+    (st : State) (op : Op) → IsInOrder st → st.limits.pages ≤ 65536 → OpInvariant st op
     → work_in st (Some op) < 4398046511104

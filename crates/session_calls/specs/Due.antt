@@ -11,7 +11,7 @@ use Rattle.descent.specs.Ways.{root_level, NoneIsFlagged}
 use Rattle.insert_split.specs.Straight.{straight_steps as insert_steps, IsStraight as IsOnEntryWay, HasRoomFor}
 use Rattle.insert_split.specs.declared.insert.InsertOp.{InsertOp}
 use Rattle.scan.specs.Scans.{waiting}
-use Rattle.scan.specs.Straight.{straight_steps as scan_steps, IsStraight as IsOnFrontierWay}
+use Rattle.scan.specs.Straight.{scan_straight_steps as scan_steps, ScanIsStraight as IsOnFrontierWay}
 use Rattle.scan.specs.declared.steps.ScanOp.{ScanOp}
 use Rattle.session_calls.specs.declared.answer.Answer.{Answer}
 use Rattle.session_calls.specs.declared.answer.Answer.TheVariants.{Going, Added, Ready, Refused}
@@ -76,10 +76,10 @@ IsHindered old new slot steps fault = ⊥
 
 -- A step of a call that is due, with so many steps left behind it: the last brings what is awaited, and each before it
 -- answers `Going` and leaves one fewer.
-abbrev pub CountsDown : State → State → Option Op → Option Op → ℕ → Answer → Type 0
-CountsDown old new before after left Going = (0 < left) × StaysDue old new after left
-CountsDown old new before after left (Refused fault) = IsHindered old new after (suc left) fault
-CountsDown old new before after left answer = (left ≡ 0) × IsAwaited before answer
+abbrev pub DueCountsDown : State → State → Option Op → Option Op → ℕ → Answer → Type 0
+DueCountsDown old new before after left Going = (0 < left) × StaysDue old new after left
+DueCountsDown old new before after left (Refused fault) = IsHindered old new after (suc left) fault
+DueCountsDown old new before after left answer = (left ≡ 0) × IsAwaited before answer
 
 -- the steps of a request on its own, more than the root's level
 abbrev pub steps_for : Request → ℕ

@@ -6,16 +6,16 @@ use Rattle.index_model.specs.declared.entry.Entry.{Entry}
 use Rattle.page_action.specs.States.{State}
 use Rattle.page_action.specs.declared.page_store.PageStore.{Ghosts}
 use Rattle.session_calls.specs.TheoremCalls.{DeadSets}
-use Rattle.session_calls.specs.Due.{IsDueIn, CountsDown}
-use Rattle.session_calls.specs.Ops.{where_slot_stepped_any, RunsOn, IsCaused, AnswersStopped, AnswersLogged, is_last}
-use Rattle.session_calls.specs.Sessions.{SlotFits, KeepsPages, OnlyWritersAct, OnlyOwnAreFlagged, LeavesOwnFlagged, KeepsBeforePins, CountsEntries, CountsPages, TellsFree, SparesLeaves, LeavesLess, LeavesNoMore, AnswersStep, RefusalChangesNothing, RunsUntilLast, UnfinishedChangesNothing, TellsStats, WaitsToGive, StandsByAnswer, no_call, slot_add}
+use Rattle.session_calls.specs.Due.{IsDueIn, DueCountsDown}
+use Rattle.session_calls.specs.Ops.{causes_of_slot_stepped_any, RunsOn, IsCaused, StoppedAnswersFirst, AnswersLogged, is_last}
+use Rattle.session_calls.specs.Sessions.{SlotFits, KeepsPages, OnlyWritersAct, OnlyOwnAreFlagged, LeavesOwnFlagged, KeepsBeforePins, CountsEntries, CountsPages, TellsFree, SparesLeaves, StepLeavesLess, LeavesNoMore, AnswersStep, RefusalChangesNothing, RunsUntilLast, UnfinishedChangesNothing, TellsStats, WaitsToGive, StandsByAnswer, no_call, slot_add}
 use Rattle.session_calls.specs.declared.answer.Answer.{Answer}
 use Rattle.session_calls.specs.declared.op.Op.{Op}
 
 -- what the answer of a step says, whatever the pages are
 pub record StepTells (is_stopped : Bool) (old new : State) (before after : Option Op) (answer : Answer) : Type 0 where
   -- which faults it may tell of
-  pub faults : IsCaused (where_slot_stepped_any before) answer
+  pub faults : IsCaused (causes_of_slot_stepped_any before) answer
   -- once the entry of an insert is logged only a page that is blocked refuses it, and it ends with the number of that action
   pub logged : AnswersLogged (slot_add before) answer
   -- a fault that leaves a split unfinished leaves all as it was, but that the call is over
@@ -34,7 +34,7 @@ pub record StepAlways {S : Type 0} (g : Ghosts S) (old new : S) (before after : 
   -- a refusal changes nothing, but that the call is over, unless it was refused with Blocked or NoSession
   pub refused : RefusalChangesNothing (g.state old) (g.state new) before after answer
   -- on a stopped log it is refused for that, or an insert whose entry is logged ends so
-  pub stopped : (g.backing old).stopped ≡ true → AnswersStopped (slot_add before) answer
+  pub stopped : (g.backing old).stopped ≡ true → StoppedAnswersFirst (slot_add before) answer
   -- it answers what its call may, and stays a call of its kind
   pub kind : AnswersStep before after answer
   pub runs_on : RunsOn before after
@@ -46,7 +46,7 @@ pub record StepAlways {S : Type 0} (g : Ghosts S) (old new : S) (before after : 
   pub kept : KeepsPages (g.state old) (g.state new)
   pub calm : OnlyWritersAct before (g.state old) (g.state new)
   -- over a device that keeps its model less is left to do, where it goes on, and no more in any case
-  pub less : (g.backing new).honest ≡ true → LeavesLess (g.state old) (g.state new) before after answer
+  pub less : (g.backing new).honest ≡ true → StepLeavesLess (g.state old) (g.state new) before after answer
   pub no_more : (g.backing new).honest ≡ true → LeavesNoMore (g.state old) (g.state new) before after
 
 -- some history fits what the session runs
@@ -60,7 +60,7 @@ pub record IsFitted (st : State) (sets : DeadSets) (slot : Option Op) : Type 0 w
 -- what is followed of a call, from one step to the next
 pub record StepFollows (sets : DeadSets) (old new : State) (before after : Option Op) (answer : Answer) : Type 0 where
   -- the steps that it is due after: each counts down
-  pub due : IsFitted old sets before → (left : ℕ) → IsDueIn old before (suc left) → CountsDown old new before after left answer
+  pub due : IsFitted old sets before → (left : ℕ) → IsDueIn old before (suc left) → DueCountsDown old new before after left answer
   -- the pages that it leaves flagged: those whose splits it is to finish
   pub flagged : IsFitted old sets before → OnlyOwnAreFlagged old before → LeavesOwnFlagged new before after answer
   -- the leaf that a scan stands on

@@ -13,19 +13,19 @@ use Rattle.index_model.specs.declared.fault.Fault.TheVariants.{Stopped, Blocked,
 use Rattle.page_action.specs.Causes.{nothing_wrong, is_at_end}
 use Rattle.page_action.specs.States.{State, Backing}
 use Rattle.page_codec.specs.declared.page.Page.{Page}
-use Rattle.descent.specs.Shared.{where_reading_any, where_writing_any}
+use Rattle.descent.specs.Shared.{causes_of_reading_any, causes_of_writing_any}
 use Rattle.split_finish.specs.declared.finish.Target.{Target}
-use Rattle.insert_split.specs.Inserts.{InsertFits, targets_at, insert_left, where_inserting, where_inserting_any}
+use Rattle.insert_split.specs.Inserts.{InsertInvariant, targets_at, insert_left, causes_of_inserting, causes_of_inserting_any}
 use Rattle.insert_split.specs.Turns.{is_blocked}
 use Rattle.insert_split.specs.declared.insert.InsertAt.TheVariants.{Coming}
 use Rattle.insert_split.specs.declared.insert.Stage.TheVariants.{Start}
-use Rattle.scan.specs.Scans.{ScanFits, IsBehind, waiting, fresh_scan, where_scanning}
+use Rattle.scan.specs.Scans.{ScanInvariant, IsBehind, waiting, fresh_scan, causes_of_scanning}
 use Rattle.scan.specs.Work.{scan_left}
 use Rattle.scan.specs.declared.steps.ScanOp.{ScanOp}
-use Rattle.vacuum.specs.BulkDeletes.{BulkDeleteFits, where_deleting}
+use Rattle.vacuum.specs.BulkDeletes.{BulkDeleteInvariant, causes_of_deleting}
 use Rattle.vacuum.specs.Ops.{fresh_bulk_delete}
 use Rattle.vacuum.specs.Work.{bulk_delete_left}
-use Rattle.page_delete.specs.Cleanups.{CleanupFits, where_cleaning}
+use Rattle.page_delete.specs.Cleanups.{CleanupInvariant, causes_of_cleaning}
 use Rattle.page_delete.specs.Ops.{fresh_cleanup}
 use Rattle.page_delete.specs.Work.{cleanup_left}
 use Rattle.session_calls.specs.TheoremCalls.{DeadSets}
@@ -130,11 +130,11 @@ ready_of (Bulk set op) = []
 ready_of (Cleanup op) = []
 
 -- what it knows of the pages between its steps
-abbrev pub OpFits : State → Op → Type 0
-OpFits st (Insert op) = InsertFits st op
-OpFits st (Scan op) = ScanFits st op
-OpFits st (Bulk set op) = BulkDeleteFits st op
-OpFits st (Cleanup op) = CleanupFits st op
+abbrev pub OpInvariant : State → Op → Type 0
+OpInvariant st (Insert op) = InsertInvariant st op
+OpInvariant st (Scan op) = ScanInvariant st op
+OpInvariant st (Bulk set op) = BulkDeleteInvariant st op
+OpInvariant st (Cleanup op) = CleanupInvariant st op
 
 -- what a scan has given and holds ready, against the moments of its interval so far
 pub record IsScanSoFar (start : Entry → Bool) (history : List Action) (began : ℕ) (given : List Entry) (op : ScanOp) : Type 0 where
@@ -153,39 +153,39 @@ OpKnows start history began given (Bulk set op) = Unit {0}
 OpKnows start history began given (Cleanup op) = Unit {0}
 
 -- the circumstances of a step with these sets, by where the operation stands
-abbrev pub where_stepped : DeadSets → Op → State → Backing → Backing → Circumstances
-where_stepped sets (Insert op) st old new = where_inserting st old new op.session op.entry op.at
-where_stepped sets (Scan op) st old new = where_scanning st old new op.session
-where_stepped sets (Bulk set op) st old new = where_deleting (set_at sets set) st old new op
-where_stepped sets (Cleanup op) st old new = where_cleaning st old new op
+abbrev pub causes_of_stepped : DeadSets → Op → State → Backing → Backing → Circumstances
+causes_of_stepped sets (Insert op) st old new = causes_of_inserting st old new op.session op.entry op.at
+causes_of_stepped sets (Scan op) st old new = causes_of_scanning st old new op.session
+causes_of_stepped sets (Bulk set op) st old new = causes_of_deleting (set_at sets set) st old new op
+causes_of_stepped sets (Cleanup op) st old new = causes_of_cleaning st old new op
 
 -- ... of what a session runs, if anything
-abbrev pub where_slot_stepped : DeadSets → Option Op → State → Backing → Backing → Circumstances
-where_slot_stepped sets None st old new = nothing_wrong
-where_slot_stepped sets (Some op) st old new = where_stepped sets op st old new
+abbrev pub causes_of_slot_stepped : DeadSets → Option Op → State → Backing → Backing → Circumstances
+causes_of_slot_stepped sets None st old new = nothing_wrong
+causes_of_slot_stepped sets (Some op) st old new = causes_of_stepped sets op st old new
 
 -- the circumstances of a `next`: only a scan has entries to give
-abbrev pub where_asked_next : Ask → Circumstances
-where_asked_next (AskScan range) = nothing_wrong
-where_asked_next (AskInsert e) = record nothing_wrong { no_such_session = true }
-where_asked_next (AskBulkDelete dead) = record nothing_wrong { no_such_session = true }
-where_asked_next AskCleanup = record nothing_wrong { no_such_session = true }
+abbrev pub causes_of_asked_next : Ask → Circumstances
+causes_of_asked_next (AskScan range) = nothing_wrong
+causes_of_asked_next (AskInsert e) = record nothing_wrong { no_such_session = true }
+causes_of_asked_next (AskBulkDelete dead) = record nothing_wrong { no_such_session = true }
+causes_of_asked_next AskCleanup = record nothing_wrong { no_such_session = true }
 
 -- no call begins: the log failed before, or the count of calls begun is at its end
 abbrev pub no_call_begins : State → Backing → Bool
 no_call_begins st old = old.stopped || is_at_end st.begun
 
 -- the circumstances of a beginning
-abbrev pub where_beginning : State → Backing → Bool → Circumstances
-where_beginning st old busy = record nothing_wrong { is_stopped = no_call_begins st old; session_has_a_call = busy }
+abbrev pub causes_of_beginning : State → Backing → Bool → Circumstances
+causes_of_beginning st old busy = record nothing_wrong { is_stopped = no_call_begins st old; session_has_a_call = busy }
 
 -- a bulk delete runs: the store has its cycle number
 abbrev pub is_sweeping : State → Bool
 is_sweeping st = nat_lt 0 st.cycle
 
 -- ... of a call, which may be excluded by a bulk delete or a cleanup that runs
-abbrev pub where_requesting : Bool → State → Backing → Bool → Circumstances
-where_requesting excluded st old busy = record (where_beginning st old busy) { vacuum_runs = excluded }
+abbrev pub causes_of_requesting : Bool → State → Backing → Bool → Circumstances
+causes_of_requesting excluded st old busy = record (causes_of_beginning st old busy) { vacuum_runs = excluded }
 
 -- a fault that is left behind has its cause
 abbrev pub IsFaultCaused : Circumstances → Option Fault → Type 0
@@ -208,16 +208,16 @@ IsCaused at (Added action unfinished) = IsFaultCaused (once_added at) unfinished
 IsCaused at answer = Unit {0}
 
 -- what may be so where a step of this call is refused, whatever the pages are; the set that a bulk delete names may not be there
-abbrev pub where_stepped_any : Op → Circumstances
-where_stepped_any (Insert op) = where_inserting_any
-where_stepped_any (Scan op) = where_reading_any
-where_stepped_any (Bulk set op) = record where_writing_any { no_such_session = true }
-where_stepped_any (Cleanup op) = where_writing_any
+abbrev pub causes_of_stepped_any : Op → Circumstances
+causes_of_stepped_any (Insert op) = causes_of_inserting_any
+causes_of_stepped_any (Scan op) = causes_of_reading_any
+causes_of_stepped_any (Bulk set op) = record causes_of_writing_any { no_such_session = true }
+causes_of_stepped_any (Cleanup op) = causes_of_writing_any
 
 -- ... of what a session runs, if anything
-abbrev pub where_slot_stepped_any : Option Op → Circumstances
-where_slot_stepped_any None = record nothing_wrong { is_stopped = true; no_such_session = true }
-where_slot_stepped_any (Some op) = where_stepped_any op
+abbrev pub causes_of_slot_stepped_any : Option Op → Circumstances
+causes_of_slot_stepped_any None = record nothing_wrong { is_stopped = true; no_such_session = true }
+causes_of_slot_stepped_any (Some op) = causes_of_stepped_any op
 
 -- whether a fault ends the call: one that is blocked goes on, and so does one that the event doesn't fit
 abbrev pub ends_call : Fault → Bool
@@ -256,9 +256,9 @@ OpAnswers before after (Refused fault) = Unit {0}
 OpAnswers before after answer = ⊥
 
 -- on a stopped log a step is refused with `Stopped`; an insert whose entry is logged ends as added, with that fault
-abbrev pub AnswersStopped : Option ℕ → Answer → Type 0
-AnswersStopped None answer = answer ≡ Refused Stopped
-AnswersStopped (Some action) answer = answer ≡ Added action (Some Stopped)
+abbrev pub StoppedAnswersFirst : Option ℕ → Answer → Type 0
+StoppedAnswersFirst None answer = answer ≡ Refused Stopped
+StoppedAnswersFirst (Some action) answer = answer ≡ Added action (Some Stopped)
 
 -- once the entry of an insert is logged only a page that is blocked refuses a step, and it ends with the number of that action
 abbrev pub AnswersLogged : Option ℕ → Answer → Type 0

@@ -18,7 +18,7 @@ use Rattle.split_finish.specs.Targets.{OnlyTargetsAreFlagged}
 use Rattle.tree_acts.specs.Deletions.{StartsAreBelow}
 use Rattle.descent.specs.Steps.{IsApt, Changes}
 use Rattle.descent.specs.Shared.{IsInOrder, OthersRely, MovesFlags, DeletesLeaves, IsOneStep}
-use Rattle.page_delete.specs.Cleanups.{CleanupFits}
+use Rattle.page_delete.specs.Cleanups.{CleanupInvariant}
 use Rattle.page_delete.specs.Counts.{IsCleaned, AllIsCleaned, deleted_in}
 use Rattle.page_delete.specs.Ops.{cleanup_stats}
 use Rattle.page_delete.specs.Parts.{PinnedLeavesStay}
@@ -28,7 +28,7 @@ use Rattle.scan.specs.Scans.{waiting}
 use Rattle.vacuum.specs.Counts.{IsCounted, entries_below, stats_of}
 use Rattle.session_calls.specs.Ops.{set_at, ends_call}
 use Rattle.session_calls.specs.TheoremCalls.{DeadSets, asked_by, begun_call, acts_of}
-use Rattle.session_calls.specs.Ops.{op_before, session_of, asked_of, add_of, ready_of, OpFits, OpKnows, where_requesting, where_stepped_any, asks_sweep, is_sweep, IsOfSets, call_kind, IsCaused, is_last, OpAnswers, AnswersStopped, AnswersLogged, op_work, op_targets}
+use Rattle.session_calls.specs.Ops.{op_before, session_of, asked_of, add_of, ready_of, OpInvariant, OpKnows, causes_of_requesting, causes_of_stepped_any, asks_sweep, is_sweep, IsOfSets, call_kind, IsCaused, is_last, OpAnswers, StoppedAnswersFirst, AnswersLogged, op_work, op_targets}
 use Rattle.tree_acts.specs.Leaves.{LeavesStay, IsLeafAt}
 use Rattle.session_calls.specs.Sweeps.{OpSweeps, SlotSweeps}
 use Rattle.session_calls.specs.declared.answer.Answer.{Answer}
@@ -65,7 +65,7 @@ pub record OpRuns (st : State) (sets : DeadSets) (start : Entry → Bool) (histo
   pub session : session_of op ≡ call.session
   pub added : call.added ≡ add_of op
   pub started : HasStarted st call.session
-  pub fits : OpFits st op
+  pub fits : OpInvariant st op
   pub knows : OpKnows start history call.began call.given op
 
 -- the running call of this number, which this operation runs
@@ -180,10 +180,10 @@ OwesLess (Some (Cleanup op)) old new = Unit {0}
 
 -- a step that ends no call leaves less to do: each `Going` that owes it, and each `Ready` where all that was ready had been
 -- given
-abbrev pub LeavesLess : State → State → Option Op → Option Op → Answer → Type 0
-LeavesLess old new before after Going = OwesLess before old new → work_in new after < work_in old before
-LeavesLess old new before after (Ready count) = IsDrained before → work_in new after < work_in old before
-LeavesLess old new before after answer = Unit {0}
+abbrev pub StepLeavesLess : State → State → Option Op → Option Op → Answer → Type 0
+StepLeavesLess old new before after Going = OwesLess before old new → work_in new after < work_in old before
+StepLeavesLess old new before after (Ready count) = IsDrained before → work_in new after < work_in old before
+StepLeavesLess old new before after answer = Unit {0}
 
 -- while no act is done, no step leaves more to do
 abbrev pub LeavesNoMore : State → State → Option Op → Option Op → Type 0
@@ -254,17 +254,17 @@ abbrev pub let_go : Bool → ℕ → State → State
 let_go false session st = after_end session st
 let_go true session st = after_stop_cycle (after_end session st)
 
-abbrev pub after_call : Op → State → State
-after_call op st = let_go (is_sweep op) (session_of op) st
+abbrev pub op_after_call : Op → State → State
+op_after_call op st = let_go (is_sweep op) (session_of op) st
 
 -- ... of what a session runs, if anything
 abbrev pub after_slot : Option Op → State → State
 after_slot None st = st
-after_slot (Some op) st = after_call op st
+after_slot (Some op) st = op_after_call op st
 
 -- a refusal ends the call, or leaves it as it was; nothing else is changed
 pub record StepIsRefused (old new : State) (op : Op) (after : Option Op) (fault : Fault) : Type 0 where
-  pub state : new ≡ (if ends_call fault then after_call op old else old)
+  pub state : new ≡ (if ends_call fault then op_after_call op old else old)
   pub slot_is : after ≡ (if ends_call fault then None else Some op)
 
 -- a refused step changes nothing, but that the call is over, unless it was refused with Blocked or NoSession
@@ -275,7 +275,7 @@ RefusalChangesNothing old new (Some op) after answer = Unit {0}
 
 -- a step that tells of a fault which leaves a split unfinished has changed nothing, but that the call is over
 abbrev pub UnfinishedChangesNothing : State → State → Option Op → Answer → Type 0
-UnfinishedChangesNothing old new (Some op) (Added action (Some fault)) = new ≡ after_call op old
+UnfinishedChangesNothing old new (Some op) (Added action (Some fault)) = new ≡ op_after_call op old
 UnfinishedChangesNothing old new before answer = Unit {0}
 
 -- On any pages an event does one act at most, and with none the pages are as they were; so are limits, frames and the
@@ -348,7 +348,8 @@ pub record Works (session : ℕ) (ask : Ask) (effect : Option Effect) (old new :
 -- others may rely; the cycle number stays until a bulk delete ends, and with it leaves stay, or are split as a bulk delete
 -- needs, but for a cleanup's; those that others have pinned stay; the call goes on meeting its definition; what the slot holds
 -- then; and what a bulk delete is to remove still.
-pub record SessionGoes (at : Circumstances) (old new : State) (sets : DeadSets) (start : Entry → Bool) (history : List Action) (number : ℕ) (call : Call) (slot : Option Op) (answer : Answer) : Type 0 where
+pub record SessionGoes (at : Circumstances) (old new : State) (sets : DeadSets) (start : Entry → Bool) (history : List Action) (number : ℕ)
+    (call : Call) (slot : Option Op) (answer : Answer) : Type 0 where
   pub effect : Option Effect
   pub after : Call
   pub asked : IsAsked (contents_after start history) call.ask call.added effect
@@ -459,7 +460,7 @@ abbrev pub CountsEntries : DeadSets → State → State → Option Op → Option
 CountsEntries sets old new (Some (Bulk set op)) after answer =
     IsCounted (set_at sets set) old op → SlotIsCounted sets new after × TellsAllEntries new answer
 CountsEntries sets old new (Some (Cleanup op)) after answer =
-    CleanupFits old op → IsCleaned old op → SlotIsCounted sets new after × TellsAllCleaned new answer
+    CleanupInvariant old op → IsCleaned old op → SlotIsCounted sets new after × TellsAllCleaned new answer
 CountsEntries sets old new before after answer = Unit {0}
 
 -- a cleanup that runs on leaves no empty leaf behind it that might leave the tree
@@ -479,7 +480,7 @@ LeavesNeeded st answer = Unit {0}
 -- tree
 abbrev pub SparesLeaves : State → State → Option Op → Option Op → Answer → Type 0
 SparesLeaves old new (Some (Cleanup op)) after answer =
-    IsInOrder old → StartsAreBelow old → CleanupFits old op → IsAlone old op.session → IsSparing old op
+    IsInOrder old → StartsAreBelow old → CleanupInvariant old op → IsAlone old op.session → IsSparing old op
     → SlotIsSparing new after × LeavesNeeded new answer
 SparesLeaves old new before after answer = Unit {0}
 
@@ -508,7 +509,7 @@ pub record IsBegun (old new : State) (session : ℕ) (request : Request) (exclud
 pub record IsNotBegun (old : State) (old_backing : Backing) (new : State) (excluded : Bool) (before after : Option Op) (fault : Fault) : Type 0 where
   pub state : new ≡ old
   pub slot_is : after ≡ before
-  pub cause : HasCause (where_requesting excluded old old_backing (is_busy before)) fault
+  pub cause : HasCause (causes_of_requesting excluded old old_backing (is_busy before)) fault
 
 -- what a beginning does, by what it answers
 abbrev pub BeginsBy : State → Backing → State → ℕ → Request → Bool → Option Op → Option Op → Answer → Type 0
@@ -541,15 +542,15 @@ pub record OpSteps {S : Type 0} (g : Ghosts S) (before after : Op) (old new : S)
   pub one_kind : call_kind after ≡ call_kind before
   pub kind : OpAnswers before after answer
   pub refused : (fault : Fault) → answer ≡ Refused fault → (g.state new ≡ g.state old) × (after ≡ before)
-  pub stopped : (g.backing old).stopped ≡ true → AnswersStopped (add_of before) answer
+  pub stopped : (g.backing old).stopped ≡ true → StoppedAnswersFirst (add_of before) answer
   pub unfinished : (action : ℕ) (fault : Fault) → answer ≡ Added action (Some fault) → g.state new ≡ g.state old
-  pub faults : IsCaused (where_stepped_any before) answer
+  pub faults : IsCaused (causes_of_stepped_any before) answer
   pub logged : AnswersLogged (add_of before) answer
   pub stats : TellsStats (g.state old) (Some before) answer
   pub waits : WaitsToGive (g.backing old).stopped (g.state old) (g.state new) (Some before) (Some after) answer
   pub kept : IsOneStep (g.state old) (g.state new)
   pub calm : OnlyWritersAct (Some before) (g.state old) (g.state new)
-  pub less : (g.backing new).honest ≡ true → LeavesLess (g.state old) (g.state new) (Some before) (Some after) answer
+  pub less : (g.backing new).honest ≡ true → StepLeavesLess (g.state old) (g.state new) (Some before) (Some after) answer
   pub no_more : (g.backing new).honest ≡ true → LeavesNoMore (g.state old) (g.state new) (Some before) (slot_after answer after)
 
 -- what the operation and its call are behind a step: the call is over, or the operation runs it on

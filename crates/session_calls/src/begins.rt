@@ -7,7 +7,7 @@ ghost use Rattle.index_model.specs.declared.entry.Entry.{Entry};
 ghost use Rattle.page_action.specs.States.{Continues};
 ghost use Rattle.session_calls.specs.Due.{HasSteps};
 ghost use Rattle.session_calls.specs.TheoremCalls.{DeadSets};
-ghost use Rattle.session_calls.specs.Ops.{op_before, asks_sweep, no_call_begins, where_requesting};
+ghost use Rattle.session_calls.specs.Ops.{op_before, asks_sweep, no_call_begins, causes_of_requesting};
 ghost use Rattle.session_calls.specs.Sessions.{Matches, IsIdle, BeginsBy, SessionBegins, after_request};
 ghost use Rattle.session_calls.specs.declared.request.Request.TheVariants.{Insert as ToInsert, Scan as ToScan, Bulk as ToBulk, Cleanup as ToCleanup};
 
@@ -151,7 +151,7 @@ fn start<S: PageStore>(
         → result ≡ Err Fault.Stopped }
     ensures refused { OnErr result (S.state store.new ≡ S.state store.old) }
     ensures cause { IfErr result
-        (HasCause (where_requesting excluded (S.state store.old) (S.backing store.old) busy)) }
+        (HasCause (causes_of_requesting excluded (S.state store.old) (S.backing store.old) busy)) }
 {
     let _number = session.number();
     let _limits = store.limits();

@@ -9,8 +9,8 @@ ghost use Rattle.page_action.specs.States.{State, Continues};
 ghost use Rattle.session_calls.specs.Due.{IsDueIn};
 ghost use Rattle.session_calls.specs.Following.{StepAlways, StepFollows};
 ghost use Rattle.session_calls.specs.TheoremCalls.{DeadSets};
-ghost use Rattle.session_calls.specs.Ops.{where_slot_stepped, where_asked_next, is_last, RunsOn};
-ghost use Rattle.session_calls.specs.Sessions.{SlotFits, SessionGoes, GivesLess, AnswersNext, AnswersEnd, RunsUntilLast, leaf_of, no_call, after_call};
+ghost use Rattle.session_calls.specs.Ops.{causes_of_slot_stepped, causes_of_asked_next, is_last, RunsOn};
+ghost use Rattle.session_calls.specs.Sessions.{SlotFits, SessionGoes, GivesLess, AnswersNext, AnswersEnd, RunsUntilLast, leaf_of, no_call, op_after_call};
 ghost use Rattle.session_calls.specs.declared.op.Op.{Op};
 
 use crate::answer::Answer;
@@ -40,7 +40,7 @@ pub(crate) fn step<S: PageStore, T: DeadRows>(
     ensures goes { (S.backing store.new).honest ≡ true
         → (start : Entry → Bool) (history : List Action) (number : ℕ) (call : Call)
         → SlotFits (S.state store.old) (map T.is_in sets.now) start history number call slot.old
-        → SessionGoes (where_slot_stepped (map T.is_in sets.now) slot.old (S.state store.old)
+        → SessionGoes (causes_of_slot_stepped (map T.is_in sets.now) slot.old (S.state store.old)
         (S.backing store.old) (S.backing store.new))
         (S.state store.old) (S.state store.new) (map T.is_in sets.now) start history number call
         slot.new result }
@@ -67,7 +67,7 @@ pub(crate) fn step<S: PageStore, T: DeadRows>(
 fn let_go<S: PageStore>(store: &mut S, op: &Op)
     ensures steps { Continues S.follows store.old store.new }
     ensures backing { S.backing store.new ≡ S.backing store.old }
-    ensures state { S.state store.new ≡ after_call op.now (S.state store.old) }
+    ensures state { S.state store.new ≡ op_after_call op.now (S.state store.old) }
 {
     store.end(op.session());
     if op.is_sweep() {
@@ -97,7 +97,7 @@ pub(crate) fn next(slot: &mut Slot) -> Answer
     ensures goes { (st : State) (sets : DeadSets) (start : Entry → Bool) (history : List Action)
         (number : ℕ) (call : Call)
         → SlotFits st sets start history number call slot.old
-        → SessionGoes (where_asked_next call.ask) st st sets start history number call slot.new
+        → SessionGoes (causes_of_asked_next call.ask) st st sets start history number call slot.new
         result }
     ensures due { (st : State) (steps : ℕ) → IsDueIn st slot.old steps
         → IsDueIn st slot.new steps }
@@ -122,7 +122,7 @@ pub(crate) fn end<S: PageStore>(store: &mut S, slot: &mut Slot) -> Answer
     ensures over { slot.new ≡ None }
     ensures backing { S.backing store.new ≡ S.backing store.old }
     ensures given_up { (op : Op) → slot.old ≡ Some op
-        → S.state store.new ≡ after_call op (S.state store.old) }
+        → S.state store.new ≡ op_after_call op (S.state store.old) }
     ensures goes { (sets : DeadSets) (start : Entry → Bool) (history : List Action) (number : ℕ)
         (call : Call)
         → SlotFits (S.state store.old) sets start history number call slot.old

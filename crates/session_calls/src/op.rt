@@ -29,8 +29,8 @@ pub enum Op {
 }
 
 impl Op {
-    ghost use Rattle.session_calls.specs.Due.{IsDueIn, CountsDown};
-    ghost use Rattle.session_calls.specs.Ops.{op_before, session_of, is_vacuum, is_sweep, add_of, ready_of, OpFits, where_stepped};
+    ghost use Rattle.session_calls.specs.Due.{IsDueIn, DueCountsDown};
+    ghost use Rattle.session_calls.specs.Ops.{op_before, session_of, is_vacuum, is_sweep, add_of, ready_of, OpInvariant, causes_of_stepped};
     ghost use Rattle.session_calls.specs.Sessions.{CallFits, OpSteps, OpGoes, OnlyOwnAreFlagged, LeavesOwnFlagged, StandsByAnswer, KeepsBeforePins, CountsEntries, CountsPages, SparesLeaves, slot_after};
 
     /// The call that a session asks for, before its first step.
@@ -106,17 +106,17 @@ impl Op {
         ensures goes { (S.backing store.new).honest ≡ true
             → (start : Entry → Bool) (history : List Action) (number : ℕ) (call : Call)
             → CallFits (S.state store.old) (map T.is_in sets.now) start history number call self.old
-            → OpGoes (where_stepped (map T.is_in sets.now) self.old (S.state store.old)
+            → OpGoes (causes_of_stepped (map T.is_in sets.now) self.old (S.state store.old)
             (S.backing store.old) (S.backing store.new))
             (S.state store.old) (S.state store.new) (map T.is_in sets.now) start history number
             call self.new result }
         ensures flagged { (S.backing store.new).honest ≡ true → IsInOrder (S.state store.old)
-            → StartsAreBelow (S.state store.old) → OpFits (S.state store.old) self.old
+            → StartsAreBelow (S.state store.old) → OpInvariant (S.state store.old) self.old
             → OnlyOwnAreFlagged (S.state store.old) (Some self.old)
             → LeavesOwnFlagged (S.state store.new) (Some self.old) (slot_after result self.new)
             result }
         ensures stands { (S.backing store.new).honest ≡ true → IsInOrder (S.state store.old)
-            → OpFits (S.state store.old) self.old
+            → OpInvariant (S.state store.old) self.old
             → StandsByAnswer (S.state store.new) (Some self.old) (slot_after result self.new)
             result }
         ensures pins { (S.backing store.new).honest ≡ true
@@ -132,9 +132,9 @@ impl Op {
             → SparesLeaves (S.state store.old) (S.state store.new) (Some self.old)
             (slot_after result self.new) result }
         ensures due { (S.backing store.new).honest ≡ true → IsInOrder (S.state store.old)
-            → OpFits (S.state store.old) self.old
+            → OpInvariant (S.state store.old) self.old
             → (left : ℕ) → IsDueIn (S.state store.old) (Some self.old) (suc left)
-            → CountsDown (S.state store.old) (S.state store.new) (Some self.old)
+            → DueCountsDown (S.state store.old) (S.state store.new) (Some self.old)
             (slot_after result self.new) left result }
     {
         match self {

@@ -13,9 +13,9 @@ use Rattle.worker_seats.proofs.Queueing.{nat_cases}
 use Rattle.worker_seats.proofs.Rows.{get_snoc, set_here, set_else, set_cases}
 use Rattle.sessions.specs.Acted.{KeepsRunning, AreOfRunning, EndsCall, AreOfRecord, AreOfPending, IsKnown, HasActed}
 use Rattle.sessions.specs.Handed.{Handed, IsAsHanded}
-use Rattle.sessions.specs.Jobs.{event_of, IsRoomOf, IsWithin}
+use Rattle.sessions.specs.Jobs.{event_of, IsRoomOf, IsWithinRoom}
 use Rattle.sessions.specs.Kept.{record_of}
-use Rattle.sessions.specs.Transitions.{Moment, Transition, IsPath, Owner, OfRecord, OfSession, is_owner, owned_by, gifts_of}
+use Rattle.sessions.specs.Transitions.{LockMoment, Transition, IsPath, Owner, OfRecord, OfSession, is_owner, owned_by, gifts_of}
 use Rattle.sessions.specs.declared.job.Job.{Job}
 use Rattle.sessions.specs.declared.job.Job.TheVariants.{Scan}
 use Rattle.sessions.specs.declared.record.Record.{Record}
@@ -29,16 +29,17 @@ apart : (b : Bool) → b ≡ false → b ≡ true → ⊥
 apart b e f = absurd cc
 
 -- one path behind the other
-pub path_append : {S : Type 0} (g : Ghosts S) (a : Moment S) (xs ys : List (Transition S)) (b c : Moment S) → IsPath g a xs b → IsPath g b ys c → IsPath g a (xs ++ ys) c
-path_append {S} g a [] ys b c one two = subst (λ (m : Moment S). IsPath g m ys c) one two
+pub path_append : {S : Type 0} (g : Ghosts S) (a : LockMoment S) (xs ys : List (Transition S)) (b c : LockMoment S) → IsPath g a xs b → IsPath g b ys c → IsPath g a (xs ++ ys) c
+path_append {S} g a [] ys b c one two = subst (λ (m : LockMoment S). IsPath g m ys c) one two
 path_append g a (x ∷ xs) ys b c one two = (one.0, one.1, path_append g x.behind xs ys b c one.2 two)
 
 -- the moment of this world with so many records
-abbrev pub moment_of : {S : Type 0} → StoreAndSlots S → ℕ → Moment S
+abbrev pub moment_of : {S : Type 0} → StoreAndSlots S → ℕ → LockMoment S
 moment_of here recorded = record { here = here; recorded = recorded }
 
 -- a job's call that has run on
-pub running_more : {S : Type 0} (g : Ghosts S) (s : ℕ) (job : Job) (seen from : ℕ) (given : List Entry) (ts us : List (Transition S)) → AllByRecursion (KeepsRunning g s) us → AreOfRunning g s job seen from given ts
+pub running_more : {S : Type 0} (g : Ghosts S) (s : ℕ) (job : Job) (seen from : ℕ) (given : List Entry) (ts us : List (Transition S))
+    → AllByRecursion (KeepsRunning g s) us → AreOfRunning g s job seen from given ts
     → AreOfRunning g s job seen from (given ++ gifts_of us) (ts ++ us)
 running_more {S} g s job seen from given ts us on r = record {
   first = r.first;
@@ -51,15 +52,16 @@ running_more {S} g s job seen from given ts us on r = record {
 }
 
 -- a room is never overrun
-pub within_its_room : (job : Job) (p : Pending) → IsRoomOf job (vec_capacity p.given) → IsWithin job p.given.items
+pub within_its_room : (job : Job) (p : Pending) → IsRoomOf job (vec_capacity p.given) → IsWithinRoom job p.given.items
 within_its_room (Scan range room) p is = (let cap : vec_capacity p.given ≡ room = is in let long = p.given.ok.0 in let fits = p.given.ok.1 in omega (arith, cap, long, fits))
 within_its_room job p is = tt
 
-pub nothing_within : (job : Job) (given : List Entry) → given ≡ [] → IsWithin job given
+pub nothing_within : (job : Job) (given : List Entry) → given ≡ [] → IsWithinRoom job given
 nothing_within (Scan range room) given e = (let n = ap (λ (l : List Entry). length l) e in omega (arith, n))
 nothing_within job given e = tt
 
-module _ {S : Type 0} (g : Ghosts S) (handed : Handed) (jobs : List Job) (w v : StoreAndSlots S) (pending : List (Option Pending)) (records : List Record) (a : HasActed g handed jobs w pending records) where
+module _ {S : Type 0} (g : Ghosts S) (handed : Handed) (jobs : List Job) (w v : StoreAndSlots S) (pending : List (Option Pending))
+    (records : List Record) (a : HasActed g handed jobs w pending records) where
   abbrev n : ℕ
   n = length records
 
@@ -93,7 +95,8 @@ module _ {S : Type 0} (g : Ghosts S) (handed : Handed) (jobs : List Job) (w v : 
       (nat_cases t s)
 
   -- a job begins in a session
-  pub acts_begun : (s : ℕ) (p : Pending) (job : Job) → slice_get pending s ≡ Some None → slice_get jobs p.job ≡ Some job → IsRoomOf job (vec_capacity p.given) → p.from ≡ (g.state w.store).acts → p.seen ≡ n → p.given.items ≡ []
+  pub acts_begun : (s : ℕ) (p : Pending) (job : Job) → slice_get pending s ≡ Some None → slice_get jobs p.job ≡ Some job
+      → IsRoomOf job (vec_capacity p.given) → p.from ≡ (g.state w.store).acts → p.seen ≡ n → p.given.items ≡ []
       → Makes g (kind_of (event_of s job)) Begun w v → HasActed g handed jobs v (slice_set pending s (Some p)) records
   acts_begun s p job idle is room from seen none makes =
       let t : Transition S = record { event = event_of s job; answer = Begun; before = moment_of w n; behind = moment_of v n } in
@@ -117,9 +120,11 @@ module _ {S : Type 0} (g : Ghosts S) (handed : Handed) (jobs : List Job) (w v : 
         known = all_both _ a.owners (owners_for (OfSession s) us) (all_so (IsKnown pending records) _ a.owners (known_runs s p None idle) a.known) ((p, set_here pending s None (Some p) idle), tt);
         recorded = λ place r at. subst (AreOfRecord g jobs place r) (sym (owned_else (OfRecord place) (OfSession s) a.owners a.transitions us a.long refl)) (a.recorded place r at);
         running = λ u q at. ⊎_elim
-            (λ (x : (u ≡ s) × (Some p ≡ Some q)). subst (λ (y : ℕ × Pending). AreOfPending g jobs y.0 y.1 (owned_by (OfSession y.0) (a.owners ++ owners_for (OfSession s) us) (a.transitions ++ us))) (λ i. (sym x.0 i, some_same x.1 i))
+            (λ (x : (u ≡ s) × (Some p ≡ Some q)).
+            subst (λ (y : ℕ × Pending). AreOfPending g jobs y.0 y.1 (owned_by (OfSession y.0) (a.owners ++ owners_for (OfSession s) us) (a.transitions ++ us))) (λ i. (sym x.0 i, some_same x.1 i))
             (subst (AreOfPending g jobs s p) (sym mine) own))
-            (λ (x : (u ≢ s) × (slice_get pending u ≡ Some (Some q))). subst (AreOfPending g jobs u q) (sym (owned_else (OfSession u) (OfSession s) a.owners a.transitions us a.long (other_test u s x.0))) (a.running u q x.1))
+            (λ (x : (u ≢ s) × (slice_get pending u ≡ Some (Some q))).
+            subst (AreOfPending g jobs u q) (sym (owned_else (OfSession u) (OfSession s) a.owners a.transitions us a.long (other_test u s x.0))) (a.running u q x.1))
             (set_cases pending s u (Some p) (Some q) at);
       }
 
@@ -159,7 +164,8 @@ module _ {S : Type 0} (g : Ghosts S) (handed : Handed) (jobs : List Job) (w v : 
         recorded = λ place q at. ⊎_elim
             (λ (x : (place < n) × (slice_get records place ≡ Some q)). subst (AreOfRecord g jobs place q)
             (sym (owned_else (OfRecord place) (OfRecord n) a.owners a.transitions us a.long (other_test place n (λ e. omega (arith, e, x.0))))) (a.recorded place q x.1))
-            (λ (x : (place ≡ n) × (r ≡ q)). subst (λ (y : ℕ × Record). AreOfRecord g jobs y.0 y.1 (owned_by (OfRecord y.0) (a.owners ++ owners_for (OfRecord n) us) (a.transitions ++ us))) (λ i. (sym x.0 i, x.1 i))
+            (λ (x : (place ≡ n) × (r ≡ q)).
+            subst (λ (y : ℕ × Record). AreOfRecord g jobs y.0 y.1 (owned_by (OfRecord y.0) (a.owners ++ owners_for (OfRecord n) us) (a.transitions ++ us))) (λ i. (sym x.0 i, x.1 i))
             (subst (AreOfRecord g jobs n r) (sym mine) own))
             (get_snoc records r q place at);
         running = λ u q at. subst (AreOfPending g jobs u q) (sym (owned_else (OfSession u) (OfRecord n) a.owners a.transitions us a.long refl)) (a.running u q at);
@@ -194,14 +200,17 @@ module _ {S : Type 0} (g : Ghosts S) (handed : Handed) (jobs : List Job) (w v : 
             (all_for (IsKnown (slice_set pending s (Some q)) records) (OfSession s) us (q, set_here pending s (Some p) (Some q) at));
         recorded = λ place r h. subst (AreOfRecord g jobs place r) (sym (owned_else (OfRecord place) (OfSession s) a.owners a.transitions us a.long refl)) (a.recorded place r h);
         running = λ u x h. ⊎_elim
-            (λ (y : (u ≡ s) × (Some q ≡ Some x)). subst (λ (z : ℕ × Pending). AreOfPending g jobs z.0 z.1 (owned_by (OfSession z.0) (a.owners ++ owners_for (OfSession s) us) (a.transitions ++ us))) (λ i. (sym y.0 i, some_same y.1 i))
+            (λ (y : (u ≡ s) × (Some q ≡ Some x)).
+            subst (λ (z : ℕ × Pending). AreOfPending g jobs z.0 z.1 (owned_by (OfSession z.0) (a.owners ++ owners_for (OfSession s) us) (a.transitions ++ us))) (λ i. (sym y.0 i, some_same y.1 i))
             (subst (AreOfPending g jobs s q) (sym (owned_own (OfSession s) a.owners a.transitions us a.long)) own))
-            (λ (y : (u ≢ s) × (slice_get pending u ≡ Some (Some x))). subst (AreOfPending g jobs u x) (sym (owned_else (OfSession u) (OfSession s) a.owners a.transitions us a.long (other_test u s y.0))) (a.running u x y.1))
+            (λ (y : (u ≢ s) × (slice_get pending u ≡ Some (Some x))).
+            subst (AreOfPending g jobs u x) (sym (owned_else (OfSession u) (OfSession s) a.owners a.transitions us a.long (other_test u s y.0))) (a.running u x y.1))
             (set_cases pending s u (Some q) (Some x) h);
       }
 
   -- a running job ends
-  pub acts_ended : (s : ℕ) (p : Pending) (at : slice_get pending s ≡ Some (Some p)) (answer : Answer) (to : ℕ) → (more last : List (Transition S)) → AllByRecursion (KeepsRunning g s) more → gifts_of more ≡ []
+  pub acts_ended : (s : ℕ) (p : Pending) (at : slice_get pending s ≡ Some (Some p)) (answer : Answer) (to : ℕ) → (more last : List (Transition S))
+      → AllByRecursion (KeepsRunning g s) more → gifts_of more ≡ []
       → IsPath g (moment_of w n) (more ++ last) (moment_of v (length (records ++ record_of s p answer to ∷ []))) → EndsCall g (a.running s p at).job n (record_of s p answer to) last
       → HasActed g handed jobs v (slice_set pending s None) (records ++ record_of s p answer to ∷ [])
   acts_ended s p at answer to more last on none path ends =
@@ -241,7 +250,9 @@ module _ {S : Type 0} (g : Ghosts S) (handed : Handed) (jobs : List Job) (w v : 
         recorded = λ place q h. ⊎_elim
             (λ (x : (place < n) × (slice_get records place ≡ Some q)). subst (AreOfRecord g jobs place q)
             (sym (owned_by_other_record s n owners ts place (λ e. omega (arith, e, x.0)) ∙ owned_else (OfRecord place) (OfSession s) a.owners a.transitions us a.long refl)) (a.recorded place q x.1))
-            (λ (x : (place ≡ n) × (r ≡ q)). subst (λ (y : ℕ × Record). AreOfRecord g jobs y.0 y.1 (owned_by (OfRecord y.0) (map (handed_over s n) owners) ts)) (λ i. (sym x.0 i, x.1 i)) (subst (AreOfRecord g jobs n r) (sym mine) own))
+            (λ (x : (place ≡ n) × (r ≡ q)).
+            subst (λ (y : ℕ × Record). AreOfRecord g jobs y.0 y.1 (owned_by (OfRecord y.0) (map (handed_over s n) owners) ts))
+            (λ i. (sym x.0 i, x.1 i)) (subst (AreOfRecord g jobs n r) (sym mine) own))
             (get_snoc records r q place h);
         running = λ u x h. ⊎_elim
             (λ (y : (u ≡ s) × (None ≡ Some x)). absurd (let e = y.1 in cc))
@@ -275,7 +286,8 @@ acts_first g handed jobs w pending was none = record {
 }
 
 -- where no job runs, each transition is of a record
-pub acts_all_done : {S : Type 0} (g : Ghosts S) (handed : Handed) (jobs : List Job) (w : StoreAndSlots S) (pending : List (Option Pending)) (records : List Record) → ((s : ℕ) (p : Pending) → slice_get pending s ≡ Some (Some p) → ⊥)
+pub acts_all_done : {S : Type 0} (g : Ghosts S) (handed : Handed) (jobs : List Job) (w : StoreAndSlots S) (pending : List (Option Pending))
+    (records : List Record) → ((s : ℕ) (p : Pending) → slice_get pending s ≡ Some (Some p) → ⊥)
     → HasActed g handed jobs w pending records → HasActed g handed jobs w [] records
 acts_all_done g handed jobs w pending records none a = record {
   first = a.first;

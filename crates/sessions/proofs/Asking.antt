@@ -27,7 +27,7 @@ use Rattle.sessions.specs.declared.job.Job.{Job}
 use Rattle.sessions.specs.declared.job.Job.TheVariants.{Scan}
 use Rattle.sessions.specs.declared.record.Record.{Record}
 use Rattle.sessions.specs.declared.record.Pending.{Pending}
-use Rattle.sessions.specs.Doing.{IsDone, MayBeDone, HasTaken, IsFullScan, given_behind}
+use Rattle.sessions.specs.Doing.{IsEventDone, MayBeDone, HasTaken, IsFullScan, given_behind}
 use Rattle.sessions.specs.Jobs.{IsRoomOf, request_of}
 use Rattle.sessions.specs.Kept.{IsCut, KeepsAll, record_of}
 use Rattle.sessions.proofs.Happening.{keeps_going, keeps_ended}
@@ -55,7 +55,8 @@ ended_of None answer busy h = absurd cc
 ended_of (Some op) answer busy h = h
 
 -- a scan that is given up rightly: its room is full, and another match may come next
-cut_is : (start : Entry → Bool) (l more : List Action) (sets : DeadSets) (job : Job) (request : Request) (call : Call) (s : ℕ) (p : Pending) (answer : Answer) (to ready : ℕ) → request_of job ≡ Some request → call.ask ≡ asked_by sets request
+cut_is : (start : Entry → Bool) (l more : List Action) (sets : DeadSets) (job : Job) (request : Request) (call : Call) (s : ℕ) (p : Pending)
+    (answer : Answer) (to ready : ℕ) → request_of job ≡ Some request → call.ask ≡ asked_by sets request
     → call.began ≡ p.from → call.given ≡ p.given.items → IsRoomOf job (vec_capacity p.given) → IsFullScan job (Some p) ready → length l ≤ to
     → ((range : Range) → call.ask ≡ AskScan range → 0 < ready → MayComeNext start l range call.began (length l) call.given) → IsCut start (l ++ more) job (record_of s p answer to)
 cut_is start l more sets (Scan range room) request call s p answer to ready asks ask began given is full le next =
@@ -70,15 +71,17 @@ cut_is start l more sets (Scan range room) request call s p answer to ready asks
     )
   where
     full_room : length p.given.items ≡ room
-    full_room = (let cap : vec_capacity p.given ≡ room = is in let over : vec_capacity p.given ≤ vec_len p.given = full.0 in let long = p.given.ok.0 in let fits = p.given.ok.1 in omega (arith, cap, over, long, fits))
+    full_room = (let cap : vec_capacity p.given ≡ room = is in let over : vec_capacity p.given ≤ vec_len p.given = full.0 in let long =
+        p.given.ok.0 in let fits = p.given.ok.1 in omega (arith, cap, over, long, fits))
 cut_is start l more sets job request call s p answer to ready asks ask began given is full le next = absurd full
 
-module _ {S : Type 0} (g : Ghosts S) (laws : Laws g) (one : OneCallRuns g) (jobs : List Job) (stood kept_then : (Entry → Bool) → List Action → List Call → Type 0) (w v : StoreAndSlots S) (steps : Continues g.follows w.store v.store) (sets : v.sets ≡ w.sets)
+module _ {S : Type 0} (g : Ghosts S) (laws : Laws g) (one : OneCallRuns g) (jobs : List Job)
+    (stood kept_then : (Entry → Bool) → List Action → List Call → Type 0) (w v : StoreAndSlots S) (steps : Continues g.follows w.store v.store) (sets : v.sets ≡ w.sets)
     (start : ℕ) (pending : List (Option Pending)) (records : List Record) (s : ℕ) (p : Pending) (at : slice_get pending s ≡ Some (Some p)) (runs : has_call w.slots s ≡ true) where
   later : IsLater (g.backing w.store) (g.backing v.store)
   later = laws.follows_later w.store v.store (steps w.store (laws.follows_same w.store))
 
-  goes_on : (answer : Answer) → IsDone g (Next s) answer w v → is_last answer ≡ false
+  goes_on : (answer : Answer) → IsEventDone g (Next s) answer w v → is_last answer ≡ false
   goes_on answer did = next_on answer (slot_of w.slots s) (slot_of v.slots s) did.always.less did.always.until_last (busy_is w.slots s ∙ runs)
 
   -- asking for the next entry
@@ -109,13 +112,14 @@ module _ {S : Type 0} (g : Ghosts S) (laws : Laws g) (one : OneCallRuns g) (jobs
   next_goes_on (Some told) did answer e = (let same : told ≡ answer = some_same e in ap is_last (sym same) ∙ goes_on told did)
 
   -- giving the call up
-  pub end_answers : (answer : Answer) → IsDone g (End s) answer w v → answer ≡ Ended
+  pub end_answers : (answer : Answer) → IsEventDone g (End s) answer w v → answer ≡ Ended
   end_answers answer did = ended_of (slot_of w.slots s) answer (busy_is w.slots s ∙ runs) did.always.answers
 
-  pub end_runs : (answer : Answer) → IsDone g (End s) answer w v → (has_call v.slots s ≡ false) × OthersRunOn w.slots v.slots s
+  pub end_runs : (answer : Answer) → IsEventDone g (End s) answer w v → (has_call v.slots s ≡ false) × OthersRunOn w.slots v.slots s
   end_runs answer did = (sym (busy_is v.slots s) ∙ ap is_busy did.always.left.over, others_run_on w.slots v.slots s (did.always.others s refl))
 
-  pub end_keeps : ReadyMayComeNext g → (answer : Answer) → IsDone g (End s) answer w v → (asked : Job) → slice_get jobs p.job ≡ Some asked → IsFullScan asked (Some p) (ready_count (slot_of w.slots s)) → (to : ℕ) → to ≡ (g.state v.store).acts
+  pub end_keeps : ReadyMayComeNext g → (answer : Answer) → IsEventDone g (End s) answer w v → (asked : Job) → slice_get jobs p.job ≡ Some asked
+      → IsFullScan asked (Some p) (ready_count (slot_of w.slots s)) → (to : ℕ) → to ≡ (g.state v.store).acts
       → KeepsAll g stood kept_then jobs w start pending records → KeepsAll g stood kept_then jobs v start (slice_set pending s None) (records ++ record_of s p answer to ∷ [])
   end_keeps law answer did asked is full to to_is all honest contents acts calls so =
       let k = all (later.honest honest) contents acts calls so in

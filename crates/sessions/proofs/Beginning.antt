@@ -17,12 +17,12 @@ use Rattle.session_calls.specs.declared.op.Op.{Op}
 use Rattle.session_calls.specs.declared.request.Request.{Request}
 use Rattle.session_calls.specs.declared.request.Request.TheVariants.{Insert as ToInsert, Scan as ToScan, Bulk as ToBulk, Cleanup as ToCleanup}
 use Rattle.schedule.specs.CallLists.{RefusedCallsFit}
-use Rattle.schedule.specs.Events.{AnswersEvent, AnswersBeginning, EventAlways, UpkeepIsDone, Stays, kept_answer, where_begun_at}
+use Rattle.schedule.specs.Events.{AnswersEvent, AnswersBeginning, EventAlways, UpkeepIsDone, Stays, kept_answer, causes_of_begun_at}
 use Rattle.schedule.specs.Making.{EventDoes}
 use Rattle.schedule.specs.TheoremCrashes.{KeepsHistory}
 use Rattle.schedule.specs.TheoremKinds.{Upkeep, Forces, Flushes, Checkpoints, Kind, BeginsCall, KeepsStore, kind_of}
-use Rattle.schedule.specs.TheoremMoments.{StoreAndSlots, Snapshot, snapshot_of}
-use Rattle.schedule.specs.TheoremRuns.{Carries, EventFollows, Fits}
+use Rattle.schedule.specs.TheoremMoments.{StoreAndSlots, Moment, snapshot_of}
+use Rattle.schedule.specs.TheoremRuns.{ForEachHistory, EventFollows, Fits}
 use Rattle.schedule.specs.declared.event.Event.{Event}
 use Rattle.schedule.proofs.Fitting.{goes_does}
 use Rattle.schedule.proofs.Keeping.{Laws}
@@ -33,7 +33,7 @@ use Rattle.sessions.specs.declared.job.Job.TheVariants.{Insert, Scan, Bulk, Clea
 use Rattle.sessions.specs.declared.record.Record.{Record}
 use Rattle.sessions.specs.declared.record.Pending.{Pending}
 use Rattle.sessions.specs.Jobs.{request_of, upkeep_of, begins, IsRoomOf}
-use Rattle.sessions.specs.Kept.{IsBlocked, Keeps, KeepsAll, record_of}
+use Rattle.sessions.specs.Kept.{IsBlocked, KeepsFitting, KeepsAll, record_of}
 use Rattle.sessions.proofs.Noting.{set_same, busy_is, OthersRunOn}
 use Rattle.sessions.proofs.Happening.{keeps_begun, keeps_refused, keeps_upkept}
 
@@ -63,7 +63,8 @@ refused_of (Refused fault) h n = (fault, refl)
 refused_of a h n = absurd h
 
 -- no beginning is blocked
-begins_settled : {S : Type 0} (g : Ghosts S) (store : S) (vacuums : Bool) (sets : DeadSets) (request : Request) (slot : Option (Option Op)) (fault : Fault) → HasCause (where_begun_at g store vacuums sets request slot) fault
+begins_settled : {S : Type 0} (g : Ghosts S) (store : S) (vacuums : Bool) (sets : DeadSets) (request : Request) (slot : Option (Option Op))
+    (fault : Fault) → HasCause (causes_of_begun_at g store vacuums sets request slot) fault
     → IsBlocked (Refused fault) → ⊥
 begins_settled g store vacuums sets request None (Blocked block) cause h = absurd (let no : false ≡ true = cause in cc)
 begins_settled g store vacuums sets request (Some slot) (Blocked block) cause h = absurd (let no : false ≡ true = cause in cc)
@@ -87,7 +88,7 @@ checkpointed_not : (n : ℕ) (fault : Fault) → Some (Checkpointed n) ≡ Some 
 checkpointed_not n fault e = absurd cc
 
 -- the number that a commit or a checkpoint tells
-kept_of : {S : Type 0} (g : Ghosts S) (upkeep : Upkeep) (answer : Answer) (x y : Snapshot S) → UpkeepIsDone g upkeep answer x y ⊎ Stays g answer x y
+kept_of : {S : Type 0} (g : Ghosts S) (upkeep : Upkeep) (answer : Answer) (x y : Moment S) → UpkeepIsDone g upkeep answer x y ⊎ Stays g answer x y
     → (count : ℕ) → kept_answer upkeep count ≡ Some answer → (count ≡ length x.history) × (count ≤ (g.backing y.store).durable)
 kept_of g Forces answer x y (inl d) count e = (let n = forced_same count (length x.history) (e ∙ sym d.tells.told) in let durable = d.tells.durable in (n, omega (arith, n, durable)))
 kept_of g Checkpoints answer x y (inl d) count e = (let n = checkpointed_same count (length x.history) (e ∙ sym d.tells.told) in let durable = d.tells.durable in (n, omega (arith, n, durable)))
@@ -95,9 +96,12 @@ kept_of g Forces answer x y (inr h) count e = absurd (forced_not count h.fault (
 kept_of g Checkpoints answer x y (inr h) count e = absurd (checkpointed_not count h.fault (e ∙ ap Some h.refused))
 kept_of g Flushes answer x y h count e = absurd cc
 
-module _ {S : Type 0} (g : Ghosts S) (laws : Laws g) (jobs : List Job) (stood kept_then : (Entry → Bool) → List Action → List Call → Type 0) (w v : StoreAndSlots S) (steps : Continues g.follows w.store v.store) (sets : v.sets ≡ w.sets)
-    (start : ℕ) (pending : List (Option Pending)) (records : List Record) (s : ℕ) (p : Pending) (idle : slice_get pending s ≡ Some None) (job : Job) (is : slice_get jobs p.job ≡ Some job) (event : Event) (kind : kind_of event ≡ begins s job) (answer : Answer)
-    (goes : Carries g w v (EventFollows g w v event answer)) (always : EventAlways g (begins s job) answer w v) (from : p.from ≡ (g.state w.store).acts) (seen : p.seen ≡ length records) (given : p.given.items ≡ [])
+module _ {S : Type 0} (g : Ghosts S) (laws : Laws g) (jobs : List Job) (stood kept_then : (Entry → Bool) → List Action → List Call → Type 0)
+    (w v : StoreAndSlots S) (steps : Continues g.follows w.store v.store) (sets : v.sets ≡ w.sets)
+    (start : ℕ) (pending : List (Option Pending)) (records : List Record) (s : ℕ) (p : Pending) (idle : slice_get pending s ≡ Some None) (job : Job)
+    (is : slice_get jobs p.job ≡ Some job) (event : Event) (kind : kind_of event ≡ begins s job) (answer : Answer)
+    (goes : ForEachHistory g w v (EventFollows g w v event answer)) (always : EventAlways g (begins s job) answer w v)
+    (from : p.from ≡ (g.state w.store).acts) (seen : p.seen ≡ length records) (given : p.given.items ≡ [])
     (room : IsRoomOf job (vec_capacity p.given)) where
   later : IsLater (g.backing w.store) (g.backing v.store)
   later = laws.follows_later w.store v.store (steps w.store (laws.follows_same w.store))
@@ -106,7 +110,7 @@ module _ {S : Type 0} (g : Ghosts S) (laws : Laws g) (jobs : List Job) (stood ke
   pub begin_keeps_begun : answer ≡ Begun → KeepsAll g stood kept_then jobs w start pending records → KeepsAll g stood kept_then jobs v start (slice_set pending s (Some p)) records
   begin_keeps_begun told all honest contents acts calls so = by (asks_one s job)
     where
-      by : AsksCall s job ⊎ AsksStore s job → Keeps g jobs contents acts calls (kept_then contents acts calls) v start (slice_set pending s (Some p)) records
+      by : AsksCall s job ⊎ AsksStore s job → KeepsFitting g jobs contents acts calls (kept_then contents acts calls) v start (slice_set pending s (Some p)) records
       by (inl a) =
           let k = all (later.honest honest) contents acts calls so in
           let r = goes honest contents k.history k.calls k.fit in
@@ -114,17 +118,20 @@ module _ {S : Type 0} (g : Ghosts S) (laws : Laws g) (jobs : List Job) (stood ke
           let new = snapshot_of v r.then_history r.then_calls in
           let does = subst (λ (kd : Kind). EventDoes g contents kd answer was new) (kind ∙ a.kind) (goes_does r.goes) in
           let b : HasBegun s a.request was new = subst (λ (x : Answer). BeginTold s a.request (begun_of x) was new) told (begins_told g contents s a.request answer was new does) in
-          keeps_begun g jobs contents acts calls (kept_then contents acts calls) w v sets start pending records k later.durable s p job a.request idle is a.asks (from ∙ k.fit.explains.count) seen given room
-          (subst (λ (m : Snapshot S). Fits g contents m) (λ i. snapshot_of v (b.history_is i) (b.calls_is i)) r.fits)
-          (λ h. subst (λ (m : Snapshot S). KeepsHistory g contents m) (λ i. snapshot_of v (b.history_is i) (b.calls_is i)) (r.goes.crash h).keeps)
-      by (inr a) = absurd (upkeep_not_begun a.upkeep w.slots v.slots (subst (λ (x : Answer). AnswersEvent (KeepsStore a.upkeep) x w.slots v.slots) told (subst (λ (kd : Kind). AnswersEvent kd answer w.slots v.slots) a.kind always.answers)))
+          keeps_begun g jobs contents acts calls (kept_then contents acts calls) w v sets start pending records k later.durable s p job a.request idle
+          is a.asks (from ∙ k.fit.explains.count) seen given room
+          (subst (λ (m : Moment S). Fits g contents m) (λ i. snapshot_of v (b.history_is i) (b.calls_is i)) r.fits)
+          (λ h. subst (λ (m : Moment S). KeepsHistory g contents m) (λ i. snapshot_of v (b.history_is i) (b.calls_is i)) (r.goes.crash h).keeps)
+      by (inr a) = absurd (upkeep_not_begun a.upkeep w.slots v.slots
+          (subst (λ (x : Answer). AnswersEvent (KeepsStore a.upkeep) x w.slots v.slots) told (subst (λ (kd : Kind). AnswersEvent kd answer w.slots v.slots) a.kind always.answers)))
 
   -- it is refused as it begins, or is done whole
   pub begin_keeps_done : RefusedCallsFit g → (answer ≡ Begun → ⊥) → s < length v.slots → KeepsAll g stood kept_then jobs w start pending records
       → KeepsAll g stood kept_then jobs v start pending (records ++ record_of s p answer p.from ∷ [])
-  begin_keeps_done law never within all honest contents acts calls so = subst (λ l. Keeps g jobs contents acts calls (kept_then contents acts calls) v start l (records ++ record_of s p answer p.from ∷ [])) (set_same pending s None idle) (by (asks_one s job))
+  begin_keeps_done law never within all honest contents acts calls so =
+      subst (λ l. KeepsFitting g jobs contents acts calls (kept_then contents acts calls) v start l (records ++ record_of s p answer p.from ∷ [])) (set_same pending s None idle) (by (asks_one s job))
     where
-      by : AsksCall s job ⊎ AsksStore s job → Keeps g jobs contents acts calls (kept_then contents acts calls) v start (slice_set pending s None) (records ++ record_of s p answer p.from ∷ [])
+      by : AsksCall s job ⊎ AsksStore s job → KeepsFitting g jobs contents acts calls (kept_then contents acts calls) v start (slice_set pending s None) (records ++ record_of s p answer p.from ∷ [])
       by (inl a) =
           let k = all (later.honest honest) contents acts calls so in
           let r = goes honest contents k.history k.calls k.fit in
@@ -133,12 +140,15 @@ module _ {S : Type 0} (g : Ghosts S) (laws : Laws g) (jobs : List Job) (stood ke
           let does = subst (λ (kd : Kind). EventDoes g contents kd answer was new) (kind ∙ a.kind) (goes_does r.goes) in
           let f = refused_of answer (subst (λ (kd : Kind). AnswersEvent kd answer w.slots v.slots) a.kind always.answers) never in
           let t : NothingTold f.0 was new = subst (λ (x : Answer). BeginTold s a.request (begun_of x) was new) f.1 (begins_told g contents s a.request answer was new does) in
-          let fits = subst (λ (m : Snapshot S). Fits g contents m) (λ i. snapshot_of v (t.silent.history_is i) (t.silent.calls_is i)) r.fits in
-          let keeps = λ (h : KeepsHistory g contents was). subst (λ (m : Snapshot S). KeepsHistory g contents m) (λ i. snapshot_of v (t.silent.history_is i) (t.silent.calls_is i)) (r.goes.crash h).keeps in
-          subst (λ (x : Answer). Keeps g jobs contents acts calls (kept_then contents acts calls) v start (slice_set pending s None) (records ++ record_of s p x p.from ∷ [])) (sym f.1)
-          (keeps_refused g jobs contents acts calls (kept_then contents acts calls) w v sets start pending records k later.durable s p job a.request f.0 idle is a.asks (from ∙ k.fit.explains.count) seen given
+          let fits = subst (λ (m : Moment S). Fits g contents m) (λ i. snapshot_of v (t.silent.history_is i) (t.silent.calls_is i)) r.fits in
+          let keeps = λ (h : KeepsHistory g contents was).
+          subst (λ (m : Moment S). KeepsHistory g contents m) (λ i. snapshot_of v (t.silent.history_is i) (t.silent.calls_is i)) (r.goes.crash h).keeps in
+          subst (λ (x : Answer). KeepsFitting g jobs contents acts calls (kept_then contents acts calls) v start (slice_set pending s None) (records ++ record_of s p x p.from ∷ [])) (sym f.1)
+          (keeps_refused g jobs contents acts calls (kept_then contents acts calls) w v sets start pending records k later.durable s p job a.request
+          f.0 idle is a.asks (from ∙ k.fit.explains.count) seen given
           (begins_settled g w.store (one_vacuums w.slots) w.sets a.request (slice_get w.slots s) f.0
-          (subst (λ (x : Answer). IsCaused (where_begun_at g w.store (one_vacuums w.slots) w.sets a.request (slice_get w.slots s)) x) f.1 (subst (λ (kd : Kind). EventAlways g kd answer w v) a.kind always).causes))
+          (subst (λ (x : Answer). IsCaused (causes_of_begun_at g w.store (one_vacuums w.slots) w.sets a.request (slice_get w.slots s)) x) f.1
+          (subst (λ (kd : Kind). EventAlways g kd answer w v) a.kind always).causes))
           (law contents (snapshot_of v k.history k.calls) s (asked_by w.sets a.request) f.0 fits within t.not_exists t.not_key_exists)
           (λ h. (let kept = keeps h in record { own = kept.own; parts = kept.parts; durable = kept.durable })))
       by (inr a) =
@@ -149,11 +159,12 @@ module _ {S : Type 0} (g : Ghosts S) (laws : Laws g) (jobs : List Job) (stood ke
           let does = subst (λ (kd : Kind). EventDoes g contents kd answer was new) (kind ∙ a.kind) (goes_does r.goes) in
           let silent : IsSilent was new = keeps_silent g contents a.upkeep answer was new does in
           let since : p.from ≡ length k.history = from ∙ k.fit.explains.count in
-          keeps_upkept g jobs contents acts calls (kept_then contents acts calls) w v sets start pending records k later.durable s p job a.upkeep answer idle is a.asks since seen (ap (λ (l : List Entry). length l) given)
+          keeps_upkept g jobs contents acts calls (kept_then contents acts calls) w v sets start pending records k later.durable s p job a.upkeep
+          answer idle is a.asks since seen (ap (λ (l : List Entry). length l) given)
           (subst (λ (kd : Kind). AnswersEvent kd answer w.slots v.slots) a.kind always.answers)
           (λ count e. (let n = kept_of g a.upkeep answer was new does.also.happens count e in (n.0 ∙ sym since, n.1)))
-          (subst (λ (m : Snapshot S). Fits g contents m) (λ i. snapshot_of v (silent.history_is i) (silent.calls_is i)) r.fits)
-          (λ h. subst (λ (m : Snapshot S). KeepsHistory g contents m) (λ i. snapshot_of v (silent.history_is i) (silent.calls_is i)) (r.goes.crash h).keeps)
+          (subst (λ (m : Moment S). Fits g contents m) (λ i. snapshot_of v (silent.history_is i) (silent.calls_is i)) r.fits)
+          (λ h. subst (λ (m : Moment S). KeepsHistory g contents m) (λ i. snapshot_of v (silent.history_is i) (silent.calls_is i)) (r.goes.crash h).keeps)
 
   -- what the sessions run: its own has begun a call
   pub begin_runs : answer ≡ Begun → (has_call v.slots s ≡ true) × OthersRunOn w.slots v.slots s
@@ -163,7 +174,8 @@ module _ {S : Type 0} (g : Ghosts S) (laws : Laws g) (jobs : List Job) (stood ke
       by (inl a) =
           let m = subst (λ (kd : Kind). EventAlways g kd answer w v) a.kind always in
           (sym (busy_is v.slots s) ∙ rw (m.fresh told) refl, (λ t n. ap slot_has_call (m.others s refl t n)))
-      by (inr a) = absurd (upkeep_not_begun a.upkeep w.slots v.slots (subst (λ (x : Answer). AnswersEvent (KeepsStore a.upkeep) x w.slots v.slots) told (subst (λ (kd : Kind). AnswersEvent kd answer w.slots v.slots) a.kind always.answers)))
+      by (inr a) = absurd (upkeep_not_begun a.upkeep w.slots v.slots
+          (subst (λ (x : Answer). AnswersEvent (KeepsStore a.upkeep) x w.slots v.slots) told (subst (λ (kd : Kind). AnswersEvent kd answer w.slots v.slots) a.kind always.answers)))
 
   -- ... or all as before
   pub done_runs : (answer ≡ Begun → ⊥) → (t : ℕ) → has_call v.slots t ≡ has_call w.slots t

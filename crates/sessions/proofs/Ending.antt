@@ -13,7 +13,7 @@ use Rattle.sessions.specs.declared.job.Job.{Job}
 use Rattle.sessions.specs.declared.record.Record.{Record}
 use Rattle.sessions.specs.declared.record.Pending.{Pending}
 use Rattle.sessions.specs.Finishing.{AreIdle, jobs_of_records}
-use Rattle.sessions.specs.Kept.{Keeps, KeepsAll, Matches}
+use Rattle.sessions.specs.Kept.{KeepsFitting, KeepsAll, MatchesPending}
 use Rattle.sessions.specs.Notes.{note_of, notes_of, jobs_of}
 use Rattle.sessions.proofs.Noting.{none_there}
 
@@ -33,7 +33,8 @@ within_list (y ∷ xs) zero x e = omega arith
 within_list (y ∷ xs) (suc k) x e = omega (arith, within_list xs k x e)
 
 -- where no session of the workers runs a job, none is pending
-pub none_waits : (pending : List (Option Pending)) → ((k : ℕ) → k < length pending → slice_get (jobs_of pending) k ≡ Some None) → (session : ℕ) (p : Pending) → slice_get pending session ≡ Some (Some p) → ⊥
+pub none_waits : (pending : List (Option Pending)) → ((k : ℕ) → k < length pending → slice_get (jobs_of pending) k ≡ Some None)
+    → (session : ℕ) (p : Pending) → slice_get pending session ≡ Some (Some p) → ⊥
 none_waits pending idle session p at =
     let none = none_there pending session (idle session (within_list pending session (Some p) at)) in
     clash (slice_get pending session) at none
@@ -42,7 +43,8 @@ none_waits pending idle session p at =
     clash o a b = absurd cc
 
 -- ... and no session at all has a call
-pub all_idle : (slots : List (Option Op)) (pending : List (Option Pending)) → ∥ Matches slots pending ∥₁ → ((k : ℕ) → k < length pending → slice_get (jobs_of pending) k ≡ Some None) → AreIdle slots
+pub all_idle : (slots : List (Option Op)) (pending : List (Option Pending)) → ∥ MatchesPending slots pending ∥₁
+    → ((k : ℕ) → k < length pending → slice_get (jobs_of pending) k ≡ Some None) → AreIdle slots
 all_idle slots pending m idle session = no (has_call slots session) (λ yes. ∥∥₁_elim m (λ x y. absurd x) (λ k. clash (has_call slots session) yes (rests k)))
   where
     lt_or : (a b : ℕ) → (a < b) ⊎ (b ≤ a)
@@ -50,7 +52,7 @@ all_idle slots pending m idle session = no (has_call slots session) (λ yes. ∥
     lt_or zero (suc b) = inl (omega arith)
     lt_or (suc a) (suc b) = ⊎_elim (λ l. inl (omega (arith, l))) (λ l. inr (omega (arith, l))) (lt_or a b)
 
-    rests : Matches slots pending → has_call slots session ≡ false
+    rests : MatchesPending slots pending → has_call slots session ≡ false
     rests k = ⊎_elim (λ l. k.rests session (none_there pending session (idle session l))) (λ l. k.beyond session l) (lt_or session (length pending))
 
     clash : (b : Bool) → b ≡ true → b ≡ false → ⊥
@@ -61,12 +63,14 @@ all_idle slots pending m idle session = no (has_call slots session) (λ yes. ∥
     no false f = refl
 
 -- what is kept, where no job is pending
-pub keeps_nothing_pending : {S : Type 0} (g : Ghosts S) (stood kept_then : (Entry → Bool) → List Action → List Call → Type 0) (jobs : List Job) (now : StoreAndSlots S) (start : ℕ) (pending : List (Option Pending)) (records : List Record)
+pub keeps_nothing_pending : {S : Type 0} (g : Ghosts S) (stood kept_then : (Entry → Bool) → List Action → List Call → Type 0) (jobs : List Job)
+    (now : StoreAndSlots S) (start : ℕ) (pending : List (Option Pending)) (records : List Record)
     → ((session : ℕ) (p : Pending) → slice_get pending session ≡ Some (Some p) → ⊥)
     → KeepsAll g stood kept_then jobs now start pending records → KeepsAll g stood kept_then jobs now start [] records
 keeps_nothing_pending g stood kept_then jobs now start pending records none all honest contents history calls so = done (all honest contents history calls so)
   where
-    done : Keeps g jobs contents history calls (kept_then contents history calls) now start pending records → Keeps g jobs contents history calls (kept_then contents history calls) now start [] records
+    done : KeepsFitting g jobs contents history calls (kept_then contents history calls) now start pending records
+        → KeepsFitting g jobs contents history calls (kept_then contents history calls) now start [] records
     done k = record {
       history = k.history;
       calls = k.calls;

@@ -18,7 +18,7 @@ use Rattle.sessions.specs.declared.record.Record.{Record}
 use Rattle.sessions.specs.declared.record.Pending.{Pending}
 use Rattle.sessions.specs.Finishing.{HasRun, IsFinished, IsReceiptFor, handed_of, jobs_of_records, receipt_of, records_of}
 use Rattle.sessions.specs.Handed.{Handed}
-use Rattle.sessions.specs.Kept.{Keeps}
+use Rattle.sessions.specs.Kept.{KeepsFitting}
 use Rattle.sessions.proofs.Ending.{within_list}
 use Rattle.sessions.proofs.Receipting.{all_below, as_many, each_once, get_mapped, got_mapped, one_place, place_of}
 
@@ -30,8 +30,9 @@ same_there : {A : Type 0} (o : Option A) (x y : A) → o ≡ Some x → o ≡ So
 same_there o x y e f = cc
 
 -- what is kept, where less was kept then
-keeps_as : {S : Type 0} (g : Ghosts S) (jobs : List Job) (contents : Entry → Bool) (old : List Action) (calls : List Call) (A B : Type 0) (now : StoreAndSlots S) (start : ℕ) (pending : List (Option Pending)) (records : List Record)
-    → (A → B) → Keeps g jobs contents old calls B now start pending records → Keeps g jobs contents old calls A now start pending records
+keeps_as : {S : Type 0} (g : Ghosts S) (jobs : List Job) (contents : Entry → Bool) (old : List Action) (calls : List Call) (A B : Type 0)
+    (now : StoreAndSlots S) (start : ℕ) (pending : List (Option Pending)) (records : List Record)
+    → (A → B) → KeepsFitting g jobs contents old calls B now start pending records → KeepsFitting g jobs contents old calls A now start pending records
 keeps_as g jobs contents old calls A B now start pending records f k = record {
   history = k.history;
   calls = k.calls;
@@ -53,7 +54,8 @@ keeps_as g jobs contents old calls A B now start pending records f k = record {
 }
 
 -- what a run has left, by which each record's job and worker have their places
-module _ {S T : Type 0} (g : Ghosts S) (rows : SetGhosts T) (stood kept_then : (Entry → Bool) → List Action → List Call → Type 0) (handed : Handed) (jobs : List Job) (workers : ℕ) (world : World S T) (start : ℕ) (records : List Record)
+module _ {S T : Type 0} (g : Ghosts S) (rows : SetGhosts T) (stood kept_then : (Entry → Bool) → List Action → List Call → Type 0) (handed : Handed)
+    (jobs : List Job) (workers : ℕ) (world : World S T) (start : ℕ) (records : List Record)
     (h : HasRun g rows stood kept_then handed jobs workers world start records) where
   pub job_below : (place : ℕ) (r : Record) → slice_get records place ≡ Some r → r.job < length jobs
   job_below place r at = all_below (length jobs) (jobs_of_records records) h.all place r.job (get_mapped (λ (x : Record). x.job) records place r at)
@@ -63,7 +65,8 @@ module _ {S T : Type 0} (g : Ghosts S) (rows : SetGhosts T) (stood kept_then : (
       one_place (jobs_of_records records) p q r.job (each_once (length jobs) (jobs_of_records records) h.all r.job (job_below p r at)) (get_mapped (λ (x : Record). x.job) records p r at)
       (get_mapped (λ (x : Record). x.job) records q t there ∙ ap Some (sym same))
 
-module _ {S T : Type 0} (g : Ghosts S) (rows : SetGhosts T) (stood kept_then : (Entry → Bool) → List Action → List Call → Type 0) (jobs : List Job) (workers : ℕ) (world : World S T) (done : Finished S T)
+module _ {S T : Type 0} (g : Ghosts S) (rows : SetGhosts T) (stood kept_then : (Entry → Bool) → List Action → List Call → Type 0) (jobs : List Job)
+    (workers : ℕ) (world : World S T) (done : Finished S T)
     (h : HasRun g rows stood kept_then (handed_of g rows world) jobs workers done.world done.start done.history.items)
     (fits : (contents : Entry → Bool) (history : List Action) (calls : List Call) → WorldFits g rows world contents history calls → stood contents history calls)
     (keeps : (contents : Entry → Bool) (history : List Action) (calls : List Call) → WorldKeeps g rows world contents history calls → kept_then contents history calls)
@@ -91,7 +94,8 @@ module _ {S T : Type 0} (g : Ghosts S) (rows : SetGhosts T) (stood kept_then : (
 
   pub finished : IsFinished g rows jobs workers world done
   finished = record {
-    kept = ∥∥₁_map h.kept (λ all honest contents history calls fit. keeps_as g jobs contents history calls (WorldKeeps g rows world contents history calls) (kept_then contents history calls) _ done.start [] records
+    kept = ∥∥₁_map h.kept
+        (λ all honest contents history calls fit. keeps_as g jobs contents history calls (WorldKeeps g rows world contents history calls) (kept_then contents history calls) _ done.start [] records
         (keeps contents history calls) (all honest contents history calls (fits contents history calls fit)));
     acted = h.acted;
     comes = h.comes;
@@ -102,6 +106,7 @@ module _ {S T : Type 0} (g : Ghosts S) (rows : SetGhosts T) (stood kept_then : (
     each = λ job. if_some (slice_get done.receipts.items job) (IsReceiptFor records job) (receipt_for job);
     workers_are = wide;
     calls = λ worker. if_some (slice_get done.calls.items worker) (λ n. n ≡ records_of worker records)
-        (λ n at. same_there (slice_get done.calls.items worker) n (records_of worker records) at (counted worker (let inside = within_list done.calls.items worker n at in omega (arith, inside, wide))));
+        (λ n at. same_there (slice_get done.calls.items worker) n (records_of worker records) at
+        (counted worker (let inside = within_list done.calls.items worker n at in omega (arith, inside, wide))));
     summed = summed;
   }

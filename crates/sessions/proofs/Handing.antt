@@ -8,7 +8,8 @@ use Rattle.schedule.proofs.Keeping.{Laws}
 use Rattle.session_calls.specs.declared.op.Op.{Op}
 use Rattle.sessions.specs.Handed.{Handed, IsAsHanded, ComesOf}
 
-pub comes_on : {S : Type 0} (g : Ghosts S) (laws : Laws g) (first : Handed) (start : ℕ) (w v : StoreAndSlots S) → Continues g.follows w.store v.store → length v.slots ≡ length w.slots → v.sets ≡ w.sets
+pub comes_on : {S : Type 0} (g : Ghosts S) (laws : Laws g) (first : Handed) (start : ℕ) (w v : StoreAndSlots S) → Continues g.follows w.store v.store
+    → length v.slots ≡ length w.slots → v.sets ≡ w.sets
     → ComesOf g first start w → ComesOf g first start v
 comes_on g laws first start w v steps slots sets c = record {
   start_is = c.start_is;

@@ -15,7 +15,7 @@ use Rattle.sessions.specs.declared.job.Job.{Job}
 use Rattle.sessions.specs.declared.job.Job.TheVariants.{Scan}
 use Rattle.sessions.specs.declared.record.Record.{Record}
 use Rattle.sessions.specs.declared.record.Pending.{Pending}
-use Rattle.sessions.specs.Kept.{IsCut, ListsCall, ListsUpkeep, Lists, RunsJob, IsPending, IsOurs, Follows, IsSince, IsInTime, Keeps}
+use Rattle.sessions.specs.Kept.{IsCut, ListsCall, ListsUpkeep, Lists, RunsJob, IsPending, IsOurs, RecordFollows, IsSince, IsInTime, KeepsFitting}
 
 pub some_same : {A : Type 0} {x y : A} → Some x ≡ Some y → x ≡ y
 some_same e = cc
@@ -49,9 +49,10 @@ cut_later start l m job r le h = absurd h
 abbrev pub AllBy : ℕ → List Action → Type 0
 AllBy number more = (place : ℕ) (action : Action) → slice_get more place ≡ Some action → action.by ≡ number
 
-module _ {S : Type 0} (g : Ghosts S) (jobs : List Job) (contents : Entry → Bool) (acts : List Action) (old : List Call) (KeptThen : Type 0) (w v : StoreAndSlots S) (sets_same : v.sets ≡ w.sets) (start : ℕ) (pending : List (Option Pending)) (records : List Record) where
+module _ {S : Type 0} (g : Ghosts S) (jobs : List Job) (contents : Entry → Bool) (acts : List Action) (old : List Call) (KeptThen : Type 0)
+    (w v : StoreAndSlots S) (sets_same : v.sets ≡ w.sets) (start : ℕ) (pending : List (Option Pending)) (records : List Record) where
   abbrev pub Kept : Type 0
-  Kept = Keeps g jobs contents acts old KeptThen w start pending records
+  Kept = KeepsFitting g jobs contents acts old KeptThen w start pending records
 
   -- an event of one session changes no call but that of this number
   pub record Touches (k : Kept) (s i : ℕ) (more : List Action) (calls : List Call) : Type 0 where
@@ -70,7 +71,7 @@ module _ {S : Type 0} (g : Ghosts S) (jobs : List Job) (contents : Entry → Boo
     pub less : (g.backing w.store).durable ≤ (g.backing v.store).durable
 
   -- every record's call ended by now
-  pub follows_now : (k : Kept) (s from : ℕ) → from ≡ length k.history → Follows records s (length records) from
+  pub follows_now : (k : Kept) (s from : ℕ) → from ≡ length k.history → RecordFollows records s (length records) from
   follows_now k s from e q r h same = (get_within records q r h, omega (arith, e, (k.in_time q r h).to_is))
 
   -- what is listed are calls that ended
@@ -236,7 +237,7 @@ module _ {S : Type 0} (g : Ghosts S) (jobs : List Job) (contents : Entry → Boo
     -- no record is made
     pub keeps_on : (i < length calls → IsOurs calls k.at then_pending i)
         → ((q : Pending) → o ≡ Some q → RunsJob v.sets jobs (length old) calls s q × IsSince records (length (k.history ++ more)) s q.seen q.from)
-        → Keeps g jobs contents acts old KeptThen v start then_pending records
+        → KeepsFitting g jobs contents acts old KeptThen v start then_pending records
     keeps_on mine own =
         let long = length-append k.history more in
         record {
@@ -251,7 +252,8 @@ module _ {S : Type 0} (g : Ghosts S) (jobs : List Job) (contents : Entry → Boo
           ours = λ j a b. subst (λ l. IsOurs calls l then_pending j) (append-nil k.at) (ours_kept [] (λ l. subst (λ x. IsOurs calls x then_pending i) (sym (append-nil k.at)) (mine l)) j a b);
           owned = owned_kept;
           long = k.long;
-          listed = λ q r h. subst (λ l. Lists contents (k.history ++ more) (g.backing v.store).durable v.sets jobs calls l q r) (append-nil k.at) (lists_kept [] q r (k.in_time q r h).to_is (k.listed q r h));
+          listed = λ q r h. subst (λ l. Lists contents (k.history ++ more) (g.backing v.store).durable v.sets jobs calls l q r) (append-nil k.at)
+              (lists_kept [] q r (k.in_time q r h).to_is (k.listed q r h));
           once = k.once;
           runs = λ u q h. ⊎_elim
               (λ (x : (u ≡ s) × (o ≡ Some q)). subst (λ n. RunsJob v.sets jobs (length old) calls n q) (sym x.0) (own q x.1).0)
@@ -270,8 +272,8 @@ module _ {S : Type 0} (g : Ghosts S) (jobs : List Job) (contents : Entry → Boo
         → (i < length calls → IsOurs calls (k.at ++ entry ∷ []) then_pending i)
         → Lists contents (k.history ++ more) (g.backing v.store).durable v.sets jobs calls (k.at ++ entry ∷ []) (length records) r
         → IsInTime (length (k.history ++ more)) (length records) r
-        → Follows records s r.seen r.from
-        → Keeps g jobs contents acts old KeptThen v start then_pending (records ++ r ∷ [])
+        → RecordFollows records s r.seen r.from
+        → KeepsFitting g jobs contents acts old KeptThen v start then_pending (records ++ r ∷ [])
     keeps_with r worker none entry fresh mine listed in_time follows =
         let long = length-append k.history more in
         let one = entry ∷ [] in
@@ -290,7 +292,8 @@ module _ {S : Type 0} (g : Ghosts S) (jobs : List Job) (contents : Entry → Boo
           long = omega (arith, k.long, length-append k.at one, longer);
           listed = λ q u h. ⊎_elim
               (λ (x : (q < length records) × (slice_get records q ≡ Some u)). lists_kept one q u (k.in_time q u x.1).to_is (k.listed q u x.1))
-              (λ (x : (q ≡ length records) × (r ≡ u)). subst (λ (y : ℕ × Record). Lists contents (k.history ++ more) (g.backing v.store).durable v.sets jobs calls (k.at ++ one) y.0 y.1) (λ z. (sym x.0 z, x.1 z)) listed)
+              (λ (x : (q ≡ length records) × (r ≡ u)).
+              subst (λ (y : ℕ × Record). Lists contents (k.history ++ more) (g.backing v.store).durable v.sets jobs calls (k.at ++ one) y.0 y.1) (λ z. (sym x.0 z, x.1 z)) listed)
               (get_snoc records r u q h);
           once = λ p q j x y. ⊎_elim
               (λ (a : (p < length k.at) × (slice_get k.at p ≡ Some (Some j))). ⊎_elim
@@ -318,9 +321,13 @@ module _ {S : Type 0} (g : Ghosts S) (jobs : List Job) (contents : Entry → Boo
               }))
               (set_cases pending s u o (Some q) h);
           behind = λ p q u z less x y same. ⊎_elim
-              (λ (m : (q < length records) × (slice_get records q ≡ Some z)). k.behind p q u z less (⊎_elim (λ (b : (p < length records) × (slice_get records p ≡ Some u)). b.1) (λ (b : (p ≡ length records) × (r ≡ u)). absurd (omega (arith, less, m.0, b.0))) (get_snoc records r u p x)) m.1 same)
+              (λ (m : (q < length records) × (slice_get records q ≡ Some z)).
+              k.behind p q u z less
+              (⊎_elim (λ (b : (p < length records) × (slice_get records p ≡ Some u)). b.1)
+              (λ (b : (p ≡ length records) × (r ≡ u)). absurd (omega (arith, less, m.0, b.0))) (get_snoc records r u p x)) m.1 same)
               (λ (m : (q ≡ length records) × (r ≡ z)). ⊎_elim
-              (λ (b : (p < length records) × (slice_get records p ≡ Some u)). subst (λ (d : Record). (p < d.seen) × (u.to ≤ d.from)) m.1 (follows p u b.1 (same ∙ ap (λ (d : Record). d.worker) (sym m.1) ∙ worker)))
+              (λ (b : (p < length records) × (slice_get records p ≡ Some u)).
+              subst (λ (d : Record). (p < d.seen) × (u.to ≤ d.from)) m.1 (follows p u b.1 (same ∙ ap (λ (d : Record). d.worker) (sym m.1) ∙ worker)))
               (λ (b : (p ≡ length records) × (r ≡ u)). absurd (omega (arith, less, m.0, b.0)))
               (get_snoc records r u p x))
               (get_snoc records r z q y);
@@ -331,10 +338,11 @@ module _ {S : Type 0} (g : Ghosts S) (jobs : List Job) (contents : Entry → Boo
         }
 
 -- a run begins with the world as it was handed in
-pub keeps_first : {S : Type 0} (g : Ghosts S) (jobs : List Job) (contents : Entry → Bool) (acts : List Action) (old : List Call) (KeptThen : Type 0) (w : StoreAndSlots S) (start : ℕ) (pending : List (Option Pending))
+pub keeps_first : {S : Type 0} (g : Ghosts S) (jobs : List Job) (contents : Entry → Bool) (acts : List Action) (old : List Call) (KeptThen : Type 0)
+    (w : StoreAndSlots S) (start : ℕ) (pending : List (Option Pending))
     → Fits g contents (snapshot_of w acts old) → (KeptThen → KeepsHistory g contents (snapshot_of w acts old)) → start ≡ length acts
     → ((s : ℕ) (p : Pending) → slice_get pending s ≡ Some (Some p) → ⊥)
-    → Keeps g jobs contents acts old KeptThen w start pending []
+    → KeepsFitting g jobs contents acts old KeptThen w start pending []
 keeps_first g jobs contents acts old KeptThen w start pending fit safe is none = record {
   history = acts;
   calls = old;

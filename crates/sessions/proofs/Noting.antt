@@ -13,7 +13,7 @@ use Rattle.session_calls.specs.declared.op.Op.{Op}
 use Rattle.sessions.specs.Turns.{is_begun}
 use Rattle.sessions.specs.declared.record.Record.{Record}
 use Rattle.sessions.specs.declared.record.Pending.{Pending}
-use Rattle.sessions.specs.Kept.{Matches}
+use Rattle.sessions.specs.Kept.{MatchesPending}
 use Rattle.sessions.specs.Notes.{note_of, notes_of, job_of, jobs_of}
 use Rattle.worker_seats.proofs.Queueing.{nat_cases}
 use Rattle.worker_seats.proofs.Rows.{get_within, set_cases}
@@ -84,7 +84,8 @@ last_of old new s answer until was =
     last_is (has_call old s) (has_call new s) (is_last answer) (sym (busy_is new s) ∙ until ∙ ap (λ b. b && not (is_last answer)) (busy_is old s)) was
 
 -- what a seat knows of its session
-pub seat_runs : (v : SeatView) (s : ℕ) (log : List (ℕ × ℕ)) (pending : List (Option Pending)) (o t : Option ℕ) → v ≡ keeper_of log (jobs_of pending) → slice_get v.running s ≡ Some o → o ≡ t → slice_get (jobs_of pending) s ≡ Some t
+pub seat_runs : (v : SeatView) (s : ℕ) (log : List (ℕ × ℕ)) (pending : List (Option Pending)) (o t : Option ℕ) → v ≡ keeper_of log (jobs_of pending)
+    → slice_get v.running s ≡ Some o → o ≡ t → slice_get (jobs_of pending) s ≡ Some t
 seat_runs v s log pending o t knows at is = ap (λ (x : SeatView). slice_get x.running s) (sym knows) ∙ at ∙ ap Some is
 
 -- which sessions run a call
@@ -94,7 +95,7 @@ OthersRunOn old new s = (t : ℕ) → t ≢ s → has_call new t ≡ has_call ol
 pub others_run_on : (old new : List (Option Op)) (s : ℕ) → OthersStay s old new → OthersRunOn old new s
 others_run_on old new s others t n = ap slot_has_call (others t n)
 
-pub runs_there : (slots : List (Option Op)) (pending : List (Option Pending)) (s : ℕ) (p : Pending) → ∥ Matches slots pending ∥₁ → slice_get pending s ≡ Some (Some p) → has_call slots s ≡ true
+pub runs_there : (slots : List (Option Op)) (pending : List (Option Pending)) (s : ℕ) (p : Pending) → ∥ MatchesPending slots pending ∥₁ → slice_get pending s ≡ Some (Some p) → has_call slots s ≡ true
 runs_there slots pending s p m e = yes (has_call slots s) (λ no. ∥∥₁_elim m (λ x y. absurd x) (λ k. clash (has_call slots s) (k.runs s p e) no))
   where
     clash : (b : Bool) → b ≡ true → b ≡ false → ⊥
@@ -104,7 +105,7 @@ runs_there slots pending s p m e = yes (has_call slots s) (λ no. ∥∥₁_elim
     yes true f = refl
     yes false f = absurd (f refl)
 
-pub idle_there : (slots : List (Option Op)) (pending : List (Option Pending)) (s : ℕ) → ∥ Matches slots pending ∥₁ → slice_get pending s ≡ Some None → has_call slots s ≡ false
+pub idle_there : (slots : List (Option Op)) (pending : List (Option Pending)) (s : ℕ) → ∥ MatchesPending slots pending ∥₁ → slice_get pending s ≡ Some None → has_call slots s ≡ false
 idle_there slots pending s m e = no (has_call slots s) (λ yes. ∥∥₁_elim m (λ x y. absurd x) (λ k. clash (has_call slots s) yes (k.rests s e)))
   where
     clash : (b : Bool) → b ≡ true → b ≡ false → ⊥
@@ -114,7 +115,8 @@ idle_there slots pending s m e = no (has_call slots s) (λ yes. ∥∥₁_elim m
     no true f = absurd (f refl)
     no false f = refl
 
-pub matches_runs : (old new : List (Option Op)) (pending : List (Option Pending)) (s : ℕ) (p : Pending) → s < length pending → has_call new s ≡ true → OthersRunOn old new s → Matches old pending → Matches new (slice_set pending s (Some p))
+pub matches_runs : (old new : List (Option Op)) (pending : List (Option Pending)) (s : ℕ) (p : Pending) → s < length pending → has_call new s ≡ true
+    → OthersRunOn old new s → MatchesPending old pending → MatchesPending new (slice_set pending s (Some p))
 matches_runs old new pending s p inside now others m = record {
   runs = λ t q h. ⊎_elim
       (λ (x : (t ≡ s) × (Some p ≡ Some q)). ap (λ n. has_call new n) x.0 ∙ now)
@@ -127,7 +129,8 @@ matches_runs old new pending s p inside now others m = record {
   beyond = λ t l. let long = length-set pending s (Some p) in others t (λ e. omega (arith, e, l, long, inside)) ∙ m.beyond t (omega (arith, l, long));
 }
 
-pub matches_ends : (old new : List (Option Op)) (pending : List (Option Pending)) (s : ℕ) → has_call new s ≡ false → OthersRunOn old new s → Matches old pending → Matches new (slice_set pending s None)
+pub matches_ends : (old new : List (Option Op)) (pending : List (Option Pending)) (s : ℕ) → has_call new s ≡ false → OthersRunOn old new s
+    → MatchesPending old pending → MatchesPending new (slice_set pending s None)
 matches_ends old new pending s now others m = record {
   runs = λ t q h. ⊎_elim
       (λ (x : (t ≡ s) × (None ≡ Some q)). absurd (let e = x.1 in cc))
@@ -143,8 +146,9 @@ matches_ends old new pending s now others m = record {
       (nat_cases t s);
 }
 
-pub matches_goes : (old new : List (Option Op)) (pending : List (Option Pending)) (s : ℕ) (p : Pending) → slice_get pending s ≡ Some (Some p) → has_call new s ≡ true → OthersRunOn old new s → Matches old pending → Matches new pending
-matches_goes old new pending s p e now others m = subst (Matches new) (set_same pending s (Some p) e) (matches_runs old new pending s p (get_within pending s (Some p) e) now others m)
+pub matches_goes : (old new : List (Option Op)) (pending : List (Option Pending)) (s : ℕ) (p : Pending) → slice_get pending s ≡ Some (Some p)
+    → has_call new s ≡ true → OthersRunOn old new s → MatchesPending old pending → MatchesPending new pending
+matches_goes old new pending s p e now others m = subst (MatchesPending new) (set_same pending s (Some p) e) (matches_runs old new pending s p (get_within pending s (Some p) e) now others m)
 
 pub begun_is : (a : Answer) → is_begun a ≡ true → a ≡ Begun
 begun_is Begun h = refl
@@ -156,5 +160,5 @@ not_begun a h e = clash (is_begun a) h (ap is_begun e)
     clash : (b : Bool) → b ≡ false → b ≡ true → ⊥
     clash b x y = absurd cc
 
-pub matches_stays : (old new : List (Option Op)) (pending : List (Option Pending)) → ((t : ℕ) → has_call new t ≡ has_call old t) → Matches old pending → Matches new pending
+pub matches_stays : (old new : List (Option Op)) (pending : List (Option Pending)) → ((t : ℕ) → has_call new t ≡ has_call old t) → MatchesPending old pending → MatchesPending new pending
 matches_stays old new pending same m = record { runs = λ t q h. same t ∙ m.runs t q h; rests = λ t h. same t ∙ m.rests t h; beyond = λ t l. same t ∙ m.beyond t l }

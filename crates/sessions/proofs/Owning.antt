@@ -49,20 +49,24 @@ module _ {S : Type 0} where
   all_for P owner [] h = tt
   all_for P owner (t ∷ ts) h = (h, all_for P owner ts h)
 
-  pub owned_append : (owner : Owner) (owners more : List Owner) (ts us : List (Transition S)) → length owners ≡ length ts → owned_by owner (owners ++ more) (ts ++ us) ≡ owned_by owner owners ts ++ owned_by owner more us
+  pub owned_append : (owner : Owner) (owners more : List Owner) (ts us : List (Transition S)) → length owners ≡ length ts
+      → owned_by owner (owners ++ more) (ts ++ us) ≡ owned_by owner owners ts ++ owned_by owner more us
   owned_append owner [] more [] us e = refl
   owned_append owner [] more (t ∷ ts) us e = absurd (omega (arith, e))
   owned_append owner (x ∷ owners) more [] us e = absurd (omega (arith, e))
   owned_append owner (x ∷ owners) more (t ∷ ts) us e = by (owned_append owner owners more ts us (omega (arith, e))) (is_owner owner x)
     where
-      by : owned_by owner (owners ++ more) (ts ++ us) ≡ owned_by owner owners ts ++ owned_by owner more us → (b : Bool) → (if b then t ∷ owned_by owner (owners ++ more) (ts ++ us) else owned_by owner (owners ++ more) (ts ++ us)) ≡ (if b then t ∷ owned_by owner owners ts else owned_by owner owners ts) ++ owned_by owner more us
+      by : owned_by owner (owners ++ more) (ts ++ us) ≡ owned_by owner owners ts ++ owned_by owner more us → (b : Bool)
+          → (if b then t ∷ owned_by owner (owners ++ more) (ts ++ us) else owned_by owner (owners ++ more) (ts ++ us)) ≡
+          (if b then t ∷ owned_by owner owners ts else owned_by owner owners ts) ++ owned_by owner more us
       by rest true = ap (λ (l : List (Transition S)). t ∷ l) rest
       by rest false = rest
 
   owned_all : (owner : Owner) (us : List (Transition S)) → owned_by owner (owners_for owner us) us ≡ us
   owned_all owner [] = refl
   owned_all owner (t ∷ us) =
-      ap (λ (b : Bool). if b then t ∷ owned_by owner (owners_for owner us) us else owned_by owner (owners_for owner us) us) (is_owner-self owner) ∙ ap (λ (l : List (Transition S)). t ∷ l) (owned_all owner us)
+      ap (λ (b : Bool). if b then t ∷ owned_by owner (owners_for owner us) us else owned_by owner (owners_for owner us) us) (is_owner-self owner)
+      ∙ ap (λ (l : List (Transition S)). t ∷ l) (owned_all owner us)
 
   -- what nobody owns
   pub owned_nobody : (owner : Owner) (owners : List Owner) (ts : List (Transition S)) → AllByRecursion (λ x. is_owner owner x ≡ false) owners → owned_by owner owners ts ≡ []
@@ -72,10 +76,12 @@ module _ {S : Type 0} where
       ap (λ (b : Bool). if b then t ∷ owned_by owner owners ts else owned_by owner owners ts) all.0 ∙ owned_nobody owner owners ts all.1
 
   -- behind more of one owner: his own, and those of another
-  pub owned_own : (owner : Owner) (owners : List Owner) (ts us : List (Transition S)) → length owners ≡ length ts → owned_by owner (owners ++ owners_for owner us) (ts ++ us) ≡ owned_by owner owners ts ++ us
+  pub owned_own : (owner : Owner) (owners : List Owner) (ts us : List (Transition S)) → length owners ≡ length ts
+      → owned_by owner (owners ++ owners_for owner us) (ts ++ us) ≡ owned_by owner owners ts ++ us
   owned_own owner owners ts us e = owned_append owner owners (owners_for owner us) ts us e ∙ ap (λ (l : List (Transition S)). owned_by owner owners ts ++ l) (owned_all owner us)
 
-  pub owned_else : (owner other : Owner) (owners : List Owner) (ts us : List (Transition S)) → length owners ≡ length ts → is_owner owner other ≡ false → owned_by owner (owners ++ owners_for other us) (ts ++ us) ≡ owned_by owner owners ts
+  pub owned_else : (owner other : Owner) (owners : List Owner) (ts us : List (Transition S)) → length owners ≡ length ts
+      → is_owner owner other ≡ false → owned_by owner (owners ++ owners_for other us) (ts ++ us) ≡ owned_by owner owners ts
   owned_else owner other owners ts us e apart =
       owned_append owner owners (owners_for other us) ts us e
       ∙ ap (λ (l : List (Transition S)). owned_by owner owners ts ++ l) (owned_nobody owner (owners_for other us) us (all_for (λ x. is_owner owner x ≡ false) other us apart))
@@ -86,7 +92,8 @@ module _ {S : Type 0} where
       append_nil (t ∷ l) = ap (λ (k : List (Transition S)). t ∷ k) (append_nil l)
 
   -- owners under other names
-  owned_mapped : (m : Owner → Owner) (owner was : Owner) (owners : List Owner) (ts : List (Transition S)) → AllByRecursion (λ x. is_owner owner (m x) ≡ is_owner was x) owners → owned_by owner (map m owners) ts ≡ owned_by was owners ts
+  owned_mapped : (m : Owner → Owner) (owner was : Owner) (owners : List Owner) (ts : List (Transition S))
+      → AllByRecursion (λ x. is_owner owner (m x) ≡ is_owner was x) owners → owned_by owner (map m owners) ts ≡ owned_by was owners ts
   owned_mapped m owner was [] ts all = refl
   owned_mapped m owner was (x ∷ owners) [] all = refl
   owned_mapped m owner was (x ∷ owners) (t ∷ ts) all =
@@ -111,7 +118,8 @@ module _ {S : Type 0} (session place : ℕ) (owners : List Owner) (ts : List (Tr
       by true = same_test place place refl
       by false = refl
 
-  pub owned_by_record : AllByRecursion (λ x. is_owner (OfRecord place) x ≡ false) owners → owned_by (OfRecord place) (map (handed_over session place) owners) ts ≡ owned_by (OfSession session) owners ts
+  pub owned_by_record : AllByRecursion (λ x. is_owner (OfRecord place) x ≡ false) owners
+      → owned_by (OfRecord place) (map (handed_over session place) owners) ts ≡ owned_by (OfSession session) owners ts
   owned_by_record none = owned_mapped (handed_over session place) (OfRecord place) (OfSession session) owners ts (all_so (λ x. is_owner (OfRecord place) x ≡ false) _ owners to_record none)
 
   other_record : (other : ℕ) → other ≢ place → (x : Owner) → is_owner (OfRecord other) (handed_over session place x) ≡ is_owner (OfRecord other) x

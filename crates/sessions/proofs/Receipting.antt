@@ -125,7 +125,8 @@ module _ (records : List Record) (place : ℕ) (r : Record) (at : slice_get reco
       now e =
           let same : r ≡ t = same_record records place r t at (ap (slice_get records) (sym e) ∙ here) in
           let there = get_there receipts r.job inside in
-          subst (λ (x : ℕ × Record). slice_get (set receipts r.job (receipt_of place r)) x.1.job ≡ Some (receipt_of x.0 x.1)) (λ i. (sym e i, same i)) (set_here receipts r.job there.0 (receipt_of place r) there.1)
+          subst (λ (x : ℕ × Record). slice_get (set receipts r.job (receipt_of place r)) x.1.job ≡ Some (receipt_of x.0 x.1)) (λ i. (sym e i, same i))
+          (set_here receipts r.job there.0 (receipt_of place r) there.1)
 
       then_was : p < place → slice_get (set receipts r.job (receipt_of place r)) t.job ≡ Some (receipt_of p t)
       then_was less = set_else receipts r.job t.job (receipt_of place r) (λ e. omega (arith, less, once p place t r here at e)) ∙ before p t less here
@@ -137,7 +138,8 @@ module _ (records : List Record) (place : ℕ) (r : Record) (at : slice_get reco
   counted_next calls m n had before worker l = ⊎_elim own other (nat_cases worker r.worker)
     where
       next : records_of worker (take (place + 1) records) ≡ records_of worker (take place records) + bit (r.worker == worker)
-      next = ap (records_of worker) (ap (λ (k : ℕ). take k records) (one_more place) ∙ take_next records place r at) ∙ sum_by_push (λ (x : Record). cond (x.worker == worker) 1 0) (take place records) r
+      next = ap (records_of worker) (ap (λ (k : ℕ). take k records) (one_more place) ∙ take_next records place r at)
+          ∙ sum_by_push (λ (x : Record). cond (x.worker == worker) 1 0) (take place records) r
 
       one : (w k : ℕ) → k ≡ w → bit (w == k) ≡ 1
       one w k e = grind (arith, nat_tests, e)

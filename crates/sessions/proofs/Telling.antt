@@ -7,7 +7,7 @@ use Rattle.index_model.specs.Faults.{HasCause}
 use Rattle.index_model.specs.declared.entry.Entry.{Entry}
 use Rattle.index_model.specs.declared.fault.Fault.{Fault}
 use Rattle.index_model.specs.declared.fault.Fault.TheVariants.{Blocked, NoSession}
-use Rattle.page_action.specs.Causes.{where_forced}
+use Rattle.page_action.specs.Causes.{causes_of_forced}
 use Rattle.page_action.specs.States.{Backing}
 use Rattle.page_action.specs.declared.page_store.PageStore.{Ghosts}
 use Rattle.session_calls.specs.Ops.{ends_call, is_last}
@@ -20,7 +20,7 @@ use Rattle.session_calls.specs.declared.op.Op.TheVariants.{Insert as Inserts, Sc
 use Rattle.schedule.specs.Events.{CallMoves, MovesOn}
 use Rattle.schedule.specs.Making.{EventDoes}
 use Rattle.schedule.specs.TheoremKinds.{Move, MovesCall}
-use Rattle.schedule.specs.TheoremMoments.{Snapshot, IsRunningCall}
+use Rattle.schedule.specs.TheoremMoments.{Moment, IsRunningCall}
 use Rattle.schedule.specs.TheoremRuns.{Fits}
 use Rattle.whole_calls.specs.OneStep.{cut_short, HasStepped, IsGivenUpFor}
 use Rattle.sessions.specs.Kept.{ending_by, HasEndedBy, IsBlocked}
@@ -96,7 +96,7 @@ many_acts number None = refl
 many_acts number (Some effect) = refl
 
 -- the running call of this number has appended these actions and become this; no other call is changed
-pub record MovesTo {S : Type 0} (number : ℕ) (call : Call) (given : List Entry) (old new : Snapshot S) : Type 0 where
+pub record MovesTo {S : Type 0} (number : ℕ) (call : Call) (given : List Entry) (old new : Moment S) : Type 0 where
   pub more : List Action
   pub own : AllBy number more
   pub after : Call
@@ -105,7 +105,7 @@ pub record MovesTo {S : Type 0} (number : ℕ) (call : Call) (given : List Entry
   pub still : IsStillOf call given after
 
 -- ... and still runs
-pub record MovesOnTo {S : Type 0} (number : ℕ) (call : Call) (given : List Entry) (old new : Snapshot S) : Type 0 where
+pub record MovesOnTo {S : Type 0} (number : ℕ) (call : Call) (given : List Entry) (old new : Moment S) : Type 0 where
   pub to : MovesTo number call given old new
   pub runs : to.after.ending ≡ call.ending
 
@@ -115,17 +115,17 @@ last_settled (Refused (Blocked block)) last h = absurd cc
 last_settled answer last h = h
 
 -- a fault of a checkpoint ends a call, and so does the answer that tells it
-fault_ends : (old new : Backing) (fault : Fault) → HasCause (where_forced old new) fault → ends_call fault ≡ true
+fault_ends : (old new : Backing) (fault : Fault) → HasCause (causes_of_forced old new) fault → ends_call fault ≡ true
 fault_ends old new (Blocked block) h = absurd (let no : false ≡ true = h in cc)
 fault_ends old new NoSession h = absurd (let no : false ≡ true = h in cc)
 fault_ends old new fault h = refl
 
-pub short_ends : (old new : Backing) (added : Option ℕ) (fault : Fault) → HasCause (where_forced old new) fault → is_last (cut_short added fault) ≡ true
+pub short_ends : (old new : Backing) (added : Option ℕ) (fault : Fault) → HasCause (causes_of_forced old new) fault → is_last (cut_short added fault) ≡ true
 short_ends old new None fault h = fault_ends old new fault h
 short_ends old new (Some action) fault h = refl
 
 -- ... and has ended with this answer
-pub record EndsTo {S : Type 0} (number : ℕ) (call : Call) (answer : Answer) (old new : Snapshot S) : Type 0 where
+pub record EndsTo {S : Type 0} (number : ℕ) (call : Call) (answer : Answer) (old new : Moment S) : Type 0 where
   pub to : MovesTo number call call.given old new
   pub over : to.after.ending ≡ Running → ⊥
   pub ends : HasEndedBy answer to.after
@@ -133,7 +133,7 @@ pub record EndsTo {S : Type 0} (number : ℕ) (call : Call) (answer : Answer) (o
   pub until_is : to.after.until ≡ length new.history
 
 -- the running call of this number has moved with an action of this effect or none, and is told so
-pub record HasMoved {S : Type 0} (number : ℕ) (call : Call) (answer : Answer) (old new : Snapshot S) : Type 0 where
+pub record HasMoved {S : Type 0} (number : ℕ) (call : Call) (answer : Answer) (old new : Moment S) : Type 0 where
   pub effect : Option Effect
   pub after : Call
   pub told : Told answer (length old.history) effect call after
@@ -141,7 +141,7 @@ pub record HasMoved {S : Type 0} (number : ℕ) (call : Call) (answer : Answer) 
   pub calls_is : new.calls ≡ slice_set old.calls number after
 
 -- an event of a session's running call
-pub moved : {S : Type 0} (g : Ghosts S) (start : Entry → Bool) (session : ℕ) (move : Move) (answer : Answer) (x y : Snapshot S) → Fits g start x → EventDoes g start (MovesCall session move) answer x y
+pub moved : {S : Type 0} (g : Ghosts S) (start : Entry → Bool) (session : ℕ) (move : Move) (answer : Answer) (x y : Moment S) → Fits g start x → EventDoes g start (MovesCall session move) answer x y
     → (number : ℕ) (call : Call) → IsRunningCall x.calls session number call → HasMoved number call answer x y
 moved g start session move answer x y fits does number call is =
     let goes : CallMoves g start session answer x y = subst (λ (b : Bool). MovesOn g start b session answer x y) (runs_has_call g start x fits session number call is) does.also.happens in
@@ -155,7 +155,7 @@ moved g start session move answer x y fits does number call is =
     }
 
 -- one that isn't its last
-pub moved_on : {S : Type 0} (number : ℕ) (call : Call) (answer : Answer) (old new : Snapshot S) → is_last answer ≡ false → HasMoved number call answer old new
+pub moved_on : {S : Type 0} (number : ℕ) (call : Call) (answer : Answer) (old new : Moment S) → is_last answer ≡ false → HasMoved number call answer old new
     → MovesOnTo number call (given_behind answer call.given) old new
 moved_on number call answer old new on h =
     let t = told_moved answer (length old.history) h.effect call h.after on h.told in
@@ -165,7 +165,8 @@ moved_on number call answer old new on h =
     }
 
 -- a step that isn't the last
-pub step_on : {S : Type 0} (number : ℕ) (call : Call) (answer : Answer) (old new : Snapshot S) → IsOfStep answer → is_last answer ≡ false → HasStepped number call answer old new → MovesOnTo number call call.given old new
+pub step_on : {S : Type 0} (number : ℕ) (call : Call) (answer : Answer) (old new : Moment S) → IsOfStep answer → is_last answer ≡ false
+    → HasStepped number call answer old new → MovesOnTo number call call.given old new
 step_on number call answer old new of on h =
     let t = told_on answer (length old.history) h.effect call h.after of on h.told in
     record {
@@ -174,7 +175,7 @@ step_on number call answer old new of on h =
     }
 
 -- its last
-pub moved_last : {S : Type 0} (number : ℕ) (call : Call) (answer : Answer) (old new : Snapshot S) → is_last answer ≡ true → HasMoved number call answer old new → EndsTo number call answer old new
+pub moved_last : {S : Type 0} (number : ℕ) (call : Call) (answer : Answer) (old new : Moment S) → is_last answer ≡ true → HasMoved number call answer old new → EndsTo number call answer old new
 moved_last number call answer old new last h =
     let t = told_last answer (length old.history) h.effect call h.after last h.told in
     let long : length new.history ≡ act_count h.effect + length old.history =
@@ -196,11 +197,12 @@ moved_last number call answer old new last h =
     ends_last a l e = absurd cc
 
 -- a step that is
-pub step_last : {S : Type 0} (number : ℕ) (call : Call) (answer : Answer) (old new : Snapshot S) → is_last answer ≡ true → HasStepped number call answer old new → EndsTo number call answer old new
-step_last number call answer old new last h = moved_last number call answer old new last (record { effect = h.effect; after = h.after; told = h.told; history_is = h.history_is; calls_is = h.calls_is })
+pub step_last : {S : Type 0} (number : ℕ) (call : Call) (answer : Answer) (old new : Moment S) → is_last answer ≡ true → HasStepped number call answer old new → EndsTo number call answer old new
+step_last number call answer old new last h =
+    moved_last number call answer old new last (record { effect = h.effect; after = h.after; told = h.told; history_is = h.history_is; calls_is = h.calls_is })
 
 -- a call that is given up, since the checkpoint before a step was refused
-pub step_cut : {S : Type 0} (g : Ghosts S) (number : ℕ) (call : Call) (answer : Answer) (old new : Snapshot S) → IsGivenUpFor g number call answer old new → EndsTo number call answer old new
+pub step_cut : {S : Type 0} (g : Ghosts S) (number : ℕ) (call : Call) (answer : Answer) (old new : Moment S) → IsGivenUpFor g number call answer old new → EndsTo number call answer old new
 step_cut g number call answer old new h = record {
   to = record {
     more = [];

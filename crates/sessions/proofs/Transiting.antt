@@ -12,14 +12,14 @@ use Rattle.schedule.specs.Events.{EventAlways}
 use Rattle.schedule.specs.Making.{Makes}
 use Rattle.schedule.specs.TheoremKinds.{kind_of}
 use Rattle.schedule.specs.TheoremMoments.{StoreAndSlots}
-use Rattle.schedule.specs.TheoremRuns.{Carries, EventFollows}
+use Rattle.schedule.specs.TheoremRuns.{ForEachHistory, EventFollows}
 use Rattle.schedule.specs.declared.event.Event.{Event}
 use Rattle.schedule.specs.declared.event.Event.TheVariants.{Step, Next, End, Checkpoint}
-use Rattle.whole_calls.specs.OneStep.{IsOneStep}
+use Rattle.whole_calls.specs.OneStep.{IsMadeAsStep}
 use Rattle.sessions.specs.Acted.{HasActed}
 use Rattle.sessions.specs.Doing.{MayBeDone, HasTaken, IsFullScan, given_behind}
 use Rattle.sessions.specs.Handed.{Handed}
-use Rattle.sessions.specs.Jobs.{IsRoomOf, IsFull}
+use Rattle.sessions.specs.Jobs.{IsRoomOf, ScanIsFull}
 use Rattle.sessions.specs.Kept.{record_of}
 use Rattle.sessions.specs.Transitions.{Transition, gift_of}
 use Rattle.sessions.specs.declared.job.Job.{Job}
@@ -31,12 +31,14 @@ use Rattle.sessions.proofs.Noting.{set_same, busy_is}
 use Rattle.sessions.proofs.Telling.{IsOfStep}
 
 -- an event of the world, as it promises it
-pub makes_of : {S : Type 0} (g : Ghosts S) (event : Event) (answer : Answer) (w v : StoreAndSlots S) → length v.slots ≡ length w.slots → Carries g w v (EventFollows g w v event answer) → EventAlways g (kind_of event) answer w v
+pub makes_of : {S : Type 0} (g : Ghosts S) (event : Event) (answer : Answer) (w v : StoreAndSlots S) → length v.slots ≡ length w.slots
+    → ForEachHistory g w v (EventFollows g w v event answer) → EventAlways g (kind_of event) answer w v
     → Makes g (kind_of event) answer w v
 makes_of g event answer w v sessions goes always = record {
   sessions = sessions;
   always = always;
-  does = λ honest start history calls fits. (let f = goes honest start history calls fits in record { then_history = f.then_history; then_calls = f.then_calls; does = record { means = f.goes.means; also = f.goes.also } });
+  does = λ honest start history calls fits.
+      (let f = goes honest start history calls fits in record { then_history = f.then_history; then_calls = f.then_calls; does = record { means = f.goes.means; also = f.goes.also } });
 }
 
 clash : (b : Bool) → b ≡ true → b ≡ false → ⊥
@@ -52,7 +54,8 @@ given_more : (answer : Answer) (given : List Entry) → given_behind answer give
 given_more (Gave (Some e)) given = refl
 given_more answer given = sym (append-nil given)
 
-module _ {S : Type 0} (g : Ghosts S) (handed : Handed) (jobs : List Job) (w v : StoreAndSlots S) (pending : List (Option Pending)) (records : List Record) (s : ℕ) (p : Pending) (at : slice_get pending s ≡ Some (Some p)) where
+module _ {S : Type 0} (g : Ghosts S) (handed : Handed) (jobs : List Job) (w v : StoreAndSlots S) (pending : List (Option Pending))
+    (records : List Record) (s : ℕ) (p : Pending) (at : slice_get pending s ≡ Some (Some p)) where
   abbrev n : ℕ
   n = length records
 
@@ -60,14 +63,16 @@ module _ {S : Type 0} (g : Ghosts S) (handed : Handed) (jobs : List Job) (w v : 
   one_of event answer x y m = record { event = event; answer = answer; before = moment_of x n; behind = moment_of y m }
 
   -- a step that isn't the last
-  pub step_acts_on : (answer : Answer) → IsOneStep g s 5 answer w v → IsOfStep answer → is_last answer ≡ false → has_call v.slots s ≡ true → HasActed g handed jobs w pending records → HasActed g handed jobs v pending records
+  pub step_acts_on : (answer : Answer) → IsMadeAsStep g s 5 answer w v → IsOfStep answer → is_last answer ≡ false → has_call v.slots s ≡ true
+      → HasActed g handed jobs w pending records → HasActed g handed jobs v pending records
   step_acts_on answer step of on runs a = subst (λ (l : List (Option Pending)). HasActed g handed jobs v l records) (set_same pending s (Some p) at) (by step)
     where
       nothing : (l : List Entry) → l ≡ l ++ (gift_of answer ++ [])
       nothing l = sym (ap (λ (k : List Entry). l ++ (k ++ [])) (no_gift answer of) ∙ append-nil l)
 
-      by : IsOneStep g s 5 answer w v → HasActed g handed jobs v (slice_set pending s (Some p)) records
-      by (inl h) = acts_on g handed jobs w v pending records a s p p at (one_of (Step s) answer w v n ∷ []) (record { goes = (refl, on); room = h.room; unrecorded = refl }, tt) (refl, h.makes, refl) refl refl refl refl (nothing p.given.items)
+      by : IsMadeAsStep g s 5 answer w v → HasActed g handed jobs v (slice_set pending s (Some p)) records
+      by (inl h) = acts_on g handed jobs w v pending records a s p p at (one_of (Step s) answer w v n ∷ [])
+          (record { goes = (refl, on); room = h.room; unrecorded = refl }, tt) (refl, h.makes, refl) refl refl refl refl (nothing p.given.items)
       by (inr (inl h)) =
           acts_on g handed jobs w v pending records a s p p at (one_of Checkpoint (Checkpointed h.count) w h.between n ∷ one_of (Step s) answer h.between v n ∷ [])
           (record { goes = tt; room = h.checkpoint.short; unrecorded = refl }, (record { goes = (refl, on); room = h.step.room; unrecorded = refl }, tt))
@@ -75,7 +80,7 @@ module _ {S : Type 0} (g : Ghosts S) (handed : Handed) (jobs : List Job) (w v : 
       by (inr (inr h)) = absurd (clash (has_call v.slots s) runs (sym (busy_is v.slots s) ∙ ap is_busy h.makes.always.left.over))
 
   -- one that is
-  pub step_acts_last : (answer : Answer) → IsOneStep g s 5 answer w v → is_last answer ≡ true → (to : ℕ) → to ≡ (g.state v.store).acts → HasActed g handed jobs w pending records
+  pub step_acts_last : (answer : Answer) → IsMadeAsStep g s 5 answer w v → is_last answer ≡ true → (to : ℕ) → to ≡ (g.state v.store).acts → HasActed g handed jobs w pending records
       → HasActed g handed jobs v (slice_set pending s None) (records ++ record_of s p answer to ∷ [])
   step_acts_last answer step last to is a = by step
     where
@@ -88,7 +93,7 @@ module _ {S : Type 0} (g : Ghosts S) (handed : Handed) (jobs : List Job) (w v : 
       longer : m ≡ suc n
       longer = (let x = length-append records (record_of s p answer to ∷ []) in omega (arith, x))
 
-      by : IsOneStep g s 5 answer w v → HasActed g handed jobs v (slice_set pending s None) (records ++ record_of s p answer to ∷ [])
+      by : IsMadeAsStep g s 5 answer w v → HasActed g handed jobs v (slice_set pending s None) (records ++ record_of s p answer to ∷ [])
       by (inl h) =
           acts_ended g handed jobs w v pending records a s p at answer to [] (one_of (Step s) answer w v m ∷ []) tt refl (refl, h.makes, refl)
           (inl (record { event_is = refl; answer_is = refl; last = last; room = h.room; makes = record { place_is = refl; next_is = longer; to_is = sym is } }))
@@ -122,7 +127,8 @@ module _ {S : Type 0} (g : Ghosts S) (handed : Handed) (jobs : List Job) (w v : 
       (took.items ∙ given_more answer p.given.items ∙ ap (λ (l : List Entry). p.given.items ++ l) (sym (append-nil (gift_of answer))))
 
   -- giving a scan up
-  pub end_acts : (answer : Answer) → Makes g (kind_of (End s)) answer w v → answer ≡ Ended → (asked : Job) → slice_get jobs p.job ≡ Some asked → IsFullScan asked (Some p) (ready_count (slot_of w.slots s)) → (to : ℕ) → to ≡ (g.state v.store).acts
+  pub end_acts : (answer : Answer) → Makes g (kind_of (End s)) answer w v → answer ≡ Ended → (asked : Job) → slice_get jobs p.job ≡ Some asked
+      → IsFullScan asked (Some p) (ready_count (slot_of w.slots s)) → (to : ℕ) → to ≡ (g.state v.store).acts
       → HasActed g handed jobs w pending records → HasActed g handed jobs v (slice_set pending s None) (records ++ record_of s p answer to ∷ [])
   end_acts answer makes ended asked is full to to_is a =
       let was = a.running s p at in
@@ -135,7 +141,10 @@ module _ {S : Type 0} (g : Ghosts S) (handed : Handed) (jobs : List Job) (w v : 
       same_job : {x y : Job} → Some x ≡ Some y → x ≡ y
       same_job e = cc
 
-      cut_of : (j : Job) → IsRoomOf j (vec_capacity p.given) → IsFullScan j (Some p) (ready_count (slot_of w.slots s)) → IsFull j p.given.items × (0 < ready_count (slot_of w.slots s))
-      cut_of (Scan range room) room_is h =
-          (let cap : vec_capacity p.given ≡ room = room_is in let over : vec_capacity p.given ≤ vec_len p.given = h.0 in let long = p.given.ok.0 in let fits = p.given.ok.1 in omega (arith, cap, over, long, fits), h.1)
+      cut_of : (j : Job) → IsRoomOf j (vec_capacity p.given) → IsFullScan j (Some p) (ready_count (slot_of w.slots s)) → ScanIsFull j p.given.items × (0 < ready_count (slot_of w.slots s))
+      cut_of (Scan range room) room_is h = (
+        let cap : vec_capacity p.given ≡ room = room_is in let over : vec_capacity p.given ≤ vec_len p.given = h.0 in let long = p.given.ok.0 in
+            let fits = p.given.ok.1 in omega (arith, cap, over, long, fits),
+        h.1,
+      )
       cut_of j room_is h = absurd h

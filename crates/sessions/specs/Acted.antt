@@ -19,8 +19,8 @@ use Rattle.sessions.specs.declared.job.Job.{Job}
 use Rattle.sessions.specs.declared.record.Record.{Record}
 use Rattle.sessions.specs.declared.record.Pending.{Pending}
 use Rattle.sessions.specs.Handed.{Handed, IsAsHanded}
-use Rattle.sessions.specs.Jobs.{event_of, IsRoomOf, IsWithin, IsFull}
-use Rattle.sessions.specs.Transitions.{Moment, Transition, IsPath, Owner, OfRecord, OfSession, owned_by, gifts_of}
+use Rattle.sessions.specs.Jobs.{event_of, IsRoomOf, IsWithinRoom, ScanIsFull}
+use Rattle.sessions.specs.Transitions.{LockMoment, Transition, IsPath, Owner, OfRecord, OfSession, owned_by, gifts_of}
 
 -- no record is made behind it
 abbrev pub IsUnrecorded : {S : Type 0} → Transition S → Type 0
@@ -40,21 +40,21 @@ pub record IsBeginning {S : Type 0} (g : Ghosts S) (session : ℕ) (job : Job) (
   pub from_is : (g.state t.before.here.store).acts ≡ from
 
 -- before a step the log has room for five images, or its whole room; a checkpoint is made only where it hasn't
-abbrev pub HasRoomFor : {S : Type 0} → Ghosts S → Transition S → Type 0
-HasRoomFor g t = HasItsRoom 5 (kind_of t.event) (g.state t.before.here.store).limits (g.backing t.before.here.store)
+abbrev pub HasRoomForStep : {S : Type 0} → Ghosts S → Transition S → Type 0
+HasRoomForStep g t = HasItsRoom 5 (kind_of t.event) (g.state t.before.here.store).limits (g.backing t.before.here.store)
 
 -- an event that leaves a session's call running: a step, or asking for the next entry, whose answer isn't the last; or a checkpoint that is
 -- made before a step
-abbrev pub GoesOn : ℕ → Event → Answer → Type 0
-GoesOn session (Step of) answer = (of ≡ session) × (is_last answer ≡ false)
-GoesOn session (Next of) answer = (of ≡ session) × (is_last answer ≡ false)
-GoesOn session Checkpoint (Checkpointed count) = Unit {0}
-GoesOn session event answer = ⊥
+abbrev pub EventGoesOn : ℕ → Event → Answer → Type 0
+EventGoesOn session (Step of) answer = (of ≡ session) × (is_last answer ≡ false)
+EventGoesOn session (Next of) answer = (of ≡ session) × (is_last answer ≡ false)
+EventGoesOn session Checkpoint (Checkpointed count) = Unit {0}
+EventGoesOn session event answer = ⊥
 
 -- ... with no record made
 pub record KeepsRunning {S : Type 0} (g : Ghosts S) (session : ℕ) (t : Transition S) : Type 0 where
-  pub goes : GoesOn session t.event t.answer
-  pub room : HasRoomFor g t
+  pub goes : EventGoesOn session t.event t.answer
+  pub room : HasRoomForStep g t
   pub unrecorded : IsUnrecorded t
 
 -- what was done for a job whose call runs: it began, each event since has left it running, and these entries were given
@@ -72,7 +72,7 @@ pub record IsLastStep {S : Type 0} (g : Ghosts S) (place : ℕ) (r : Record) (t 
   pub event_is : t.event ≡ Step r.worker
   pub answer_is : t.answer ≡ r.answer
   pub last : is_last r.answer ≡ true
-  pub room : HasRoomFor g t
+  pub room : HasRoomForStep g t
   pub makes : MakesRecord g place r.to t
 
 -- a scan is given up whose room is full: it had one entry more ready
@@ -80,7 +80,7 @@ pub record IsCutOff {S : Type 0} (g : Ghosts S) (job : Job) (place : ℕ) (r : R
   pub event_is : t.event ≡ End r.worker
   pub answer_is : t.answer ≡ Ended
   pub told : r.answer ≡ Ended
-  pub full : IsFull job r.given.items
+  pub full : ScanIsFull job r.given.items
   pub more : 0 < ready_count (slot_of t.before.here.slots r.worker)
   pub makes : MakesRecord g place r.to t
 
@@ -89,7 +89,7 @@ pub record IsGivenUp {S : Type 0} (g : Ghosts S) (place : ℕ) (r : Record) (c t
   pub fault : Fault
   pub checkpoint : c.event ≡ Checkpoint
   pub refused : c.answer ≡ Refused fault
-  pub room : HasRoomFor g c
+  pub room : HasRoomForStep g c
   pub unrecorded : IsUnrecorded c
   pub event_is : t.event ≡ End r.worker
   pub told : r.answer ≡ cut_short (slot_add (slot_of c.before.here.slots r.worker)) fault
@@ -122,7 +122,7 @@ pub record IsDoneByCall {S : Type 0} (g : Ghosts S) (job : Job) (place : ℕ) (r
 pub record AreOfRecord {S : Type 0} (g : Ghosts S) (jobs : List Job) (place : ℕ) (r : Record) (ts : List (Transition S)) : Type 0 where
   pub job : Job
   pub job_is : slice_get jobs r.job ≡ Some job
-  pub most : IsWithin job r.given.items
+  pub most : IsWithinRoom job r.given.items
   pub done : IsDoneAtOnce g job place r ts ⊎ IsDoneByCall g job place r ts
 
 -- ... for the job that a session runs, which has a room of its size
@@ -140,7 +140,7 @@ IsKnown pending records (OfSession session) = (p : Pending) × (slice_get pendin
 -- Transitions lead from the world as it was handed in to what it is now. Each belongs to a record or to a job that runs; those of a record are
 -- its job done, with its answer, its given entries and its interval, and those of a job that runs are its call so far.
 pub record HasActed {S : Type 0} (g : Ghosts S) (handed : Handed) (jobs : List Job) (now : StoreAndSlots S) (pending : List (Option Pending)) (records : List Record) : Type 0 where
-  pub first : Moment S
+  pub first : LockMoment S
   pub transitions : List (Transition S)
   pub owners : List Owner
   pub handed_in : IsAsHanded g handed first.here

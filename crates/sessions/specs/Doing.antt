@@ -10,21 +10,21 @@ use Rattle.session_calls.specs.declared.answer.Answer.TheVariants.{Gave, Ended}
 use Rattle.schedule.specs.Events.{EventAlways}
 use Rattle.schedule.specs.TheoremKinds.{kind_of}
 use Rattle.schedule.specs.TheoremMoments.{StoreAndSlots}
-use Rattle.schedule.specs.TheoremRuns.{Carries, EventFollows}
+use Rattle.schedule.specs.TheoremRuns.{ForEachHistory, EventFollows}
 use Rattle.schedule.specs.declared.event.Event.{Event}
 use Rattle.sessions.specs.declared.job.Job.{Job}
 use Rattle.sessions.specs.declared.job.Job.TheVariants.{Scan}
 use Rattle.sessions.specs.declared.record.Pending.{Pending}
 
 -- the event is done, with this answer
-pub record IsDone {S : Type 0} (g : Ghosts S) (event : Event) (answer : Answer) (old new : StoreAndSlots S) : Type 0 where
-  pub goes : Carries g old new (EventFollows g old new event answer)
+pub record IsEventDone {S : Type 0} (g : Ghosts S) (event : Event) (answer : Answer) (old new : StoreAndSlots S) : Type 0 where
+  pub goes : ForEachHistory g old new (EventFollows g old new event answer)
   pub always : EventAlways g (kind_of event) answer old new
 
 -- ... or, without an answer, nothing is
 abbrev pub MayBeDone : {S : Type 0} → Ghosts S → Event → Option Answer → StoreAndSlots S → StoreAndSlots S → Type 0
 MayBeDone g event None old new = new ≡ old
-MayBeDone g event (Some answer) old new = IsDone g event answer old new
+MayBeDone g event (Some answer) old new = IsEventDone g event answer old new
 
 -- what was given, and the entry behind it that this answer gives
 abbrev pub given_behind : Answer → List Entry → List Entry

@@ -35,11 +35,11 @@ abbrev pub AreIdle : List (Option Op) → Type 0
 AreIdle slots = (session : ℕ) → has_call slots session ≡ false
 
 -- why a run is refused: a limit is passed; else a session has a call; else there is no memory for it, or no thread
-abbrev pub IsRefusedFor : Fault → List (Option Op) → List Job → ℕ → Type 0
-IsRefusedFor BadLimits slots jobs workers = IsWithinLimits (length slots) jobs workers → ⊥
-IsRefusedFor SessionBusy slots jobs workers = IsWithinLimits (length slots) jobs workers × ((session : ℕ) × (has_call slots session ≡ true))
-IsRefusedFor NoMemory slots jobs workers = IsWithinLimits (length slots) jobs workers × AreIdle slots
-IsRefusedFor fault slots jobs workers = ⊥
+abbrev pub RunIsRefusedFor : Fault → List (Option Op) → List Job → ℕ → Type 0
+RunIsRefusedFor BadLimits slots jobs workers = IsWithinLimits (length slots) jobs workers → ⊥
+RunIsRefusedFor SessionBusy slots jobs workers = IsWithinLimits (length slots) jobs workers × ((session : ℕ) × (has_call slots session ≡ true))
+RunIsRefusedFor NoMemory slots jobs workers = IsWithinLimits (length slots) jobs workers × AreIdle slots
+RunIsRefusedFor fault slots jobs workers = ⊥
 
 -- the jobs of these records
 abbrev pub jobs_of_records : List Record → List ℕ
@@ -71,7 +71,8 @@ handed_of g rows world = record {
 
 -- All jobs are done: what is kept under the lock is so with no job pending, and so is what was done for each record; no session has a call, the
 -- records are those of the jobs that were handed out, and each is of one of the workers.
-pub record HasRun {S T : Type 0} (g : Ghosts S) (rows : SetGhosts T) (stood kept_then : (Entry → Bool) → List Action → List Call → Type 0) (handed : Handed) (jobs : List Job) (workers : ℕ) (world : World S T) (start : ℕ) (records : List Record) : Type 0 where
+pub record HasRun {S T : Type 0} (g : Ghosts S) (rows : SetGhosts T) (stood kept_then : (Entry → Bool) → List Action → List Call → Type 0)
+    (handed : Handed) (jobs : List Job) (workers : ℕ) (world : World S T) (start : ℕ) (records : List Record) : Type 0 where
   pub kept : ∥ KeepsAll g stood kept_then jobs (inside rows world) start [] records ∥₁
   pub acted : ∥ HasActed g handed jobs (inside rows world) [] records ∥₁
   pub comes : ∥ ComesOf g handed start (inside rows world) ∥₁

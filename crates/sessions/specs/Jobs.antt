@@ -47,11 +47,11 @@ abbrev pub IsRoomOf : Job → ℕ → Type 0
 IsRoomOf job capacity = capacity ≡ room_of job
 
 -- a scan gives so many entries at most
-abbrev pub IsWithin : Job → List Entry → Type 0
-IsWithin (Scan range room) given = length given ≤ room
-IsWithin job given = Unit {0}
+abbrev pub IsWithinRoom : Job → List Entry → Type 0
+IsWithinRoom (Scan range room) given = length given ≤ room
+IsWithinRoom job given = Unit {0}
 
 -- a scan's room is full
-abbrev pub IsFull : Job → List Entry → Type 0
-IsFull (Scan range room) given = length given ≡ room
-IsFull job given = ⊥
+abbrev pub ScanIsFull : Job → List Entry → Type 0
+ScanIsFull (Scan range room) given = length given ≡ room
+ScanIsFull job given = ⊥

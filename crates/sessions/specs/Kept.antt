@@ -24,7 +24,7 @@ use Rattle.sessions.specs.declared.job.Job.TheVariants.{Scan}
 use Rattle.sessions.specs.declared.record.Record.{Record}
 use Rattle.sessions.specs.declared.record.Pending.{Pending}
 use Rattle.schedule.specs.Ready.{MayComeNext}
-use Rattle.sessions.specs.Jobs.{request_of, upkeep_of, IsRoomOf, IsWithin}
+use Rattle.sessions.specs.Jobs.{request_of, upkeep_of, IsRoomOf, IsWithinRoom}
 
 -- the record of a job that is done
 abbrev pub record_of : ℕ → Pending → Answer → ℕ → Record
@@ -83,7 +83,7 @@ pub record ListsCall (start : Entry → Bool) (history : List Action) (sets : De
   pub asks : request_of job ≡ Some request
   pub found : slice_get calls number ≡ Some call
   pub is : IsCallOf (asked_by sets request) r call
-  pub most : IsWithin job r.given.items
+  pub most : IsWithinRoom job r.given.items
   pub cut : r.answer ≡ Ended → IsCut start history job r
 
 -- it stands beside the calls: a commit or a checkpoint, which gives nothing, takes no action's time, answers what its kind may, and tells a
@@ -130,14 +130,14 @@ abbrev pub IsOurs : List Call → List (Option ℕ) → List (Option Pending) �
 IsOurs calls at pending number = ((place : ℕ) × (slice_get at place ≡ Some (Some number))) ⊎ IsPending calls pending number
 
 -- a record comes behind all that its worker recorded before
-abbrev pub Follows : List Record → ℕ → ℕ → ℕ → Type 0
-Follows records worker seen from = (place : ℕ) (r : Record) → slice_get records place ≡ Some r → r.worker ≡ worker → (place < seen) × (r.to ≤ from)
+abbrev pub RecordFollows : List Record → ℕ → ℕ → ℕ → Type 0
+RecordFollows records worker seen from = (place : ℕ) (r : Record) → slice_get records place ≡ Some r → r.worker ≡ worker → (place < seen) × (r.to ≤ from)
 
 -- where a running call stands among the records and the actions
 pub record IsSince (records : List Record) (count worker seen from : ℕ) : Type 0 where
   pub seen_is : seen ≤ length records
   pub from_is : from ≤ count
-  pub behind : Follows records worker seen from
+  pub behind : RecordFollows records worker seen from
 
 -- where a record stands
 pub record IsInTime (count place : ℕ) (r : Record) : Type 0 where
@@ -146,7 +146,8 @@ pub record IsInTime (count place : ℕ) (r : Record) : Type 0 where
   pub to_is : r.to ≤ count
 
 -- What fitted the world when the run began goes on to what fits it now. `KeptThen` says that the history was kept then.
-pub record Keeps {S : Type 0} (g : Ghosts S) (jobs : List Job) (contents : Entry → Bool) (old_history : List Action) (old_calls : List Call) (KeptThen : Type 0) (now : StoreAndSlots S) (start : ℕ) (pending : List (Option Pending)) (records : List Record) : Type 0 where
+pub record KeepsFitting {S : Type 0} (g : Ghosts S) (jobs : List Job) (contents : Entry → Bool) (old_history : List Action) (old_calls : List Call)
+    (KeptThen : Type 0) (now : StoreAndSlots S) (start : ℕ) (pending : List (Option Pending)) (records : List Record) : Type 0 where
   pub history : List Action
   pub calls : List Call
   -- the number of the call that each record lists
@@ -173,13 +174,14 @@ pub record Keeps {S : Type 0} (g : Ghosts S) (jobs : List Job) (contents : Entry
   pub in_time : (place : ℕ) (r : Record) → slice_get records place ≡ Some r → IsInTime (length history) place r
 
 -- as long as the device kept its model, of whatever fitted the world as it was handed in
-abbrev pub KeepsAll : {S : Type 0} → Ghosts S → ((Entry → Bool) → List Action → List Call → Type 0) → ((Entry → Bool) → List Action → List Call → Type 0) → List Job → StoreAndSlots S → ℕ → List (Option Pending) → List Record → Type 0
+abbrev pub KeepsAll : {S : Type 0} → Ghosts S → ((Entry → Bool) → List Action → List Call → Type 0)
+    → ((Entry → Bool) → List Action → List Call → Type 0) → List Job → StoreAndSlots S → ℕ → List (Option Pending) → List Record → Type 0
 KeepsAll g stood kept_then jobs now start pending records =
     (g.backing now.store).honest ≡ true → (contents : Entry → Bool) (history : List Action) (calls : List Call) → stood contents history calls
-    → Keeps g jobs contents history calls (kept_then contents history calls) now start pending records
+    → KeepsFitting g jobs contents history calls (kept_then contents history calls) now start pending records
 
 -- the sessions that have a call are those that are pending
-pub record Matches (slots : List (Option Op)) (pending : List (Option Pending)) : Type 0 where
+pub record MatchesPending (slots : List (Option Op)) (pending : List (Option Pending)) : Type 0 where
   pub runs : (session : ℕ) (p : Pending) → slice_get pending session ≡ Some (Some p) → has_call slots session ≡ true
   pub rests : (session : ℕ) → slice_get pending session ≡ Some None → has_call slots session ≡ false
   -- beyond the workers' there is none

@@ -8,10 +8,10 @@ use Rattle.sessions.specs.declared.slot.Slot.{Slot}
 use Rattle.sessions.specs.declared.slot.Slot.TheVariants.{Waiting, Open, Closed}
 
 -- the lock was opened, and there is room for one record more
-abbrev pub is_ready : {S T J : Type 0} {s : StoreGhosts S} {t : SetGhosts T} {j : JobGhosts J} {r : RunGhosts J} → Slot S T J s t j r → Bool
-is_ready Waiting = false
-is_ready (Open shared) = nat_lt (vec_len shared.history) (vec_capacity shared.history)
-is_ready Closed = false
+abbrev pub may_record : {S T J : Type 0} {s : StoreGhosts S} {t : SetGhosts T} {j : JobGhosts J} {r : RunGhosts J} → Slot S T J s t j r → Bool
+may_record Waiting = false
+may_record (Open shared) = nat_lt (vec_len shared.history) (vec_capacity shared.history)
+may_record Closed = false
 
 -- the lock was opened
 abbrev pub is_open : {S T J : Type 0} {s : StoreGhosts S} {t : SetGhosts T} {j : JobGhosts J} {r : RunGhosts J} → Slot S T J s t j r → Bool

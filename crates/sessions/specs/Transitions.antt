@@ -10,7 +10,7 @@ use Rattle.schedule.specs.TheoremMoments.{StoreAndSlots}
 use Rattle.schedule.specs.declared.event.Event.{Event}
 
 -- a moment under the lock: the store with its sessions, and how many records there are
-pub record Moment (S : Type 0) : Type 0 where
+pub record LockMoment (S : Type 0) : Type 0 where
   pub here : StoreAndSlots S
   pub recorded : ℕ
 
@@ -18,11 +18,11 @@ pub record Moment (S : Type 0) : Type 0 where
 pub record Transition (S : Type 0) : Type 0 where
   pub event : Event
   pub answer : Answer
-  pub before : Moment S
-  pub behind : Moment S
+  pub before : LockMoment S
+  pub behind : LockMoment S
 
 -- they lead from one moment to another: each begins where the one before ended, and is what its event makes with its answer
-abbrev pub IsPath : {S : Type 0} → Ghosts S → Moment S → List (Transition S) → Moment S → Type 0
+abbrev pub IsPath : {S : Type 0} → Ghosts S → LockMoment S → List (Transition S) → LockMoment S → Type 0
 IsPath g first [] last = last ≡ first
 IsPath g first (t ∷ ts) last = (t.before ≡ first) × Makes g (kind_of t.event) t.answer t.before.here t.behind.here × IsPath g t.behind ts last
 

@@ -29,7 +29,7 @@ AreLeft session None before after = after ≡ before
 AreLeft session (Some place) before after = after ≡ slice_set before session None
 
 -- a job begins, as the records and the actions are: behind it there is one job more that runs, or one record more, of no time at all
-pub record BeginTold (session : ℕ) (p : Pending) (answer : Answer) (place : Option ℕ) (old new : List Record) (before after : List (Option Pending)) : Type 0 where
+pub record JobBeginTold (session : ℕ) (p : Pending) (answer : Answer) (place : Option ℕ) (old new : List Record) (before after : List (Option Pending)) : Type 0 where
   pub history : IsRecordedAt (record_of session p answer p.from) place old new
   pub pending : AreBegun session p place before after
 

@@ -13,7 +13,7 @@ use crate::gate::Gate;
 use crate::hire::hire;
 use crate::jobs::Jobs;
 use crate::record::Record;
-use crate::room::Room;
+use crate::run_room::Room;
 use crate::slot::Slot;
 use crate::ticket::{JobList, JobTicket};
 use index_model::DeadRows;

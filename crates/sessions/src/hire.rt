@@ -19,7 +19,7 @@ use crate::jobs::Jobs;
 use crate::opening::{ended, first};
 use crate::ready::is_open;
 use crate::record::{Pending, Record};
-use crate::room::Room;
+use crate::run_room::Room;
 use crate::shared::Shared;
 use crate::slot::Slot;
 use crate::ticket::{JobList, JobTicket};

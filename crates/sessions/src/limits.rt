@@ -3,7 +3,7 @@
 ghost use Rattle.std.specs.Prelude.{◌≡◌, ◌≤◌, ℕ, true, false, IfSome, None, length};
 ghost use Rattle.std.specs.List.{sum_by};
 ghost use Rattle.session_calls.specs.Slots.{has_call};
-ghost use Rattle.sessions.specs.Finishing.{AreIdle, IsRefusedFor, IsWithinLimits};
+ghost use Rattle.sessions.specs.Finishing.{AreIdle, RunIsRefusedFor, IsWithinLimits};
 ghost use Rattle.sessions.specs.Jobs.{room_of};
 
 use crate::job::Job;
@@ -57,7 +57,7 @@ pub fn refusal<S: PageStore, T: DeadRows + Drop>(
     workers: u32,
 ) -> Option<Fault>
     ensures refused { IfSome result (λ fault.
-        IsRefusedFor fault world.now.calls.slots.items jobs.now workers) }
+        RunIsRefusedFor fault world.now.calls.slots.items jobs.now workers) }
     ensures limits { result ≡ None
         → IsWithinLimits (length world.now.calls.slots.items) jobs.now workers }
     ensures free { result ≡ None → AreIdle world.now.calls.slots.items }

@@ -1,7 +1,7 @@
 //! When a worker may do an event, and whether the lock was opened.
 
 ghost use Rattle.std.specs.Prelude.{◌≡◌};
-ghost use Rattle.sessions.specs.Ready.{is_open, is_ready};
+ghost use Rattle.sessions.specs.Ready.{is_open, may_record};
 
 use crate::jobs::Jobs;
 use crate::slot::Slot;
@@ -10,7 +10,7 @@ use page_action::PageStore;
 
 /// Whether a worker may do an event: the lock was opened, and there is room for one record more.
 pub fn is_ready<S: PageStore, T: DeadRows + Drop, J: Jobs>(slot: &Slot<S, T, J>) -> bool
-    ensures { result ≡ is_ready slot.now }
+    ensures { result ≡ may_record slot.now }
 {
     match slot {
         Slot::Open(shared) => shared.history.len() < shared.history.capacity(),

@@ -11,7 +11,7 @@ ghost use Rattle.worker_seats.specs.Queue.{below, queue_view, times, weigh};
 ghost use Rattle.worker_seats.specs.Seats.{keeper_of, known_by};
 ghost use Rattle.world.specs.Worlds.{WorldFits, WorldKeeps, inside};
 ghost use Rattle.sessions.specs.Acted.{HasActed};
-ghost use Rattle.sessions.specs.Finishing.{AreIdle, IsFinished, IsReceiptFor, IsRefusedFor, IsWithinLimits, handed_of, jobs_of_records, receipt_of, records_of};
+ghost use Rattle.sessions.specs.Finishing.{AreIdle, IsFinished, IsReceiptFor, RunIsRefusedFor, IsWithinLimits, handed_of, jobs_of_records, receipt_of, records_of};
 ghost use Rattle.sessions.specs.Kept.{KeepsAll};
 ghost use Rattle.sessions.specs.declared.record.Record.{Record as DoneJob};
 
@@ -23,7 +23,7 @@ use crate::limits::refusal;
 use crate::outcome::{Finished, NotRun, Receipt};
 use crate::receipts::{make_tables, write_receipts};
 use crate::record::Record;
-use crate::room::make_room;
+use crate::run_room::make_room;
 use crate::ticket::{JobList, JobTicket, all_tickets};
 use index_model::{DeadRows, Fault};
 use page_action::PageStore;
@@ -221,7 +221,7 @@ pub fn run_jobs<
 ) -> Result<Finished<S, T>, NotRun<S, T>>
     ensures given_back { IfErr result (λ not_run. not_run.world ≡ world) }
     ensures refused { IfErr result (λ not_run.
-        IsRefusedFor not_run.fault world.calls.slots.items jobs.now workers) }
+        RunIsRefusedFor not_run.fault world.calls.slots.items jobs.now workers) }
     ensures limits { OnOk result
         (IsWithinLimits (length world.calls.slots.items) jobs.now workers) }
     ensures free { OnOk result (AreIdle world.calls.slots.items) }

@@ -4,16 +4,16 @@ ghost use Rattle.std.specs.Prelude.{◌≡◌, ◌≢◌, ◌<◌, ◌≤◌, �
 ghost use Rattle.page_action.specs.States.{Continues};
 ghost use Rattle.whole_calls.specs.Going.{CallGoes};
 ghost use Rattle.whole_calls.specs.Made.{IsMadeOf};
-ghost use Rattle.whole_calls.specs.OneStep.{IsOneStep, OneStepAlways, OneStepComesTo, OneStepGoes};
+ghost use Rattle.whole_calls.specs.OneStep.{IsMadeAsStep, OneStepAlways, OneStepComesTo, OneStepGoes};
 ghost use Rattle.worker_seats.specs.Seats.{keeper_of, known_by};
 ghost use Rattle.world.specs.Worlds.{KeepsSessions, inside};
 ghost use Rattle.sessions.specs.Acted.{HasActed};
-ghost use Rattle.sessions.specs.Doing.{HasTaken, IsDone, IsFullScan, IsToBeCut, MayBeDone, ended_at, given_behind};
+ghost use Rattle.sessions.specs.Doing.{HasTaken, IsEventDone, IsFullScan, IsToBeCut, MayBeDone, ended_at, given_behind};
 ghost use Rattle.sessions.specs.Handed.{ComesOf};
 ghost use Rattle.sessions.specs.Jobs.{IsRoomOf, event_of};
-ghost use Rattle.sessions.specs.Kept.{KeepsAll, Matches, record_of};
+ghost use Rattle.sessions.specs.Kept.{KeepsAll, MatchesPending, record_of};
 ghost use Rattle.sessions.specs.Notes.{notes_of, jobs_of};
-ghost use Rattle.sessions.specs.Turns.{BeginTold, SeatTold, SitsOn, TakeTold, TurnTold, is_begun};
+ghost use Rattle.sessions.specs.Turns.{JobBeginTold, SeatTold, SitsOn, TakeTold, TurnTold, is_begun};
 
 use crate::job::Job;
 use crate::jobs::Jobs;
@@ -39,7 +39,7 @@ pub struct Shared<S: PageStore, T: DeadRows + Drop, J: Jobs> {
     pub keeper: SeatPass,
     pub ghost kept: { ∥ KeepsAll S.PageStore J.stood J.kept_then J.jobs (inside T.DeadRows world) start pending.items history.items ∥₁ },
     pub ghost acted: { ∥ HasActed S.PageStore J.handed J.jobs (inside T.DeadRows world) pending.items history.items ∥₁ },
-    pub ghost matches: { ∥ Matches world.calls.slots.items pending.items ∥₁ },
+    pub ghost matches: { ∥ MatchesPending world.calls.slots.items pending.items ∥₁ },
     pub ghost seats: { vec_len pending ≤ length world.calls.slots.items },
     pub ghost workers: { vec_len pending ≡ J.workers },
     pub ghost handed: { ∥ ComesOf S.PageStore J.handed start (inside T.DeadRows world) ∥₁ },
@@ -186,9 +186,9 @@ impl<S: PageStore, T: DeadRows + Drop, J: Jobs> Shared<S, T, J> {
         ensures worker { result.seat.worker ≡ seat.worker }
         ensures start { self.new.start ≡ self.old.start }
         ensures capacity { vec_capacity self.new.history ≡ vec_capacity self.old.history }
-        ensures event { IsDone S.PageStore (event_of seat.worker asked) result.answer
+        ensures event { IsEventDone S.PageStore (event_of seat.worker asked) result.answer
             (inside T.DeadRows self.old.world) (inside T.DeadRows self.new.world) }
-        ensures told { BeginTold seat.worker
+        ensures told { JobBeginTold seat.worker
             (record {
               job = job;
               given = given;
@@ -248,7 +248,7 @@ impl<S: PageStore, T: DeadRows + Drop, J: Jobs> Shared<S, T, J> {
             (inside T.DeadRows self.old.world) (inside T.DeadRows self.new.world) }
         ensures made { IsMadeOf S.PageStore seat.worker 5 (OneStepComesTo result.answer)
             (inside T.DeadRows self.old.world) (inside T.DeadRows self.new.world) }
-        ensures events { IsOneStep S.PageStore seat.worker 5 result.answer
+        ensures events { IsMadeAsStep S.PageStore seat.worker 5 result.answer
             (inside T.DeadRows self.old.world) (inside T.DeadRows self.new.world) }
         ensures always { OneStepAlways S.PageStore seat.worker result.answer
             (inside T.DeadRows self.old.world) (inside T.DeadRows self.new.world) }

@@ -7,7 +7,7 @@ use Rattle.tree_shape.specs.Walks.{bound_aim}
 use Rattle.tree_acts.specs.Trees.{HasTree}
 use Rattle.tree_acts.proofs.Sizes.{low_level}
 use Rattle.descent.specs.Onward.{walk_length}
-use Rattle.split_finish.specs.Targets.{targets_of, FinishStands, FinishFits, is_as_read, stale_count, is_ready, one_unless, detour, walks_left, walk_left, finish_left}
+use Rattle.split_finish.specs.Targets.{targets_of, FinishStands, FinishInvariant, is_as_read, stale_count, is_ready, one_unless, detour, walks_left, walk_left, finish_left}
 use Rattle.split_finish.specs.declared.finish.FinishAt.{FinishAt}
 use Rattle.split_finish.specs.declared.finish.FinishAt.TheVariants.{Start, Down, Link, Root}
 use Rattle.split_finish.specs.declared.finish.FinishOp.{FinishOp}
@@ -52,7 +52,7 @@ walk_few st start most target (Link way) has stands = omega arith
 walk_few st start most target Root has stands = omega arith
 
 -- so many walks bring a call to the end of its splits
-pub finish_bounded : (st : State) (op : FinishOp) (most : ℕ) → HasTree st → FinishFits st op → finish_left most st.pages op ≤ 66 * suc (walk_length most) + walk_length most
+pub finish_bounded : (st : State) (op : FinishOp) (most : ℕ) → HasTree st → FinishInvariant st op → finish_left most st.pages op ≤ 66 * suc (walk_length most) + walk_length most
 finish_bounded st op most has fits =
     let low = low_level st fits.start op.target.level (bound_aim op.target.separator) true op.target.block has fits.newest.place in
     let high = fits.newest.high_enough in

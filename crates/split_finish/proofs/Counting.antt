@@ -64,7 +64,8 @@ module _ (most : ℕ) (at : ℕ → Node) (below : List Target) (target : Target
   stale : is_as_read at target ≡ false → stale_count at (below ++ target ∷ []) ≡ suc (stale_count at below)
   stale is = stale_append at below (target ∷ []) ∙ (let k = stale_one at target is in omega arith)
 
-  pub less_retaken : (newer : Target) (spot next : FinishAt) → is_as_read at target ≡ false → is_as_read at newer ≡ true → detour at newer next ≡ 0 → walk_left most next ≤ walk_length most → length below ≤ 31
+  pub less_retaken : (newer : Target) (spot next : FinishAt) → is_as_read at target ≡ false → is_as_read at newer ≡ true → detour at newer next ≡ 0
+      → walk_left most next ≤ walk_length most → length below ≤ 31
       → left most at below newer next < left most at below target spot
   less_retaken newer spot next was is straight short few =
       fewer_walks _ _ (walk_length most) (walk_left most next) (walk_left most spot)
@@ -77,7 +78,8 @@ module _ (most : ℕ) (at : ℕ → Node) (below : List Target) (target : Target
   less_pushed newer spot is few =
       fewer_walks _ _ (walk_length most) (walk_length most) (walk_left most spot)
       (let m = many in let n : length ((below ++ target ∷ []) ++ newer ∷ []) ≡ suc (length (below ++ target ∷ [])) = length-append (below ++ target ∷ []) (newer ∷ []) ∙ omega arith in
-      let f : stale_count at ((below ++ target ∷ []) ++ newer ∷ []) ≡ stale_count at (below ++ target ∷ []) = stale_append at (below ++ target ∷ []) (newer ∷ []) ∙ (let k = fresh_one at newer is in omega arith) in
+      let f : stale_count at ((below ++ target ∷ []) ++ newer ∷ []) ≡ stale_count at (below ++ target ∷ []) =
+      stale_append at (below ++ target ∷ []) (newer ∷ []) ∙ (let k = fresh_one at newer is in omega arith) in
       omega arith) (omega arith)
 
   pub less_popped : (rest : List Target) (last : Target) (spot : FinishAt) → below ≡ rest ++ last ∷ [] → is_as_read at target ≡ false → length below ≤ 31

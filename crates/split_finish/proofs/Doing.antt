@@ -11,13 +11,13 @@ use Rattle.tree_shape.specs.Walks.{bound_aim}
 use Rattle.tree_shape.proofs.Fits.{bound_falls}
 use Rattle.tree_acts.specs.Acts.{TreeLasts}
 use Rattle.tree_acts.specs.Flags.{FlagsMove}
-use Rattle.descent.specs.Shared.{IsInOrder, Does, is_flagged, where_acting}
+use Rattle.descent.specs.Shared.{IsInOrder, Does, is_flagged, causes_of_acting}
 use Rattle.descent.proofs.Acting.{one_act}
 use Rattle.descent.proofs.Working.{act_cause_of}
-use Rattle.split_finish.specs.Targets.{FinishFits, IsTarget}
+use Rattle.split_finish.specs.Targets.{FinishInvariant, IsTarget}
 use Rattle.split_finish.specs.Turns.{Popped}
 use Rattle.split_finish.specs.Turns.{splits_root_of}
-use Rattle.split_finish.specs.Finishes.{FinishStepped, images_of, takes_block_of}
+use Rattle.split_finish.specs.Finishes.{FinishStepped, finish_blocks, takes_block_of}
 use Rattle.split_finish.specs.Acting.{FinishActs}
 use Rattle.split_finish.specs.declared.finish.FinishOp.{FinishOp}
 use Rattle.split_finish.specs.declared.finish.FinishStep.{FinishStep}
@@ -28,9 +28,10 @@ use Rattle.split_finish.proofs.Stepping.{acts_not}
 use Rattle.split_finish.proofs.Turning.{flags_popped, flags_gone}
 
 -- an act was done
-pub acts_done : {S : Type 0} (g : Ghosts S) (before after : FinishOp) (old new : S) (step : FinishStep) (changed : List Page) → Continues g.follows old new → g.state new ≡ after_act changed (g.state old)
+pub acts_done : {S : Type 0} (g : Ghosts S) (before after : FinishOp) (old new : S) (step : FinishStep) (changed : List Page)
+    → Continues g.follows old new → g.state new ≡ after_act changed (g.state old)
     → after.session ≡ before.session
-    → ((g.backing new).honest ≡ true → IsInOrder (g.state old) → FinishFits (g.state old) before
+    → ((g.backing new).honest ≡ true → IsInOrder (g.state old) → FinishInvariant (g.state old) before
     → FinishStepped (g.state old) (g.backing old) (after_act changed (g.state old)) (g.backing new) before after (Ok step))
     → FinishActs g before after old new (Ok step)
 acts_done g before after old new step changed steps is session stepped = record {
@@ -68,7 +69,8 @@ only_cleared old new cleared moves block h =
     no e = cc
 
 -- an act that clears the newest target, and nothing more
-pub clears : (old new : State) (old_backing new_backing : Backing) (op after : FinishOp) (step : FinishStep) → (fits : FinishFits old op) → Does op.session (Some Shape) old new → new.table ≡ old.table
+pub clears : (old new : State) (old_backing new_backing : Backing) (op after : FinishOp) (step : FinishStep) → (fits : FinishInvariant old op)
+    → Does op.session (Some Shape) old new → new.table ≡ old.table
     → new.running ≡ old.running → TreeLasts old new → FlagsMove None (Some op.target.block) old new → Popped op after step
     → FinishStepped old old_backing new new_backing op after (Ok step)
 clears old new old_backing new_backing op after Going fits does table running lasts moves popped = record {
@@ -90,12 +92,12 @@ clears old new old_backing new_backing op after Done fits does table running las
 
 -- the act is refused
 pub act_refused : {S : Type 0} (g : Ghosts S) (op : FinishOp) (old new : S) (fault : Fault) (changed : List Page) → Continues g.follows old new → g.state new ≡ g.state old
-    → ((g.backing new).honest ≡ true → map (λ (page : Page). page.block) changed ≡ images_of (g.state old) op.target op.at)
-    → ((g.backing new).honest ≡ true → IsInOrder (g.state old) → FinishFits (g.state old) op → HasCause (where_acting (g.state old) (g.backing old) (g.backing new) changed) fault)
+    → ((g.backing new).honest ≡ true → map (λ (page : Page). page.block) changed ≡ finish_blocks (g.state old) op.target op.at)
+    → ((g.backing new).honest ≡ true → IsInOrder (g.state old) → FinishInvariant (g.state old) op → HasCause (causes_of_acting (g.state old) (g.backing old) (g.backing new) changed) fault)
     → FinishActs g op op old new (Err fault)
 act_refused g op old new fault changed steps same are cause =
     acts_not g op old new fault steps same (λ honest order fits.
-    act_cause_of (g.state old) (g.backing old) (g.backing old) (g.backing new) op.session (images_of (g.state old) op.target op.at) (takes_block_of (g.state old) op.target op.at)
+    act_cause_of (g.state old) (g.backing old) (g.backing old) (g.backing new) op.session (finish_blocks (g.state old) op.target op.at) (takes_block_of (g.state old) op.target op.at)
     (splits_root_of (g.state old) op.target op.at) changed fault (omega arith) (λ h. h) refl (are honest) (cause honest order fits))
 
 pub popped_session : (op after : FinishOp) (step : FinishStep) → Popped op after step → after.session ≡ op.session

@@ -11,7 +11,7 @@ use Rattle.page_action.specs.Reuse.{IsFresh}
 use Rattle.page_action.specs.States.{State, Backing, after_act}
 use Rattle.page_action.proofs.Writable.{writable}
 use Rattle.tree_shape.specs.Tree.{IsMetaOf}
-use Rattle.tree_acts.specs.Acts.{IsUnfinished, MayAct, RootIsSplit}
+use Rattle.tree_acts.specs.Acts.{IsUnfinished, MayActWith, RootIsSplit}
 use Rattle.tree_acts.specs.Flags.{FlagsMove}
 use Rattle.tree_acts.specs.Trees.{HasTree}
 use Rattle.tree_acts.proofs.Leaving.{root_split_leaves}
@@ -21,18 +21,18 @@ use Rattle.tree_acts.proofs.Weighed.{root_split_weighs}
 use Rattle.tree_acts.proofs.Overlays.{inside, node_there}
 use Rattle.descent.specs.Shared.{IsInOrder}
 use Rattle.descent.proofs.Acting.{does_finish}
-use Rattle.split_finish.specs.Targets.{FinishFits}
+use Rattle.split_finish.specs.Targets.{FinishInvariant}
 use Rattle.split_finish.specs.Turns.{IsReadyToGrow, Popped}
 use Rattle.split_finish.specs.Finishes.{FinishStepped}
-use Rattle.split_finish.specs.Acting.{AreGrown, IsRead}
+use Rattle.split_finish.specs.Acting.{AreGrown, IsReadToChange}
 use Rattle.split_finish.specs.declared.finish.FinishOp.{FinishOp}
 use Rattle.split_finish.specs.declared.finish.FinishStep.{FinishStep}
 use Rattle.split_finish.proofs.Standing.{flagged_has, flagged_block, right_block, high_bound, fresh_not_live}
 use Rattle.split_finish.proofs.Doing.{clears}
 use Rattle.tree_shape.specs.Nodes.{Node}
 
-module _ (st : State) (op : FinishOp) (honest : Bool) (meta page : Page) (new fresh : ℕ) (pages : List Page) (order : IsInOrder st) (fits : FinishFits st op) (sound : honest ≡ true)
-    (read_meta : IsRead st honest op.session 0 meta) (read : IsRead st honest op.session op.target.block page) (ready : IsReadyToGrow meta page op op) (right : page.right ≡ Some new)
+module _ (st : State) (op : FinishOp) (honest : Bool) (meta page : Page) (new fresh : ℕ) (pages : List Page) (order : IsInOrder st) (fits : FinishInvariant st op) (sound : honest ≡ true)
+    (read_meta : IsReadToChange st honest op.session 0 meta) (read : IsReadToChange st honest op.session op.target.block page) (ready : IsReadyToGrow meta page op op) (right : page.right ≡ Some new)
     (free_block : IsFresh st fresh) (block : IsBlock fresh) (free : is_held_by_another st.table op.session fresh Exclusive ≡ false)
     (few : length st.pages ≤ st.limits.pages) (items : 2 ≤ st.limits.items) (grown : AreGrown meta page op.target.separator new fresh pages) where
   has : HasTree st
@@ -50,7 +50,7 @@ module _ (st : State) (op : FinishOp) (honest : Bool) (meta page : Page) (new fr
   count_same : (limits : ℕ) (a b : Items) → a ≡ b → count_of b ≤ limits → count_of a ≤ limits
   count_same limits a b is h = subst (λ (i : Items). count_of i ≤ limits) (sym is) h
 
-  pub may_grow : MayAct st (grown.root ∷ grown.meta_after ∷ grown.page_after ∷ [])
+  pub may_grow : MayActWith st (grown.root ∷ grown.meta_after ∷ grown.page_after ∷ [])
   may_grow =
       let blocked = flagged_block page read.stored.storable.admitted ready.flagged in
       let meta_at : grown.meta_after.block ≡ 0 = grown.meta_block ∙ read_meta.stored.block_is in
@@ -101,8 +101,8 @@ module _ (st : State) (op : FinishOp) (honest : Bool) (meta page : Page) (new fr
     may = may_grow;
   }
 
-  pub may_grow_all : MayAct st pages
-  may_grow_all = subst (MayAct st) (sym grown.pages_are) may_grow
+  pub may_grow_all : MayActWith st pages
+  may_grow_all = subst (MayActWith st) (sym grown.pages_are) may_grow
 
   pub grows : (old_backing new_backing : Backing) (after : FinishOp) (step : FinishStep) → Popped op after step
       → FinishStepped st old_backing (after_act pages st) new_backing op after (Ok step)

@@ -66,7 +66,8 @@ pub record IsLinked (parent parent_after : Page) (separator : Bound) (at new : �
   pub admitted : IsPage parent → IsBlock new → IsBoundIn Two separator → FitsBehind (links_of parent.items) at separator parent.high → IsPage parent_after
 
 -- both pages of the act
-both_linked : (parent page parent_after page_after : Page) (separator : Bound) (at new : ℕ) → IsLinkPlace parent page.block separator at → IsLinked parent parent_after separator at new → IsClear page page_after
+both_linked : (parent page parent_after page_after : Page) (separator : Bound) (at new : ℕ) → IsLinkPlace parent page.block separator at
+    → IsLinked parent parent_after separator at new → IsClear page page_after
     → (IsPage page → IsPage page_after) → AreLinked parent page separator new (parent_after ∷ page_after ∷ [])
 both_linked parent page parent_after page_after separator at new place linked clear admitted = record {
   parent_after = parent_after;
@@ -84,7 +85,8 @@ both_linked parent page parent_after page_after separator at new place linked cl
 }
 
 -- ... as they are changed one after the other
-pub linked_there : (pages : List Page) (parent page rest first second parent_after page_after : Page) (separator : Bound) (at new : ℕ) → pages ≡ parent ∷ page ∷ rest ∷ [] → IsLinkPlace parent page.block separator at
+pub linked_there : (pages : List Page) (parent page rest first second parent_after page_after : Page) (separator : Bound) (at new : ℕ)
+    → pages ≡ parent ∷ page ∷ rest ∷ [] → IsLinkPlace parent page.block separator at
     → IsLinked (slice_index_or pages 0 first) parent_after separator at new → IsClear (slice_index_or (slice_set pages 0 parent_after) 1 second) page_after
     → (IsPage (slice_index_or (slice_set pages 0 parent_after) 1 second) → IsPage page_after)
     → AreLinked parent page separator new (take 2 (slice_set (slice_set pages 0 parent_after) 1 page_after))

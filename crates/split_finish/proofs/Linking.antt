@@ -13,7 +13,7 @@ use Rattle.page_action.specs.States.{State, Backing, after_act}
 use Rattle.page_action.proofs.Writable.{writable}
 use Rattle.tree_shape.specs.Nodes.{Node, node_of, links_of}
 use Rattle.tree_shape.specs.Walks.{bound_aim, is_within}
-use Rattle.tree_acts.specs.Acts.{IsUnfinished, MayAct, SplitIsFinished}
+use Rattle.tree_acts.specs.Acts.{IsUnfinished, MayActWith, SplitIsFinished}
 use Rattle.tree_acts.specs.Flags.{FlagsMove}
 use Rattle.tree_acts.specs.Trees.{HasTree, HasPlace, HasCover}
 use Rattle.tree_acts.proofs.Leaving.{finish_leaves}
@@ -25,10 +25,10 @@ use Rattle.tree_acts.proofs.Telling.{live_tells}
 use Rattle.descent.specs.Shared.{IsInOrder}
 use Rattle.descent.specs.declared.way.Way.{Way}
 use Rattle.descent.proofs.Acting.{does_finish}
-use Rattle.split_finish.specs.Targets.{FinishFits, FinishStands, is_ready, is_live_state}
+use Rattle.split_finish.specs.Targets.{FinishInvariant, FinishStands, is_ready, is_live_state}
 use Rattle.split_finish.specs.Turns.{IsReadyToLink, Popped}
 use Rattle.split_finish.specs.Finishes.{FinishStepped}
-use Rattle.split_finish.specs.Acting.{IsRead}
+use Rattle.split_finish.specs.Acting.{IsReadToChange}
 use Rattle.split_finish.specs.declared.finish.FinishAt.TheVariants.{Link}
 use Rattle.split_finish.specs.declared.finish.FinishOp.{FinishOp}
 use Rattle.split_finish.specs.declared.finish.FinishStep.{FinishStep}
@@ -60,8 +60,9 @@ ready_is node level separator h =
     record { alive = live_is node.state c.0; whole = not_is node.split c.1; level_is = eqb-true node.level level b.1; within = a.1 }
 
 -- the target and its parent, as they were read in a tree
-module _ (st : State) (op : FinishOp) (honest : Bool) (way : Way) (page parent : Page) (new : ℕ) (order : IsInOrder st) (fits : FinishFits st op) (sound : honest ≡ true)
-    (at : op.at ≡ Link way) (read : IsRead st honest op.session op.target.block page) (read_parent : IsRead st honest op.session way.block parent) (ready : IsReadyToLink page parent op op)
+module _ (st : State) (op : FinishOp) (honest : Bool) (way : Way) (page parent : Page) (new : ℕ) (order : IsInOrder st) (fits : FinishInvariant st op) (sound : honest ≡ true)
+    (at : op.at ≡ Link way) (read : IsReadToChange st honest op.session op.target.block page)
+    (read_parent : IsReadToChange st honest op.session way.block parent) (ready : IsReadyToLink page parent op op)
     (right : page.right ≡ Some new) where
   pub has : HasTree st
   has = order.tree
@@ -100,11 +101,12 @@ module _ (st : State) (op : FinishOp) (honest : Bool) (way : Way) (page parent :
       (let a = ready.level_is in let b = is_parent.level_is in omega arith)
 
 -- ... with a downlink on the parent, which had room
-module _ (st : State) (op : FinishOp) (honest : Bool) (way : Way) (page parent : Page) (new : ℕ) (pages : List Page) (order : IsInOrder st) (fits : FinishFits st op) (sound : honest ≡ true)
-    (at : op.at ≡ Link way) (read : IsRead st honest op.session op.target.block page) (read_parent : IsRead st honest op.session way.block parent) (ready : IsReadyToLink page parent op op)
+module _ (st : State) (op : FinishOp) (honest : Bool) (way : Way) (page parent : Page) (new : ℕ) (pages : List Page) (order : IsInOrder st) (fits : FinishInvariant st op) (sound : honest ≡ true)
+    (at : op.at ≡ Link way) (read : IsReadToChange st honest op.session op.target.block page)
+    (read_parent : IsReadToChange st honest op.session way.block parent) (ready : IsReadyToLink page parent op op)
     (right : page.right ≡ Some new) (few : length st.pages ≤ st.limits.pages) (room : length (links_of parent.items) < st.limits.items)
     (linked : AreLinked parent page op.target.separator new pages) where
-  pub may_link : MayAct st (linked.parent_after ∷ linked.page_after ∷ [])
+  pub may_link : MayActWith st (linked.parent_after ∷ linked.page_after ∷ [])
   may_link =
       let page_in = inside st.pages page.block page (found st op honest way page parent new order fits sound at read read_parent ready right) in
       let parent_in = inside st.pages parent.block parent (parent_found st op honest way page parent new order fits sound at read read_parent ready right) in
@@ -112,7 +114,8 @@ module _ (st : State) (op : FinishOp) (honest : Bool) (way : Way) (page parent :
       let parent_at = linked.block_is in
       let count = linked.count in (
         writable st.limits linked.parent_after linked.layout_is
-            (linked.admitted read_parent.stored.storable.admitted (right_block page new read.stored.storable.admitted right) (high_bound page op.target.separator read.stored.storable.admitted ready.high_is))
+            (linked.admitted read_parent.stored.storable.admitted (right_block page new read.stored.storable.admitted right)
+            (high_bound page op.target.separator read.stored.storable.admitted ready.high_is))
             (omega arith),
         (omega arith, omega arith),
         ((λ same. two_pages st op honest way page parent new order fits sound at read read_parent ready right (sym page_at ∙ same ∙ parent_at)), tt),
@@ -126,8 +129,8 @@ module _ (st : State) (op : FinishOp) (honest : Bool) (way : Way) (page parent :
         ),
       )
 
-  pub may_link_all : MayAct st pages
-  may_link_all = subst (MayAct st) (sym linked.pages_are) may_link
+  pub may_link_all : MayActWith st pages
+  may_link_all = subst (MayActWith st) (sym linked.pages_are) may_link
 
   pub split_finishes : SplitIsFinished st fits.start op.target.level op.target.separator page parent linked.page_after linked.parent_after new
   split_finishes = record {

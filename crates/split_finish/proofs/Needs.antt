@@ -11,7 +11,7 @@ use Rattle.descent.specs.Shared.{fresh_block, sibling}
 use Rattle.descent.specs.Splitting.{RightIsStored}
 use Rattle.descent.specs.Ways.{level_of, level_with, root_level}
 use Rattle.descent.specs.declared.way.Way.{Way}
-use Rattle.split_finish.specs.Finishes.{images_of, frames_of, takes_block_of, blocks_linked, is_full_parent, is_to_link, is_to_grow}
+use Rattle.split_finish.specs.Finishes.{finish_blocks, frames_of, takes_block_of, blocks_linked, is_full_parent, is_to_link, is_to_grow}
 use Rattle.split_finish.specs.Parting.{halves_and}
 use Rattle.split_finish.specs.Targets.{is_as_read, is_ready}
 use Rattle.split_finish.specs.Turns.{IsReadyToLink, IsReadyToGrow}
@@ -31,18 +31,18 @@ module _ (st : State) (op : FinishOp) (way : Way) (page parent : Page) (found : 
       (as_read st op.target page found ready.flagged ready.high_is)
       (subst (λ (n : Node). is_ready n (suc op.target.level) op.target.separator ≡ true) (sym (node_there st.pages way.block parent there)) ready.ready)
 
-  linked_if : (blocks : List ℕ) → blocks_linked st op.target way.block (slice_get st.pages way.block) ≡ blocks → images_of st op.target (Link way) ≡ blocks
+  linked_if : (blocks : List ℕ) → blocks_linked st op.target way.block (slice_get st.pages way.block) ≡ blocks → finish_blocks st op.target (Link way) ≡ blocks
   linked_if blocks is = ap (λ (b : Bool). if b then blocks_linked st op.target way.block (slice_get st.pages way.block) else []) to_link ∙ is
 
   -- a parent with room is written, and the page whose split is finished
-  pub roomy_link : length (links_of parent.items) < st.limits.items → images_of st op.target (Link way) ≡ way.block ∷ op.target.block ∷ []
+  pub roomy_link : length (links_of parent.items) < st.limits.items → finish_blocks st op.target (Link way) ≡ way.block ∷ op.target.block ∷ []
   roomy_link room =
       let roomy = lt-leb st.limits.items (length (links_of parent.items)) room in
       linked_if (way.block ∷ op.target.block ∷ []) (rw (there, roomy) refl)
 
   -- a full one is split, on a block
   pub full_link : st.limits.items ≤ length (links_of parent.items)
-      → (images_of st op.target (Link way) ≡ way.block ∷ fresh_block st ∷ sibling parent.right ++ op.target.block ∷ []) × (takes_block_of st op.target (Link way) ≡ true)
+      → (finish_blocks st op.target (Link way) ≡ way.block ∷ fresh_block st ∷ sibling parent.right ++ op.target.block ∷ []) × (takes_block_of st op.target (Link way) ≡ true)
   full_link full =
       let no_room = le-leb st.limits.items (length (links_of parent.items)) full in (
         linked_if (way.block ∷ fresh_block st ∷ sibling parent.right ++ op.target.block ∷ []) (rw (there, no_room) refl),
@@ -54,7 +54,8 @@ pub level_is : (st : State) (meta : Page) → slice_get st.pages 0 ≡ Some meta
 level_is st meta found is = ap level_of found ∙ ap (λ (items : Items). level_with items meta.level) is
 
 -- the target as it was read, and on the root's level: a root is made
-module _ (st : State) (op : FinishOp) (meta page : Page) (there : slice_get st.pages 0 ≡ Some meta) (found : slice_get st.pages op.target.block ≡ Some page) (ready : IsReadyToGrow meta page op op) where
+module _ (st : State) (op : FinishOp) (meta page : Page) (there : slice_get st.pages 0 ≡ Some meta)
+    (found : slice_get st.pages op.target.block ≡ Some page) (ready : IsReadyToGrow meta page op op) where
   pub to_grow : is_to_grow st op.target ≡ true
   to_grow =
       and_from (is_as_read (nodes_of st.pages) op.target && (root_level st.pages == op.target.level)) (nat_lt op.target.level 31)
@@ -64,12 +65,12 @@ module _ (st : State) (op : FinishOp) (meta page : Page) (there : slice_get st.p
       (lt-ltb op.target.level 31 ready.low_enough)
 
   -- three pages are written
-  pub root_takes : images_of st op.target Root ≡ fresh_block st ∷ 0 ∷ op.target.block ∷ []
+  pub root_takes : finish_blocks st op.target Root ≡ fresh_block st ∷ 0 ∷ op.target.block ∷ []
   root_takes = ap (λ (b : Bool). if b then fresh_block st ∷ 0 ∷ op.target.block ∷ [] else []) to_grow
 
 -- it needs a frame
 pub needs_frame : (st : State) (target : Target) (at : FinishAt) → 1 ≤ frames_of st target at
-needs_frame st target at = frames_some (images_of st target at)
+needs_frame st target at = frames_some (finish_blocks st target at)
 
 pub three_are : (a b c d e f : ℕ) → a ≡ d → b ≡ e → c ≡ f → a ∷ b ∷ c ∷ [] ≡ d ∷ e ∷ f ∷ []
 three_are a b c d e f one two three = rw (one, two, three) refl

@@ -38,9 +38,9 @@ use Rattle.descent.specs.Splitting.{RightIsMendable, RightIsStored, RightIsFound
 use Rattle.descent.specs.declared.way.Way.{Way}
 use Rattle.descent.proofs.Acting.{AreFree, does_finish, one_act}
 use Rattle.descent.proofs.Mended.{fresh_apart, RightMay, right_may}
-use Rattle.split_finish.specs.Acting.{IsRead, FinishActs}
+use Rattle.split_finish.specs.Acting.{IsReadToChange, FinishActs}
 use Rattle.split_finish.specs.Parting.{halves_and}
-use Rattle.split_finish.specs.Targets.{targets_of, is_among_targets, OnlyTargetsAreFlagged, IsTarget, FinishStands, FinishFits, is_ready, is_live_state}
+use Rattle.split_finish.specs.Targets.{targets_of, is_among_targets, OnlyTargetsAreFlagged, IsTarget, FinishStands, FinishInvariant, is_ready, is_live_state}
 use Rattle.split_finish.specs.Turns.{IsReadyToLink}
 use Rattle.split_finish.specs.declared.finish.FinishAt.TheVariants.{Start, Link}
 use Rattle.split_finish.specs.declared.finish.FinishOp.{FinishOp}
@@ -84,7 +84,8 @@ mends_right st session new None (Some page) stored found = absurd stored
 mends_right st session new (Some r) None stored found = absurd stored
 mends_right st session new (Some r) (Some page) stored found = neighbour page (record page { layout = Two; left = Some new }) found stored.0.block_is refl
 
-free_beside : (st : State) (session new : ℕ) (link : Option ℕ) (right : Option Page) (rest : List Page) → RightIsStored st session link right → AreFree st session rest → AreFree st session (mended_to new right ++ rest)
+free_beside : (st : State) (session new : ℕ) (link : Option ℕ) (right : Option Page) (rest : List Page) → RightIsStored st session link right
+    → AreFree st session rest → AreFree st session (mended_to new right ++ rest)
 free_beside st session new None None rest stored free = free
 free_beside st session new None (Some page) rest stored free = absurd stored
 free_beside st session new (Some r) None rest stored free = absurd stored
@@ -110,8 +111,8 @@ raised_block q p b was not_q h = elim (cases_eq b p) [
 
 -- the parts of an act that splits a parent
 pub record PartsParent (st : State) (honest : Bool) (session : ℕ) (op : FinishOp) (way : Way) (page parent left half clear : Page) (right : Option Page) (new : ℕ) : Type 0 where
-  pub read : IsRead st honest session op.target.block page
-  pub read_parent : IsRead st honest session way.block parent
+  pub read : IsReadToChange st honest session op.target.block page
+  pub read_parent : IsReadToChange st honest session way.block parent
   pub ready : IsReadyToLink page parent op op
   pub right_is : page.right ≡ Some new
   pub split : LinkSplit (node_of parent) parent.block half.block page.block new op.target.separator (node_of left) (node_of half)
@@ -125,7 +126,8 @@ pub record PartsParent (st : State) (honest : Bool) (session : ℕ) (op : Finish
   pub clears : IsClear page clear
 
 -- the act that splits the parent, in a tree
-pub parent_split : (st : State) (session : ℕ) (op : FinishOp) (way : Way) (page parent left half clear : Page) (right : Option Page) (new : ℕ) (order : IsInOrder st) (fits : FinishFits st op) → op.at ≡ Link way
+pub parent_split : (st : State) (session : ℕ) (op : FinishOp) (way : Way) (page parent left half clear : Page) (right : Option Page) (new : ℕ)
+    (order : IsInOrder st) (fits : FinishInvariant st op) → op.at ≡ Link way
     → PartsParent st true session op way page parent left half clear right new → AreActable st.limits (length st.pages) (halves_and left half right clear)
     → ParentIsSplit st fits.start op.target.level op.target.separator page parent clear left half (mended_to half.block right) new
 parent_split st session op way page parent left half clear right new order fits at_is h may =
@@ -224,7 +226,7 @@ parts g before after old new way page parent left half clear right new_block tar
               ),
             ));
         table = ap (λ (x : State). x.table) now;
-        fits = subst (λ (x : State). FinishFits x after) (sym now) (subst (FinishFits added_to) (sym after_is) (record {
+        fits = subst (λ (x : State). FinishInvariant x after) (sym now) (subst (FinishInvariant added_to) (sym after_is) (record {
           session = fits.session;
           free = fits.free;
           start = fits.start;
@@ -272,13 +274,15 @@ beside_may st session new (Some r) (Some page) clear stored may storable low ins
     (may.0, may.1, ((λ same. differ (ap Some (sym stored.0.block_is ∙ sym same))), tt), (storable, (low, inside), tt, tt))
 
 -- the pages of the act may be written
-pub parts_may : (st : State) (session : ℕ) (op : FinishOp) (way : Way) (page parent left half clear : Page) (right : Option Page) (new : ℕ) (order : IsInOrder st) (fits : FinishFits st op) → op.at ≡ Link way
+pub parts_may : (st : State) (session : ℕ) (op : FinishOp) (way : Way) (page parent left half clear : Page) (right : Option Page) (new : ℕ)
+    (order : IsInOrder st) (fits : FinishInvariant st op) → op.at ≡ Link way
     → PartsParent st true session op way page parent left half clear right new → length st.pages ≤ st.limits.pages
     → IsPage left → IsPage half → HasLinks left.items → HasLinks half.items → HasLinks parent.items → 4 ≤ length (links_of parent.items)
     → length (links_of left.items) ≡ left_count (length (links_of parent.items)) → length (links_of left.items) + length (links_of half.items) ≡ length (links_of parent.items) + 1
     → IsBlock half.block → IsPage clear → count_of clear.items ≤ st.limits.items → RightIsMendable st parent.right → parent.right ≢ Some parent.block → parent.right ≢ Some page.block
     → AreActable st.limits (length st.pages) (halves_and left half right clear)
-parts_may st session op way page parent left half clear right new order fits at_is h few left_page half_page left_links half_links parent_links some kept moved block clear_page clear_few mendable apart_q apart_p =
+parts_may st session op way page parent left half clear right new order fits at_is h few left_page half_page left_links half_links parent_links some
+    kept moved block clear_page clear_few mendable apart_q apart_p =
     let ready = ready_parent parent (suc op.target.level) op.target.separator h.ready.ready in
     let at_page : page.block ≡ op.target.block = h.read.stored.block_is in
     let at_parent : parent.block ≡ way.block = h.read_parent.stored.block_is in
@@ -324,8 +328,8 @@ pub record BesideParent (st : State) (page parent : Page) : Type 0 where
   pub apart_parent : parent.right ≢ Some parent.block
   pub apart_page : parent.right ≢ Some page.block
 
-pub beside_parent : (st : State) (session : ℕ) (honest : Bool) (op : FinishOp) (way : Way) (page parent : Page) (order : IsInOrder st) (fits : FinishFits st op) → op.at ≡ Link way → honest ≡ true
-    → IsRead st honest session op.target.block page → IsRead st honest session way.block parent → IsReadyToLink page parent op op → BesideParent st page parent
+pub beside_parent : (st : State) (session : ℕ) (honest : Bool) (op : FinishOp) (way : Way) (page parent : Page) (order : IsInOrder st) (fits : FinishInvariant st op) → op.at ≡ Link way → honest ≡ true
+    → IsReadToChange st honest session op.target.block page → IsReadToChange st honest session way.block parent → IsReadyToLink page parent op op → BesideParent st page parent
 beside_parent st session honest op way page parent order fits at_is kept_model read read_parent ready_to =
     by parent.right refl
   where

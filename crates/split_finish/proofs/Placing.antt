@@ -31,7 +31,8 @@ none_leads : (child : ℕ) (links : List Downlink) → HasLink child links → A
 none_leads child links has none =
     let at = length has.before in
     let here : slice_index_or links at (record { bound = None; child = 0 }) ≡ record { bound = has.bound; child = child } =
-    ap (λ (xs : List Downlink). slice_index_or xs at (record { bound = None; child = 0 })) has.is ∙ middle has.before (record { bound = has.bound; child = child }) has.after (record { bound = None; child = 0 }) in
+    ap (λ (xs : List Downlink). slice_index_or xs at (record { bound = None; child = 0 })) has.is
+    ∙ middle has.before (record { bound = has.bound; child = child }) has.after (record { bound = None; child = 0 }) in
     none at (record { bound = None; child = 0 }) (subst (λ (xs : List Downlink). at < length xs) (sym has.is) (middle_in has.before (record { bound = has.bound; child = child }) has.after))
     (ap (λ (d : Downlink). d.child) here)
 

@@ -26,7 +26,7 @@ use Rattle.tree_acts.specs.Ways.{RootIsThere}
 use Rattle.tree_acts.proofs.Telling.{metapage_tells, live_tells, high_tells, trail_begins_here}
 use Rattle.descent.specs.Onward.{IsOnWay, way_from}
 use Rattle.descent.specs.declared.way.Way.{Way}
-use Rattle.split_finish.specs.Targets.{targets_of, IsTarget, FinishStands, FinishFits}
+use Rattle.split_finish.specs.Targets.{targets_of, IsTarget, FinishStands, FinishInvariant}
 use Rattle.split_finish.specs.Turns.{Popped, Pushed, Retaken}
 use Rattle.split_finish.specs.declared.finish.FinishAt.{FinishAt}
 use Rattle.split_finish.specs.declared.finish.FinishAt.TheVariants.{Down}
@@ -35,13 +35,14 @@ use Rattle.split_finish.specs.declared.finish.FinishStep.TheVariants.{Going}
 use Rattle.split_finish.specs.declared.finish.Target.{Target}
 
 -- the metapage that is read is the tree's
-pub meta_same : (st : State) (start level : ℕ) (aim : Bound → Bool) (clear : Bool) (block : ℕ) (meta : Page) → HasPlace st start level aim clear block → slice_get st.pages 0 ≡ Some meta → level ≤ meta.level
+pub meta_same : (st : State) (start level : ℕ) (aim : Bound → Bool) (clear : Bool) (block : ℕ) (meta : Page) → HasPlace st start level aim clear block
+    → slice_get st.pages 0 ≡ Some meta → level ≤ meta.level
 meta_same st start level aim clear block meta place found =
     let same : place.tree.meta ≡ meta = (let k : Some place.tree.meta ≡ Some meta = sym place.tree.meta_at ∙ found in cc) in
     subst (λ (m : Page). level ≤ m.level) same place.in_tree
 
 -- the same targets, and another step
-pub fits_moved : (st : State) (op : FinishOp) (at : FinishAt) (fits : FinishFits st op) → FinishStands st fits.start op.target at → FinishFits st (record op { at = at })
+pub fits_moved : (st : State) (op : FinishOp) (at : FinishAt) (fits : FinishInvariant st op) → FinishStands st fits.start op.target at → FinishInvariant st (record op { at = at })
 fits_moved st op at fits stands = record {
   session = fits.session;
   free = fits.free;
@@ -88,7 +89,7 @@ get_before (x ∷ xs) y zero t h = h
 get_before (x ∷ xs) y (suc i) t h = get_before xs y i t h
 
 -- each of the targets is one, the newest too
-pub each_target : (st : State) (op : FinishOp) (fits : FinishFits st op) (i : ℕ) (t : Target) → slice_get (targets_of op) i ≡ Some t → IsTarget st fits.start i t
+pub each_target : (st : State) (op : FinishOp) (fits : FinishInvariant st op) (i : ℕ) (t : Target) → slice_get (targets_of op) i ≡ Some t → IsTarget st fits.start i t
 each_target st op fits i t h =
     elim (get_last op.below.items op.target i t h) [
       | inl k ↦ fits.below i t k
@@ -96,9 +97,9 @@ each_target st op fits i t h =
     ]
 
 -- a flagged page with a high key, on the way, as a newer target
-pub rises_to : (st : State) (op after : FinishOp) (way : Way) (page : Page) (separator : Bound) → HasTree st → (fits : FinishFits st op)
+pub rises_to : (st : State) (op after : FinishOp) (way : Way) (page : Page) (separator : Bound) → HasTree st → (fits : FinishInvariant st op)
     → Pushed (record { block = way.block; level = way.level; separator = separator }) op after → FinishStands st fits.start op.target (Down way)
-    → slice_get st.pages way.block ≡ Some page → page.state ≡ Live → page.high ≡ Some separator → FinishFits st after
+    → slice_get st.pages way.block ≡ Some page → page.state ≡ Live → page.high ≡ Some separator → FinishInvariant st after
 rises_to st op after way page separator h fits pushed on found alive high =
     let there : page.block ≡ way.block = (stored_page st.limits way.block st.pages page h.stored found).block_is in
     let found_there : slice_get st.pages page.block ≡ Some page = subst (λ (b : ℕ). slice_get st.pages b ≡ Some page) (sym there) found in
@@ -122,7 +123,8 @@ rises_to st op after way page separator h fits pushed on found alive high =
     }
 
 -- a live page that is a place is on its level
-pub live_level : (st : State) (start level : ℕ) (aim : Bound → Bool) (clear : Bool) (block : ℕ) (page : Page) → HasTree st → HasPlace st start level aim clear block → slice_get st.pages block ≡ Some page
+pub live_level : (st : State) (start level : ℕ) (aim : Bound → Bool) (clear : Bool) (block : ℕ) (page : Page) → HasTree st
+    → HasPlace st start level aim clear block → slice_get st.pages block ≡ Some page
     → page.state ≡ Live → page.level ≡ level
 live_level st start level aim clear block page h place found alive =
     let there : page.block ≡ block = (stored_page st.limits block st.pages page h.stored found).block_is in
@@ -165,7 +167,7 @@ not_flagged st block page h found whole = by page.split refl
 
 -- behind the newest target the ones below it are left
 pub fits_popped : (st : State) (before after : FinishOp) (start : ℕ) → Popped before after Going → before.session < 64 → holding_of st.table before.session ≡ nothing_held
-    → slice_get st.running before.session ≡ Some (Some start) → ((i : ℕ) (t : Target) → slice_get before.below.items i ≡ Some t → IsTarget st start i t) → FinishFits st after
+    → slice_get st.running before.session ≡ Some (Some start) → ((i : ℕ) (t : Target) → slice_get before.below.items i ≡ Some t → IsTarget st start i t) → FinishInvariant st after
 fits_popped st before after start popped session free running below = record {
   session = subst (λ (s : ℕ). s < 64) (sym popped.session) session;
   free = rw popped.session free;
@@ -177,8 +179,8 @@ fits_popped st before after start popped session free running below = record {
 }
 
 -- the newest target as its page is now
-pub fits_retaken : (st : State) (op after : FinishOp) (separator : Bound) (at : FinishAt) (page : Page) → HasTree st → (fits : FinishFits st op) → Retaken separator at op after
-    → slice_get st.pages op.target.block ≡ Some page → page.state ≡ Live → page.high ≡ Some separator → FinishStands st fits.start after.target at → FinishFits st after
+pub fits_retaken : (st : State) (op after : FinishOp) (separator : Bound) (at : FinishAt) (page : Page) → HasTree st → (fits : FinishInvariant st op) → Retaken separator at op after
+    → slice_get st.pages op.target.block ≡ Some page → page.state ≡ Live → page.high ≡ Some separator → FinishStands st fits.start after.target at → FinishInvariant st after
 fits_retaken st op after separator at page h fits taken found alive high stands =
     let there : page.block ≡ op.target.block = (stored_page st.limits op.target.block st.pages page h.stored found).block_is in
     let found_there : slice_get st.pages page.block ≡ Some page = subst (λ (b : ℕ). slice_get st.pages b ≡ Some page) (sym there) found in
@@ -206,7 +208,8 @@ some_is : {A : Type 0} (x : Option A) → (x ≡ None → ⊥) → (a : A) × (x
 some_is None h = absurd (h refl)
 some_is (Some a) h = (a, refl)
 
-pub to_finish : (st : State) (start level : ℕ) (aim : Bound → Bool) (block : ℕ) (page : Page) → HasTree st → HasPlace st start level aim true block → slice_get st.pages block ≡ Some page → page.split ≡ true
+pub to_finish : (st : State) (start level : ℕ) (aim : Bound → Bool) (block : ℕ) (page : Page) → HasTree st → HasPlace st start level aim true block
+    → slice_get st.pages block ≡ Some page → page.split ≡ true
     → ToFinish st start level page
 to_finish st start level aim block page h place found flagged =
     let has = flagged_in st block page h found flagged in
@@ -231,7 +234,7 @@ pub meta_inside : (st : State) → HasTree st → 0 < length st.pages
 meta_inside st h = inside st.pages 0 h.tree.meta h.tree.meta_at
 
 -- a session that holds nothing may latch a page
-pub has_room : (st : State) (op : FinishOp) → FinishFits st op → HasRoom st.table op.session
+pub has_room : (st : State) (op : FinishOp) → FinishInvariant st op → HasRoom st.table op.session
 has_room st op fits = subst (λ (held : Holding). length held.latches < 8) (sym fits.free) (omega arith)
 
 -- a flagged page isn't the metapage, by the format

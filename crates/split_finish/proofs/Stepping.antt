@@ -12,11 +12,11 @@ use Rattle.descent.specs.Shared.{IsInOrder, IsOneStep, is_flagged}
 use Rattle.descent.proofs.Acting.{one_nothing, nothing_else}
 use Rattle.descent.proofs.Working.{no_room_later}
 use Rattle.descent.specs.Onward.{walk_length}
-use Rattle.split_finish.specs.Targets.{FinishFits, OnlyTargetsAreFlagged, targets_of, finish_left}
-use Rattle.split_finish.specs.Turns.{Turned, where_turned}
-use Rattle.split_finish.specs.Finishes.{FinishSteps, FinishStays, FinishStepped, images_of, where_finishing}
+use Rattle.split_finish.specs.Targets.{FinishInvariant, OnlyTargetsAreFlagged, targets_of, finish_left}
+use Rattle.split_finish.specs.Turns.{Turned, causes_of_turned}
+use Rattle.split_finish.specs.Finishes.{FinishSteps, FinishStays, FinishStepped, finish_blocks, causes_of_finishing}
 use Rattle.page_codec.specs.declared.page.Page.{Page}
-use Rattle.split_finish.specs.Acting.{FinishActs, IsRead, MeetsParent}
+use Rattle.split_finish.specs.Acting.{FinishActs, IsReadToChange, MeetsParent}
 use Rattle.split_finish.specs.declared.finish.FinishAt.{FinishAt}
 use Rattle.split_finish.specs.declared.finish.FinishOp.{FinishOp}
 use Rattle.split_finish.specs.declared.finish.FinishStep.{FinishStep}
@@ -26,8 +26,8 @@ use Rattle.split_finish.specs.declared.finish.Target.{Target}
 -- a step that is refused before anything is changed
 pub refuses : {S : Type 0} (g : Ghosts S) (op : FinishOp) (old new : S) (fault : Fault) → Continues g.follows old new → g.state new ≡ g.state old
     → ((g.backing old).stopped ≡ true → fault ≡ Stopped)
-    → ((g.backing new).honest ≡ true → IsInOrder (g.state old) → FinishFits (g.state old) op
-    → HasCause (where_finishing (g.state old) (g.backing old) (g.backing new) op.session op.target op.at) fault)
+    → ((g.backing new).honest ≡ true → IsInOrder (g.state old) → FinishInvariant (g.state old) op
+    → HasCause (causes_of_finishing (g.state old) (g.backing old) (g.backing new) op.session op.target op.at) fault)
     → FinishSteps g op op old new (Err fault)
 refuses g op old new fault steps same stops cause = record {
   steps = steps;
@@ -42,8 +42,8 @@ refuses g op old new fault steps same stops cause = record {
 }
 
 -- why a turn is refused, a step is
-pub turn_cause : (st : State) (first third : Backing) (session : ℕ) (target : Target) (at : FinishAt) (fault : Fault) → HasCause (where_turned st target at) fault
-    → HasCause (where_finishing st first third session target at) fault
+pub turn_cause : (st : State) (first third : Backing) (session : ℕ) (target : Target) (at : FinishAt) (fault : Fault) → HasCause (causes_of_turned st target at) fault
+    → HasCause (causes_of_finishing st first third session target at) fault
 turn_cause st first third session target at TooTall h = h
 turn_cause st first third session target at NoMemory h = h
 turn_cause st first third session target at Io h = absurd cc
@@ -88,7 +88,7 @@ turns g before after old new (Ok Going) steps same session kept runs turned = re
     shapes = inl refl;
     does = nothing_else before.session (g.state old) (g.state new) same order;
     table = ap (λ (st : State). st.table) same;
-    fits = subst (λ (st : State). FinishFits st after) (sym same) ((turned honest).fits order.tree fits);
+    fits = subst (λ (st : State). FinishInvariant st after) (sym same) ((turned honest).fits order.tree fits);
     flags = λ h. subst (λ (st : State). OnlyTargetsAreFlagged st (targets_of after)) (sym same) ((turned honest).flags h);
   };
 }
@@ -129,11 +129,11 @@ or_first false b false f h = h
 -- a cause behind the readings is one from the start
 pub earlier_cause : (st : State) (first second third : Backing) (session : ℕ) (target : Target) (at : FinishAt) (fault : Fault)
     → first.failures ≤ second.failures → (second.stopped ≡ true → first.stopped ≡ true) → second.promised ≡ first.promised
-    → HasCause (where_finishing st second third session target at) fault → HasCause (where_finishing st first third session target at) fault
+    → HasCause (causes_of_finishing st second third session target at) fault → HasCause (causes_of_finishing st first third session target at) fault
 earlier_cause st first second third session target at Io le alive promised h =
     (let k : second.failures < third.failures = ltb-true second.failures third.failures h in lt-ltb first.failures third.failures (omega arith))
 earlier_cause st first second third session target at Stopped le alive promised h = or_first second.stopped (is_at_end st.acts) first.stopped alive h
-earlier_cause st first second third session target at LogFull le alive promised h = no_room_later first second third (images_of st target at) promised h
+earlier_cause st first second third session target at LogFull le alive promised h = no_room_later first second third (finish_blocks st target at) promised h
 earlier_cause st first second third session target at NoFrame le alive promised h = h
 earlier_cause st first second third session target at TooTall le alive promised h = h
 earlier_cause st first second third session target at IndexFull le alive promised h = h
@@ -185,7 +185,7 @@ behind_more g before after old mid new result read acts = record {
       (acts.over honest is (same ∙ ap (λ (st : State). st.acts) (sym read.same)));
   stepped = λ honest order fits. earlier_stepped (g.state old) (g.state new) (g.backing old) (g.backing mid) (g.backing new) before after result read.failures read.alive read.promised
       (subst (λ (st : State). FinishStepped st (g.backing mid) (g.state new) (g.backing new) before after result) read.same
-      (acts.stepped honest (subst IsInOrder (sym read.same) order) (subst (λ (st : State). FinishFits st before) (sym read.same) fits)));
+      (acts.stepped honest (subst IsInOrder (sym read.same) order) (subst (λ (st : State). FinishInvariant st before) (sym read.same) fits)));
 }
 
 -- the whole step, from its readings on
@@ -207,8 +207,8 @@ behind g before after old mid new result read runs acts =
 
 -- a step behind its readings that is refused, with nothing changed
 pub acts_not : {S : Type 0} (g : Ghosts S) (op : FinishOp) (old new : S) (fault : Fault) → Continues g.follows old new → g.state new ≡ g.state old
-    → ((g.backing new).honest ≡ true → IsInOrder (g.state old) → FinishFits (g.state old) op
-    → HasCause (where_finishing (g.state old) (g.backing old) (g.backing new) op.session op.target op.at) fault)
+    → ((g.backing new).honest ≡ true → IsInOrder (g.state old) → FinishInvariant (g.state old) op
+    → HasCause (causes_of_finishing (g.state old) (g.backing old) (g.backing new) op.session op.target op.at) fault)
     → FinishActs g op op old new (Err fault)
 acts_not g op old new fault steps same cause = record {
   steps = steps;
@@ -271,15 +271,17 @@ turns_behind g before after old (Err fault) session kept turned = record {
 }
 
 -- a page as it was read, after a further reading
-still_read : (old new : State) (first second : Backing) (session block : ℕ) (page : Page) → new ≡ old → (second.honest ≡ true → first.honest ≡ true) → IsRead old first.honest session block page
-    → IsRead new second.honest session block page
-still_read old new first second session block page same honest read = subst (λ (st : State). IsRead st second.honest session block page) (sym same) (record {
+still_read : (old new : State) (first second : Backing) (session block : ℕ) (page : Page) → new ≡ old → (second.honest ≡ true → first.honest ≡ true)
+    → IsReadToChange old first.honest session block page
+    → IsReadToChange new second.honest session block page
+still_read old new first second session block page same honest read = subst (λ (st : State). IsReadToChange st second.honest session block page) (sym same) (record {
   found = λ h. read.found (honest h);
   stored = read.stored;
   free = read.free;
 })
 
-pub still_meets : (old new : State) (first second : Backing) (op : FinishOp) (page parent : Page) → new ≡ old → (second.honest ≡ true → first.honest ≡ true) → MeetsParent old first.honest op page parent
+pub still_meets : (old new : State) (first second : Backing) (op : FinishOp) (page parent : Page) → new ≡ old
+    → (second.honest ≡ true → first.honest ≡ true) → MeetsParent old first.honest op page parent
     → MeetsParent new second.honest op page parent
 still_meets old new first second op page parent same honest meets = record {
   way = meets.way;

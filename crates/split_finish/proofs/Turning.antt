@@ -15,7 +15,7 @@ use Rattle.tree_acts.proofs.Overlays.{node_there}
 use Rattle.descent.specs.declared.way.Way.{Way}
 use Rattle.tree_shape.specs.Walks.{bound_aim, is_within}
 use Rattle.descent.specs.Onward.{walk_length}
-use Rattle.split_finish.specs.Targets.{FinishStands, FinishFits, OnlyTargetsAreFlagged, targets_of, is_among_targets, is_as_read, is_ready, detour, walk_left}
+use Rattle.split_finish.specs.Targets.{FinishStands, FinishInvariant, OnlyTargetsAreFlagged, targets_of, is_among_targets, is_as_read, is_ready, detour, walk_left}
 use Rattle.split_finish.specs.Turns.{Turned, TurnGoesOn, Popped, Pushed, Retaken}
 use Rattle.descent.specs.Shared.{is_flagged}
 use Rattle.split_finish.specs.declared.finish.FinishStep.{FinishStep}
@@ -30,7 +30,7 @@ use Rattle.split_finish.proofs.Standing.{fits_moved, rises_to, fits_popped, fits
 -- the same targets, and another step
 pub turn_moved : (st : State) (op : FinishOp) (spot at : FinishAt) → op.at ≡ spot
     → left st.limits.pages (nodes_of st.pages) op.below.items op.target at < left st.limits.pages (nodes_of st.pages) op.below.items op.target spot
-    → (HasTree st → (fits : FinishFits st op) → FinishStands st fits.start op.target spot → FinishStands st fits.start op.target at)
+    → (HasTree st → (fits : FinishInvariant st op) → FinishStands st fits.start op.target spot → FinishStands st fits.start op.target at)
     → TurnGoesOn st op (record op { at = at })
 turn_moved st op spot at is less stands = record {
   less = subst (λ (a : FinishAt). left st.limits.pages (nodes_of st.pages) op.below.items op.target at < left st.limits.pages (nodes_of st.pages) op.below.items op.target a) (sym is) less;
@@ -138,7 +138,8 @@ stale_is st target page found whole = rw (node_there st.pages target.block page 
 pub turn_popped : (st : State) (op after : FinishOp) (step : FinishStep) (page : Page) → Popped op after step → slice_get st.pages op.target.block ≡ Some page → page.split ≡ false
     → Turned st op after (Ok step)
 turn_popped st op after Going page popped found whole = record {
-  less = rw popped.at_is (less_popped st.limits.pages (nodes_of st.pages) op.below.items op.target after.below.items after.target op.at popped.list_is (stale_is st op.target page found whole) popped.few);
+  less = rw popped.at_is
+      (less_popped st.limits.pages (nodes_of st.pages) op.below.items op.target after.below.items after.target op.at popped.list_is (stale_is st op.target page found whole) popped.few);
   fits = λ h fits. fits_popped st op after fits.start popped fits.session fits.free fits.running fits.below;
   flags = λ h. flags_popped st st op after popped h (λ block k. (k, λ same. not_both (sym k ∙ ap (is_flagged st) (sym same) ∙ whole_is st op.target.block page found whole)));
 }

@@ -19,7 +19,7 @@ use Rattle.tree_shape.specs.Nodes.{node_of, links_of}
 use Rattle.tree_acts.specs.Acts.{IsClear}
 use Rattle.descent.specs.Shared.{IsInOrder, IsOneStep}
 use Rattle.descent.specs.Onward.{walk_length}
-use Rattle.split_finish.specs.Targets.{FinishFits, finish_left}
+use Rattle.split_finish.specs.Targets.{FinishInvariant, finish_left}
 use Rattle.descent.specs.declared.way.Way.{Way}
 use Rattle.split_finish.specs.Turns.{IsReadyToLink, IsReadyToGrow}
 use Rattle.split_finish.specs.declared.finish.FinishAt.TheVariants.{Link, Root}
@@ -67,7 +67,7 @@ pub record AreGrown (meta page : Page) (separator : Bound) (new fresh : ℕ) (pa
   pub page_admitted : IsPage page → IsPage page_after
 
 -- the page of this block as it was read to be changed: no other session holds it
-pub record IsRead (st : State) (honest : Bool) (session block : ℕ) (page : Page) : Type 0 where
+pub record IsReadToChange (st : State) (honest : Bool) (session block : ℕ) (page : Page) : Type 0 where
   pub found : honest ≡ true → slice_get st.pages block ≡ Some page
   pub stored : IsStored st.limits block page
   pub free : is_held_by_another st.table session block Exclusive ≡ false
@@ -77,8 +77,8 @@ pub record MeetsParent (st : State) (honest : Bool) (op : FinishOp) (page parent
     : Type 0 where
   pub way : Way
   pub at : op.at ≡ Link way
-  pub read : IsRead st honest op.session op.target.block page
-  pub read_parent : IsRead st honest op.session way.block parent
+  pub read : IsReadToChange st honest op.session op.target.block page
+  pub read_parent : IsReadToChange st honest op.session way.block parent
   pub ready : IsReadyToLink page parent op op
 
 -- the first two of three pages are the parent, block `above`, and the page of the other block, as they were read
@@ -88,8 +88,8 @@ pub record AreRead (st : State) (honest : Bool) (session block above : ℕ) (pag
   pub page : Page
   pub rest : Page
   pub pages_are : pages ≡ parent ∷ page ∷ rest ∷ []
-  pub read : IsRead st honest session block page
-  pub read_parent : IsRead st honest session above parent
+  pub read : IsReadToChange st honest session block page
+  pub read_parent : IsReadToChange st honest session above parent
 
 -- ... and the call may put the downlink there
 pub record AreReady (st : State) (honest : Bool) (op : FinishOp) (pages : List Page) : Type 0 where
@@ -110,8 +110,8 @@ pub record HaveRoom (st : State) (honest : Bool) (op : FinishOp) (at new : ℕ) 
 -- a call has read the metapage and its newest target, and may make a new root
 pub record MeetsRoot (st : State) (honest : Bool) (op : FinishOp) (meta page : Page) : Type 0 where
   pub at : op.at ≡ Root
-  pub read_meta : IsRead st honest op.session 0 meta
-  pub read : IsRead st honest op.session op.target.block page
+  pub read_meta : IsReadToChange st honest op.session 0 meta
+  pub read : IsReadToChange st honest op.session op.target.block page
   pub ready : IsReadyToGrow meta page op op
 
 -- What the part of a step does that stands behind its readings: what a step does, but that the log
@@ -132,5 +132,5 @@ pub record FinishActs {S : Type 0} (g : Ghosts S) (before after : FinishOp) (old
       → 34 * suc (walk_length (g.state old).limits.pages)
       ≤ finish_left (g.state old).limits.pages (g.state old).pages before
   pub stepped : (g.backing new).honest ≡ true → IsInOrder (g.state old)
-      → FinishFits (g.state old) before
+      → FinishInvariant (g.state old) before
       → FinishStepped (g.state old) (g.backing old) (g.state new) (g.backing new) before after result

@@ -8,11 +8,11 @@ use Rattle.page_codec.specs.declared.page.Page.{Page}
 use Rattle.page_action.specs.States.{State, Backing, Continues}
 use Rattle.page_action.specs.declared.page_store.PageStore.{Ghosts}
 use Rattle.tree_shape.specs.Nodes.{links_of, nodes_of}
-use Rattle.descent.specs.Shared.{IsInOrder, Does, IsOneStep, is_flagged, fresh_block, sibling, frames_for, where_working}
+use Rattle.descent.specs.Shared.{IsInOrder, Does, IsOneStep, is_flagged, fresh_block, sibling, frames_for, causes_of_working}
 use Rattle.descent.specs.Ways.{root_level}
 use Rattle.descent.specs.declared.way.Way.{Way}
 use Rattle.descent.specs.Onward.{walk_length}
-use Rattle.split_finish.specs.Targets.{targets_of, OnlyTargetsAreFlagged, FinishFits, is_as_read, is_ready, finish_left}
+use Rattle.split_finish.specs.Targets.{targets_of, OnlyTargetsAreFlagged, FinishInvariant, is_as_read, is_ready, finish_left}
 use Rattle.split_finish.specs.Turns.{splits_root_of}
 use Rattle.split_finish.specs.declared.finish.FinishAt.{FinishAt}
 use Rattle.split_finish.specs.declared.finish.FinishAt.TheVariants.{Start, Down, Link, Root}
@@ -31,7 +31,7 @@ pub record FinishGoesOn (old new : State) (before after : FinishOp) : Type 0 whe
   pub shapes : OnlyShapes effect
   pub does : Does before.session effect old new
   pub table : new.table ≡ old.table
-  pub fits : FinishFits new after
+  pub fits : FinishInvariant new after
   pub flags : OnlyTargetsAreFlagged old (targets_of before)
       → OnlyTargetsAreFlagged new (targets_of after)
 
@@ -68,17 +68,17 @@ is_to_grow st target = is_as_read (nodes_of st.pages) target
     && (root_level st.pages == target.level) && nat_lt target.level 31
 
 -- the blocks that the act of a step writes, that stands there with this newest target
-abbrev pub images_of : State → Target → FinishAt → List ℕ
-images_of st target Start = []
-images_of st target (Down way) = []
-images_of st target (Link way) = if is_to_link st target way
+abbrev pub finish_blocks : State → Target → FinishAt → List ℕ
+finish_blocks st target Start = []
+finish_blocks st target (Down way) = []
+finish_blocks st target (Link way) = if is_to_link st target way
     then blocks_linked st target way.block (slice_get st.pages way.block) else []
-images_of st target Root =
+finish_blocks st target Root =
     if is_to_grow st target then fresh_block st ∷ 0 ∷ target.block ∷ [] else []
 
 -- ... and how many frames it needs
 abbrev pub frames_of : State → Target → FinishAt → ℕ
-frames_of st target at = frames_for (images_of st target at)
+frames_of st target at = frames_for (finish_blocks st target at)
 
 -- ... and whether it takes a block: to split a full parent, or the root
 abbrev pub takes_block_of : State → Target → FinishAt → Bool
@@ -90,9 +90,9 @@ takes_block_of st target Root = is_to_grow st target
 
 -- why a step is refused of a call that stands there with this newest target, on pages that are a tree and a device that keeps
 -- its model
-abbrev pub where_finishing : State → Backing → Backing → ℕ → Target → FinishAt → Circumstances
-where_finishing st old new session target at =
-    where_working st old new session (images_of st target at) (frames_of st target at)
+abbrev pub causes_of_finishing : State → Backing → Backing → ℕ → Target → FinishAt → Circumstances
+causes_of_finishing st old new session target at =
+    causes_of_working st old new session (finish_blocks st target at) (frames_of st target at)
     (takes_block_of st target at) (splits_root_of st target at)
 
 -- what a step does, by what it answers
@@ -102,7 +102,7 @@ FinishStepped old old_backing new new_backing before after (Ok Going) =
     FinishGoesOn old new before after
 FinishStepped old old_backing new new_backing before after (Ok Done) = FinishIsDone old new before
 FinishStepped old old_backing new new_backing before after (Err fault) =
-    HasCause (where_finishing old old_backing new_backing before.session before.target before.at)
+    HasCause (causes_of_finishing old old_backing new_backing before.session before.target before.at)
     fault
 
 -- a refused step changes neither the pages, nor who holds what, nor the call
@@ -131,5 +131,5 @@ pub record FinishSteps {S : Type 0} (g : Ghosts S) (before after : FinishOp) (ol
       → 34 * suc (walk_length (g.state old).limits.pages)
       ≤ finish_left (g.state old).limits.pages (g.state old).pages before
   pub stepped : (g.backing new).honest ≡ true → IsInOrder (g.state old)
-      → FinishFits (g.state old) before
+      → FinishInvariant (g.state old) before
       → FinishStepped (g.state old) (g.backing old) (g.state new) (g.backing new) before after result

@@ -49,7 +49,7 @@ FinishStands st start target Root = Unit {0}
 
 -- What a call knows between the steps by which it finishes splits: it holds nothing, it runs with a start number, and each
 -- target is one still, on a level that is at least its place among them. So there are never more than levels.
-pub record FinishFits (st : State) (op : FinishOp) : Type 0 where
+pub record FinishInvariant (st : State) (op : FinishOp) : Type 0 where
   pub session : op.session < 64
   pub free : holding_of st.table op.session ≡ nothing_held
   pub start : ℕ

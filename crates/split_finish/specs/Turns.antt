@@ -12,7 +12,7 @@ use Rattle.tree_acts.specs.Trees.{HasTree}
 use Rattle.descent.specs.Shared.{is_flagged}
 use Rattle.descent.specs.Ways.{root_level}
 use Rattle.descent.specs.Onward.{walk_length}
-use Rattle.split_finish.specs.Targets.{targets_of, OnlyTargetsAreFlagged, FinishFits, finish_left, is_ready}
+use Rattle.split_finish.specs.Targets.{targets_of, OnlyTargetsAreFlagged, FinishInvariant, finish_left, is_ready}
 use Rattle.split_finish.specs.declared.finish.FinishAt.{FinishAt}
 use Rattle.split_finish.specs.declared.finish.FinishAt.TheVariants.{Start, Down, Link, Root}
 use Rattle.split_finish.specs.declared.finish.FinishOp.{FinishOp}
@@ -49,7 +49,7 @@ pub record Retaken (separator : Bound) (at : FinishAt) (before after : FinishOp)
 -- a turn that goes on: less is left to do, the call stands where it may, and only targets are flagged
 pub record TurnGoesOn (st : State) (before after : FinishOp) : Type 0 where
   pub less : finish_left st.limits.pages st.pages after < finish_left st.limits.pages st.pages before
-  pub fits : HasTree st → FinishFits st before → FinishFits st after
+  pub fits : HasTree st → FinishInvariant st before → FinishInvariant st after
   pub flags : OnlyTargetsAreFlagged st (targets_of before) → OnlyTargetsAreFlagged st (targets_of after)
 
 -- the last turn: the only target needn't be finished, so as much was left to do as before the first step for it; and if only
@@ -68,8 +68,8 @@ splits_root_of st target Root =
     is_flagged st target.block && (root_level st.pages == target.level)
 
 -- why a turn there is refused, in a tree: only a root on the highest level is a reason
-abbrev pub where_turned : State → Target → FinishAt → Circumstances
-where_turned st target at = record nothing_wrong {
+abbrev pub causes_of_turned : State → Target → FinishAt → Circumstances
+causes_of_turned st target at = record nothing_wrong {
   root_is_at_31 = splits_root_of st target at && nat_le 31 (root_level st.pages);
 }
 
@@ -78,7 +78,7 @@ abbrev pub Turned : State → FinishOp → FinishOp → Result FinishStep Fault 
 Turned st before after (Ok Going) = TurnGoesOn st before after
 Turned st before after (Ok Done) = TurnIsOver st before
 Turned st before after (Err fault) =
-    HasTree st → FinishFits st before → HasCause (where_turned st before.target before.at) fault
+    HasTree st → FinishInvariant st before → HasCause (causes_of_turned st before.target before.at) fault
 
 -- ... where it may also answer that an act is to be done
 abbrev pub TurnedOrReady : State → FinishOp → FinishOp → Result (Option FinishStep) Fault → Type 0

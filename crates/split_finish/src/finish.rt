@@ -2,7 +2,7 @@
 
 ghost use Rattle.std.specs.Prelude.{◌≡◌, [], IfErr};
 ghost use Rattle.index_model.specs.Faults.{HasCause};
-ghost use Rattle.descent.specs.Shared.{where_splitting_any};
+ghost use Rattle.descent.specs.Shared.{causes_of_splitting_any};
 ghost use Rattle.split_finish.specs.Finishes.{FinishSteps};
 
 use arrayvec::ArrayVec;
@@ -96,7 +96,7 @@ impl FinishOp {
         pages: &mut [Page; 3],
     ) -> Result<FinishStep, Fault>
         ensures all { FinishSteps S.PageStore self.old self.new store.old store.new result }
-        ensures faults { IfErr result (HasCause where_splitting_any) }
+        ensures faults { IfErr result (HasCause causes_of_splitting_any) }
     {
         match self.at {
             FinishAt::Start => self.read_metapage(store),
@@ -109,7 +109,7 @@ impl FinishOp {
     fn read_metapage<S: PageStore>(&mut self, store: &mut S) -> Result<FinishStep, Fault>
         requires { self.old.at ≡ FinishAt.Start }
         ensures all { FinishSteps S.PageStore self.old self.new store.old store.new result }
-        ensures faults { IfErr result (HasCause where_splitting_any) }
+        ensures faults { IfErr result (HasCause causes_of_splitting_any) }
     {
         look(store, self.session, 0)?;
         self.leave_metapage(store.view(0))
@@ -118,7 +118,7 @@ impl FinishOp {
     fn read_page<S: PageStore>(&mut self, store: &mut S, way: Way) -> Result<FinishStep, Fault>
         requires { self.old.at ≡ FinishAt.Down way }
         ensures all { FinishSteps S.PageStore self.old self.new store.old store.new result }
-        ensures faults { IfErr result (HasCause where_splitting_any) }
+        ensures faults { IfErr result (HasCause causes_of_splitting_any) }
     {
         match look(store, self.session, way.block) {
             Ok(()) => {

@@ -2,7 +2,7 @@
 
 ghost use Rattle.std.specs.Prelude.{◌≡◌, ◌≤◌, ◌<◌, IfSome, IfNone, IfErr, length};
 ghost use Rattle.index_model.specs.Faults.{HasCause};
-ghost use Rattle.descent.specs.Shared.{where_splitting_any};
+ghost use Rattle.descent.specs.Shared.{causes_of_splitting_any};
 ghost use Rattle.split_finish.specs.Finishes.{FinishSteps};
 ghost use Rattle.split_finish.specs.Acting.{IsLinkPlace, NoLinkPlace, AreRead, AreReady, HaveRoom, FinishActs};
 
@@ -38,7 +38,7 @@ impl FinishOp {
     ) -> Result<FinishStep, Fault>
         requires { self.old.at ≡ FinishAt.Link way }
         ensures all { FinishSteps S.PageStore self.old self.new store.old store.new result }
-        ensures faults { IfErr result (HasCause where_splitting_any) }
+        ensures faults { IfErr result (HasCause causes_of_splitting_any) }
     {
         let block = self.target.block;
         let (front, back) = pages.split_at_mut(1);
@@ -67,7 +67,7 @@ impl FinishOp {
             self.old.target.block way.block pages.old }
         requires some { 0 < length (S.state store.old).pages }
         ensures all { FinishActs S.PageStore self.old self.new store.old store.new result }
-        ensures faults { IfErr result (HasCause where_splitting_any) }
+        ensures faults { IfErr result (HasCause causes_of_splitting_any) }
     {
         let [parent, page, _] = &*pages;
         match self.turn_at_parent(page, parent, way) {
@@ -87,7 +87,7 @@ impl FinishOp {
             pages.old }
         requires some { 0 < length (S.state store.old).pages }
         ensures all { FinishActs S.PageStore self.old self.new store.old store.new result }
-        ensures faults { IfErr result (HasCause where_splitting_any) }
+        ensures faults { IfErr result (HasCause causes_of_splitting_any) }
     {
         let [parent, page, _] = &*pages;
         let Some(new) = page.right else {
@@ -115,7 +115,7 @@ impl FinishOp {
             pages.old }
         requires few { (S.state store.old).limits.items ≤ 50 }
         ensures all { FinishActs S.PageStore self.old self.new store.old store.new result }
-        ensures faults { IfErr result (HasCause where_splitting_any) }
+        ensures faults { IfErr result (HasCause causes_of_splitting_any) }
     {
         add_link(&mut pages[0], at, self.target.separator, new);
         clear_split(&mut pages[1]);

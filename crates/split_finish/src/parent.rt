@@ -5,7 +5,7 @@ ghost use Rattle.index_model.specs.Faults.{HasCause};
 ghost use Rattle.page_action.specs.States.{Continues, after_act};
 ghost use Rattle.page_action.specs.Stored.{AreActable};
 ghost use Rattle.tree_shape.specs.Nodes.{links_of};
-ghost use Rattle.descent.specs.Shared.{where_acting, where_splitting_any};
+ghost use Rattle.descent.specs.Shared.{causes_of_acting, causes_of_splitting_any};
 ghost use Rattle.descent.specs.Splitting.{RightIsStored, RightIsFound};
 ghost use Rattle.split_finish.specs.Acting.{IsLinkPlace, MeetsParent, FinishActs};
 ghost use Rattle.split_finish.specs.Parting.{halves_and};
@@ -49,10 +49,10 @@ fn act_on_halves<S: PageStore>(
     ensures done { OnOk result (S.state store.new
         ≡ after_act (halves_and left half right page) (S.state store.old)) }
     ensures refused { OnErr result (S.state store.new ≡ S.state store.old) }
-    ensures faults { IfErr result (HasCause where_splitting_any) }
+    ensures faults { IfErr result (HasCause causes_of_splitting_any) }
     ensures cause { AreActable (S.state store.old).limits (length (S.state store.old).pages)
         (halves_and left half right page)
-        → IfErr result (HasCause (where_acting (S.state store.old) (S.backing store.old)
+        → IfErr result (HasCause (causes_of_acting (S.state store.old) (S.backing store.old)
         (S.backing store.new) (halves_and left half right page))) }
 {
     match right {
@@ -84,7 +84,7 @@ impl FinishOp {
         requires no_room { (S.state store.old).limits.items ≤ length (links_of parent.now.items) }
         requires some { 0 < length (S.state store.old).pages }
         ensures all { FinishActs S.PageStore self.old self.new store.old store.new result }
-        ensures faults { IfErr result (HasCause where_splitting_any) }
+        ensures faults { IfErr result (HasCause causes_of_splitting_any) }
     {
         let mut neighbour = Page::blank();
         match read_right(store, self.session, parent.right, &mut neighbour) {
@@ -117,7 +117,7 @@ impl FinishOp {
         requires beside_found { (S.backing store.old).honest ≡ true
             → RightIsFound (S.state store.old) parent.right right }
         ensures all { FinishActs S.PageStore self.old self.new store.old store.new result }
-        ensures faults { IfErr result (HasCause where_splitting_any) }
+        ensures faults { IfErr result (HasCause causes_of_splitting_any) }
     {
         let fresh = match take_block(store, self.session) {
             Ok(fresh) => fresh,

@@ -5,8 +5,8 @@ ghost use Rattle.index_model.specs.Faults.{HasCause};
 ghost use Rattle.page_codec.specs.Grammar.{IsBlock};
 ghost use Rattle.latch_table.specs.Holdings.{is_held_by_another};
 ghost use Rattle.page_action.specs.Reuse.{IsFresh};
-ghost use Rattle.descent.specs.Shared.{where_splitting_any};
-ghost use Rattle.split_finish.specs.Acting.{IsRead, MeetsRoot, FinishActs, AreGrown};
+ghost use Rattle.descent.specs.Shared.{causes_of_splitting_any};
+ghost use Rattle.split_finish.specs.Acting.{IsReadToChange, MeetsRoot, FinishActs, AreGrown};
 ghost use Rattle.split_finish.specs.Finishes.{FinishSteps};
 
 use crate::finish::{FinishAt, FinishOp, FinishStep};
@@ -38,7 +38,7 @@ impl FinishOp {
     pub fn grow<S: PageStore>(&mut self, store: &mut S) -> Result<FinishStep, Fault>
         requires { self.old.at ≡ FinishAt.Root }
         ensures all { FinishSteps S.PageStore self.old self.new store.old store.new result }
-        ensures faults { IfErr result (HasCause where_splitting_any) }
+        ensures faults { IfErr result (HasCause causes_of_splitting_any) }
     {
         let mut meta = Page::blank();
         let mut page = Page::blank();
@@ -63,13 +63,13 @@ impl FinishOp {
         page: Page,
     ) -> Result<FinishStep, Fault>
         requires at { self.old.at ≡ FinishAt.Root }
-        requires read_meta { IsRead (S.state store.old) (S.backing store.old).honest
+        requires read_meta { IsReadToChange (S.state store.old) (S.backing store.old).honest
             self.old.session 0 meta }
-        requires read { IsRead (S.state store.old) (S.backing store.old).honest self.old.session
+        requires read { IsReadToChange (S.state store.old) (S.backing store.old).honest self.old.session
             self.old.target.block page }
         requires some { 0 < length (S.state store.old).pages }
         ensures all { FinishActs S.PageStore self.old self.new store.old store.new result }
-        ensures faults { IfErr result (HasCause where_splitting_any) }
+        ensures faults { IfErr result (HasCause causes_of_splitting_any) }
     {
         match self.turn_at_root(&meta, &page) {
             Ok(Some(step)) => Ok(step),
@@ -89,7 +89,7 @@ impl FinishOp {
             meta page }
         requires some { 0 < length (S.state store.old).pages }
         ensures all { FinishActs S.PageStore self.old self.new store.old store.new result }
-        ensures faults { IfErr result (HasCause where_splitting_any) }
+        ensures faults { IfErr result (HasCause causes_of_splitting_any) }
     {
         let Some(new) = page.right else {
             return Err(Fault::PageDamaged(page.block));
@@ -117,7 +117,7 @@ impl FinishOp {
         requires free { is_held_by_another (S.state store.old).table self.old.session fresh
             Mode.Exclusive ≡ false }
         ensures all { FinishActs S.PageStore self.old self.new store.old store.new result }
-        ensures faults { IfErr result (HasCause where_splitting_any) }
+        ensures faults { IfErr result (HasCause causes_of_splitting_any) }
     {
         let least = store.limits().items;
         prove!(2 <= least);

@@ -5,7 +5,7 @@ ghost use Rattle.std.specs.Ordering.{is_eq};
 ghost use Rattle.index_model.specs.Faults.{HasCause};
 ghost use Rattle.index_model.specs.Order.{bound_cmp};
 ghost use Rattle.page_action.specs.States.{State};
-ghost use Rattle.descent.specs.Shared.{where_splitting_any};
+ghost use Rattle.descent.specs.Shared.{causes_of_splitting_any};
 ghost use Rattle.tree_shape.specs.Nodes.{node_of};
 ghost use Rattle.split_finish.specs.Targets.{is_ready, ends_at};
 ghost use Rattle.split_finish.specs.Turns.{Popped, Pushed, Retaken, Turned, TurnedOrReady, IsReadyToLink, IsReadyToGrow};
@@ -91,7 +91,7 @@ impl FinishOp {
         requires { self.old.at ≡ FinishAt.Start }
         ensures session { self.new.session ≡ self.old.session }
         ensures refused { OnErr result (self.new ≡ self.old) }
-        ensures faults { IfErr result (HasCause where_splitting_any) }
+        ensures faults { IfErr result (HasCause causes_of_splitting_any) }
         ensures turn { (st : State) → slice_get st.pages 0 ≡ Some meta.now
             → Turned st self.old self.new result }
     {
@@ -114,7 +114,7 @@ impl FinishOp {
         requires { self.old.at ≡ FinishAt.Down way }
         ensures session { self.new.session ≡ self.old.session }
         ensures refused { OnErr result (self.new ≡ self.old) }
-        ensures faults { IfErr result (HasCause where_splitting_any) }
+        ensures faults { IfErr result (HasCause causes_of_splitting_any) }
         ensures turn { (st : State) → slice_get st.pages way.block ≡ Some page.now
             → st.limits.pages ≡ most → length st.pages ≤ most
             → Turned st self.old self.new result }
@@ -147,7 +147,7 @@ impl FinishOp {
         requires flagged { page.now.split ≡ true }
         ensures session { self.new.session ≡ self.old.session }
         ensures refused { OnErr result (self.new ≡ self.old) }
-        ensures faults { IfErr result (HasCause where_splitting_any) }
+        ensures faults { IfErr result (HasCause causes_of_splitting_any) }
         ensures turn { (st : State) → slice_get st.pages way.block ≡ Some page.now
             → Turned st self.old self.new result }
     {
@@ -175,7 +175,7 @@ impl FinishOp {
         requires { self.old.at ≡ FinishAt.Link way }
         ensures session { self.new.session ≡ self.old.session }
         ensures refused { OnErr result (self.new ≡ self.old) }
-        ensures faults { IfErr result (HasCause where_splitting_any) }
+        ensures faults { IfErr result (HasCause causes_of_splitting_any) }
         ensures turn { (st : State) → slice_get st.pages self.old.target.block ≡ Some page.now
             → slice_get st.pages way.block ≡ Some parent.now
             → TurnedOrReady st self.old self.new result }
@@ -208,7 +208,7 @@ impl FinishOp {
         requires { self.old.at ≡ FinishAt.Root }
         ensures session { self.new.session ≡ self.old.session }
         ensures refused { OnErr result (self.new ≡ self.old) }
-        ensures faults { IfErr result (HasCause where_splitting_any) }
+        ensures faults { IfErr result (HasCause causes_of_splitting_any) }
         ensures turn { (st : State) → slice_get st.pages 0 ≡ Some meta.now
             → slice_get st.pages self.old.target.block ≡ Some page.now
             → TurnedOrReady st self.old self.new result }

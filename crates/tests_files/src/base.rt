@@ -1,14 +1,15 @@
 //! The sound indexes.
 
-use crate::plain::{
-    checkpoint, commit, copy, create, device, index_over, insert, into_device, open,
-};
+use crate::plain::{copy, into_device};
 use access_method::Index;
 use device::{Device, MemDevice};
 use index_model::{Entry, Fault, Key, Limits, RowAddr};
 use page_action::PageStore;
 use page_store::Store;
 use std::alloc::Global;
+use tests_support::plain::{
+    checkpoint_of as checkpoint, commit, create, device, index_over, insert, open,
+};
 
 /// An index of one user in memory.
 type InMemory = Index<Store<MemDevice>>;

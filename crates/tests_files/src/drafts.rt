@@ -1,7 +1,6 @@
 //! Indexes that are made, and the drafts that they are made under. Each test has a path of its own.
 
 use crate::file_calls::{close, count, create_index, entry, four_at, open, open_index, verify};
-use crate::plain::{commit, insert};
 use access_method::Index;
 use amcheck::Report;
 use index_model::{Fault, Limits};
@@ -11,6 +10,7 @@ use std::fs::{self, File};
 use std::os::unix::fs::symlink;
 use std::rt::Files;
 use std::test::{Fail, *};
+use tests_support::plain::{commit, insert};
 
 const LIMITS: Limits = Limits {
     items: 4,

@@ -1,8 +1,8 @@
 //! What is done to the bytes of a device.
 
-use crate::plain::{read, write};
 use device::MemDevice;
 use index_model::Fault;
+use tests_support::plain::{read, write};
 
 /// An edit.
 #[derive(Clone, Copy)]

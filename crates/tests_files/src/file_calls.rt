@@ -1,7 +1,6 @@
 //! Calls without their contracts. A test looks at the answers alone, and what a call promises would be carried, call by call, to
 //! the end of the test that makes it.
 
-use crate::plain::{begin_scan, end_scan, next};
 use access_method::{Index, in_file};
 use amcheck::{CheckFault, Report, check_parents_one};
 use device::{Device, FileDevice, Unknown};
@@ -11,6 +10,7 @@ use page_store::Store;
 use std::alloc::Global;
 use std::fs::File;
 use std::rt::Files;
+use tests_support::plain::{begin_scan, end_scan, next};
 
 /// An index in a file.
 pub type InFile = Index<Store<FileDevice<Unknown>>>;

@@ -1,7 +1,7 @@
 //! Rows in files: what comes of an altered index in a file is what comes of it in memory.
 
 use crate::base::{five, sound};
-use crate::plain::{file, len, read};
+use crate::plain::{file, len};
 use crate::rows::{Kind, altered};
 use crate::table::Table;
 use crate::tally::Tally;
@@ -14,6 +14,7 @@ use std::io::Eprint;
 use std::process::Abort;
 use std::rt::Files;
 use std::test::{Fail, *};
+use tests_support::plain::read;
 
 /// Rows of each test.
 const ROWS: u32 = 100;

@@ -1,7 +1,6 @@
 //! Indexes whose file is too short, too long, cut or removed. Each test has a file of its own.
 
 use crate::file_calls::{InFile, count, create, entry, make, open_index, verify};
-use crate::plain::{checkpoint, commit, insert};
 use access_method::Index;
 use amcheck::{CheckFault, Report};
 use index_model::{Fault, Limits};
@@ -10,6 +9,7 @@ use std::alloc::Global;
 use std::fs::{self, File, OpenFile, OpenOptions};
 use std::rt::Files;
 use std::test::{Fail, *};
+use tests_support::plain::{checkpoint_of as checkpoint, commit, insert};
 
 const LIMITS: Limits = Limits {
     items: 4,

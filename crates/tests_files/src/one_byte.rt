@@ -1,7 +1,7 @@
 //! One byte altered: 10,000 rows on the index of three levels, and 10,000 on the one of five entries.
 
 use crate::base::{ENTRIES, FRAMES, LEN, five, sound};
-use crate::plain::{open, parents};
+use crate::plain::parents;
 use crate::rows::{Kind, Parts, run};
 use amcheck::Report;
 use device::{Device, MemDevice};
@@ -9,6 +9,7 @@ use std::alloc::Global;
 use std::io::Eprint;
 use std::process::Abort;
 use std::test::{Fail, *};
+use tests_support::plain::open;
 
 /// Runs five parts of the table for the index of three levels, whose pages are of 17 blocks, and one behind them.
 fn of_three_levels<R: Abort + Eprint>(rt: &R, alloc: Global, from: u64) -> Result<(), Fail> {

@@ -2,10 +2,7 @@
 
 use crate::base::{FRAMES, entry, keyed};
 use crate::dead::UpTo;
-use crate::plain::{
-    begin_scan, bulk_delete, checkpoint, clean_up, end_scan, index_over, insert, into_device,
-    levels, next, open, page, parents,
-};
+use crate::plain::{into_device, levels, parents};
 use crate::plain_tree::{are_unique, is_tree};
 use access_method::{Index, Inserted, ScanToken};
 use amcheck::{CheckFault, Report};
@@ -15,6 +12,10 @@ use page_action::PageStore;
 use page_store::Store;
 use std::alloc::Global;
 use std::cmp::Ordering;
+use tests_support::plain::{
+    begin_scan, bulk_delete, checkpoint_of as checkpoint, clean_up, end_scan, index_over, insert,
+    next, open, page,
+};
 
 /// The rows of these blocks: about half of the entries, so that leaves are left empty.
 const DEAD: UpTo = UpTo { block: 15 };

@@ -1,8 +1,8 @@
 //! Where the parts of an index lie.
 
 use crate::trees::limits;
-use device_layout::{LOG_START, needed_len, page_place};
 use index_model::Format;
+use page_codec::{LOG_START, needed_len, page_place};
 use std::test::*;
 
 #[test]

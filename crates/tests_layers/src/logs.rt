@@ -2,9 +2,8 @@
 
 use crate::trees::{limits, marked};
 use device::{CrashImage, Device, MemDevice};
-use device_layout::LOG_START;
 use index_model::{Fault, Format};
-use page_codec::{Page, decode};
+use page_codec::{LOG_START, Page, decode};
 use redo_log::{Log, Replayed, are_images};
 use std::alloc::Global;
 use std::test::{Fail, *};

@@ -4,16 +4,18 @@ use crate::crashes::{FOR_ALL, OverDevice, opened};
 use crate::dead::sets_of;
 use crate::dice::Dice;
 use crate::judge::Judge;
-use crate::plain::{left, left_by, open_world, world as world_over};
 use crate::runs::{Run, is_right, judge_of, runs_alone};
 use amcheck::check_parents_one;
 use device::{CrashImage, MemDevice};
 use index_model::{Fault, Range};
+use page_action::PageStore;
 use page_store::Store;
 use schedule::Event;
 use std::alloc::AllocError;
 use std::test::Fail;
-use world::NotOpened;
+use tests_support::dead::Blocks;
+use tests_support::plain::{left, left_by, open_world, world as world_over};
+use world::{NotOpened, World};
 
 /// What is counted of the runs of a script.
 #[derive(Clone, Copy, Debug, Default)]
@@ -56,9 +58,9 @@ pub fn opens_right(
 
 /// Whether an insert, a bulk delete, a cleanup and a scan go right, each alone, the scan gives exactly the contents, and a force
 /// goes right.
-fn works_on(
+fn works_on<S: PageStore>(
     run: Run,
-    world: &mut OverDevice,
+    world: &mut World<S, Blocks>,
     judge: &mut Judge,
     dice: &mut Dice,
 ) -> Result<bool, AllocError> {

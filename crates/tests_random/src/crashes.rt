@@ -1,17 +1,18 @@
 //! Crashes of a world over a device in memory.
 
-use crate::dead::{Blocks, sets_of};
+use crate::dead::sets_of;
 use crate::dice::Dice;
 use crate::judge::Judge;
-use crate::plain::{fail_at, left, left_by, open_world, stop_at};
 use crate::runs::{Outcome, Run, are_right, ends_right, judge_of};
-use crate::small::made_with;
 use crate::tally::Tally;
 use device::{CrashImage, MemDevice};
 use index_model::Fault;
 use page_store::Store;
 use std::alloc::AllocError;
 use std::test::Fail;
+use tests_support::dead::Blocks;
+use tests_support::plain::{fail_at, left, left_by, open_world, stop_at};
+use tests_support::small::made_with;
 use world::{NotOpened, World};
 
 /// Pages in memory at once: all, so that who looks at a page makes no device call, and none of those that fail.

@@ -3,23 +3,7 @@
 use crate::dice::Space;
 use index_model::{DeadRows, Fault, RowAddr};
 use std::alloc::{AllocError, Global};
-
-/// The rows of these blocks, both ends among them.
-#[derive(Clone, Copy, Drop)]
-pub struct Blocks {
-    from: u32,
-    to: u32,
-}
-
-impl DeadRows for Blocks {
-    ghost use Rattle.std.specs.Prelude.{◌&&◌, nat_le};
-
-    ghost is_in = { λ set row. nat_le set.from row.block && nat_le row.block set.to };
-
-    fn is_dead(&self, row: RowAddr) -> bool {
-        self.from <= row.block() && row.block() <= self.to
-    }
-}
+use tests_support::dead::Blocks;
 
 /// The sets of the scripts, behind the others.
 const SCRIPTED: [Blocks; 3] = [

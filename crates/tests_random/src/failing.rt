@@ -4,13 +4,16 @@ use crate::behind::{Counted, opens_right, stops_opening};
 use crate::crashes::{FOR_ALL, OverDevice, on_a_device};
 use crate::judge::Judge;
 use crate::pages::copies;
-use crate::plain::{fail_at, one as did, stop_at};
 use crate::runs::{Run, fault_of, judge_of, one};
 use crate::scripts::{Line, Script};
 use index_model::Fault;
+use page_action::PageStore;
 use session_calls::Answer;
 use std::alloc::AllocError;
 use std::test::Fail;
+use tests_support::dead::Blocks;
+use tests_support::plain::{fail_at, one as did, stop_at};
+use world::World;
 
 /// A script whose lines are made once each, each with its answer where no call fails.
 #[derive(Drop)]
@@ -34,7 +37,11 @@ fn calls_of(world: OverDevice) -> u64 {
 }
 
 /// Makes what a line says, once or to the end of its call, and notes it each time with its answer.
-fn play_line(world: &mut OverDevice, line: Line, played: &mut Played) -> Result<(), AllocError> {
+fn play_line<S: PageStore>(
+    world: &mut World<S, Blocks>,
+    line: Line,
+    played: &mut Played,
+) -> Result<(), AllocError> {
     for _ in 0..1_000 {
         played.lines.push(line)?;
         played.answers.push(did(world, line.event()))?;
@@ -94,9 +101,9 @@ fn are_alike(a: &Answer, b: &Answer) -> bool {
 
 /// Runs the events of a script, of which the judge hears, while a call fails: whether all is right, each answer before is that of
 /// the undisturbed run, and the first other one tells of the failure.
-fn replays(
+fn replays<S: PageStore>(
     run: Run,
-    world: &mut OverDevice,
+    world: &mut World<S, Blocks>,
     judge: &mut Judge,
     script: &Played,
 ) -> Result<bool, AllocError> {

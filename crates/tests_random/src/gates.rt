@@ -4,7 +4,6 @@
 use crate::behind::{Counted, IMAGES, stopped_at};
 use crate::crashes::{FOR_ALL, OverDevice, on_a_device, opened};
 use crate::pages::{contents, copies};
-use crate::plain::{fail_at, left, one as did, put};
 use crate::runs::Run;
 use amcheck::check_parents_one;
 use device::MemDevice;
@@ -12,6 +11,7 @@ use index_model::{Entry, Fault, Key, RowAddr};
 use schedule::Event;
 use session_calls::Answer;
 use std::test::Fail;
+use tests_support::plain::{fail_at, left, one as did, put};
 
 /// The entries 61 (0,1) to 65 (0,5), from 0 on.
 fn entry(place: u8) -> Entry {

@@ -25,13 +25,9 @@ mod pairs;
 #[cfg(test)]
 mod past;
 #[cfg(test)]
-mod plain;
-#[cfg(test)]
 mod runs;
 #[cfg(test)]
 mod scripts;
-#[cfg(test)]
-mod small;
 #[cfg(test)]
 mod stores;
 #[cfg(test)]

@@ -1,11 +1,11 @@
 //! All pages of a world.
 
-use crate::plain::page_in;
 use index_model::{DeadRows, Entry};
 use page_action::PageStore;
 use page_codec::{Items, Page, PageState};
 use std::alloc::{AllocError, Global};
 use tests_reference::is_among;
+use tests_support::plain::page_in;
 use world::World;
 
 /// Copies of all pages; of fewer, where a page is refused.

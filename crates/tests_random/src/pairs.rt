@@ -5,17 +5,20 @@ use crate::dice::Dice;
 use crate::judge::Judge;
 use crate::pages::{are_kept, copies};
 use crate::past::Past;
-use crate::plain::{fail_at, left_by, one, put, stop_at};
 use crate::runs::{
     Outcome, Run, acts, are_running, ends_right, fault_of, is_full, judge_of, session_of,
 };
 use crate::tally::Tally;
 use device::{CrashImage, MemDevice};
 use index_model::Fault;
+use page_action::PageStore;
 use schedule::Event;
 use session_calls::Answer;
 use std::alloc::AllocError;
 use std::test::Fail;
+use tests_support::dead::Blocks;
+use tests_support::plain::{fail_at, left_by, one, put, stop_at};
+use world::World;
 
 /// As few as a store may have.
 const FEW: u32 = 16;
@@ -66,7 +69,10 @@ fn beside(run: Run, few: &OverDevice) -> Result<OverDevice, Fault> {
 }
 
 /// What is kept of a world with few frames from now on.
-fn watched(run: Run, few: &mut OverDevice) -> Result<(Past, Judge), AllocError> {
+fn watched<S: PageStore>(
+    run: Run,
+    few: &mut World<S, Blocks>,
+) -> Result<(Past, Judge), AllocError> {
     let mut judge = judge_of(run, few)?;
     judge.expects_failures();
     judge.expects_frames(FEW);
@@ -217,9 +223,9 @@ fn crashed(
 }
 
 /// The end of a run: whether it is right.
-fn ends(
+fn ends<S: PageStore>(
     run: Run,
-    few: &mut OverDevice,
+    few: &mut World<S, Blocks>,
     dice: &mut Dice,
     tally: &mut Tally,
 ) -> Result<bool, AllocError> {

@@ -1,16 +1,16 @@
 //! Runs of a world that a judge hears.
 
-use crate::dead::Blocks;
 use crate::dice::{Dice, Space};
 use crate::judge::Judge;
 use crate::pages::{are_kept, contents, copies};
-use crate::plain;
 use crate::tally::Tally;
 use index_model::{Fault, Limits, Range};
 use page_action::PageStore;
 use schedule::Event;
 use session_calls::Answer;
 use std::alloc::{AllocError, Global};
+use tests_support::dead::Blocks;
+use tests_support::plain;
 use world::World;
 
 /// What stays the same in a run.

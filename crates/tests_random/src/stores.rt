@@ -3,8 +3,6 @@
 use crate::dice::Dice;
 use crate::pages::is_same;
 use crate::past::Past;
-use crate::plain::{act, checkpoint, flush, force, left, left_of, open, page};
-use crate::small::{made_with, marked};
 use device::{CrashImage, MemDevice};
 use index_model::{Fault, Limits};
 use page_action::{PageStore, find_misplaced};
@@ -13,6 +11,8 @@ use page_store::Store;
 use recovery::Refused;
 use std::alloc::{AllocError, Global};
 use std::test::Fail;
+use tests_support::plain::{act, checkpoint, flush, force, left, left_of, open, page};
+use tests_support::small::{made_with, marked};
 
 /// As few as a store may have, and four times as many pages.
 const FRAMES: u32 = 16;

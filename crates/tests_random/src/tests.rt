@@ -1,16 +1,17 @@
 use crate::crashes::crashed;
-use crate::dead::{Blocks, sets_of};
+use crate::dead::sets_of;
 use crate::dice::{Dice, Space};
 use crate::pairs::crashed_with_few;
-use crate::plain::world;
 use crate::runs::{Outcome, Run, are_right, ends_right, judge_of};
-use crate::small::pages;
 use crate::stores::{StoreTally, store_crashed};
 use crate::tally::Tally;
 use index_model::{Fault, Limits};
-use page_action::MapStore;
+use page_action::{MapStore, PageStore};
 use std::alloc::{AllocError, Global};
 use std::test::{Fail, *};
+use tests_support::dead::Blocks;
+use tests_support::plain::world;
+use tests_support::small::pages;
 use world::World;
 
 /// An empty index in memory.
@@ -25,9 +26,9 @@ fn in_memory(run: Run) -> Result<World<MapStore, Blocks>, Fault> {
 }
 
 /// A run over an index in memory.
-fn run_over(
+fn run_over<S: PageStore>(
     run: Run,
-    world: &mut World<MapStore, Blocks>,
+    world: &mut World<S, Blocks>,
     seed: u64,
     events: u32,
 ) -> Result<Outcome, AllocError> {

@@ -5,18 +5,18 @@ use Rattle.std.proofs.lemmas.Option.{same_Some}
 use Rattle.index_model.specs.Actions.{Action}
 use Rattle.index_model.specs.Calls.{Call, IsOwned, ActionsAreOwned}
 use Rattle.index_model.specs.declared.entry.Entry.{Entry}
-use Rattle.tests_reference.specs.Plain.{call_of, calls_of}
+use Rattle.tests_reference.specs.Plain.{call_of, meant_calls}
 use Rattle.tests_reference.specs.Named.{HasRight, IsOwnedAt}
 use Rattle.tests_reference.specs.declared.call.PlainCall.{PlainCall}
 
 -- behind the last call there is none
-pub no_call : (k : ℕ) (calls : List PlainCall) → length calls ≤ k → slice_get (calls_of calls) k ≡ None
+pub no_call : (k : ℕ) (calls : List PlainCall) → length calls ≤ k → slice_get (meant_calls calls) k ≡ None
 no_call k [] le = refl
 no_call zero (c ∷ calls) le = absurd (omega arith)
 no_call (suc k) (c ∷ calls) le = no_call k calls (omega arith)
 
 -- the call at a place means the call of this number
-pub call_found : (k : ℕ) (calls : List PlainCall) (c : PlainCall) → k < length calls → c ≡ get_or calls k c → slice_get (calls_of calls) k ≡ Some (call_of c)
+pub call_found : (k : ℕ) (calls : List PlainCall) (c : PlainCall) → k < length calls → c ≡ get_or calls k c → slice_get (meant_calls calls) k ≡ Some (call_of c)
 call_found k [] c lt is = absurd (omega arith)
 call_found zero (b ∷ calls) c lt is = ap (λ (x : PlainCall). Some (call_of x)) (sym is)
 call_found (suc k) (b ∷ calls) c lt is = call_found k calls c (omega arith) is

@@ -63,6 +63,6 @@ call_of c = record {
 }
 
 -- the calls that plain ones mean
-abbrev pub calls_of : List PlainCall → List Call
-calls_of [] = []
-calls_of (c ∷ calls) = call_of c ∷ calls_of calls
+abbrev pub meant_calls : List PlainCall → List Call
+meant_calls [] = []
+meant_calls (c ∷ calls) = call_of c ∷ meant_calls calls

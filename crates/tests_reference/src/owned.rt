@@ -5,7 +5,7 @@ ghost use Rattle.std.specs.List.{AllByRecursion};
 ghost use Rattle.index_model.specs.Order.{is_among};
 ghost use Rattle.index_model.specs.Actions.{Add, Remove, Shape, is_there_after as spec_is_there_after};
 ghost use Rattle.index_model.specs.Calls.{end_of as spec_end_of, AreRemovable, MayAct, IsOwned, ActionsAreOwned};
-ghost use Rattle.tests_reference.specs.Plain.{effect_of, action_of, history_of, ask_of, ending_of, call_of, calls_of, has_row};
+ghost use Rattle.tests_reference.specs.Plain.{effect_of, action_of, history_of, ask_of, ending_of, call_of, meant_calls, has_row};
 ghost use Rattle.tests_reference.specs.Named.{IsRemovable, HasRight, IsOwnedAt};
 
 use crate::action::{PlainAction, PlainEffect};
@@ -180,7 +180,7 @@ fn is_owned(
 ) -> bool
     requires { before + 1 < 2 ^ 64 }
     ensures { IsTrue result ↔
-        IsOwned (is_among start.now) (history_of history.now) (calls_of calls.now) before
+        IsOwned (is_among start.now) (history_of history.now) (meant_calls calls.now) before
         (action_of action.now) }
 {
     match calls.get(action.by) {
@@ -192,7 +192,7 @@ fn is_owned(
 fn is_owned_at(start: &[Entry], history: &[PlainAction], calls: &[PlainCall], before: usize) -> bool
     requires { before + 1 < 2 ^ 64 }
     ensures { IsTrue result ↔
-        IsOwnedAt (is_among start.now) (history_of history.now) (calls_of calls.now) before }
+        IsOwnedAt (is_among start.now) (history_of history.now) (meant_calls calls.now) before }
 {
     match history.get(before) {
         None => true,
@@ -204,7 +204,7 @@ fn is_owned_at(start: &[Entry], history: &[PlainAction], calls: &[PlainCall], be
 /// place.
 pub fn actions_are_owned(start: &[Entry], history: &[PlainAction], calls: &[PlainCall]) -> bool
     ensures { IsTrue result ↔
-        ActionsAreOwned (is_among start.now) (history_of history.now) (calls_of calls.now) }
+        ActionsAreOwned (is_among start.now) (history_of history.now) (meant_calls calls.now) }
 {
     for before in 0..history.len() {
         if !is_owned_at(start, history, calls, before) {

@@ -3,8 +3,6 @@
 #![tactic(auto)]
 
 #[cfg(test)]
-mod dead;
-#[cfg(test)]
 mod ledger_sessions;
 #[cfg(test)]
 mod logged_stores;
@@ -14,7 +12,3 @@ mod many_sessions;
 mod one_user;
 #[cfg(test)]
 mod opens;
-#[cfg(test)]
-mod plain;
-#[cfg(test)]
-mod small;

@@ -1,7 +1,5 @@
 //! Stores over a device: their acts, checkpoints and frames, and what a crash leaves of them.
 
-use crate::plain::{act, checkpoint, device_of, flush, force, left, left_of, open, page, read};
-use crate::small::{LEN, LIMITS, limits, made_with, marked};
 use device::{CrashImage, Device, MemDevice};
 use index_model::{Fault, Format, Limits, Session};
 use page_action::PageStore;
@@ -10,6 +8,10 @@ use page_store::Store;
 use redo_log::{Log, Replayed};
 use std::alloc::Global;
 use std::test::{Fail, *};
+use tests_support::plain::{
+    act, checkpoint, device_of, flush, force, left, left_of, open, page, read,
+};
+use tests_support::small::{LEN, LIMITS, limits, made_with, marked};
 
 const IMAGES: [CrashImage; 3] = [CrashImage::Drop, CrashImage::Keep, CrashImage::Tear];
 
@@ -66,7 +68,7 @@ fn logged(alloc: Global, device: &mut MemDevice) -> Result<u32, Fault> {
     Ok(count)
 }
 
-fn cycle_of(store: &mut Store<MemDevice>, block: u32) -> Result<u32, Fault> {
+fn cycle_of<S: PageStore>(store: &mut S, block: u32) -> Result<u32, Fault> {
     page(store, block).map(|page| page.cycle)
 }
 
@@ -96,16 +98,16 @@ enum Call {
     IsStopped,
 }
 
-fn begin(store: &mut Store<MemDevice>, session: u32) -> Result<u64, Fault> {
+fn begin<S: PageStore>(store: &mut S, session: u32) -> Result<u64, Fault> {
     store.begin(Session::new(session)?)
 }
 
-fn pin(store: &mut Store<MemDevice>, session: u32, block: u32) -> Result<u64, Fault> {
+fn pin<S: PageStore>(store: &mut S, session: u32, block: u32) -> Result<u64, Fault> {
     store.pin(Session::new(session)?, block);
     Ok(0)
 }
 
-fn unpin(store: &mut Store<MemDevice>, session: u32, block: u32) -> Result<u64, Fault> {
+fn unpin<S: PageStore>(store: &mut S, session: u32, block: u32) -> Result<u64, Fault> {
     store.unpin(Session::new(session)?, block);
     Ok(0)
 }
@@ -299,7 +301,7 @@ fn acts_on_one_block_wait_as_one_image(rt: HostRuntime) -> Result<(), Fail> {
 const MANY: u32 = 64;
 
 /// Gives each of the blocks 1 to 39 a page of this cycle more than its number.
-fn act_on_all(store: &mut Store<MemDevice>, more: u32) -> Result<(), Fault> {
+fn act_on_all<S: PageStore>(store: &mut S, more: u32) -> Result<(), Fault> {
     for block in 1..40u32 {
         if store.room() < 2 {
             checkpoint(store)?;
@@ -310,7 +312,7 @@ fn act_on_all(store: &mut Store<MemDevice>, more: u32) -> Result<(), Fault> {
 }
 
 /// Whether the pages of these blocks have these cycles, read from the last to the first.
-fn has_all(store: &mut Store<MemDevice>, more: u32) -> bool {
+fn has_all<S: PageStore>(store: &mut S, more: u32) -> bool {
     for n in 0..39u32 {
         let block = 39u32.saturating_sub(n);
         if cycle_of(store, block) != Ok(block.saturating_add(more)) {
@@ -321,7 +323,7 @@ fn has_all(store: &mut Store<MemDevice>, more: u32) -> bool {
 }
 
 /// Acts on all pages twice, and forces: whether each is as it was acted last.
-fn acts_twice(store: &mut Store<MemDevice>) -> Result<bool, Fault> {
+fn acts_twice<S: PageStore>(store: &mut S) -> Result<bool, Fault> {
     act_on_all(store, 0)?;
     let first = has_all(store, 0);
     act_on_all(store, 100)?;

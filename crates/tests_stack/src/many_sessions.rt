@@ -1,10 +1,5 @@
 //! Each call of a world: of many sessions over pages in memory and on a device.
 
-use crate::dead::Blocks;
-use crate::plain::{
-    self, device_of, finish, give, left_by, one, open_world, page_in, put, run, stop_at, take_step,
-};
-use crate::small::{ALL, LEN, LIMITS, entry, made, pages};
 use device::{CrashImage, Device, MemDevice};
 use index_model::{Entry, Fault};
 use page_action::{MapStore, PageStore};
@@ -14,6 +9,11 @@ use schedule::Event;
 use session_calls::Answer;
 use std::alloc::Global;
 use std::test::{Fail, *};
+use tests_support::dead::Blocks;
+use tests_support::plain::{
+    self, device_of, finish, give, left_by, one, open_world, page_in, put, run, stop_at, take_step,
+};
+use tests_support::small::{ALL, LEN, LIMITS, entry, made, pages};
 use world::World;
 
 fn world(alloc: Global, sessions: u32) -> Result<World<MapStore, Blocks>, Fault> {
@@ -127,12 +127,12 @@ fn each_event_once(rt: HostRuntime) -> Result<(), Fail> {
     Ok(())
 }
 
-fn abandon(world: &mut World<MapStore, Blocks>, session: u32) -> Answer {
+fn abandon<S: PageStore>(world: &mut World<S, Blocks>, session: u32) -> Answer {
     world.abandon(session)
 }
 
 // Session 63 begins a scan, which is abandoned: whether it runs one before, in between, and behind.
-fn begins_and_abandons(world: &mut World<MapStore, Blocks>) -> [bool; 5] {
+fn begins_and_abandons<S: PageStore>(world: &mut World<S, Blocks>) -> [bool; 5] {
     [
         world.is_running(63),
         matches!(one(world, Event::Scan(63, ALL)), Answer::Begun),
@@ -142,7 +142,7 @@ fn begins_and_abandons(world: &mut World<MapStore, Blocks>) -> [bool; 5] {
     ]
 }
 
-fn block_in(world: &mut World<MapStore, Blocks>, block: u32) -> Result<u32, Fault> {
+fn block_in<S: PageStore>(world: &mut World<S, Blocks>, block: u32) -> Result<u32, Fault> {
     Ok(page_in(world, block)?.block)
 }
 
@@ -187,7 +187,7 @@ fn opened(alloc: Global, device: MemDevice) -> Result<World<Store<MemDevice>, Bl
 }
 
 // What the words of crashes are for it.
-fn law(world: &World<Store<MemDevice>, Blocks>) {
+fn law<D: Device>(world: &World<Store<D>, Blocks>) {
     world.crash_law();
 }
 
@@ -229,7 +229,7 @@ fn forced_actions_are_left(rt: HostRuntime) -> Result<(), Fail> {
 }
 
 // Begins a call of session 0 and makes its steps, 16 at most: the last answer.
-fn called(world: &mut World<Store<MemDevice>, Blocks>, begin: Event) -> Answer {
+fn called<S: PageStore>(world: &mut World<S, Blocks>, begin: Event) -> Answer {
     let mut answer = one(world, begin);
     for _ in 0..16 {
         if !matches!(answer, Answer::Begun | Answer::Going) {
@@ -241,7 +241,7 @@ fn called(world: &mut World<Store<MemDevice>, Blocks>, begin: Event) -> Answer {
 }
 
 // Scans all by session 1: how many entries, each of the key and the place of its number; or None for a wrong answer.
-fn counted(world: &mut World<Store<MemDevice>, Blocks>) -> Option<u8> {
+fn counted<S: PageStore>(world: &mut World<S, Blocks>) -> Option<u8> {
     let mut given = 0u8;
     let mut answer = one(world, Event::Scan(1, ALL));
     for _ in 0..32 {
@@ -265,7 +265,7 @@ fn counted(world: &mut World<Store<MemDevice>, Blocks>) -> Option<u8> {
 }
 
 // Whether session 0 adds the entry of this key, and leaves no split unfinished.
-fn adds(world: &mut World<Store<MemDevice>, Blocks>, key: u8) -> bool {
+fn adds<S: PageStore>(world: &mut World<S, Blocks>, key: u8) -> bool {
     matches!(
         called(world, Event::Insert(0, entry(key, u16::from(key)))),
         Answer::Added {
@@ -310,7 +310,7 @@ fn split_leaf_is_opened_again(rt: HostRuntime) -> Result<(), Fail> {
 }
 
 // The first entry that a scan of session 1 gives, which has one ready, and whether it gives none behind it.
-fn scanned(world: &mut World<Store<MemDevice>, Blocks>) -> Result<(Option<Entry>, bool), Fault> {
+fn scanned<S: PageStore>(world: &mut World<S, Blocks>) -> Result<(Option<Entry>, bool), Fault> {
     if !matches!(one(world, Event::Scan(1, ALL)), Answer::Begun)
         || !matches!(finish(world, 1, 0)?, Answer::Ready(1))
     {
@@ -321,7 +321,7 @@ fn scanned(world: &mut World<Store<MemDevice>, Blocks>) -> Result<(Option<Entry>
 }
 
 // Whether the first entry is put by the first action.
-fn is_put(world: &mut World<Store<MemDevice>, Blocks>) -> bool {
+fn is_put<S: PageStore>(world: &mut World<S, Blocks>) -> bool {
     matches!(
         put(world, 0, entry(0x61, 1), 5),
         Ok(Answer::Added {
@@ -342,8 +342,8 @@ fn calls_run_to_their_ends(rt: HostRuntime) -> Result<(), Fail> {
 }
 
 // Whether a step of the session's call, with the checkpoint that may go before it, answers this.
-fn takes(
-    world: &mut World<Store<MemDevice>, Blocks>,
+fn takes<S: PageStore>(
+    world: &mut World<S, Blocks>,
     session: u32,
     least_room: u32,
     word: &str,

@@ -1,11 +1,5 @@
 //! Each call of an index of one user.
 
-use crate::dead::{Blocks, EACH_ROW};
-use crate::plain::{
-    begin_scan, bulk_delete, checkpoint_of, clean_up, commit, end_scan, index_over, insert, next,
-    open_index, rescan,
-};
-use crate::small::{ALL, LEN, LIMITS, entry, keyed, limits, made, made_with, pages};
 use access_method::{Index, Inserted, ScanToken};
 use device::{Device, MemDevice};
 use index_model::{Entry, Fault, Key, Range, VacuumStats};
@@ -13,6 +7,12 @@ use page_action::{MapStore, PageStore};
 use page_store::Store;
 use std::alloc::Global;
 use std::test::{Fail, *};
+use tests_support::dead::{Blocks, EACH_ROW};
+use tests_support::plain::{
+    begin_scan, bulk_delete, checkpoint_of, clean_up, commit, end_scan, index_over, insert, next,
+    open_index, rescan,
+};
+use tests_support::small::{ALL, LEN, LIMITS, entry, keyed, limits, made, made_with, pages};
 
 // An empty index, made on a device in memory and opened.
 fn index(alloc: Global) -> Result<Index<Store<MemDevice>>, Fault> {
@@ -34,7 +34,7 @@ fn given<S: PageStore>(index: &mut Index<S>, token: ScanToken) -> u64 {
 }
 
 // What the words of crashes are for it.
-fn law(index: &Index<Store<MemDevice>>) {
+fn law<D: Device>(index: &Index<Store<D>>) {
     index.crash_law();
 }
 
@@ -57,7 +57,7 @@ fn added<S: PageStore>(index: &mut Index<S>, new: Entry) -> u64 {
 }
 
 // Whether the entries of the keys from 1 to below this one are added.
-fn adds_to(index: &mut Index<Store<MemDevice>>, end: u8) -> bool {
+fn adds_to<S: PageStore>(index: &mut Index<S>, end: u8) -> bool {
     for key in 1..end {
         if added(index, of(key)) == 0 {
             return false;
@@ -85,7 +85,7 @@ fn scans<S: PageStore>(index: &mut Index<S>, wanted: &[u64]) -> Result<bool, Fau
 }
 
 // A scan of three entries, which is begun again over the second: whether both give what is right.
-fn scans_again(index: &mut Index<Store<MemDevice>>) -> Result<bool, Fault> {
+fn scans_again<S: PageStore>(index: &mut Index<S>) -> Result<bool, Fault> {
     let token = begin_scan(index, ALL)?;
     let all = gives(index, token, &[0x61, 0x62, 0x63, 0, 0]);
     let part = Range {
@@ -136,7 +136,7 @@ fn an_index_is_opened_again(rt: HostRuntime) -> Result<(), Fail> {
 }
 
 // The tokens of a scan that has ended, and of one begun behind it.
-fn tokens(index: &mut Index<MapStore>) -> Result<(ScanToken, ScanToken), Fault> {
+fn tokens<S: PageStore>(index: &mut Index<S>) -> Result<(ScanToken, ScanToken), Fault> {
     let first = begin_scan(index, ALL)?;
     end_scan(index, first)?;
     let second = begin_scan(index, ALL)?;
@@ -169,7 +169,7 @@ fn at_most_63_scans(rt: HostRuntime) -> Result<(), Fail> {
 }
 
 // What an index answers whose log has failed: to an insert, to a scan that begins again and to one that begins.
-fn refusals(index: &mut Index<Store<MemDevice>>, token: ScanToken) -> [Option<Fault>; 3] {
+fn refusals<S: PageStore>(index: &mut Index<S>, token: ScanToken) -> [Option<Fault>; 3] {
     [
         insert(index, of(0x63)).err(),
         rescan(index, token, ALL).err(),
@@ -196,7 +196,7 @@ fn a_failed_device_stops_the_index(rt: HostRuntime) -> Result<(), Fail> {
 }
 
 // Inserts 9 entries, and deletes them and their pages: how many there were.
-fn deletes_all(index: &mut Index<Store<MemDevice>>) -> Result<(VacuumStats, VacuumStats), Fault> {
+fn deletes_all<S: PageStore>(index: &mut Index<S>) -> Result<(VacuumStats, VacuumStats), Fault> {
     if !adds_to(index, 10) {
         return Err(Fault::NoMemory);
     }
@@ -237,7 +237,7 @@ fn nth(place: u16) -> Entry {
 }
 
 // Whether a scan gives each of these entries, in order, and then none.
-fn gives_all(index: &mut Index<Store<MemDevice>>) -> Result<bool, Fault> {
+fn gives_all<S: PageStore>(index: &mut Index<S>) -> Result<bool, Fault> {
     let token = begin_scan(index, ALL)?;
     for place in 0..MANY {
         if next(index, token)? != Some(nth(place)) {
@@ -248,10 +248,7 @@ fn gives_all(index: &mut Index<Store<MemDevice>>) -> Result<bool, Fault> {
 }
 
 // Inserts so many entries, not in order, into both: whether they answer the same, and leave no split unfinished.
-fn answer_alike(
-    few: &mut Index<Store<MemDevice>>,
-    many: &mut Index<Store<MemDevice>>,
-) -> Result<bool, Fault> {
+fn answer_alike<S: PageStore>(few: &mut Index<S>, many: &mut Index<S>) -> Result<bool, Fault> {
     let mut place = 0u16;
     for _ in 0..MANY {
         // Each place once.
@@ -273,7 +270,7 @@ fn few_frames_answer_as_many_do(rt: HostRuntime) -> Result<(), Fail> {
 }
 
 // Deletes the rows of block 1, which odd keys have, while even keys have rows of block 0.
-fn deletes_odd(index: &mut Index<Store<MemDevice>>) -> Result<VacuumStats, Fault> {
+fn deletes_odd<S: PageStore>(index: &mut Index<S>) -> Result<VacuumStats, Fault> {
     for key in 1..8u8 {
         insert(index, keyed(&[key], u32::from(key) % 2, u16::from(key)))?;
     }

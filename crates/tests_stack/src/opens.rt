@@ -1,16 +1,15 @@
 //! Indexes that are made on a device, and opened again.
 
-use crate::plain::{
-    act, checkpoint, create, device, device_of, force, left, open, page, read, write,
-};
-use crate::small::{LEN, LIMITS, limits, made, made_with, marked};
 use device::{CrashImage, MemDevice};
 use index_model::Fault;
 use page_action::PageStore;
-use page_store::Store;
 use std::alloc::Global;
 use std::process::Abort;
 use std::test::{Fail, *};
+use tests_support::plain::{
+    act, checkpoint, create, device, device_of, force, left, open, page, read, write,
+};
+use tests_support::small::{LEN, LIMITS, limits, made, made_with, marked};
 
 /// So many bytes of the device from there on.
 fn bytes_at(device: &mut MemDevice, at: u64) -> [u8; 48] {
@@ -133,7 +132,7 @@ fn hostile_superblocks(rt: HostRuntime) -> Result<(), Fail> {
 }
 
 /// Two acts that are forced and one that isn't, on top of a checkpoint.
-fn make_busy(store: &mut Store<MemDevice>) -> Result<(), Fault> {
+fn make_busy<S: PageStore>(store: &mut S) -> Result<(), Fault> {
     act(store, &[marked(1, 5)])?;
     checkpoint(store)?;
     act(store, &[marked(2, 6)])?;
@@ -156,7 +155,7 @@ fn busy_device(alloc: Global) -> Result<MemDevice, Fault> {
 }
 
 /// How many pages a store has, and the cycles of the first two leaves; none where it refuses them.
-fn cycles_in(store: &mut Store<MemDevice>) -> Option<(u32, u32, u32)> {
+fn cycles_in<S: PageStore>(store: &mut S) -> Option<(u32, u32, u32)> {
     let first = page(store, 1).ok()?;
     let second = page(store, 2).ok()?;
     Some((store.used(), first.cycle, second.cycle))

@@ -1,6 +1,5 @@
 //! Workers that meet the latches and pins of others, and go on.
 
-use crate::dead::{Blocks, EACH_ROW};
 use crate::hands::{Act, Line, Told, act_by_hand};
 use crate::plain::{ALL, entry, pages};
 use index_model::Fault;
@@ -8,6 +7,7 @@ use page_action::MapStore;
 use sessions::{Job, Record};
 use std::alloc::Global;
 use std::test::{Fail, *};
+use tests_support::dead::{Blocks, EACH_ROW};
 use world::World;
 
 // An index in memory without entries, with a set of every row.

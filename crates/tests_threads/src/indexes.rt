@@ -1,16 +1,17 @@
 //! Indexes on devices in memory, with their sets of dead rows.
 
-use crate::dead::Blocks;
 use crate::plain::ALL;
 use device::MemDevice;
-use device_layout::needed_len;
 use index_model::{Entry, Fault, Limits};
+use page_action::PageStore;
+use page_codec::needed_len;
 use page_store::Store;
 use recovery::create;
 use schedule::Event;
 use session_calls::Answer;
 use std::alloc::Global;
 use std::test::Fail;
+use tests_support::dead::Blocks;
 use world::World;
 
 /// An index on a device in memory.
@@ -42,7 +43,10 @@ pub fn made(alloc: Global, limits: &Limits, sessions: u32) -> Result<InMemory, F
 }
 
 /// All entries, by a scan of session 0.
-pub fn all_entries(alloc: Global, world: &mut InMemory) -> Result<Vec<Entry>, Fail> {
+pub fn all_entries<S: PageStore>(
+    alloc: Global,
+    world: &mut World<S, Blocks>,
+) -> Result<Vec<Entry>, Fail> {
     let mut entries = Vec::new(alloc);
     if let Answer::Refused(fault) = world.one(Event::Scan(0, ALL)) {
         return Err(Fail::from(fault));

@@ -1,6 +1,5 @@
 //! Runs over devices in memory, of which a plain judge hears all.
 
-use crate::dead::Blocks;
 use crate::indexes::{InMemory, all_entries, made};
 use crate::judge::{Addition, Run, additions, are_those_left, count, first_wrong, has_each_once};
 use crate::lists::{Dice, entry, mixed, range, shuffled};
@@ -15,6 +14,7 @@ use std::process::Abort;
 use std::sync::Wait;
 use std::test::{Fail, *};
 use std::thread::Threads;
+use tests_support::dead::Blocks;
 
 /// The keys of all jobs here have numbers below this.
 const KEYS: usize = 4_096;

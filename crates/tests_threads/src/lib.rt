@@ -6,8 +6,6 @@ mod blocked;
 #[cfg(test)]
 mod commits;
 #[cfg(test)]
-mod dead;
-#[cfg(test)]
 mod failed_calls;
 #[cfg(test)]
 mod hands;

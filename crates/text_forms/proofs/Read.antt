@@ -7,7 +7,7 @@ use Rattle.index_model.specs.declared.range.Range.{Range}
 use Rattle.index_model.specs.declared.fault.Fault.{Fault}
 use Rattle.index_model.specs.declared.fault.Fault.TheVariants.{KeyTooLong, BadRow}
 use Rattle.text_forms.specs.Spelling.{IsKey, IsLongKeyText, IsNarrow, ReadsRow, key_text, row_text}
-use Rattle.text_forms.specs.Values.{HasEndForm, IsEnd, IsNoEntry, IsNoRange, end_text}
+use Rattle.text_forms.specs.Values.{HasEndForm, IsRangeEnd, IsNoEntry, IsNoRange, end_text}
 use Rattle.text_forms.proofs.Keys.{length-encode_lower}
 
 same_fault : {T : Type 0} (read : Result T Fault) (f fault : Fault) → read ≡ Err f → read ≡ Err fault → f ≡ fault
@@ -33,15 +33,15 @@ no_entry (Ok key) (Err f) read key_word row_word fault found valid long row firs
     (record { key = key; is = valid key refl; spelled = found key refl }, record { row = row.0; narrow = row.2; spelled = row.1; is_none = row.3.1 })
 no_entry (Ok key) (Ok valid_row) read key_word row_word fault found valid long row first then both told = absurd (not_ok read fault told (both (search rules) (search rules)))
 
-end_form : (e : Result (Option (List ℕ)) Fault) (word : List ℕ) → IfOk e (λ key. word ≡ end_text key) → IfOk e IsEnd
+end_form : (e : Result (Option (List ℕ)) Fault) (word : List ℕ) → IfOk e (λ key. word ≡ end_text key) → IfOk e IsRangeEnd
     → ((f : Fault) → e ≡ Err f → (f ≡ KeyTooLong) × IsLongKeyText word) → HasEndForm word
 end_form (Ok key) word found valid long = inl (record { key = key; is = valid; spelled = found })
 end_form (Err f) word found valid long = inr (long f refl).1
 
 -- ... no range's
 pub no_range : (a b : Result (Option (List ℕ)) Fault) (read : Result Range Fault) (from below : List ℕ) (fault : Fault)
-    → IfOk a (λ key. from ≡ end_text key) → IfOk a IsEnd → ((f : Fault) → a ≡ Err f → (f ≡ KeyTooLong) × IsLongKeyText from)
-    → IfOk b (λ key. below ≡ end_text key) → IfOk b IsEnd → ((f : Fault) → b ≡ Err f → (f ≡ KeyTooLong) × IsLongKeyText below)
+    → IfOk a (λ key. from ≡ end_text key) → IfOk a IsRangeEnd → ((f : Fault) → a ≡ Err f → (f ≡ KeyTooLong) × IsLongKeyText from)
+    → IfOk b (λ key. below ≡ end_text key) → IfOk b IsRangeEnd → ((f : Fault) → b ≡ Err f → (f ≡ KeyTooLong) × IsLongKeyText below)
     → ((f : Fault) → a ≡ Err f → read ≡ Err f) → ((f : Fault) → IsOk a → b ≡ Err f → read ≡ Err f) → (IsOk a → IsOk b → IsOk read)
     → read ≡ Err fault → IsNoRange fault from below
 no_range a b read from below fault a_found a_valid a_long b_found b_valid b_long first then both told = by a b a_long b_long first then both

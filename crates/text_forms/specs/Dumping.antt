@@ -22,9 +22,9 @@ abbrev pub low_text : Option Bound → List ℕ
 low_text None = 42 ∷ []
 low_text (Some bound) = bound_text bound
 
-abbrev pub bit_of : Bool → ℕ
-bit_of false = 0
-bit_of true = 1
+abbrev pub bool_bit : Bool → ℕ
+bool_bit false = 0
+bool_bit true = 1
 
 -- the lines of the items: two spaces, the item, a newline
 abbrev pub entry_line : Entry → List ℕ
@@ -36,7 +36,7 @@ downlink_line link = codes "  " ++ (low_text link.bound ++ (numbered (codes " ->
 -- the links, the high key and whether the split is incomplete
 abbrev pub links_text : Page → List ℕ
 links_text p = codes " left=" ++ (link_text p.left ++ (codes " right=" ++ (link_text p.right
-    ++ (codes " high=" ++ (high_text p.high ++ numbered (codes " split=") (bit_of p.split))))))
+    ++ (codes " high=" ++ (high_text p.high ++ numbered (codes " split=") (bool_bit p.split))))))
 
 -- a leaf that is linked to its siblings, with so many entries
 abbrev pub linked_leaf_line : List ℕ → Page → ℕ → List ℕ
@@ -58,14 +58,14 @@ meta_line p = decimal p.block ++ (codes " meta root=" ++ (link_text p.right
     ++ (numbered (codes " level=") p.level ++ 10 ∷ [])))
 
 -- a page with these items: its line, and one for each item
-abbrev pub lines_of : Page → Items → List ℕ
-lines_of p Meta = meta_line p
-lines_of p (Entries entries) = leaf_line p.state p (length entries.items) ++ flat_map entry_line entries.items
-lines_of p (Downlinks links) = internal_line p (length links.items) ++ flat_map downlink_line links.items
+abbrev pub page_lines : Page → Items → List ℕ
+page_lines p Meta = meta_line p
+page_lines p (Entries entries) = leaf_line p.state p (length entries.items) ++ flat_map entry_line entries.items
+page_lines p (Downlinks links) = internal_line p (length links.items) ++ flat_map downlink_line links.items
 
 -- the lines of a page
 abbrev pub page_text : Page → List ℕ
-page_text p = lines_of p p.items
+page_text p = page_lines p p.items
 
 -- the lines of all pages, in their order
 abbrev pub pages_text : List Page → List ℕ

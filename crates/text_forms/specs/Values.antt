@@ -23,14 +23,14 @@ pub record IsEntryOfBytes (entry : Entry) : Type 0 where
   pub key : IsKey entry.key
   pub row : IsRow entry.row
 
-abbrev pub IsEnd : Option (List ℕ) → Type 0
-IsEnd None = ⊤
-IsEnd (Some key) = IsKey key
+abbrev pub IsRangeEnd : Option (List ℕ) → Type 0
+IsRangeEnd None = ⊤
+IsRangeEnd (Some key) = IsKey key
 
 -- ... a range
 pub record IsRangeOfBytes (range : Range) : Type 0 where
-  pub from : IsEnd range.from
-  pub below : IsEnd range.below
+  pub from : IsRangeEnd range.from
+  pub below : IsRangeEnd range.below
 
 -- the word of a key
 pub record IsKeyWord (word : List ℕ) : Type 0 where
@@ -41,7 +41,7 @@ pub record IsKeyWord (word : List ℕ) : Type 0 where
 -- ... of an end of a range
 pub record IsEndWord (word : List ℕ) : Type 0 where
   pub key : Option (List ℕ)
-  pub is : IsEnd key
+  pub is : IsRangeEnd key
   pub spelled : word ≡ end_text key
 
 -- ... of a row

@@ -3,7 +3,7 @@
 ghost use Rattle.std.specs.Prelude.{◌≡◌, length, flat_map, OnOk};
 ghost use Rattle.std.specs.Io.KnownBytes.{Appends};
 ghost use Rattle.page_codec.specs.declared.page.Items.TheVariants.{Entries, Downlinks};
-ghost use Rattle.text_forms.specs.Dumping.{high_text, low_text, bit_of, entry_line, downlink_line, links_text, linked_leaf_line, leaf_line, internal_line, meta_line, page_text};
+ghost use Rattle.text_forms.specs.Dumping.{high_text, low_text, bool_bit, entry_line, downlink_line, links_text, linked_leaf_line, leaf_line, internal_line, meta_line, page_text};
 
 use crate::show::{ShownBound, ShownEntry, ShownLink};
 use index_model::{Bound, Entry};
@@ -167,7 +167,7 @@ fn print_downlinks<W: Write>(out: &mut W, links: &[Downlink]) -> io::Result<()>
 }
 
 fn bit(flag: bool) -> u8
-    ensures { result ≡ bit_of flag }
+    ensures { result ≡ bool_bit flag }
 {
     if flag { 1 } else { 0 }
 }

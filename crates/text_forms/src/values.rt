@@ -4,7 +4,7 @@ ghost use Rattle.std.specs.Prelude.{◌≡◌, Some, None, Ok, Err, [], ◌++◌
 ghost use Rattle.index_model.specs.declared.entry.Entry.{Entry as TheEntry};
 ghost use Rattle.index_model.specs.declared.range.Range.{Range as TheRange};
 ghost use Rattle.text_forms.specs.Spelling.{IsLongKeyText};
-ghost use Rattle.text_forms.specs.Values.{end_text, entry_words, range_words, IsEnd, IsEntryOfBytes, IsRangeOfBytes, AreNoEntry, AreNoRange, AreRows, AreNoRows};
+ghost use Rattle.text_forms.specs.Values.{end_text, entry_words, range_words, IsRangeEnd, IsEntryOfBytes, IsRangeOfBytes, AreNoEntry, AreNoRange, AreRows, AreNoRows};
 
 use crate::numbers::{key, row};
 use crate::words::{Words, is_word};
@@ -109,8 +109,8 @@ fn range_of(
 /// A key, or `*` for an open end. None where it isn't such a text; `KeyTooLong` (6) where it has more than 64 bytes.
 pub fn end(text: &[u8]) -> Option<Result<Option<Key>, Fault>>
     ensures ok { IfSome result (λ read. IfOk read (λ key. text.now ≡ end_text key)) }
-    ensures valid { IfSome result (λ read. IfOk read IsEnd) }
-    ensures only { (key : Option (List ℕ)) → IsEnd key → text.now ≡ end_text key
+    ensures valid { IfSome result (λ read. IfOk read IsRangeEnd) }
+    ensures only { (key : Option (List ℕ)) → IsRangeEnd key → text.now ≡ end_text key
         → result ≡ Some (Ok key) }
     ensures long { (fault : Fault) → result ≡ Some (Err fault)
         → (fault ≡ Fault.KeyTooLong) × IsLongKeyText text.now }

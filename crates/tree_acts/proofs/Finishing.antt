@@ -58,7 +58,8 @@ upper_empty page level admitted is = by page.items refl admitted.kind
     by (Downlinks v) same h = ap entries_of same
     by (Entries v) same h = absurd (let z : page.level ≡ 0 = h.level in omega arith)
 
-pub covered : (st : State) (tree : IsTree st.pages) (level : ℕ) (aim : Bound → Bool) (block : ℕ) → HasCover st level aim block → (level ≤ tree.meta.level) × IsIn block (tree.chain level) × ((nodes_of st.pages block).state ≡ Live)
+pub covered : (st : State) (tree : IsTree st.pages) (level : ℕ) (aim : Bound → Bool) (block : ℕ) → HasCover st level aim block
+    → (level ≤ tree.meta.level) × IsIn block (tree.chain level) × ((nodes_of st.pages block).state ≡ Live)
 covered st tree level aim block h =
     let c = cover_in st tree level aim block h in
     let w = cover_at (nodes_of st.pages) first_spot (tree.chain level) aim block c.covers in
@@ -135,7 +136,8 @@ module _ (st : State) (start level : ℕ) (s : Bound) (p q p_after q_after : Pag
     level_is = refl;
   }
 
-  finish_goes : (least : ℕ) → TreeGoesOn (nodes_of st.pages) (nodes_of (with_pages st.pages (q_after ∷ p_after ∷ []))) (slice_index st.counted) (slice_index (after_act (q_after ∷ p_after ∷ []) st).counted)
+  finish_goes : (least : ℕ)
+      → TreeGoesOn (nodes_of st.pages) (nodes_of (with_pages st.pages (q_after ∷ p_after ∷ []))) (slice_index st.counted) (slice_index (after_act (q_after ∷ p_after ∷ []) st).counted)
       (length (with_pages st.pages (q_after ∷ p_after ∷ []))) has.tree.root has.tree.meta.level has.tree.meta.level has.tree.chain least
   unfolding finish_edit
   finish_goes least = rw finish_used (finish_keeps (nodes_of st.pages) (nodes_of (with_pages st.pages (q_after ∷ p_after ∷ []))) (slice_index st.counted)
@@ -145,7 +147,8 @@ module _ (st : State) (start level : ℕ) (s : Bound) (p q p_after q_after : Pag
 
   pub finishing : TreeLasts st (after_act (q_after ∷ p_after ∷ []) st) × ContentsStay st (after_act (q_after ∷ p_after ∷ []) st)
   finishing = (
-    lasts st (q_after ∷ p_after ∷ []) has h.may (finish_unique st start level s p q p_after q_after new has h) finish_in_use (λ n. Unit {0}) 0 tt (λ n is. tt) has.tree.root has.tree.meta.level (omega arith) finish_meta (λ least ok. finish_goes least),
+    lasts st (q_after ∷ p_after ∷ []) has h.may (finish_unique st start level s p q p_after q_after new has h) finish_in_use (λ n. Unit {0}) 0 tt
+        (λ n is. tt) has.tree.root has.tree.meta.level (omega arith) finish_meta (λ least ok. finish_goes least),
     λ x. contents_same st.pages (with_pages st.pages (q_after ∷ p_after ∷ [])) x
         (subst (λ (n : ℕ). IsHeld (nodes_of (with_pages st.pages (q_after ∷ p_after ∷ []))) n x ↔ IsHeld (nodes_of st.pages) (length st.pages) x) (sym finish_used)
         (finish_holds (nodes_of st.pages) (nodes_of (with_pages st.pages (q_after ∷ p_after ∷ []))) (length st.pages) p.block q.block finish_edit x)),
@@ -170,13 +173,15 @@ module _ (st : State) (start level : ℕ) (s : Bound) (p q p_after left right : 
     (λ same. not_q (sym same ∙ h.left_block)),
     (
       (λ same. not_new (sym same)),
-      apart_last c mended p_after (mended_apart st right.block q.right mended c h.mends (λ same. not_right (ap (λ (n : Node). n.right) parent_here ∙ same))) (λ same. not_p (sym same ∙ h.clear.block_is)),
+      apart_last c mended p_after
+          (mended_apart st right.block q.right mended c h.mends (λ same. not_right (ap (λ (n : Node). n.right) parent_here ∙ same))) (λ same. not_p (sym same ∙ h.clear.block_is)),
     ),
   )
 
   parent_left : nodes_of (with_pages st.pages (left ∷ right ∷ mended ++ p_after ∷ [])) q.block ≡ node_of left
   parent_left = subst (λ (b : ℕ). nodes_of (with_pages st.pages (left ∷ right ∷ mended ++ p_after ∷ [])) b ≡ node_of left) h.left_block
-      (node_there (with_pages st.pages (left ∷ right ∷ mended ++ p_after ∷ [])) left.block left (pages_first st.limits (length st.pages) st.pages left (right ∷ mended ++ p_after ∷ []) h.may (omega arith)))
+      (node_there (with_pages st.pages (left ∷ right ∷ mended ++ p_after ∷ [])) left.block left
+      (pages_first st.limits (length st.pages) st.pages left (right ∷ mended ++ p_after ∷ []) h.may (omega arith)))
 
   parent_right : nodes_of (with_pages st.pages (left ∷ right ∷ mended ++ p_after ∷ [])) right.block ≡ node_of right
   parent_right = node_there (with_pages st.pages (left ∷ right ∷ mended ++ p_after ∷ [])) right.block right
@@ -240,24 +245,28 @@ module _ (st : State) (start level : ℕ) (s : Bound) (p q p_after left right : 
   )
 
   parent_goes : (least : ℕ) → IsReusable (nodes_of st.pages) (slice_index st.counted) least right.block
-      → TreeGoesOn (nodes_of st.pages) (nodes_of (with_pages st.pages (left ∷ right ∷ mended ++ p_after ∷ []))) (slice_index st.counted) (slice_index (after_act (left ∷ right ∷ mended ++ p_after ∷ []) st).counted)
+      → TreeGoesOn (nodes_of st.pages) (nodes_of (with_pages st.pages (left ∷ right ∷ mended ++ p_after ∷ []))) (slice_index st.counted)
+      (slice_index (after_act (left ∷ right ∷ mended ++ p_after ∷ []) st).counted)
       (length (with_pages st.pages (left ∷ right ∷ mended ++ p_after ∷ []))) has.tree.root has.tree.meta.level has.tree.meta.level has.tree.chain least
   unfolding parent_edit
   parent_goes least reusable = rw parent_used (parent_split_keeps (nodes_of st.pages) (nodes_of (with_pages st.pages (left ∷ right ∷ mended ++ p_after ∷ []))) (slice_index st.counted)
-      (slice_index (after_act (left ∷ right ∷ mended ++ p_after ∷ []) st).counted) (length st.pages) has.tree.root has.tree.meta.level has.tree.chain least level p.block q.block right.block s has.tree.is
+      (slice_index (after_act (left ∷ right ∷ mended ++ p_after ∷ []) st).counted) (length st.pages) has.tree.root has.tree.meta.level has.tree.chain
+      least level p.block q.block right.block s has.tree.is
       parent_q.in_tree parent_edit refl parent_free reusable parent_p.fits parent_q.fits
       (λ c not_p not_q not_new not_right. counts_other st.limits (length st.pages) st.counted st.pages (left ∷ right ∷ mended ++ p_after ∷ []) c has.counted h.may (omega arith)
       (parent_apart c not_p not_q not_new not_right)))
 
   pub parent_splitting : TreeLasts st (after_act (left ∷ right ∷ mended ++ p_after ∷ []) st) × ContentsStay st (after_act (left ∷ right ∷ mended ++ p_after ∷ []) st)
   parent_splitting = (
-    lasts st (left ∷ right ∷ mended ++ p_after ∷ []) has h.may (parent_split_unique st start level s p q p_after left right mended new has h) parent_in_use (λ n. IsReusable (nodes_of st.pages) (slice_index st.counted) n right.block) (slice_index st.counted right.block) (λ gone. omega arith)
+    lasts st (left ∷ right ∷ mended ++ p_after ∷ []) has h.may (parent_split_unique st start level s p q p_after left right mended new has h)
+        parent_in_use (λ n. IsReusable (nodes_of st.pages) (slice_index st.counted) n right.block) (slice_index st.counted right.block) (λ gone. omega arith)
         (λ n is. fresh_reusable st right.block n h.fresh is) has.tree.root has.tree.meta.level (omega arith) parent_meta parent_goes,
     λ x. contents_same st.pages (with_pages st.pages (left ∷ right ∷ mended ++ p_after ∷ [])) x
         (subst (λ (n : ℕ). IsHeld (nodes_of (with_pages st.pages (left ∷ right ∷ mended ++ p_after ∷ []))) n x ↔ IsHeld (nodes_of st.pages) (length st.pages) x) (sym parent_used)
         (parent_split_holds (nodes_of st.pages) (nodes_of (with_pages st.pages (left ∷ right ∷ mended ++ p_after ∷ []))) (length st.pages) p.block q.block right.block parent_edit parent_free
         (ap (λ (n : Node). n.state) parent_here ∙ h.alive)
-        (ap (λ (n : Node). n.entries) parent_here ∙ upper_empty q level (stored_page st.limits q.block st.pages q has.stored h.found).storable.admitted (sym (ap (λ (n : Node). n.level) parent_here) ∙ parent_q.level_is)) x)),
+        (ap (λ (n : Node). n.entries) parent_here
+        ∙ upper_empty q level (stored_page st.limits q.block st.pages q has.stored h.found).storable.admitted (sym (ap (λ (n : Node). n.level) parent_here) ∙ parent_q.level_is)) x)),
   )
 
 pub parent_split_lasts : ParentSplitLasts
@@ -293,7 +302,8 @@ module _ (st : State) (start : ℕ) (s : Bound) (meta meta_after p p_after root 
     high_is = ap (λ (n : Node). n.high) (p_here st start meta.level s p new has h.unfinished) ∙ h.unfinished.high_is;
     new = new;
     right_is = ap (λ (n : Node). n.right) (p_here st start meta.level s p new has h.unfinished) ∙ h.unfinished.right_is;
-    root_is = node_there (with_pages st.pages (root ∷ meta_after ∷ p_after ∷ [])) root.block root (pages_first st.limits (length st.pages) st.pages root (meta_after ∷ p_after ∷ []) h.may (omega arith))
+    root_is = node_there (with_pages st.pages (root ∷ meta_after ∷ p_after ∷ [])) root.block root
+        (pages_first st.limits (length st.pages) st.pages root (meta_after ∷ p_after ∷ []) h.may (omega arith))
         ∙ subst (λ (k : ℕ). node_of root ≡ new_root (suc k) p.block s new) top_is h.root_is;
     cleared_is = subst (λ (b : ℕ). nodes_of (with_pages st.pages (root ∷ meta_after ∷ p_after ∷ [])) b ≡ node_of p_after) h.clear.block_is
         (node_there (with_pages st.pages (root ∷ meta_after ∷ p_after ∷ [])) p_after.block p_after (pages_third st.limits (length st.pages) st.pages root meta_after p_after [] h.may (omega arith)))
@@ -332,7 +342,8 @@ module _ (st : State) (start : ℕ) (s : Bound) (meta meta_after p p_after root 
   )
 
   root_goes : (least : ℕ) → IsReusable (nodes_of st.pages) (slice_index st.counted) least root.block
-      → TreeGoesOn (nodes_of st.pages) (nodes_of (with_pages st.pages (root ∷ meta_after ∷ p_after ∷ []))) (slice_index st.counted) (slice_index (after_act (root ∷ meta_after ∷ p_after ∷ []) st).counted)
+      → TreeGoesOn (nodes_of st.pages) (nodes_of (with_pages st.pages (root ∷ meta_after ∷ p_after ∷ []))) (slice_index st.counted)
+      (slice_index (after_act (root ∷ meta_after ∷ p_after ∷ []) st).counted)
       (length (with_pages st.pages (root ∷ meta_after ∷ p_after ∷ []))) root.block has.tree.meta.level (suc has.tree.meta.level) has.tree.chain least
   root_goes least reusable = rw root_used (root_split_keeps (nodes_of st.pages) (nodes_of (with_pages st.pages (root ∷ meta_after ∷ p_after ∷ []))) (slice_index st.counted)
       (slice_index (after_act (root ∷ meta_after ∷ p_after ∷ []) st).counted) (length st.pages) p.block has.tree.meta.level root.block has.tree.chain least
@@ -342,7 +353,8 @@ module _ (st : State) (start : ℕ) (s : Bound) (meta meta_after p p_after root 
 
   pub root_splitting : TreeLasts st (after_act (root ∷ meta_after ∷ p_after ∷ []) st) × ContentsStay st (after_act (root ∷ meta_after ∷ p_after ∷ []) st)
   root_splitting = (
-    lasts st (root ∷ meta_after ∷ p_after ∷ []) has h.may (root_split_unique st start s meta meta_after p p_after root new has h) root_in_use (λ n. IsReusable (nodes_of st.pages) (slice_index st.counted) n root.block) (slice_index st.counted root.block) (λ gone. omega arith)
+    lasts st (root ∷ meta_after ∷ p_after ∷ []) has h.may (root_split_unique st start s meta meta_after p p_after root new has h) root_in_use
+        (λ n. IsReusable (nodes_of st.pages) (slice_index st.counted) n root.block) (slice_index st.counted root.block) (λ gone. omega arith)
         (λ n is. fresh_reusable st root.block n h.fresh is) root.block (suc has.tree.meta.level) (omega arith) root_meta root_goes,
     λ x. contents_same st.pages (with_pages st.pages (root ∷ meta_after ∷ p_after ∷ [])) x
         (subst (λ (n : ℕ). IsHeld (nodes_of (with_pages st.pages (root ∷ meta_after ∷ p_after ∷ []))) n x ↔ IsHeld (nodes_of st.pages) (length st.pages) x) (sym root_used)

@@ -45,7 +45,8 @@ rest_differs : (x : Entry) (xs : List Entry) → DifferIn (x ∷ xs) → DifferI
 rest_differs x xs differ a b in_a in_b same = differ a b (rest_there x xs a in_a) (rest_there x xs b in_b) same
 
 past_itself : (x y : Entry) → is_past (bound_of x) y ≡ true → x ≡ y → ⊥
-past_itself x y past same = (let k : is_past (bound_of x) x ≡ true = subst (λ (z : Entry). is_past (bound_of x) z ≡ true) (sym same) past in let n : is_past (bound_of x) x ≡ false = is_past-self x in cc)
+past_itself x y past same =
+    (let k : is_past (bound_of x) x ≡ true = subst (λ (z : Entry). is_past (bound_of x) z ≡ true) (sym same) past in let n : is_past (bound_of x) x ≡ false = is_past-self x in cc)
 
 -- the keys of entries ascend that ascend, and of which no two share a key
 follows : (x : Entry) (xs : List Entry) → AscendsPast (Some (bound_of x)) xs → DifferIn (x ∷ xs) → FollowedBy KeyBefore x xs

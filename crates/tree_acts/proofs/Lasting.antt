@@ -32,7 +32,8 @@ use Rattle.tree_acts.proofs.Lows.{lows_of}
 use Rattle.tree_acts.proofs.Overlays.{page_length}
 use Rattle.tree_acts.proofs.Words.{place_in, trail_in}
 
-pub stored_after : (limits : Format) (used : ℕ) (pages changed : List Page) → AreActable limits used changed → used ≤ length pages → AreStored limits 0 pages → AreStored limits 0 (with_pages pages changed)
+pub stored_after : (limits : Format) (used : ℕ) (pages changed : List Page) → AreActable limits used changed → used ≤ length pages
+    → AreStored limits 0 pages → AreStored limits 0 (with_pages pages changed)
 stored_after limits used pages [] h le stored = stored
 stored_after limits used pages (page ∷ changed) h le stored =
     let place : page.block ≤ length pages = omega (arith, h.1.0) in
@@ -108,7 +109,8 @@ fresh_free st new h f = record {
     positive : (n : ℕ) → new ≡ n → 0 < n
     positive (suc n) is = omega arith
     positive zero is =
-        let gone : (nodes_of st.pages 0).state ≡ Deleted = subst (λ (b : ℕ). (nodes_of st.pages b).state ≡ Deleted) is (reusable_deleted st new (f.reusable (subst (λ (b : ℕ). b < length st.pages) (sym is) meta_there))) in
+        let gone : (nodes_of st.pages 0).state ≡ Deleted =
+        subst (λ (b : ℕ). (nodes_of st.pages b).state ≡ Deleted) is (reusable_deleted st new (f.reusable (subst (λ (b : ℕ). b < length st.pages) (sym is) meta_there))) in
         absurd (clash (sym (meta_lives st h) ∙ ap (λ (n : _). n.state) (sym (ap node_from h.tree.meta_at)) ∙ gone))
 
 clash_bool : true ≡ false → ⊥
@@ -176,7 +178,8 @@ right_on_chain st tree level b r in_top i right =
     subst (IsIn r) (sym w.is) (in_append_right r w.front (b ∷ w.back) (inr (first_in r w.back (sym here.0.right_is ∙ right))))
 
 -- ... and that page isn't deleted
-pub right_in_use : (st : State) (tree : IsTree st.pages) (level b r : ℕ) → level ≤ tree.meta.level → IsIn b (tree.chain level) → (nodes_of st.pages b).right ≡ Some r → (nodes_of st.pages r).state ≢ Deleted
+pub right_in_use : (st : State) (tree : IsTree st.pages) (level b r : ℕ) → level ≤ tree.meta.level → IsIn b (tree.chain level)
+    → (nodes_of st.pages b).right ≡ Some r → (nodes_of st.pages r).state ≢ Deleted
 right_in_use st tree level b r in_top i right =
     (member (nodes_of st.pages) level first_spot (tree.chain level) None r (tree.is.runs level in_top) (right_on_chain st tree level b r in_top i right)).1
 
@@ -212,7 +215,8 @@ pub unique_after : (pages changed : List Page) → AreUnique pages → AreUnique
 unique_after pages [] h c = h
 unique_after pages (page ∷ changed) h c = unique_after (with_page pages page) changed (unique_with pages page h c.0) c.1
 
-pub lasts : (st : State) (changed : List Page) (h : HasTree st) → AreActable st.limits (length st.pages) changed → (st.limits.unique ≡ true → AreUnique changed) → AreInUse changed → (Ok : ℕ → Type 0) (one : ℕ) → Ok one → ((start : ℕ) → IsStart st.running start → Ok start)
+pub lasts : (st : State) (changed : List Page) (h : HasTree st) → AreActable st.limits (length st.pages) changed
+    → (st.limits.unique ≡ true → AreUnique changed) → AreInUse changed → (Ok : ℕ → Type 0) (one : ℕ) → Ok one → ((start : ℕ) → IsStart st.running start → Ok start)
     → (root' top' : ℕ) → h.tree.meta.level ≤ top' → MetaIs (with_pages st.pages changed) root' top'
     → ((least : ℕ) → Ok least → TreeGoesOn (nodes_of st.pages) (nodes_of (with_pages st.pages changed)) (slice_index st.counted) (slice_index (after_act changed st).counted)
     (length (with_pages st.pages changed)) root' h.tree.meta.level top' h.tree.chain least)
@@ -248,7 +252,8 @@ lasts st changed h may one_a_key live Ok one ok running root' top' taller meta g
         distinct = t.distinct;
         steps = t.steps;
         trail = trail_stays (nodes_of st.pages) (nodes_of (with_pages st.pages changed)) (slice_index st.counted) (slice_index (after_act changed st).counted)
-            (h.tree.chain level) ((goes start good).chain' level) start t.passed t.steps block ((goes start good).order level t.in_tree) ((goes start good).places start (omega arith) level t.in_tree) t.trail;
+            (h.tree.chain level) ((goes start good).chain' level) start t.passed t.steps block ((goes start good).order level t.in_tree)
+            ((goes start good).places start (omega arith) level t.in_tree) t.trail;
       };
 }
   where
@@ -263,7 +268,8 @@ lasts st changed h may one_a_key live Ok one ok running root' top' taller meta g
     }
 
 -- ... also where a page of a chain is deleted, later than each running call began; lows are as they are whichever numbers count
-pub lasts_without : (st : State) (changed : List Page) (h : HasTree st) → AreActable st.limits (length st.pages) changed → (st.limits.unique ≡ true → AreUnique changed) → CountUpTo st.begun changed → GoneLeadOn (after_act changed st)
+pub lasts_without : (st : State) (changed : List Page) (h : HasTree st) → AreActable st.limits (length st.pages) changed
+    → (st.limits.unique ≡ true → AreUnique changed) → CountUpTo st.begun changed → GoneLeadOn (after_act changed st)
     → (late : ℕ) → ((start : ℕ) → IsStart st.running start → start < late)
     → MetaIs (with_pages st.pages changed) h.tree.root h.tree.meta.level
     → TreeGoesOnWithout (nodes_of st.pages) (nodes_of (with_pages st.pages changed)) (slice_index st.counted) (slice_index (after_act changed st).counted)

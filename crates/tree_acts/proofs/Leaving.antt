@@ -85,7 +85,8 @@ stays_itself : (effect : Option Effect) (page : Page) → LeafStays effect page 
 stays_itself effect page = record { right = refl; cycle = refl; entries = λ e on. inl on }
 
 module _ (effect : Option Effect) (st : State) where
-  alike_goes_on : (cycle : ℕ) (pages : List Page) (b : ℕ) (old x : Page) → IsAlike effect st x → x.block ≡ b → slice_get pages b ≡ Some x → IsLeafAt st.pages b old → LeafGoesOn effect cycle st.pages pages b old
+  alike_goes_on : (cycle : ℕ) (pages : List Page) (b : ℕ) (old x : Page) → IsAlike effect st x → x.block ≡ b → slice_get pages b ≡ Some x
+      → IsLeafAt st.pages b old → LeafGoesOn effect cycle st.pages pages b old
   alike_goes_on cycle pages b old x h block there at =
       let same : h.old ≡ old = same_page st.pages b h.old old (subst (λ (k : ℕ). slice_get st.pages k ≡ Some h.old) block h.found) at.found in
       record {
@@ -166,7 +167,8 @@ linked_no_leaf (Entries v) (b ∷ before) d after is h = (let k : [] ≡ b ∷ b
 
 -- where a page that is no leaf stands, no leaf stands
 no_leaf_where : (st : State) (q : Page) → slice_get st.pages q.block ≡ Some q → (HasEntries q.items → ⊥) → (b : ℕ) → b ≡ q.block → (page : Page) → IsLeafAt st.pages b page → ⊥
-no_leaf_where st q found none b is page at = none (subst (λ (p : Page). HasEntries p.items) (same_page st.pages q.block page q (subst (λ (k : ℕ). slice_get st.pages k ≡ Some page) is at.found) found) at.leaf)
+no_leaf_where st q found none b is page at =
+    none (subst (λ (p : Page). HasEntries p.items) (same_page st.pages q.block page q (subst (λ (k : ℕ). slice_get st.pages k ≡ Some page) is at.found) found) at.leaf)
 
 -- on a block that a new page takes no leaf stands
 pub fresh_no_leaf : (st : State) (new : ℕ) → HasTree st → IsFresh st new → (page : Page) → IsLeafAt st.pages new page → ⊥
@@ -288,7 +290,8 @@ module _ (st : State) (start : ℕ) (e : Entry) (page left right : Page) (mended
 
   left_leaf : IsLeafAt (with_pages st.pages (left ∷ right ∷ mended)) page.block left
   left_leaf = record {
-    found = subst (λ (k : ℕ). slice_get (with_pages st.pages (left ∷ right ∷ mended)) k ≡ Some left) h.left_block (pages_first st.limits (length st.pages) st.pages left (right ∷ mended) h.may (omega arith));
+    found = subst (λ (k : ℕ). slice_get (with_pages st.pages (left ∷ right ∷ mended)) k ≡ Some left) h.left_block
+        (pages_first st.limits (length st.pages) st.pages left (right ∷ mended) h.may (omega arith));
     alive = ap (λ (n : Node). n.state) h.halves.left_is;
     leaf = ground_leaf left h.may.0.storable.admitted (ap (λ (n : Node). n.level) h.halves.left_is ∙ h.leaf) (subst (λ (b : ℕ). 0 < b) (sym h.left_block) split_on.above);
   }
@@ -359,7 +362,8 @@ module _ (st : State) (start : ℕ) (e : Entry) (page left right : Page) (mended
         | inl (inl alike) ↦ inl (alike_was (Some (Add e)) st (with_pages st.pages (left ∷ right ∷ mended)) b new w.page alike w.block w.there at)
         | inl (inr none) ↦ absurd (none.now (subst (λ (p : Page). HasEntries p.items) (same_page (with_pages st.pages (left ∷ right ∷ mended)) b new w.page at.found w.there) at.leaf))
         | inr (inl is_left) ↦ inl (record { page = page; was = subst (λ (k : ℕ). IsLeafAt st.pages k page) (sym h.left_block ∙ ap (λ (p : Page). p.block) (sym is_left) ∙ w.block) page_leaf })
-        | inr (inr is_right) ↦ inr (record { from = page.block; old = page; was = page_leaf; left = left; there = left_leaf; halved = halved; is = ap (λ (p : Page). p.block) (sym is_right) ∙ w.block })
+        | inr (inr is_right) ↦
+            inr (record { from = page.block; old = page; was = page_leaf; left = left; there = left_leaf; halved = halved; is = ap (λ (p : Page). p.block) (sym is_right) ∙ w.block })
       ]
     ];
   }

@@ -97,7 +97,8 @@ below_high : (high : Option Bound) (separator : Bound) (new : ℕ) → Rises (So
 below_high None separator new h = tt
 below_high (Some b) separator new h = h
 
-pub links_put : (layout : Layout) (high : Option Bound) (ds : List Downlink) (at : ℕ) (separator : Bound) (new : ℕ) → at < length ds → AreLinks layout high ds → IsBoundIn layout separator → IsBlock new
+pub links_put : (layout : Layout) (high : Option Bound) (ds : List Downlink) (at : ℕ) (separator : Bound) (new : ℕ) → at < length ds
+    → AreLinks layout high ds → IsBoundIn layout separator → IsBlock new
     → FitsBehind ds at separator high → AreLinks layout high (insert ds (suc at) (link_to separator new))
 links_put layout high ds at separator new lt h whole block fits = record {
   valid = all_put (IsDownlink layout) ds (suc at) (link_to separator new) (record { bound = whole; child = block }) h.valid;
@@ -137,7 +138,8 @@ below_cut cut [] y same h = tt
 below_cut cut (x ∷ xs) y same h = (subst (λ b. is_lt (option_cmp bound_cmp x.bound b) ≡ true) same h.0, below_cut cut xs y same h.1)
 
 -- ... the first part below the cut
-pub front_links : (layout : Layout) (high : Option Bound) (xs ys : List Downlink) (cut : Bound) → 0 < length xs → bound_at ys 0 ≡ Some cut → AreLinks layout high (xs ++ ys) → AreLinks layout (Some cut) xs
+pub front_links : (layout : Layout) (high : Option Bound) (xs ys : List Downlink) (cut : Bound) → 0 < length xs → bound_at ys 0 ≡ Some cut
+    → AreLinks layout high (xs ++ ys) → AreLinks layout (Some cut) xs
 front_links layout high [] ys cut some same h = absurd (omega arith)
 front_links layout high (x ∷ xs) [] cut some same h = absurd cc
 front_links layout high (x ∷ xs) (y ∷ ys) cut some same h = record {
@@ -147,7 +149,8 @@ front_links layout high (x ∷ xs) (y ∷ ys) cut some same h = record {
 }
 
 -- ... and the second with minus infinity for its first bound
-pub back_links : (layout : Layout) (high : Option Bound) (xs ys : List Downlink) (otherwise : Bound) → 0 < length xs → 0 < length ys → AreLinks layout high (xs ++ ys) → AreLinks layout high (from_low None ys)
+pub back_links : (layout : Layout) (high : Option Bound) (xs ys : List Downlink) (otherwise : Bound) → 0 < length xs → 0 < length ys
+    → AreLinks layout high (xs ++ ys) → AreLinks layout high (from_low None ys)
 back_links layout high [] ys otherwise front back h = absurd (omega arith)
 back_links layout high (x ∷ xs) [] otherwise front back h = absurd (omega arith)
 back_links layout high (x ∷ xs) (y ∷ ys) otherwise front back h =

@@ -9,9 +9,9 @@ use Rattle.latch_table.specs.Holdings.{is_held_by_another}
 use Rattle.latch_table.specs.declared.mode.Mode.TheVariants.{Shared, Exclusive}
 use Rattle.page_action.specs.Causes.{is_at_end}
 use Rattle.page_action.specs.States.{State, Backing}
-use Rattle.descent.specs.Shared.{where_working}
+use Rattle.descent.specs.Shared.{causes_of_working}
 use Rattle.descent.proofs.Working.{no_room_later, room_for_none}
-use Rattle.vacuum.specs.BulkDeletes.{where_taking, where_deleting, is_counted_out}
+use Rattle.vacuum.specs.BulkDeletes.{causes_of_taking, causes_of_deleting, is_counted_out}
 use Rattle.vacuum.specs.declared.steps.BulkDeleteOp.{BulkDeleteOp}
 use Rattle.vacuum.proofs.Holding.{held_for_cleanup}
 
@@ -31,7 +31,8 @@ or_there false true c h = refl
 or_there false false c h = h
 
 -- a page isn't read
-pub reading_cause : (dead : Row → Bool) (st : State) (old new : Backing) (op : BulkDeleteOp) (fault : Fault) → HasCause (where_working st old new op.session [] 1 false false) fault → HasCause (where_deleting dead st old new op) fault
+pub reading_cause : (dead : Row → Bool) (st : State) (old new : Backing) (op : BulkDeleteOp) (fault : Fault)
+    → HasCause (causes_of_working st old new op.session [] 1 false false) fault → HasCause (causes_of_deleting dead st old new op) fault
 reading_cause dead st old new op Io h = h
 reading_cause dead st old new op Stopped h = or_more old.stopped (is_at_end st.acts) (is_counted_out op) h
 reading_cause dead st old new op (Blocked b) h = elim (or_cases (is_held_by_another st.table op.session b Shared) (is_held_by_another st.table op.session b Exclusive) h) [
@@ -43,7 +44,7 @@ reading_cause dead st old new op fault h = h
 
 -- what is a cause where a page was read before is one from before that
 pub taking_later : (images : List ℕ) (st : State) (first second third : Backing) (op : BulkDeleteOp) (fault : Fault) → first.failures ≤ second.failures → (second.stopped ≡ true → first.stopped ≡ true)
-    → second.promised ≡ first.promised → HasCause (where_taking images st second third op) fault → HasCause (where_taking images st first third op) fault
+    → second.promised ≡ first.promised → HasCause (causes_of_taking images st second third op) fault → HasCause (causes_of_taking images st first third op) fault
 taking_later images st first second third op Io le alive promised h =
     let k : second.failures < third.failures = ltb-true second.failures third.failures h in
     lt-ltb first.failures third.failures (omega (arith, le, k))
@@ -52,5 +53,5 @@ taking_later images st first second third op LogFull le alive promised h = no_ro
 taking_later images st first second third op fault le alive promised h = h
 
 -- a counter is at its end, or the log had stopped
-pub counted_out_cause : (dead : Row → Bool) (st : State) (old new : Backing) (op : BulkDeleteOp) → is_counted_out op ≡ true → HasCause (where_deleting dead st old new op) Stopped
+pub counted_out_cause : (dead : Row → Bool) (st : State) (old new : Backing) (op : BulkDeleteOp) → is_counted_out op ≡ true → HasCause (causes_of_deleting dead st old new op) Stopped
 counted_out_cause dead st old new op h = or_there old.stopped (is_at_end st.acts) (is_counted_out op) h

@@ -92,7 +92,8 @@ counts_on dead st new op onward kept gone h others turn count clean unchanged = 
     by (Some b) is = record {
       counted = rw is (h.counted ∙ ap (λ (ps : List Page). entries_below ps op.cursor) (sym (unchanged b is)));
       below = below_past op.cursor op.back onward h.below turn;
-      clean = λ block page e lt at on. h.clean block page e (rw is at lt) (record { found = ap (λ (ps : List Page). slice_get ps block) (sym (unchanged b is)) ∙ at.found; alive = at.alive; leaf = at.leaf }) on;
+      clean = λ block page e lt at on.
+          h.clean block page e (rw is at lt) (record { found = ap (λ (ps : List Page). slice_get ps block) (sym (unchanged b is)) ∙ at.found; alive = at.alive; leaf = at.leaf }) on;
     }
 
 none_past : (pages : List Page) (b : ℕ) → length pages ≤ b → slice_get pages b ≡ None

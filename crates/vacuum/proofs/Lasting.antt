@@ -14,7 +14,7 @@ use Rattle.descent.specs.Shared.{NumbersStay}
 use Rattle.vacuum.specs.BulkDeletes.{GoesBack}
 use Rattle.vacuum.specs.Laws.{BulkDeletesAreUndisturbed, DueIsUndisturbed, AllIsToCome}
 use Rattle.vacuum.specs.Ops.{last_read}
-use Rattle.vacuum.specs.Sweeping.{IsToCome, ahead, sibling, led, WentBackFromLeaf}
+use Rattle.vacuum.specs.Sweeping.{BlockIsToCome, ahead, sibling, led, WentBackFromLeaf}
 use Rattle.vacuum.specs.declared.steps.Back.{Back}
 
 goes_back_still : (old new : State) (start : ℕ) (back : Option Back) → NumbersStay start old new → GoesBack old start back → GoesBack new start back
@@ -38,7 +38,7 @@ true_false h = cc
 
 module _ (effect : Option Effect) (old new : State) (cursor : ℕ) (back : Option Back) (stay : LeavesStay effect old new) (went : WentBackFromLeaf old cursor back) where
   -- the right half of a leaf to come is to come
-  half_comes : (n : ℕ) → ((page : Page) → IsLeafAt old.pages n page → ⊥) → (n < last_read cursor back → IsToCome new cursor back n) → IsToCome new cursor back n
+  half_comes : (n : ℕ) → ((page : Page) → IsLeafAt old.pages n page → ⊥) → (n < last_read cursor back → BlockIsToCome new cursor back n) → BlockIsToCome new cursor back n
   half_comes n free behind = elim (cases_lt n (last_read cursor back)) [
     | inl lt ↦ behind lt
     | inr ge ↦ ahead (beyond back went ge)
@@ -51,17 +51,18 @@ module _ (effect : Option Effect) (old new : State) (cursor : ℕ) (back : Optio
         | inr le ↦ (let same : b.from ≡ n = omega (arith, le, ge) in absurd (free h.1.page (subst (λ (k : ℕ). IsLeafAt old.pages k h.1.page) same h.1.was)))
       ]
 
-  comes_half : (block : ℕ) (left : Page) (page : Page) → IsLeafAt new.pages block left → (h : LeafIsHalved effect old.cycle old.pages new.pages page left) → IsToCome new cursor back block → IsToCome new cursor back h.new
+  comes_half : (block : ℕ) (left : Page) (page : Page) → IsLeafAt new.pages block left
+      → (h : LeafIsHalved effect old.cycle old.pages new.pages page left) → BlockIsToCome new cursor back block → BlockIsToCome new cursor back h.new
   comes_half block left page there h now = half_comes h.new h.free (λ lt. led left there (h.left_cycle ∙ sym stay.cycle) h.left_right lt now)
 
   -- what was to come is to come
-  comes : {block : ℕ} → IsToCome old cursor back block → IsToCome new cursor back block
+  comes : {block : ℕ} → BlockIsToCome old cursor back block → BlockIsToCome new cursor back block
   comes (ahead le) = ahead le
   comes (sibling is) = sibling is
   comes (led {from} page at carries right below rest) = onward from page carries right below (stay.each from page at) (comes rest)
     where
       onward : {block : ℕ} (p : ℕ) (page : Page) → page.cycle ≡ old.cycle → page.right ≡ Some block → block < last_read cursor back → LeafGoesOn effect old.cycle old.pages new.pages p page
-          → IsToCome new cursor back p → IsToCome new cursor back block
+          → BlockIsToCome new cursor back p → BlockIsToCome new cursor back block
       onward p page carries right below go now = elim go.how [
         | inl same ↦ led go.new go.there (same.cycle ∙ carries ∙ sym stay.cycle) (same.right ∙ right) below now
         | inr h ↦ led h.half h.there (h.half_cycle ∙ sym stay.cycle) (h.half_right ∙ right) below (comes_half p go.new page go.there h now)
@@ -80,9 +81,10 @@ due_undisturbed due effect old new cursor back stay added h = record {
   to_come = λ block page e at on is_due. elim (stay.others block page at) [
     | inl was ↦ still block page e at on is_due was.page was.was (stay.each block was.page was.was)
     | inr half ↦ (
-        let page_is : page ≡ half.halved.half = same_page new.pages block page half.halved.half at.found (subst (λ (k : ℕ). slice_get new.pages k ≡ Some half.halved.half) half.is half.halved.there.found) in
+        let page_is : page ≡ half.halved.half =
+        same_page new.pages block page half.halved.half at.found (subst (λ (k : ℕ). slice_get new.pages k ≡ Some half.halved.half) half.is half.halved.there.found) in
         let was_on = kept half.old half.halved.half e half.halved.half_entries (subst (λ (p : Page). is_among (entries_of p.items) e ≡ true) page_is on) is_due in
-        subst (IsToCome new cursor back) half.is (comes_half effect old new cursor back stay h.from half.from half.left half.old half.there half.halved
+        subst (BlockIsToCome new cursor back) half.is (comes_half effect old new cursor back stay h.from half.from half.left half.old half.there half.halved
         (comes effect old new cursor back stay h.from (h.to_come half.from half.old e half.was was_on is_due))))
   ];
 }
@@ -94,7 +96,7 @@ due_undisturbed due effect old new cursor back stay added h = record {
     ]
 
     still : (block : ℕ) (page : Page) (e : Entry) → IsLeafAt new.pages block page → is_among (entries_of page.items) e ≡ true → due e ≡ true → (was : Page) → IsLeafAt old.pages block was
-        → LeafGoesOn effect old.cycle old.pages new.pages block was → IsToCome new cursor back block
+        → LeafGoesOn effect old.cycle old.pages new.pages block was → BlockIsToCome new cursor back block
     still block page e at on is_due was was_at go =
         let page_is : page ≡ go.new = same_page new.pages block page go.new at.found go.there.found in
         let now_on : is_among (entries_of go.new.items) e ≡ true = subst (λ (p : Page). is_among (entries_of p.items) e ≡ true) page_is on in

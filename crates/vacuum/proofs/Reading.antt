@@ -30,7 +30,7 @@ use Rattle.tree_acts.proofs.Telling.{trail_goes_right, trail_is_short_here}
 use Rattle.tree_acts.proofs.Words.{trail_in}
 use Rattle.descent.specs.Shared.{IsInOrder, Does, IsOneStep}
 use Rattle.descent.proofs.Acting.{one_act, one_nothing, nothing_else}
-use Rattle.vacuum.specs.BulkDeletes.{GoesBack, BulkDeleteFits, BulkDeleteSteps, where_deleting, removes, dead_of, dead_at, has_dead}
+use Rattle.vacuum.specs.BulkDeletes.{GoesBack, BulkDeleteInvariant, BulkDeleteSteps, causes_of_deleting, removes, dead_of, dead_at, has_dead}
 use Rattle.vacuum.specs.Counts.{stats_of, IsBelow, IsCounted, entry_count}
 use Rattle.vacuum.specs.Ops.{lives, without_dead, dead_entries, next_block, last_read, moves_of, cursor_past}
 use Rattle.vacuum.specs.Sweeping.{IsSibling, DueIsToCome}
@@ -52,7 +52,7 @@ runs_no_more b alive stopped = absurd cc
 -- a step that is refused before anything is changed
 pub refuses : {S : Type 0} (g : Ghosts S) (dead : Row → Bool) (op : BulkDeleteOp) (old new : S) (fault : Fault) → Continues g.follows old new → g.state new ≡ g.state old
     → ((g.backing old).stopped ≡ true → fault ≡ Stopped)
-    → ((g.backing new).honest ≡ true → IsInOrder (g.state old) → BulkDeleteFits (g.state old) op → HasCause (where_deleting dead (g.state old) (g.backing old) (g.backing new) op) fault)
+    → ((g.backing new).honest ≡ true → IsInOrder (g.state old) → BulkDeleteInvariant (g.state old) op → HasCause (causes_of_deleting dead (g.state old) (g.backing old) (g.backing new) op) fault)
     → BulkDeleteSteps g dead op op old new (Err fault)
 refuses g dead op old new fault steps same stops cause = record {
   steps = steps;
@@ -177,18 +177,18 @@ trail_in_use st start block moves tree trail = (let t = trail_in st tree.tree st
     by passed steps (reached i left) = (tree.tree.is.in_use 0 block (omega arith) i).1
     by passed steps (over r kept right apart rest) = (deleted_in_use st tree block kept.gone).1
 
-pub next_in_use : (st : State) (op : BulkDeleteOp) → HasTree st → (fits : BulkDeleteFits st op) → (op.back ≡ None → op.cursor < length st.pages) → next_block op.cursor op.back < length st.pages
+pub next_in_use : (st : State) (op : BulkDeleteOp) → HasTree st → (fits : BulkDeleteInvariant st op) → (op.back ≡ None → op.cursor < length st.pages) → next_block op.cursor op.back < length st.pages
 next_in_use st op tree fits inside = by op.back refl fits.back
   where
     by : (back : Option Back) → op.back ≡ back → GoesBack st fits.start back → next_block op.cursor back < length st.pages
     by None is goes = inside is
     by (Some b) is goes = trail_in_use st fits.start b.block b.moves tree goes
 
-pub has_room : (st : State) (op : BulkDeleteOp) → BulkDeleteFits st op → HasRoom st.table op.session
+pub has_room : (st : State) (op : BulkDeleteOp) → BulkDeleteInvariant st op → HasRoom st.table op.session
 has_room st op fits = subst (λ (h : Holding). length h.latches < 8) (sym fits.held) (omega arith)
 
 -- the walk to the right has come to the leaf that is read
-comes_here : (st : State) (op : BulkDeleteOp) (page : Page) (block : ℕ) → HasTree st → (fits : BulkDeleteFits st op) → next_block op.cursor op.back ≡ block
+comes_here : (st : State) (op : BulkDeleteOp) (page : Page) (block : ℕ) → HasTree st → (fits : BulkDeleteInvariant st op) → next_block op.cursor op.back ≡ block
     → IsLeafAt st.pages block page → page.block ≡ block → HasTrail st fits.start 0 page.block (moves_of op.back)
 comes_here st op page block tree fits at leaf block_is = by op.back refl fits.back
   where
@@ -200,7 +200,7 @@ comes_here st op page block tree fits at leaf block_is = by op.back refl fits.ba
         at' = block_is ∙ sym at ∙ ap (λ (o : Option Back). next_block op.cursor o) is
 
 -- so it makes no more moves than there are pages
-pub never_too_far : (st : State) (op : BulkDeleteOp) (page : Page) (block cycle from : ℕ) → IsInOrder st → (fits : BulkDeleteFits st op) → next_block op.cursor op.back ≡ block
+pub never_too_far : (st : State) (op : BulkDeleteOp) (page : Page) (block cycle from : ℕ) → IsInOrder st → (fits : BulkDeleteInvariant st op) → next_block op.cursor op.back ≡ block
     → IsLeafAt st.pages block page → page.block ≡ block → length st.pages ≤ st.limits.pages → TurnsNoMore cycle st.limits.pages from (moves_of op.back) page → ⊥
 never_too_far st op page block cycle from order fits at leaf block_is few more =
     let short = trail_is_short_here st fits.start 0 page.block (moves_of op.back) order.tree (comes_here st op page block order.tree fits at leaf block_is) in
@@ -224,7 +224,8 @@ passes g dead before after old new block page steps same alive at inside_is foun
       refused = tt;
       stopped = λ h. runs_no_more (g.backing old).stopped alive h;
       stats = tt;
-      less = subst (λ (s : State). bulk_delete_left s.limits.pages (length s.pages) (cursor_past before.cursor before.back) None < bulk_delete_left st.limits.pages (length st.pages) before.cursor before.back)
+      less = subst (λ (s : State).
+          bulk_delete_left s.limits.pages (length s.pages) (cursor_past before.cursor before.back) None < bulk_delete_left st.limits.pages (length st.pages) before.cursor before.back)
           (sym same) (leaves_less st.limits.pages (length st.pages) before.cursor before.back None inside_is (λ b k. none_turned b k));
       due = λ honest due of h. subst (λ (s : State). DueIsToCome due s (cursor_past before.cursor before.back) None) (sym same)
           (due_comes_on st st before.cursor before.back None h.from (read_on honest) due h (λ p e leaf on is_due. no_leaf honest p leaf));
@@ -235,7 +236,8 @@ passes g dead before after old new block page steps same alive at inside_is foun
         does = subst (λ (es : List Entry). Does before.session (removes es) st (g.state new)) (sym (none_dead honest)) (nothing_else before.session st (g.state new) same order);
         dead_rows = λ e on. absurd (let k : false ≡ true = subst (λ (es : List Entry). is_among es e ≡ true) (none_dead honest) on in cc);
         count = ap (λ (es : List Entry). before.removed + length es) (sym (none_dead honest));
-        fits = subst (λ (s : State). BulkDeleteFits s (gone_on before None 0 0)) (sym same) (record { session = fits.session; start = fits.start; running = fits.running; held = fits.held; back = tt });
+        fits = subst (λ (s : State). BulkDeleteInvariant s (gone_on before None 0 0)) (sym same)
+            (record { session = fits.session; start = fits.start; running = fits.running; held = fits.held; back = tt });
       };
     })
   where
@@ -388,7 +390,7 @@ module _ {S : Type 0} (g : Ghosts S) (dead : Row → Bool) (before : BulkDeleteO
       by true = (removing_lasts (g.state old) (lives dead) page (without_dead dead page) order.tree (removed honest)).0.trails start 0 b moves (record { session = before.session; is = running }) trail
       by false = trail
 
-  goes_back : (g.backing new).honest ≡ true → IsInOrder (g.state old) → (fits : BulkDeleteFits (g.state old) before) → GoesBack now fits.start onward
+  goes_back : (g.backing new).honest ≡ true → IsInOrder (g.state old) → (fits : BulkDeleteInvariant (g.state old) before) → GoesBack now fits.start onward
   goes_back honest order fits = by onward refl
     where
       by : (o : Option Back) → onward ≡ o → GoesBack now fits.start o
@@ -399,7 +401,7 @@ module _ {S : Type 0} (g : Ghosts S) (dead : Row → Bool) (before : BulkDeleteO
           let right = trail_goes_right (g.state old) fits.start 0 (moves_of before.back) b.block page order.tree (found_here honest) t.0.right_is here in
           trail_lasts honest order fits.start b.block b.moves fits.running (subst (HasTrail (g.state old) fits.start 0 b.block) (sym t.2) right)
 
-  pub fits_on : (g.backing new).honest ≡ true → IsInOrder (g.state old) → BulkDeleteFits (g.state old) before → BulkDeleteFits now (gone_on before onward swept.kept swept.gone)
+  pub fits_on : (g.backing new).honest ≡ true → IsInOrder (g.state old) → BulkDeleteInvariant (g.state old) before → BulkDeleteInvariant now (gone_on before onward swept.kept swept.gone)
   fits_on honest order fits = record {
     session = fits.session;
     start = fits.start;
@@ -461,7 +463,7 @@ module _ {S : Type 0} (g : Ghosts S) (dead : Row → Bool) (before : BulkDeleteO
           (subst (λ (es : List Entry). Does before.session (removes es) (g.state old) now) (sym (dead_here honest)) (does honest order (dead_entries dead page) refl));
       dead_rows = λ e on. dead_are dead page e (subst (λ (es : List Entry). is_among es e ≡ true) (dead_here honest) on);
       count = ap (λ (n : ℕ). before.removed + n) (lost ∙ ap length (sym (dead_here honest)));
-      fits = subst (λ (s : State). BulkDeleteFits s (gone_on before onward swept.kept swept.gone)) (sym new_is) (fits_on honest order fits);
+      fits = subst (λ (s : State). BulkDeleteInvariant s (gone_on before onward swept.kept swept.gone)) (sym new_is) (fits_on honest order fits);
     };
   })
     where

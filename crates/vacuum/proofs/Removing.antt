@@ -191,7 +191,11 @@ pub does_remove : (st : State) (session : ℕ) (dead : Row → Bool) (page : Pag
 does_remove st session dead page e es order h is free = record {
   changes = record {
     acts = refl;
-    apt = (λ none. absurd (no_more none), subst IsAscending is (AscendsPast-filter (λ x. not (lives dead x)) None (entries_of page.items) ascends), λ x on. on_page st page x h.found h.alive (was_on x on));
+    apt = (
+      λ none. absurd (no_more none),
+      subst IsAscending is (AscendsPast-filter (λ x. not (lives dead x)) None (entries_of page.items) ascends),
+      λ x on. on_page st page x h.found h.alive (was_on x on),
+    );
     contents = λ x. lasts.1 x ∙ ap (λ (l : List Entry). entry_on_live_leaf st.pages x && not (is_among l x)) is ∙ said (e ∷ es) x (entry_on_live_leaf st.pages x);
   };
   flags = removing_flags st (lives dead) page (without_dead dead page) order.tree h;

@@ -14,7 +14,7 @@ use Rattle.page_action.specs.States.{State}
 use Rattle.tree_acts.specs.Leaves.{IsLeafAt, WasLeaf}
 use Rattle.tree_acts.proofs.Overlays.{inside}
 use Rattle.vacuum.specs.Ops.{next_block, last_read, cursor_past}
-use Rattle.vacuum.specs.Sweeping.{IsSibling, IsToCome, ahead, sibling, led, WentBackFromLeaf, DueIsToCome}
+use Rattle.vacuum.specs.Sweeping.{IsSibling, BlockIsToCome, ahead, sibling, led, WentBackFromLeaf, DueIsToCome}
 use Rattle.vacuum.specs.Turns.{LeadsBack}
 use Rattle.vacuum.specs.declared.steps.Back.{Back}
 
@@ -44,13 +44,13 @@ module _ (st new : State) (cursor : ℕ) (back onward : Option Back) (went : Wen
   is_here None b h = absurd h
   is_here (Some c) b h = h
 
-  pub comes_on : {block : ℕ} → IsToCome st cursor back block → (block ≡ next_block cursor back) ⊎ IsToCome new (cursor_past cursor back) onward block
+  pub comes_on : {block : ℕ} → BlockIsToCome st cursor back block → (block ≡ next_block cursor back) ⊎ BlockIsToCome new (cursor_past cursor back) onward block
   comes_on (ahead {block} le) = elim (begins back block le) [ inl same ↦ inl same | inr past ↦ inr (ahead past) ]
   comes_on (sibling {block} is) = inl (is_here back block is)
   comes_on (led {from} {block} page at carries right below rest) = onto from block page at carries right below (comes_on rest)
     where
       onto : (from block : ℕ) (page : Page) → IsLeafAt st.pages from page → page.cycle ≡ st.cycle → page.right ≡ Some block → block < last_read cursor back
-          → (from ≡ next_block cursor back) ⊎ IsToCome new (cursor_past cursor back) onward from → (block ≡ next_block cursor back) ⊎ IsToCome new (cursor_past cursor back) onward block
+          → (from ≡ next_block cursor back) ⊎ BlockIsToCome new (cursor_past cursor back) onward from → (block ≡ next_block cursor back) ⊎ BlockIsToCome new (cursor_past cursor back) onward block
       onto from block page at carries right below now = elim (cases_eq from (next_block cursor back)) [
         | inl same ↦ inr (sibling (read.turn page block (subst (λ (b : ℕ). IsLeafAt st.pages b page) same at) (record { carries = carries; right_is = right; below = below })))
         | inr differ ↦ elim now [
@@ -118,7 +118,7 @@ on_leaf (page ∷ pages) e h = elim (or_cases (is_on page e) (entry_on_live_leaf
 ]
 
 -- at the end no block in use is to come
-pub none_comes : (st : State) (cursor : ℕ) {block : ℕ} → length st.pages ≤ cursor → IsToCome st cursor None block → length st.pages ≤ block
+pub none_comes : (st : State) (cursor : ℕ) {block : ℕ} → length st.pages ≤ cursor → BlockIsToCome st cursor None block → length st.pages ≤ block
 none_comes st cursor last (ahead le) = omega (arith, last, le)
 none_comes st cursor last (sibling is) = absurd is
 none_comes st cursor last (led {from} page at carries right below rest) = absurd (let i = inside st.pages from page at.found in let past = none_comes st cursor last rest in omega (arith, i, past))

@@ -32,7 +32,7 @@ GoesBack st start None = Unit {0}
 GoesBack st start (Some back) = HasTrail st start 0 back.block back.moves
 
 -- what a bulk delete knows between its steps
-pub record BulkDeleteFits (st : State) (op : BulkDeleteOp) : Type 0 where
+pub record BulkDeleteInvariant (st : State) (op : BulkDeleteOp) : Type 0 where
   pub session : op.session < 64
   -- its call runs, with a start number
   pub start : ℕ
@@ -70,8 +70,8 @@ block_if true block = block ∷ []
 block_if false block = []
 
 -- why a step of a bulk delete is refused that writes these blocks
-abbrev pub where_taking : List ℕ → State → Backing → Backing → BulkDeleteOp → Circumstances
-where_taking images st old new op = record nothing_wrong {
+abbrev pub causes_of_taking : List ℕ → State → Backing → Backing → BulkDeleteOp → Circumstances
+causes_of_taking images st old new op = record nothing_wrong {
   device_failed = has_failed old new;
   is_stopped = old.stopped || (is_at_end st.acts || is_counted_out op);
   is_held_by_another = λ b. is_held_by_another st.table op.session b Cleanup;
@@ -81,9 +81,9 @@ where_taking images st old new op = record nothing_wrong {
 
 -- why a step of a bulk delete of this set of rows is refused, on pages that are a tree and a device that keeps its model: it
 -- writes the page that it reads where that has dead entries
-abbrev pub where_deleting : (Row → Bool) → State → Backing → Backing → BulkDeleteOp → Circumstances
-where_deleting dead st old new op =
-    where_taking (block_if (has_dead dead st op) (next_block op.cursor op.back)) st old new op
+abbrev pub causes_of_deleting : (Row → Bool) → State → Backing → Backing → BulkDeleteOp → Circumstances
+causes_of_deleting dead st old new op =
+    causes_of_taking (block_if (has_dead dead st op) (next_block op.cursor op.back)) st old new op
 
 -- a page is read: its dead entries are removed in one act
 pub record BulkDeleteGoesOn (dead : Row → Bool) (old new : State) (before after : BulkDeleteOp)
@@ -95,7 +95,7 @@ pub record BulkDeleteGoesOn (dead : Row → Bool) (old new : State) (before afte
       → dead e.row ≡ true
   pub count : after.removed
       ≡ before.removed + length (dead_at dead old (next_block before.cursor before.back))
-  pub fits : BulkDeleteFits new after
+  pub fits : BulkDeleteInvariant new after
 
 -- each block in use was read
 pub record BulkDeleteEnds (old new : State) (before after : BulkDeleteOp) : Type 0 where
@@ -112,7 +112,7 @@ BulkDeleteStepped dead old old_backing new new_backing before after (Ok Going) =
 BulkDeleteStepped dead old old_backing new new_backing before after (Ok (Finished stats)) =
     BulkDeleteEnds old new before after
 BulkDeleteStepped dead old old_backing new new_backing before after (Err fault) =
-    HasCause (where_deleting dead old old_backing new_backing before) fault
+    HasCause (causes_of_deleting dead old old_backing new_backing before) fault
 
 -- a refused step changes neither the pages, nor who holds what, nor the call
 pub record BulkDeleteStays (old new : State) (before after : BulkDeleteOp) : Type 0 where
@@ -191,6 +191,6 @@ pub record BulkDeleteSteps {S : Type 0} (g : Ghosts S) (dead : Row → Bool)
     pub counts : (g.backing new).honest ≡ true → IsCounted dead (g.state old) before
         → CountsOn dead (g.state new) after result
     pub stepped : (g.backing new).honest ≡ true → IsInOrder (g.state old)
-        → BulkDeleteFits (g.state old) before
+        → BulkDeleteInvariant (g.state old) before
         → BulkDeleteStepped dead (g.state old) (g.backing old) (g.state new) (g.backing new)
         before after result

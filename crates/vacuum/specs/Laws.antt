@@ -6,7 +6,7 @@ use Rattle.index_model.specs.declared.entry.Entry.{Entry}
 use Rattle.page_action.specs.States.{State}
 use Rattle.tree_acts.specs.Leaves.{LeavesStay, IsAddedBy}
 use Rattle.descent.specs.Shared.{IsInOrder, MayRely}
-use Rattle.vacuum.specs.BulkDeletes.{BulkDeleteFits}
+use Rattle.vacuum.specs.BulkDeletes.{BulkDeleteInvariant}
 use Rattle.vacuum.specs.Counts.{IsCounted}
 use Rattle.vacuum.specs.Ops.{fresh_bulk_delete}
 use Rattle.vacuum.specs.Sweeping.{DueIsToCome}
@@ -17,8 +17,8 @@ use Rattle.vacuum.specs.declared.steps.BulkDeleteOp.{BulkDeleteOp}
 -- what a bulk delete knows it still knows after others have acted
 abbrev pub BulkDeletesAreUndisturbed : Type 0
 BulkDeletesAreUndisturbed =
-    (old new : State) (op : BulkDeleteOp) → MayRely op.session old new → BulkDeleteFits old op
-    → BulkDeleteFits new op
+    (old new : State) (op : BulkDeleteOp) → MayRely op.session old new → BulkDeleteInvariant old op
+    → BulkDeleteInvariant new op
 
 -- what is due is to come still after others have acted, but for an entry that they have added
 abbrev pub DueIsUndisturbed : Type 0

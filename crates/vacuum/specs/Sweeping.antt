@@ -17,12 +17,12 @@ IsSibling (Some back) block = block ≡ back.block
 -- A block that the bulk delete comes to: it isn't read yet in block order; it is the sibling that is read next; or it lies
 -- below the last leaf read in block order, and a leaf that carries the running cycle number leads to it, to which the bulk
 -- delete comes.
-pub data IsToCome (st : State) (cursor : ℕ) (back : Option Back) : ℕ → Type 0 where
-  ahead : {block : ℕ} → cursor ≤ block → IsToCome st cursor back block
-  sibling : {block : ℕ} → IsSibling back block → IsToCome st cursor back block
+pub data BlockIsToCome (st : State) (cursor : ℕ) (back : Option Back) : ℕ → Type 0 where
+  ahead : {block : ℕ} → cursor ≤ block → BlockIsToCome st cursor back block
+  sibling : {block : ℕ} → IsSibling back block → BlockIsToCome st cursor back block
   led : {from block : ℕ} (page : Page) → IsLeafAt st.pages from page → page.cycle ≡ st.cycle
       → page.right ≡ Some block → block < last_read cursor back
-      → IsToCome st cursor back from → IsToCome st cursor back block
+      → BlockIsToCome st cursor back from → BlockIsToCome st cursor back block
 
 -- going back, the leaf from which it went back is there, right before the cursor
 abbrev pub WentBackFromLeaf : State → ℕ → Option Back → Type 0
@@ -35,4 +35,4 @@ pub record DueIsToCome (due : Entry → Bool) (st : State) (cursor : ℕ) (back 
     pub from : WentBackFromLeaf st cursor back
     pub to_come : (block : ℕ) (page : Page) (e : Entry) → IsLeafAt st.pages block page
         → is_among (entries_of page.items) e ≡ true → due e ≡ true
-        → IsToCome st cursor back block
+        → BlockIsToCome st cursor back block

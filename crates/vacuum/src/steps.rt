@@ -6,7 +6,7 @@ ghost use Rattle.latch_table.specs.Holdings.{HasRoom, is_held_by_another};
 ghost use Rattle.page_action.specs.Room.{KeepsRoom};
 ghost use Rattle.page_action.specs.States.{Continues};
 ghost use Rattle.page_action.specs.Stored.{AreActable};
-ghost use Rattle.descent.specs.Shared.{where_writing_any};
+ghost use Rattle.descent.specs.Shared.{causes_of_writing_any};
 
 use crate::counts::stats;
 use crate::leaf::{is_live_leaf, sweep};
@@ -53,7 +53,7 @@ pub enum BulkDeleteStep {
 
 impl BulkDeleteOp {
     ghost use Rattle.vacuum.specs.Ops.{fresh_bulk_delete, next_block, last_read, moves_of};
-    ghost use Rattle.vacuum.specs.BulkDeletes.{BulkDeleteSteps, is_counted_out, block_if, where_taking};
+    ghost use Rattle.vacuum.specs.BulkDeletes.{BulkDeleteSteps, is_counted_out, block_if, causes_of_taking};
     ghost use Rattle.vacuum.specs.Turns.{TurnsTo, TurnsNoMore, gone_on, written};
 
     /// A bulk delete before its first step.
@@ -83,7 +83,7 @@ impl BulkDeleteOp {
     ) -> Result<BulkDeleteStep, Fault>
         ensures all { BulkDeleteSteps S.PageStore (T.is_in dead.now) self.old self.new
             store.old store.new result }
-        ensures faults { IfErr result (HasCause where_writing_any) }
+        ensures faults { IfErr result (HasCause causes_of_writing_any) }
     {
         if store.is_stopped() || self.is_counted_out() {
             return Err(Fault::Stopped);
@@ -117,7 +117,7 @@ impl BulkDeleteOp {
         requires narrow { self.old.back ≡ None → self.old.cursor < 4294967295 }
         ensures all { BulkDeleteSteps S.PageStore (T.is_in dead.now) self.old self.new
             store.old store.new result }
-        ensures faults { IfErr result (HasCause where_writing_any) }
+        ensures faults { IfErr result (HasCause causes_of_writing_any) }
     {
         match look(store, self.session, block) {
             Ok(()) => {}
@@ -179,9 +179,9 @@ impl BulkDeleteOp {
         ensures done { OnOk result (S.state store.new
             ≡ written changed page.now (S.state store.old)) }
         ensures refused { OnErr result (S.state store.new ≡ S.state store.old) }
-        ensures faults { IfErr result (HasCause where_writing_any) }
+        ensures faults { IfErr result (HasCause causes_of_writing_any) }
         ensures cause { HasRoom (S.state store.old).table self.now.session
-            → IfErr result (HasCause (where_taking (block_if changed page.now.block)
+            → IfErr result (HasCause (causes_of_taking (block_if changed page.now.block)
             (S.state store.old) (S.backing store.old) (S.backing store.new) self.now)) }
     {
         match ask_for(store, self.session, page.block, Mode::Cleanup) {

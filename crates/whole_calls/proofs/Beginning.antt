@@ -15,11 +15,11 @@ use Rattle.schedule.specs.declared.event.Event.{Event}
 use Rattle.schedule.specs.declared.event.Event.TheVariants.{Insert as InsertEvent, Scan as ScanEvent, Bulk as BulkEvent, Cleanup as CleanupEvent}
 use Rattle.schedule.proofs.Fitting.{fits_behind, running_of}
 use Rattle.schedule.proofs.Standing.{slot_found}
-use Rattle.whole_calls.proofs.Words.{Entry, State, Ghosts, Page, op_before, set_at, Answer, Begun, Refused, Op, Request, StoreAndSlots, Snapshot, snapshot_of, Kind, BeginsCall, kind_of, EventDoes, IsOfSession, AnswersBeginning, MayBegin, slot_of, SlotRuns, Carries, Runs, Laws}
+use Rattle.whole_calls.proofs.Words.{Entry, State, Ghosts, Page, op_before, set_at, Answer, Begun, Refused, Op, Request, StoreAndSlots, Moment, snapshot_of, Kind, BeginsCall, kind_of, EventDoes, IsOfSession, AnswersBeginning, MayBegin, slot_of, SlotRuns, ForEachHistory, Runs, Laws}
 use Rattle.whole_calls.specs.Going.{CameBy, CallGoes}
 use Rattle.whole_calls.specs.Stepping.{BeginGoes}
 use Rattle.whole_calls.specs.Sweeping.{Followed, of_sweep, of_cleanup, of_deleted, of_leaves, FollowsFrom, IsCountedAs, BeginsToCount}
-use Rattle.whole_calls.specs.Telling.{begun_of, begin_came}
+use Rattle.whole_calls.specs.Telling.{begun_of, begin_outcome}
 use Rattle.whole_calls.proofs.Composing.{goes_once, goes_told}
 use Rattle.whole_calls.proofs.Counting.{alone_on}
 use Rattle.whole_calls.proofs.Tellings.{begins_told}
@@ -38,13 +38,14 @@ beginning_is session (ToBulk set) = refl
 beginning_is session ToCleanup = refl
 
 -- what was answered is what the beginning came to
-pub begun_by : (answer : Answer) (answers : List Answer) → AnswersBeginning answer → CameBy answers (Some answer) → CameBy answers (begin_came (begun_of answer))
+pub begun_by : (answer : Answer) (answers : List Answer) → AnswersBeginning answer → CameBy answers (Some answer) → CameBy answers (begin_outcome (begun_of answer))
 begun_by Begun answers kind h = h
 begun_by (Refused fault) answers kind h = h
 begun_by answer answers kind h = absurd kind
 
 -- a vacuum that has just begun has counted nothing, and cleaned nothing
-module _ {S : Type 0} (g : Ghosts S) (start : Entry → Bool) (session : ℕ) (request : Request) (answer : Answer) (x y : Snapshot S) (does : EventDoes g start (BeginsCall session request) answer x y) where
+module _ {S : Type 0} (g : Ghosts S) (start : Entry → Bool) (session : ℕ) (request : Request) (answer : Answer) (x y : Moment S)
+    (does : EventDoes g start (BeginsCall session request) answer x y) where
   abbrev now : State
   now = g.state y.store
 
@@ -99,12 +100,14 @@ is_begun (Refused fault) h = absurd cc
 is_begun a h = absurd cc
 
 -- a call that has begun has the count of calls begun before it for its start number
-number_of : {S : Type 0} (g : Ghosts S) (start : Entry → Bool) (session : ℕ) (request : Request) (answer : Answer) (x y : Snapshot S) → EventDoes g start (BeginsCall session request) answer x y
+number_of : {S : Type 0} (g : Ghosts S) (start : Entry → Bool) (session : ℕ) (request : Request) (answer : Answer) (x y : Moment S) → EventDoes g start (BeginsCall session request) answer x y
     → (answer ≡ Begun → slot_of y.slots session ≡ Some (op_before session request)) → begun_of answer ≡ Ok tt → start_number (g.state y.store) session ≡ Some (g.state x.store).begun
 number_of g start session request answer x y does fresh ok =
     let begun = is_begun answer ok in
-    let runs : SlotRuns g start y session (op_before session request) = running_of (fits_behind does) session (Some (op_before session request)) (slot_found y.slots session (op_before session request) (fresh begun)) in
-    let some : start_number (g.state y.store) session ≡ Some runs.runs.started.number = subst (λ (s : ℕ). start_number (g.state y.store) s ≡ Some runs.runs.started.number) runs.is.session_is runs.runs.started.is in
+    let runs : SlotRuns g start y session (op_before session request) =
+    running_of (fits_behind does) session (Some (op_before session request)) (slot_found y.slots session (op_before session request) (fresh begun)) in
+    let some : start_number (g.state y.store) session ≡ Some runs.runs.started.number =
+    subst (λ (s : ℕ). start_number (g.state y.store) s ≡ Some runs.runs.started.number) runs.is.session_is runs.runs.started.is in
     let is : (g.state y.store).running ≡ slice_set (g.state x.store).running session (Some (g.state x.store).begun) =
     ap (λ (st : State). st.running) (does.also.always.numbered begun) ∙ request_running (asks_sweep request) session (g.state x.store) in
     let here : start_number (g.state y.store) session ≡ unwrap_or (slice_get (slice_set (g.state x.store).running session (Some (g.state x.store).begun)) session) None =
@@ -112,13 +115,21 @@ number_of g start session request answer x y does fresh ok =
     here ∙ start_set (g.state x.store).running session (g.state x.store).begun runs.runs.started.number (sym here ∙ some)
 
 pub goes_begun : {S : Type 0} (g : Ghosts S) (laws : Laws g) (session : ℕ) (request : Request) (event : Event) (answer : Answer) (a b : StoreAndSlots S) → NothingIsCounted
-    → kind_of event ≡ BeginsCall session request → AnswersBeginning answer → (answer ≡ Begun → slot_of b.slots session ≡ Some (op_before session request)) → Carries g a b (Runs g a b (event ∷ []) (answer ∷ []))
-    → CallGoes g session (BeginGoes g session request (begun_of answer)) (begin_came (begun_of answer)) a b
+    → kind_of event ≡ BeginsCall session request → AnswersBeginning answer
+    → (answer ≡ Begun → slot_of b.slots session ≡ Some (op_before session request)) → ForEachHistory g a b (Runs g a b (event ∷ []) (answer ∷ []))
+    → CallGoes g session (BeginGoes g session request (begun_of answer)) (begin_outcome (begun_of answer)) a b
 goes_begun {S} g laws session request event answer a b nothing kind answers fresh runs =
-    goes_told g session (λ s. BeginGoes g session request (begun_of answer)) (λ s. BeginGoes g session request (begun_of answer)) (Some answer) (begin_came (begun_of answer)) a b
+    goes_told g session (λ s. BeginGoes g session request (begun_of answer)) (λ s. BeginGoes g session request (begun_of answer)) (Some answer) (begin_outcome (begun_of answer)) a b
     (λ start h hc k kc given fits came told. (begun_by answer given answers came, told))
     (goes_once g laws session (BeginGoes g session request (begun_of answer)) event answer a b (subst (λ (x : Kind). IsOfSession session x) (sym kind) refl) runs
-    (λ start h hc k kc honest fits does. by start (snapshot_of a h hc) (snapshot_of b k kc) fresh (subst (λ (x : Kind). EventDoes g start x answer (snapshot_of a h hc) (snapshot_of b k kc)) kind does)))
+    (λ start h hc k kc honest fits does.
+    by start (snapshot_of a h hc) (snapshot_of b k kc) fresh (subst (λ (x : Kind). EventDoes g start x answer (snapshot_of a h hc) (snapshot_of b k kc)) kind does)))
   where
-    by : (start : Entry → Bool) (x y : Snapshot S) → (answer ≡ Begun → slot_of y.slots session ≡ Some (op_before session request)) → EventDoes g start (BeginsCall session request) answer x y → BeginGoes g session request (begun_of answer) x y
-    by start x y fresh does = record { told = begins_told g start session request answer x y does; number = number_of g start session request answer x y does fresh; counts = counts_by g start session request answer x y does nothing fresh }
+    by : (start : Entry → Bool) (x y : Moment S) → (answer ≡ Begun → slot_of y.slots session ≡ Some (op_before session request))
+        → EventDoes g start (BeginsCall session request) answer x y → BeginGoes g session request (begun_of answer) x y
+    by start x y fresh does =
+        record {
+          told = begins_told g start session request answer x y does;
+          number = number_of g start session request answer x y does fresh;
+          counts = counts_by g start session request answer x y does nothing fresh;
+        }

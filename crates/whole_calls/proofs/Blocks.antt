@@ -5,11 +5,11 @@ use Rattle.page_action.specs.Reuse.{is_deleted, others_began_after, is_reusable}
 use Rattle.descent.specs.Shared.{any_is_reusable, is_out_of_blocks}
 use Rattle.insert_split.specs.declared.insert.InsertOp.{InsertOp}
 use Rattle.session_calls.specs.Ops.{is_sweep}
-use Rattle.session_calls.specs.Sessions.{start_number, after_call, after_slot}
+use Rattle.session_calls.specs.Sessions.{start_number, op_after_call, after_slot}
 use Rattle.session_calls.specs.declared.op.Op.TheVariants.{Insert}
 use Rattle.session_calls.proofs.Freeing.{go_running, go_counted}
 use Rattle.schedule.proofs.Fitting.{running_of}
-use Rattle.whole_calls.proofs.Words.{Entry, Format, State, Ghosts, Page, session_of, Op, Snapshot, Fits, slot_of, SlotRuns}
+use Rattle.whole_calls.proofs.Words.{Entry, Format, State, Ghosts, Page, session_of, Op, Moment, Fits, slot_of, SlotRuns}
 use Rattle.whole_calls.specs.Refusing.{with_number, has_no_block}
 
 -- one of the first so many blocks may be used again
@@ -45,7 +45,8 @@ given_up_counted None st new is = ap (λ (x : State). x.counted) is
 given_up_counted (Some op) st new is = ap (λ (x : State). x.counted) is ∙ go_counted (is_sweep op) (session_of op) st
 
 -- but for its own
-pub given_up_numbers : {S : Type 0} (g : Ghosts S) (start : Entry → Bool) (session : ℕ) (now : Snapshot S) (new : State) → Fits g start now → new ≡ after_slot (slot_of now.slots session) (g.state now.store)
+pub given_up_numbers : {S : Type 0} (g : Ghosts S) (start : Entry → Bool) (session : ℕ) (now : Moment S) (new : State) → Fits g start now
+    → new ≡ after_slot (slot_of now.slots session) (g.state now.store)
     → (number : Option ℕ) → slice_set new.running session number ≡ slice_set (g.state now.store).running session number
 given_up_numbers {S} g start session now new fits is number = of (slice_get now.slots session) refl
   where
@@ -66,11 +67,11 @@ given_up_numbers {S} g start session now new fits is number = of (slice_get now.
         ∙ set_twice (g.state now.store).running session None number
 
 -- an insert that ends, or goes on as it was, leaves each block as free as it was while it ran
-pub blocks_behind : (session : ℕ) (op : InsertOp) (st new : State) → op.session ≡ session → (new ≡ after_call (Insert op) st) ⊎ (new ≡ st)
+pub blocks_behind : (session : ℕ) (op : InsertOp) (st new : State) → op.session ≡ session → (new ≡ op_after_call (Insert op) st) ⊎ (new ≡ st)
     → has_no_block session (start_number st session) new ≡ is_out_of_blocks st
 blocks_behind session op st new is (inl ended) =
     ap (λ (x : State). has_no_block session (start_number st session) x) ended
-    ∙ same_out (with_number session (start_number st session) (after_call (Insert op) st)) st refl refl refl
+    ∙ same_out (with_number session (start_number st session) (op_after_call (Insert op) st)) st refl refl refl
     (ap (λ (s : ℕ). slice_set (slice_set st.running s None) session (start_number st session)) is ∙ (set_twice st.running session None (start_number st session) ∙ set_own st.running session))
 blocks_behind session op st new is (inr same) =
     ap (λ (x : State). has_no_block session (start_number st session) x) same

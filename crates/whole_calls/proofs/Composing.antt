@@ -3,7 +3,7 @@ use Rattle.std.proofs.Common.{◌≡◌, ℕ, Bool, true, Option, Some, None, Li
 use Rattle.schedule.specs.declared.event.Event.{Event}
 use Rattle.schedule.proofs.Joining.{ran_then, are_of_both}
 use Rattle.schedule.proofs.Running.{none_ran}
-use Rattle.whole_calls.proofs.Words.{Action, Call, Entry, IsLater, Continues, Ghosts, Answer, StoreAndSlots, Snapshot, snapshot_of, EventDoes, Fits, here_at, kind_of, IsOf, EventGoes, Carries, Runs, Laws}
+use Rattle.whole_calls.proofs.Words.{Action, Call, Entry, IsLater, Continues, Ghosts, Answer, StoreAndSlots, Moment, snapshot_of, EventDoes, Fits, here_at, kind_of, IsOf, EventGoes, ForEachHistory, Runs, Laws}
 use Rattle.whole_calls.specs.Going.{IsAmong, CameBy, CallRuns, CallGoes, GoesFrom}
 use Rattle.schedule.proofs.Fitting.{goes_does}
 
@@ -33,11 +33,12 @@ to_first came second xs ys h k = came_left xs ys came h
 
 -- what may be told of two moments, from the contents at the start
 abbrev Telling : Type 0 → Type 1
-Telling S = (Entry → Bool) → Snapshot S → Snapshot S → Type 0
+Telling S = (Entry → Bool) → Moment S → Moment S → Type 0
 
 -- the same run, told otherwise
 pub goes_told : {S : Type 0} (g : Ghosts S) (session : ℕ) (One Two : Telling S) (came also : Option Answer) (a b : StoreAndSlots S)
-    → ((start : Entry → Bool) (h : List Action) (hc : List Call) (k : List Action) (kc : List Call) (answers : List Answer) → Fits g start (snapshot_of a h hc) → CameBy answers came → One start (snapshot_of a h hc) (snapshot_of b k kc)
+    → ((start : Entry → Bool) (h : List Action) (hc : List Call) (k : List Action) (kc : List Call) (answers : List Answer)
+    → Fits g start (snapshot_of a h hc) → CameBy answers came → One start (snapshot_of a h hc) (snapshot_of b k kc)
     → CameBy answers also × Two start (snapshot_of a h hc) (snapshot_of b k kc))
     → GoesFrom g session One came a b → GoesFrom g session Two also a b
 goes_told g session One Two came also a b tells goes honest start history calls fits =
@@ -59,7 +60,8 @@ module _ {S : Type 0} (g : Ghosts S) (laws : Laws g) (session : ℕ) where
   pub joined : (One Two Both : Telling S) (first second came : Option Answer) (a b c : StoreAndSlots S)
       → Continues g.follows a.store b.store → Continues g.follows b.store c.store
       → ((xs ys : List Answer) → CameBy xs first → CameBy ys second → CameBy (xs ++ ys) came)
-      → ((start : Entry → Bool) (h : List Action) (hc : List Call) (k : List Action) (kc : List Call) (l : List Action) (lc : List Call) → Fits g start (snapshot_of a h hc) → Fits g start (snapshot_of b k kc) → Fits g start (snapshot_of c l lc)
+      → ((start : Entry → Bool) (h : List Action) (hc : List Call) (k : List Action) (kc : List Call) (l : List Action) (lc : List Call)
+      → Fits g start (snapshot_of a h hc) → Fits g start (snapshot_of b k kc) → Fits g start (snapshot_of c l lc)
       → One start (snapshot_of a h hc) (snapshot_of b k kc) → Two start (snapshot_of b k kc) (snapshot_of c l lc) → Both start (snapshot_of a h hc) (snapshot_of c l lc))
       → GoesFrom g session One first a b → GoesFrom g session Two second b c → GoesFrom g session Both came a c
   joined One Two Both first second came a b c step then_step comes joins one two honest start history calls fits =
@@ -79,16 +81,16 @@ module _ {S : Type 0} (g : Ghosts S) (laws : Laws g) (session : ℕ) where
       }
 
   -- ... to what the second came to
-  pub goes_then : (One Two Both : Snapshot S → Snapshot S → Type 0) (first came : Option Answer) (a b c : StoreAndSlots S)
+  pub goes_then : (One Two Both : Moment S → Moment S → Type 0) (first came : Option Answer) (a b c : StoreAndSlots S)
       → Continues g.follows a.store b.store → Continues g.follows b.store c.store → CallGoes g session One first a b → CallGoes g session Two came b c
-      → ((start : Entry → Bool) (x y z : Snapshot S) → x.slots ≡ a.slots → y.slots ≡ b.slots → Fits g start x → Fits g start y → Fits g start z → One x y → Two y z → Both x z)
+      → ((start : Entry → Bool) (x y z : Moment S) → x.slots ≡ a.slots → y.slots ≡ b.slots → Fits g start x → Fits g start y → Fits g start z → One x y → Two y z → Both x z)
       → CallGoes g session Both came a c
   goes_then One Two Both first came a b c step then_step one two joins =
       joined (λ s. One) (λ s. Two) (λ s. Both) first came came a b c step then_step (to_second first came)
       (λ start h hc k kc l lc fx fy fz. joins start (snapshot_of a h hc) (snapshot_of b k kc) (snapshot_of c l lc) refl refl fx fy fz) one two
 
   -- no event
-  pub goes_nowhere : (Tells : Snapshot S → Snapshot S → Type 0) (a : StoreAndSlots S) → ((x : Snapshot S) → Tells x x) → CallGoes g session Tells None a a
+  pub goes_nowhere : (Tells : Moment S → Moment S → Type 0) (a : StoreAndSlots S) → ((x : Moment S) → Tells x x) → CallGoes g session Tells None a a
   goes_nowhere Tells a same honest start history calls fits = record {
     then_history = history;
     then_calls = calls;
@@ -101,8 +103,8 @@ module _ {S : Type 0} (g : Ghosts S) (laws : Laws g) (session : ℕ) where
   }
 
   -- one event
-  pub goes_once : (Tells : Snapshot S → Snapshot S → Type 0) (event : Event) (answer : Answer) (a b : StoreAndSlots S) → IsOf session event
-      → Carries g a b (Runs g a b (event ∷ []) (answer ∷ []))
+  pub goes_once : (Tells : Moment S → Moment S → Type 0) (event : Event) (answer : Answer) (a b : StoreAndSlots S) → IsOf session event
+      → ForEachHistory g a b (Runs g a b (event ∷ []) (answer ∷ []))
       → ((start : Entry → Bool) (h : List Action) (hc : List Call) (k : List Action) (kc : List Call) → (g.backing b.store).honest ≡ true → Fits g start (snapshot_of a h hc)
       → EventDoes g start (kind_of event) answer (snapshot_of a h hc) (snapshot_of b k kc) → Tells (snapshot_of a h hc) (snapshot_of b k kc))
       → CallGoes g session Tells (Some answer) a b
@@ -110,7 +112,7 @@ module _ {S : Type 0} (g : Ghosts S) (laws : Laws g) (session : ℕ) where
       let r : Runs g a b (event ∷ []) (answer ∷ []) start history calls = runs honest start history calls fits in
       let first = snapshot_of a history calls in
       let last = snapshot_of b r.then_history r.then_calls in
-      let goes : EventGoes g start event answer first last = subst (λ (m : Snapshot S). EventGoes g start event answer first m) r.ran.run.1.2 r.ran.run.1.1 in
+      let goes : EventGoes g start event answer first last = subst (λ (m : Moment S). EventGoes g start event answer first m) r.ran.run.1.2 r.ran.run.1.1 in
       record {
         then_history = r.then_history;
         then_calls = r.then_calls;
@@ -122,9 +124,9 @@ module _ {S : Type 0} (g : Ghosts S) (laws : Laws g) (session : ℕ) where
         tells = tells start history calls r.then_history r.then_calls honest fits (goes_does goes);
       }
 
-  pub goes_by : (Tells : Snapshot S → Snapshot S → Type 0) (event : Event) (answer : Answer) (a b : StoreAndSlots S) → IsOf session event
-      → Carries g a b (Runs g a b (event ∷ []) (answer ∷ []))
-      → ((start : Entry → Bool) (x y : Snapshot S) → here_at x ≡ a → here_at y ≡ b → Fits g start x → EventDoes g start (kind_of event) answer x y → Tells x y)
+  pub goes_by : (Tells : Moment S → Moment S → Type 0) (event : Event) (answer : Answer) (a b : StoreAndSlots S) → IsOf session event
+      → ForEachHistory g a b (Runs g a b (event ∷ []) (answer ∷ []))
+      → ((start : Entry → Bool) (x y : Moment S) → here_at x ≡ a → here_at y ≡ b → Fits g start x → EventDoes g start (kind_of event) answer x y → Tells x y)
       → CallGoes g session Tells (Some answer) a b
   goes_by Tells event answer a b of runs tells =
       goes_once Tells event answer a b of runs (λ start h hc k kc honest. tells start (snapshot_of a h hc) (snapshot_of b k kc) refl refl)

@@ -12,7 +12,7 @@ use Rattle.page_delete.specs.Spares.{IsAlone, OnlyNeededStay}
 use Rattle.session_calls.specs.declared.op.Op.TheVariants.{Bulk, Cleanup}
 use Rattle.schedule.proofs.Lists.{get_set_same, get_within}
 use Rattle.schedule.proofs.Standing.{slot_found}
-use Rattle.whole_calls.proofs.Words.{Call, Entry, State, Ghosts, Page, DeadSets, asked_of, session_of, OpFits, CountsEntries, CountsPages, SparesLeaves, Answer, Going, Finished, Op, Snapshot, IsRunningCall, EventDoes, Fits, slot_of, SlotRuns, has_call, MovesCall, Steps, CallMoves, MovesOn}
+use Rattle.whole_calls.proofs.Words.{Call, Entry, State, Ghosts, Page, DeadSets, asked_of, session_of, OpInvariant, CountsEntries, CountsPages, SparesLeaves, Answer, Going, Finished, Op, Moment, IsRunningCall, EventDoes, Fits, slot_of, SlotRuns, has_call, MovesCall, Steps, CallMoves, MovesOn}
 use Rattle.whole_calls.specs.Sweeping.{Followed, of_sweep, of_cleanup, of_deleted, of_leaves, IsCountedAs, TellsAs, CountsThrough}
 use Rattle.descent.specs.Shared.{IsInOrder, OthersRely}
 use Rattle.whole_calls.proofs.Tellings.{runs_in_slot, one_runs}
@@ -27,7 +27,7 @@ alone_on session old now one other rely is_one is_other alone s differ =
 record StepCounts (sets : DeadSets) (old now : State) (op : Op) (after : Option Op) (answer : Answer) : Type 0 where
   order : IsInOrder old
   starts : StartsAreBelow old
-  fits : OpFits old op
+  fits : OpInvariant old op
   entries : CountsEntries sets old now (Some op) after answer
   deletes : CountsPages old now (Some op) after answer
   spares : SparesLeaves old now (Some op) after answer
@@ -37,7 +37,8 @@ counted_next : (what : Followed) (sets : DeadSets) (old now : State) (op next : 
     → IsCountedAs what sets old (Some op) → StepCounts sets old now op (Some next) Going → IsCountedAs what sets now (Some next)
 counted_next of_sweep sets old now (Bulk set op) (Bulk place next) alone same counted h = (h.entries counted).0
 counted_next of_cleanup sets old now (Cleanup op) (Cleanup next) alone same counted h = (h.entries h.fits counted).0
-counted_next (of_deleted was) sets old now (Cleanup op) (Cleanup next) alone same counted h = (let d : deleted_in now + op.deleted ≡ deleted_in old + next.deleted = h.deletes in let c : deleted_in old ≡ was + op.deleted = counted in omega (arith, d, c))
+counted_next (of_deleted was) sets old now (Cleanup op) (Cleanup next) alone same counted h =
+    (let d : deleted_in now + op.deleted ≡ deleted_in old + next.deleted = h.deletes in let c : deleted_in old ≡ was + op.deleted = counted in omega (arith, d, c))
 counted_next of_leaves sets old now (Cleanup op) (Cleanup next) alone same counted h = (alone counted.0, (h.spares h.order h.starts h.fits counted.0 counted.1).0)
 counted_next of_sweep sets old now (Bulk set op) next alone same counted h = absurd cc
 counted_next of_cleanup sets old now (Cleanup op) next alone same counted h = absurd cc
@@ -50,12 +51,13 @@ counted_last : (what : Followed) (sets : DeadSets) (old now : State) (op : Op) (
     → StepCounts sets old now op after (Finished stats) → TellsAs what now (Ok stats)
 counted_last of_sweep sets old now (Bulk set op) after stats counted h = (h.entries counted).1
 counted_last of_cleanup sets old now (Cleanup op) after stats counted h = (h.entries h.fits counted).1
-counted_last (of_deleted was) sets old now (Cleanup op) after stats counted h = (let d : deleted_in now + op.deleted ≡ deleted_in old + stats.pages_newly_deleted = h.deletes in let c : deleted_in old ≡ was + op.deleted = counted in omega (arith, d, c))
+counted_last (of_deleted was) sets old now (Cleanup op) after stats counted h =
+    (let d : deleted_in now + op.deleted ≡ deleted_in old + stats.pages_newly_deleted = h.deletes in let c : deleted_in old ≡ was + op.deleted = counted in omega (arith, d, c))
 counted_last of_leaves sets old now (Cleanup op) after stats counted h = (h.spares h.order h.starts h.fits counted.0 counted.1).1
 counted_last what sets old now op after stats counted h = absurd counted
 
 -- a step of the session's call
-module _ {S : Type 0} (g : Ghosts S) (start : Entry → Bool) (session : ℕ) (x y : Snapshot S) (fits : Fits g start x) where
+module _ {S : Type 0} (g : Ghosts S) (start : Entry → Bool) (session : ℕ) (x y : Moment S) (fits : Fits g start x) where
   abbrev old : State
   old = g.state x.store
 
@@ -63,7 +65,7 @@ module _ {S : Type 0} (g : Ghosts S) (start : Entry → Bool) (session : ℕ) (x
   now = g.state y.store
 
   -- what it runs fits the pages
-  runs_fits : (op : Op) → slot_of x.slots session ≡ Some op → OpFits old op
+  runs_fits : (op : Op) → slot_of x.slots session ≡ Some op → OpInvariant old op
   runs_fits op is =
       let runs : SlotRuns g start x session op = running_of fits session (Some op) (slot_found x.slots session op is) in
       runs.runs.fits
@@ -80,7 +82,8 @@ module _ {S : Type 0} (g : Ghosts S) (start : Entry → Bool) (session : ℕ) (x
   }
 
   -- ... that goes on
-  goes_on : (what : Followed) (op : Op) → EventDoes g start (MovesCall session Steps) Going x y → slot_of x.slots session ≡ Some op → IsCountedAs what x.sets old (Some op) → IsCountedAs what x.sets now (slot_of y.slots session)
+  goes_on : (what : Followed) (op : Op) → EventDoes g start (MovesCall session Steps) Going x y → slot_of x.slots session ≡ Some op
+      → IsCountedAs what x.sets old (Some op) → IsCountedAs what x.sets now (slot_of y.slots session)
   goes_on what op does slot counted = of (has_call x.slots session) does.also.happens
     where
       on : CallMoves g start session Going x y → IsCountedAs what x.sets now (slot_of y.slots session)
@@ -110,13 +113,17 @@ module _ {S : Type 0} (g : Ghosts S) (start : Entry → Bool) (session : ℕ) (x
       of false s = absurd (let e = s.refused in cc)
 
   -- what is counted is what the session runs
-  with_op : (what : Followed) (Then : Type 0) → ((op : Op) → slot_of x.slots session ≡ Some op → IsCountedAs what x.sets old (Some op) → Then) → (o : Option Op) → slot_of x.slots session ≡ o → IsCountedAs what x.sets old o → Then
+  with_op : (what : Followed) (Then : Type 0) → ((op : Op) → slot_of x.slots session ≡ Some op → IsCountedAs what x.sets old (Some op) → Then)
+      → (o : Option Op) → slot_of x.slots session ≡ o → IsCountedAs what x.sets old o → Then
   with_op what Then so None is counted = absurd counted
   with_op what Then so (Some op) is counted = so op is counted
 
-  pub step_counts : (what : Followed) (answer : Answer) → EventDoes g start (MovesCall session Steps) answer x y → CountsThrough what x.sets old now (slot_of x.slots session) (slot_of y.slots session) answer
+  pub step_counts : (what : Followed) (answer : Answer) → EventDoes g start (MovesCall session Steps) answer x y
+      → CountsThrough what x.sets old now (slot_of x.slots session) (slot_of y.slots session) answer
   step_counts what Going does = λ counted. with_op what (IsCountedAs what x.sets now (slot_of y.slots session)) (λ op is so. goes_on what op does is so) (slot_of x.slots session) refl counted
-  step_counts what (Finished stats) does = λ counted. with_op what (TellsAs what now (Ok stats)) (λ op is so. counted_last what x.sets old now op (slot_of y.slots session) stats so (stands op (Finished stats) does is)) (slot_of x.slots session) refl counted
+  step_counts what (Finished stats) does = λ counted.
+      with_op what (TellsAs what now (Ok stats))
+      (λ op is so. counted_last what x.sets old now op (slot_of y.slots session) stats so (stands op (Finished stats) does is)) (slot_of x.slots session) refl counted
   step_counts what answer does = tt
 
 -- what is clean is of the pages alone

@@ -8,13 +8,13 @@ use Rattle.vacuum.specs.BulkDeletes.{is_counted_out, is_full_count}
 use Rattle.vacuum.specs.Counts.{entries_below}
 use Rattle.vacuum.specs.declared.steps.BulkDeleteOp.{BulkDeleteOp}
 use Rattle.page_delete.specs.Counts.{come_to}
-use Rattle.page_delete.specs.Ops.{is_last_number, is_counted_out as is_cleanup_full}
+use Rattle.page_delete.specs.Ops.{is_last_number, cleanup_counted_out as is_cleanup_full}
 use Rattle.page_delete.specs.declared.steps.CleanupAt.{CleanupAt}
 use Rattle.page_delete.specs.declared.steps.CleanupAt.TheVariants.{Look}
 use Rattle.page_delete.specs.declared.steps.CleanupOp.{CleanupOp}
 use Rattle.session_calls.specs.Sweeps.{OpSweeps}
 use Rattle.session_calls.specs.declared.op.Op.TheVariants.{Bulk, Cleanup}
-use Rattle.whole_calls.proofs.Words.{Effect, Action, AskBulkDelete, Call, removed_by, Entry, Format, Ghosts, asked_of, noted, Op, Snapshot, IsRunningCall, Fits, slot_of, Laws}
+use Rattle.whole_calls.proofs.Words.{Effect, Action, AskBulkDelete, Call, removed_by, Entry, Format, Ghosts, asked_of, noted, Op, Moment, IsRunningCall, Fits, slot_of, Laws}
 use Rattle.whole_calls.specs.Refusing.{is_full_vacuum}
 use Rattle.whole_calls.specs.Stepping.{HasGoneTo}
 use Rattle.whole_calls.specs.Sweeping.{of_cleanup, IsCountedAs, IsCountedIn, removed_of}
@@ -50,8 +50,8 @@ cursor_low cursor Look = omega arith
 cursor_low cursor at = omega arith
 
 -- one that has just begun comes to no full count
-module _ {S : Type 0} (g : Ghosts S) (laws : Laws g) (start : Entry → Bool) (session : ℕ) (first : Snapshot S) (fits : Fits g start first) (are : AreLimits (g.state first.store).limits) where
-  removed_low : (now : Snapshot S) (number : ℕ) (call : Call) (dead : Row → Bool) (effects : List Effect) → IsRunningCall now.calls session number call → call.ask ≡ AskBulkDelete dead
+module _ {S : Type 0} (g : Ghosts S) (laws : Laws g) (start : Entry → Bool) (session : ℕ) (first : Moment S) (fits : Fits g start first) (are : AreLimits (g.state first.store).limits) where
+  removed_low : (now : Moment S) (number : ℕ) (call : Call) (dead : Row → Bool) (effects : List Effect) → IsRunningCall now.calls session number call → call.ask ≡ AskBulkDelete dead
       → now.history ≡ first.history ++ acts_by number effects → Fits g start now → length (removed_of effects) ≤ 3276800
   removed_low now number call dead effects is asks history then_fits =
       let apt = remove_there start number now.calls call dead is.found asks first.history now.history effects history then_fits.explains.owned in
@@ -61,7 +61,7 @@ module _ {S : Type 0} (g : Ghosts S) (laws : Laws g) (start : Entry → Bool) (s
       let low = are.pages_to in
       omega (arith, most, few, low)
 
-  left_low : (now : Snapshot S) → (g.state now.store).limits ≡ (g.state first.store).limits → (n : ℕ) → entries_below (g.state now.store).pages n ≤ 3276800
+  left_low : (now : Moment S) → (g.state now.store).limits ≡ (g.state first.store).limits → (n : ℕ) → entries_below (g.state now.store).pages n ≤ 3276800
   left_low now limits n =
       let items : (g.state now.store).limits.items ≤ 50 = subst (λ (l : Format). l.items ≤ 50) (sym limits) are.items_to in
       let low : (g.state now.store).limits.pages ≤ 65536 = subst (λ (l : Format). l.pages ≤ 65536) (sym limits) are.pages_to in
@@ -69,14 +69,15 @@ module _ {S : Type 0} (g : Ghosts S) (laws : Laws g) (start : Entry → Bool) (s
       let few = laws.few now.store in
       omega (arith, most, few, low)
 
-  used_low : (now : Snapshot S) → (g.state now.store).limits ≡ (g.state first.store).limits → length (g.state now.store).pages ≤ 65536
+  used_low : (now : Moment S) → (g.state now.store).limits ≡ (g.state first.store).limits → length (g.state now.store).pages ≤ 65536
   used_low now limits =
       let low : (g.state now.store).limits.pages ≤ 65536 = subst (λ (l : Format). l.pages ≤ 65536) (sym limits) are.pages_to in
       let few = laws.few now.store in
       omega (arith, few, low)
 
   -- a bulk delete that has gone on to here has room to count more
-  pub bulk_fills : (number : ℕ) (call : Call) (dead : Row → Bool) → IsRunningCall first.calls session number call → call.ask ≡ AskBulkDelete dead → call.began ≡ length first.history → (now : Snapshot S) → Fits g start now
+  pub bulk_fills : (number : ℕ) (call : Call) (dead : Row → Bool) → IsRunningCall first.calls session number call → call.ask ≡ AskBulkDelete dead
+      → call.began ≡ length first.history → (now : Moment S) → Fits g start now
       → HasGoneTo g session first now → IsCountedIn first.sets (g.state now.store) (slot_of now.slots session) → is_full_vacuum (slot_of now.slots session) ≡ true → false ≡ true
   bulk_fills number call dead is asked began now then_fits to counted out =
       let far = to.far number call is in
@@ -92,9 +93,11 @@ module _ {S : Type 0} (g : Ghosts S) (laws : Laws g) (start : Entry → Bool) (s
       let then_began : r.2.call.began ≡ length first.history = ap (λ (k : Call). k.began) one.1 ∙ same_began call (length first.history) effects ∙ began in
       let low = removed_low now number then_call dead effects runs then_asks gone.history_is then_fits in
       let many : removed_by r.2.number (drop r.2.call.began now.history) ≡ length (removed_of effects) =
-      ap (λ (n : ℕ). removed_by n (drop r.2.call.began now.history)) one.0 ∙ ap (λ (n : ℕ). removed_by number (drop n now.history)) then_began ∙ ap (λ (l : List Action). removed_by number (drop (length first.history) l)) gone.history_is
+      ap (λ (n : ℕ). removed_by n (drop r.2.call.began now.history)) one.0 ∙ ap (λ (n : ℕ). removed_by number (drop n now.history)) then_began
+      ∙ ap (λ (l : List Action). removed_by number (drop (length first.history) l)) gone.history_is
       ∙ ap (λ (l : List Action). removed_by number l) (drop-append_seam first.history (acts_by number effects)) ∙ all_counted start number effects in
-      of r.0 r.2.number r.2.call.began asks r.2.sweeps (subst (λ (o : Option Op). IsCountedIn first.sets (g.state now.store) o) slot counted) (length (removed_of effects)) many low to.limits_are (subst (λ (o : Option Op). is_full_vacuum o ≡ true) slot out)
+      of r.0 r.2.number r.2.call.began asks r.2.sweeps (subst (λ (o : Option Op). IsCountedIn first.sets (g.state now.store) o) slot counted)
+      (length (removed_of effects)) many low to.limits_are (subst (λ (o : Option Op). is_full_vacuum o ≡ true) slot out)
     where
       of : (op : Op) (n b : ℕ) → asked_of now.sets op ≡ AskBulkDelete dead → OpSweeps (g.state now.store) now.sets start now.history n b op → IsCountedIn first.sets (g.state now.store) (Some op)
           → (count : ℕ) → removed_by n (drop b now.history) ≡ count → count ≤ 3276800 → (g.state now.store).limits ≡ (g.state first.store).limits → is_full_vacuum (Some op) ≡ true → false ≡ true
@@ -106,10 +109,12 @@ module _ {S : Type 0} (g : Ghosts S) (laws : Laws g) (start : Entry → Bool) (s
       of op n b asks sweeps counts count many low limits out = absurd counts
 
   -- nor does a cleanup
-  pub cleanup_fills : (now : Snapshot S) → HasGoneTo g session first now → IsCountedAs of_cleanup first.sets (g.state now.store) (slot_of now.slots session) → is_full_vacuum (slot_of now.slots session) ≡ true → false ≡ true
+  pub cleanup_fills : (now : Moment S) → HasGoneTo g session first now
+      → IsCountedAs of_cleanup first.sets (g.state now.store) (slot_of now.slots session) → is_full_vacuum (slot_of now.slots session) ≡ true → false ≡ true
   cleanup_fills now to counted out = of (slot_of now.slots session) counted (λ n. left_low now to.limits_are n) (used_low now to.limits_are) out
     where
-      of : (slot : Option Op) → IsCountedAs of_cleanup first.sets (g.state now.store) slot → ((n : ℕ) → entries_below (g.state now.store).pages n ≤ 3276800) → length (g.state now.store).pages ≤ 65536 → is_full_vacuum slot ≡ true → false ≡ true
+      of : (slot : Option Op) → IsCountedAs of_cleanup first.sets (g.state now.store) slot
+          → ((n : ℕ) → entries_below (g.state now.store).pages n ≤ 3276800) → length (g.state now.store).pages ≤ 65536 → is_full_vacuum slot ≡ true → false ≡ true
       of (Some (Cleanup op)) is_counted left used full =
           let few = left op.cursor in
           let is_left = is_counted.counted in

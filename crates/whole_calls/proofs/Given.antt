@@ -6,10 +6,10 @@ use Rattle.index_model.specs.Calls.{Finished as EndsFinished}
 use Rattle.index_model.specs.declared.range.Range.{Range}
 use Rattle.session_calls.specs.declared.op.Op.TheVariants.{Bulk as Bulks, Cleanup as Cleanups}
 use Rattle.schedule.proofs.Lists.{get_set_same, get_set_other, get_within}
-use Rattle.whole_calls.proofs.Words.{Effect, Add, Remove, Shape, Action, AskScan, Running, Call, Circumstances, HasCause, Entry, State, Ghosts, IsCaused, OwesLess, work_in, noted, given_one, ended, Answer, Going, Ready, Done, Gave, Refused, Op, Snapshot, IsRunningCall, Fits}
+use Rattle.whole_calls.proofs.Words.{Effect, Add, Remove, Shape, Action, AskScan, Running, Call, Circumstances, HasCause, Entry, State, Ghosts, IsCaused, OwesLess, work_in, noted, given_one, ended, Answer, Going, Ready, Done, Gave, Refused, Op, Moment, IsRunningCall, Fits}
 use Rattle.whole_calls.specs.Going.{CameBy}
 use Rattle.whole_calls.specs.Made.{Answered, ComesTo}
-use Rattle.whole_calls.specs.Giving.{GoesDown, AnswersSeek, given_of, give_came, Becomes, GivenTold, TellsScan, ScanStays, TellsGiven}
+use Rattle.whole_calls.specs.Giving.{GoesDown, AnswersSeek, given_of, given_outcome, Becomes, GivenTold, TellsScan, ScanIsUntold, TellsGiven}
 use Rattle.whole_calls.specs.Telling.{IsSilent, acts_by, noted_behind, AreOwnEffects, IsOwnEffect, IsTold, StepTold, TellsStep, HasNone, TellsEnd}
 use Rattle.whole_calls.proofs.Gone.{set_same, same_ask, gone_nowhere, gone_runs, gone_then, whole_told}
 use Rattle.whole_calls.proofs.Tellings.{one_runs, was_told}
@@ -21,14 +21,14 @@ owes (Some (Cleanups op)) old new calm = tt
 owes slot old new calm = calm
 
 -- what a scan gives is what it came to
-pub give_comes : (came : Answer) (answers : List Answer) → AnswersSeek came → CameBy answers (Some came) → CameBy answers (give_came (given_of came))
+pub give_comes : (came : Answer) (answers : List Answer) → AnswersSeek came → CameBy answers (Some came) → CameBy answers (given_outcome (given_of came))
 give_comes (Gave (Some e)) answers kind h = h
 give_comes Done answers kind h = h
 give_comes (Refused f) answers kind h = h
 give_comes came answers kind h = absurd kind
 
 -- ... by what was answered
-pub give_answered : (came : Answer) (answers : List Answer) → AnswersSeek came → Answered came answers → ComesTo (give_came (given_of came)) answers
+pub give_answered : (came : Answer) (answers : List Answer) → AnswersSeek came → Answered came answers → ComesTo (given_outcome (given_of came)) answers
 give_answered (Gave (Some e)) answers kind h = h
 give_answered Done answers kind h = h
 give_answered (Refused f) answers kind h = h
@@ -49,7 +49,7 @@ scan_own call range count (Remove es ∷ effects) ask own = absurd (rw ask at ow
 scan_own call range count (Shape ∷ effects) ask own = absurd (rw ask at own.0)
 
 -- ... so its history is as it was, and so is its call before the last step
-scan_silent : {S : Type 0} (number : ℕ) (call : Call) (range : Range) (answer : Answer) (x y : Snapshot S) → call.ask ≡ AskScan range → (t : IsTold number call answer x y)
+scan_silent : {S : Type 0} (number : ℕ) (call : Call) (range : Range) (answer : Answer) (x y : Moment S) → call.ask ≡ AskScan range → (t : IsTold number call answer x y)
     → (y.history ≡ x.history) × (noted_behind call (length x.history) t.before ≡ call) × (length (x.history ++ acts_by number t.before) ≡ length x.history)
 scan_silent number call range answer x y ask t =
     let w = whole_told number call answer x y t in
@@ -61,17 +61,17 @@ scan_silent number call range answer x y ask t =
     )
 
 -- what is told of a session's running call is told of its scan
-pub scan_told : {S : Type 0} (session : ℕ) (answer : Answer) (x y : Snapshot S) → TellsStep session answer x y → TellsScan session answer x y
+pub scan_told : {S : Type 0} (session : ℕ) (answer : Answer) (x y : Moment S) → TellsStep session answer x y → TellsScan session answer x y
 scan_told session answer x y tells number call range is ask = tells number call is
 
 -- a scan of which nothing is told, and then this
-pub scan_then : {S : Type 0} (session : ℕ) (answer : Answer) (x y z : Snapshot S) → ScanStays session x y → TellsScan session answer y z → TellsScan session answer x z
+pub scan_then : {S : Type 0} (session : ℕ) (answer : Answer) (x y z : Moment S) → ScanIsUntold session x y → TellsScan session answer y z → TellsScan session answer x z
 scan_then session answer x y z stays tells number call range is ask =
     let gone = gone_nowhere session number call x y is (stays number call range is ask) in
     gone_then number call [] x y z gone answer (tells number call range (gone_runs number call [] x y z gone session is) ask)
 
 -- nothing is told, and then again
-pub stays_then : {S : Type 0} (session : ℕ) (x y z : Snapshot S) → ScanStays session x y → ScanStays session y z → ScanStays session x z
+pub stays_then : {S : Type 0} (session : ℕ) (x y z : Moment S) → ScanIsUntold session x y → ScanIsUntold session y z → ScanIsUntold session x z
 stays_then session x y z one two number call range is ask =
     let s : IsSilent x y = one number call range is ask in
     let gone = gone_nowhere session number call x y is s in
@@ -79,18 +79,20 @@ stays_then session x y z one two number call range is ask =
     record { history_is = t.history_is ∙ s.history_is; calls_is = t.calls_is ∙ s.calls_is }
 
 -- what leaves a scan's call as it was
-unchanged : {S : Type 0} (session number : ℕ) (call : Call) (range : Range) (answer : Answer) (x y : Snapshot S) → IsRunningCall x.calls session number call → call.ask ≡ AskScan range → (t : IsTold number call answer x y)
+unchanged : {S : Type 0} (session number : ℕ) (call : Call) (range : Range) (answer : Answer) (x y : Moment S)
+    → IsRunningCall x.calls session number call → call.ask ≡ AskScan range → (t : IsTold number call answer x y)
     → t.after ≡ noted_behind call (length x.history) t.before → IsSilent x y
 unchanged session number call range answer x y is ask t after =
     let s = scan_silent number call range answer x y ask t in
     record { history_is = s.0; calls_is = t.calls_is ∙ ap (λ (c : Call). slice_set x.calls number c) (after ∙ s.1) ∙ set_same x.calls number call is.found }
 
 -- a scan that goes on
-pub going_stays : {S : Type 0} (session : ℕ) (x y : Snapshot S) → TellsScan session Going x y → ScanStays session x y
+pub going_stays : {S : Type 0} (session : ℕ) (x y : Moment S) → TellsScan session Going x y → ScanIsUntold session x y
 going_stays session x y tells number call range is ask =
     let t = was_told number call Going x y (λ fault e. cc) (tells number call range is ask) in
     let last : t.last ≡ None = no_last (noted_behind call (length x.history) t.before) t.last (same_ask call (length x.history) t.before ∙ ask) t.own_last in
-    unchanged session number call range Going x y is ask t (t.told ∙ ap (λ (o : Option Effect). noted (noted_behind call (length x.history) t.before) (length (x.history ++ acts_by number t.before)) o) last)
+    unchanged session number call range Going x y is ask t
+    (t.told ∙ ap (λ (o : Option Effect). noted (noted_behind call (length x.history) t.before) (length (x.history ++ acts_by number t.before)) o) last)
   where
     no_last : (c : Call) (o : Option Effect) → c.ask ≡ AskScan range → IsOwnEffect c o → o ≡ None
     no_last c None ask h = refl
@@ -99,17 +101,18 @@ going_stays session x y tells number call range is ask =
     no_last c (Some Shape) ask h = absurd (rw ask at h)
 
 -- one that has entries ready
-pub ready_stays : {S : Type 0} (session count : ℕ) (x y : Snapshot S) → TellsScan session (Ready count) x y → ScanStays session x y
+pub ready_stays : {S : Type 0} (session count : ℕ) (x y : Moment S) → TellsScan session (Ready count) x y → ScanIsUntold session x y
 ready_stays session count x y tells number call range is ask =
     let t = was_told number call (Ready count) x y (λ fault e. cc) (tells number call range is ask) in unchanged session number call range (Ready count) x y is ask t t.told.after_is
 
 -- a `next` that gives none
-pub none_stays : {S : Type 0} (session : ℕ) (x y : Snapshot S) → TellsScan session (Gave None) x y → ScanStays session x y
+pub none_stays : {S : Type 0} (session : ℕ) (x y : Moment S) → TellsScan session (Gave None) x y → ScanIsUntold session x y
 none_stays session x y tells number call range is ask =
     let t = was_told number call (Gave None) x y (λ fault e. cc) (tells number call range is ask) in unchanged session number call range (Gave None) x y is ask t t.told.after_is
 
 -- an entry that is given
-pub some_given : {S : Type 0} (session : ℕ) (came : Answer) (entry : Entry) (x y : Snapshot S) → AnswersSeek came → given_of came ≡ Ok (Some entry) → TellsScan session came x y → TellsGiven session (Ok (Some entry)) x y
+pub some_given : {S : Type 0} (session : ℕ) (came : Answer) (entry : Entry) (x y : Moment S) → AnswersSeek came → given_of came ≡ Ok (Some entry)
+    → TellsScan session came x y → TellsGiven session (Ok (Some entry)) x y
 some_given {S} session came entry x y kind is tells number call range running ask = of came kind is (tells number call range running ask)
   where
     of : (a : Answer) → AnswersSeek a → given_of a ≡ Ok (Some entry) → StepTold number call a x y → Becomes number (given_one call entry) x y
@@ -118,14 +121,16 @@ some_given {S} session came entry x y kind is tells number call range running as
         let t = was_told number call (Gave (Some e)) x y (λ fault e. cc) told in
         record {
           history_is = (scan_silent number call range (Gave (Some e)) x y ask t).0;
-          calls_is = t.calls_is ∙ ap (λ (c : Call). slice_set x.calls number c) (t.told.after_is ∙ ap (λ (k : Call). given_one k e) ((scan_silent number call range (Gave (Some e)) x y ask t).1) ∙ ap (λ (g : Entry). given_one call g) same);
+          calls_is = t.calls_is
+              ∙ ap (λ (c : Call). slice_set x.calls number c)
+              (t.told.after_is ∙ ap (λ (k : Call). given_one k e) ((scan_silent number call range (Gave (Some e)) x y ask t).1) ∙ ap (λ (g : Entry). given_one call g) same);
         }
     of Done kind is t = absurd cc
     of (Refused f) kind is t = absurd cc
     of a kind is t = absurd kind
 
 -- a call that was changed so runs no more
-none_after : {S : Type 0} (g : Ghosts S) (start : Entry → Bool) (x y : Snapshot S) (session number : ℕ) (call after : Call) → Fits g start x → IsRunningCall x.calls session number call
+none_after : {S : Type 0} (g : Ghosts S) (start : Entry → Bool) (x y : Moment S) (session number : ℕ) (call after : Call) → Fits g start x → IsRunningCall x.calls session number call
     → y.calls ≡ slice_set x.calls number after → (after.ending ≡ Running → ⊥) → HasNone session y
 none_after g start x y session number call after fits running calls over other c is =
     elim (cases_eq other number) [
@@ -140,7 +145,8 @@ none_after g start x y session number call after fits running calls over other c
     ]
 
 -- what is given at the end, and then an end
-pub end_given : {S : Type 0} (g : Ghosts S) (start : Entry → Bool) (session : ℕ) (came : Answer) (x y z : Snapshot S) → Fits g start x → AnswersSeek came → ((entry : Entry) → given_of came ≡ Ok (Some entry) → ⊥)
+pub end_given : {S : Type 0} (g : Ghosts S) (start : Entry → Bool) (session : ℕ) (came : Answer) (x y z : Moment S) → Fits g start x
+    → AnswersSeek came → ((entry : Entry) → given_of came ≡ Ok (Some entry) → ⊥)
     → TellsScan session came x y → TellsEnd session y z → TellsGiven session (given_of came) x z
 end_given {S} g start session came x y z fits kind no_entry tells end number call range running ask = of came kind no_entry (tells number call range running ask)
   where
@@ -149,24 +155,29 @@ end_given {S} g start session came x y z fits kind no_entry tells end number cal
     of Done kind some told =
         let t = was_told number call Done x y (λ fault e. cc) told in
         let s = scan_silent number call range Done x y ask t in
-        let calls : y.calls ≡ slice_set x.calls number (ended call EndsFinished (length x.history)) = t.calls_is ∙ ap (λ (c : Call). slice_set x.calls number c) (t.told.after_is ∙ ap (λ (c : Call). ended c EndsFinished (length (x.history ++ acts_by number t.before))) s.1 ∙ ap (λ (n : ℕ). ended call EndsFinished n) s.2) in
+        let calls : y.calls ≡ slice_set x.calls number (ended call EndsFinished (length x.history)) = t.calls_is
+        ∙ ap (λ (c : Call). slice_set x.calls number c)
+        (t.told.after_is ∙ ap (λ (c : Call). ended c EndsFinished (length (x.history ++ acts_by number t.before))) s.1 ∙ ap (λ (n : ℕ). ended call EndsFinished n) s.2) in
         record {
           history_is = end.history_is ∙ s.0;
           calls_is = end.calls_is (none_after g start x y session number call (ended call EndsFinished (length x.history)) fits running calls (λ e. cc)) ∙ calls;
         }
     of (Refused f) kind some (inl t) = end.history_is ∙ (scan_silent number call range (Refused f) x y ask t).0
-    of (Refused f) kind some (inr t) = end.history_is ∙ t.gone.history_is ∙ ap (λ (l : List Effect). x.history ++ acts_by number l) (scan_own call range (length x.history) t.before ask t.gone.own) ∙ append-nil x.history
+    of (Refused f) kind some (inr t) = end.history_is ∙ t.gone.history_is
+        ∙ ap (λ (l : List Effect). x.history ++ acts_by number l) (scan_own call range (length x.history) t.before ask t.gone.own) ∙ append-nil x.history
     of a kind some t = absurd kind
 
 -- behind steps that left no more to do, what leaves less than then leaves less than before them
-pub down_after : (old mid new : State) (before between after : Option Op) (answer : Answer) → work_in mid between ≤ work_in old before → GoesDown mid new between after answer → GoesDown old new before after answer
+pub down_after : (old mid new : State) (before between after : Option Op) (answer : Answer) → work_in mid between ≤ work_in old before
+    → GoesDown mid new between after answer → GoesDown old new before after answer
 down_after old mid new before between after Going most down = omega (arith, most, down)
 down_after old mid new before between after (Ready r) most down = omega (arith, most, down)
 down_after old mid new before between after (Gave (Some e)) most down = omega (arith, most, down)
 down_after old mid new before between after answer most down = tt
 
 -- an answer with which the scan goes on leaves less to do
-pub down_on : (old new : State) (before after : Option Op) (answer : Answer) → (answer ≡ Going) ⊎ ((count : ℕ) × (answer ≡ Ready count)) → GoesDown old new before after answer → work_in new after < work_in old before
+pub down_on : (old new : State) (before after : Option Op) (answer : Answer) → (answer ≡ Going) ⊎ ((count : ℕ) × (answer ≡ Ready count))
+    → GoesDown old new before after answer → work_in new after < work_in old before
 down_on old new before after Going on down = down
 down_on old new before after (Ready count) on down = down
 down_on old new before after answer on down = absurd (elim on [ inl is ↦ cc | inr is ↦ (let e = is.1 in cc) ])

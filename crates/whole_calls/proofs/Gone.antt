@@ -2,7 +2,7 @@
 use Rattle.std.proofs.Common.{◌≡◌, ℕ, zero, suc, ◌+◌, Option, Some, None, List, [], ◌∷◌, ◌++◌, length, slice_get, slice_set, refl, sym, ap, subst, arith, inl, inr, ◌∙◌, length-append, append_assoc}
 use Rattle.std.proofs.lemmas.List.{append-nil}
 use Rattle.schedule.proofs.Lists.{get_set_same, get_within}
-use Rattle.whole_calls.proofs.Words.{Effect, Action, Ask, Call, acts_of, Told, noted, Answer, Going, Snapshot, IsRunningCall}
+use Rattle.whole_calls.proofs.Words.{Effect, Action, Ask, Call, acts_of, Told, noted, Answer, Going, Moment, IsRunningCall}
 use Rattle.whole_calls.specs.Telling.{IsSilent, MayAnswer, acts_by, noted_behind, AreOwnEffects, IsOwnEffect, HasGoneOn, HasGoneFar, IsTold, StepTold, TellsStep}
 
 pub set_same : {X : Type 0} (xs : List X) (i : ℕ) (x : X) → slice_get xs i ≡ Some x → slice_set xs i x ≡ xs
@@ -43,7 +43,8 @@ noted_append : (call : Call) (count : ℕ) (xs ys : List Effect) (n : ℕ) → n
 noted_append call count [] ys n is = (let e : count ≡ n = omega (arith, is) in ap (λ (k : ℕ). noted_behind call k ys) e)
 noted_append call count (x ∷ xs) ys n is = noted_append (noted call count (Some x)) (suc count) xs ys n (omega (arith, is))
 
-own_append : (call : Call) (count : ℕ) (xs ys : List Effect) (n : ℕ) → n ≡ length xs + count → AreOwnEffects call count xs → AreOwnEffects (noted_behind call count xs) n ys → AreOwnEffects call count (xs ++ ys)
+own_append : (call : Call) (count : ℕ) (xs ys : List Effect) (n : ℕ) → n ≡ length xs + count → AreOwnEffects call count xs
+    → AreOwnEffects (noted_behind call count xs) n ys → AreOwnEffects call count (xs ++ ys)
 own_append call count [] ys n is own also = (let e : n ≡ count = omega (arith, is) in subst (λ (k : ℕ). AreOwnEffects call k ys) e also)
 own_append call count (x ∷ xs) ys n is own also = (own.0, own_append (noted call count (Some x)) (suc count) xs ys n (omega (arith, is)) own.1 also)
 
@@ -69,7 +70,7 @@ same_ending call count [] = refl
 same_ending call count (x ∷ xs) = same_ending (noted call count (Some x)) (suc count) xs
 
 -- no event
-pub gone_nowhere : {S : Type 0} (session number : ℕ) (call : Call) (x y : Snapshot S) → IsRunningCall x.calls session number call → IsSilent x y → HasGoneOn number call [] x y
+pub gone_nowhere : {S : Type 0} (session number : ℕ) (call : Call) (x y : Moment S) → IsRunningCall x.calls session number call → IsSilent x y → HasGoneOn number call [] x y
 gone_nowhere session number call x y is s = record {
   own = tt;
   history_is = s.history_is ∙ sym (append-nil x.history);
@@ -77,7 +78,7 @@ gone_nowhere session number call x y is s = record {
 }
 
 -- a call that has gone on so far, and then further
-module _ {S : Type 0} (number : ℕ) (call : Call) (xs : List Effect) (x y z : Snapshot S) (gone : HasGoneOn number call xs x y) where
+module _ {S : Type 0} (number : ℕ) (call : Call) (xs : List Effect) (x y z : Moment S) (gone : HasGoneOn number call xs x y) where
   abbrev mid_call : Call
   mid_call = noted_behind call (length x.history) xs
 
@@ -85,7 +86,8 @@ module _ {S : Type 0} (number : ℕ) (call : Call) (xs : List Effect) (x y z : S
   many = ap (λ (l : List Action). length l) gone.history_is ∙ many_behind x.history number xs
 
   grown : (ys : List Effect) → y.history ++ acts_by number ys ≡ x.history ++ acts_by number (xs ++ ys)
-  grown ys = ap (λ (l : List Action). l ++ acts_by number ys) gone.history_is ∙ append_assoc x.history (acts_by number xs) (acts_by number ys) ∙ ap (λ (l : List Action). x.history ++ l) (sym (acts_append number xs ys))
+  grown ys = ap (λ (l : List Action). l ++ acts_by number ys) gone.history_is ∙ append_assoc x.history (acts_by number xs) (acts_by number ys)
+      ∙ ap (λ (l : List Action). x.history ++ l) (sym (acts_append number xs ys))
 
   changed : (after : Call) → slice_set y.calls number after ≡ slice_set x.calls number after
   changed after = ap (λ (l : List Call). slice_set l number after) gone.calls_is ∙ set_twice x.calls number mid_call after
@@ -128,18 +130,25 @@ module _ {S : Type 0} (number : ℕ) (call : Call) (xs : List Effect) (x y z : S
   pub gone_then : (answer : Answer) → StepTold number mid_call answer y z → StepTold number call answer x z
   gone_then answer t = elim t [
     | inl told ↦ inl (gone_told answer told)
-    | inr held ↦ inr (record { fault = held.fault; refused = held.refused; before = xs ++ held.before; gone = gone_further held.before held.gone; not_exists = held.not_exists; not_key_exists = held.not_key_exists })
+    | inr held ↦ inr (record {
+      fault = held.fault;
+      refused = held.refused;
+      before = xs ++ held.before;
+      gone = gone_further held.before held.gone;
+      not_exists = held.not_exists;
+      not_key_exists = held.not_key_exists;
+    })
   ]
 
 -- all effects of a call that is told so, with the last
-pub record WholeTold {S : Type 0} (number : ℕ) (call : Call) (answer : Answer) (x y : Snapshot S) (t : IsTold number call answer x y) : Type 0 where
+pub record WholeTold {S : Type 0} (number : ℕ) (call : Call) (answer : Answer) (x y : Moment S) (t : IsTold number call answer x y) : Type 0 where
   pub effects : List Effect
   pub own : AreOwnEffects call (length x.history) effects
   pub history_is : y.history ≡ x.history ++ acts_by number effects
   pub noted_is : noted (noted_behind call (length x.history) t.before) (length (x.history ++ acts_by number t.before)) t.last ≡ noted_behind call (length x.history) effects
   pub none_is : t.last ≡ None → t.before ≡ effects
 
-module _ {S : Type 0} (number : ℕ) (call : Call) (answer : Answer) (x y : Snapshot S) (t : IsTold number call answer x y) where
+module _ {S : Type 0} (number : ℕ) (call : Call) (answer : Answer) (x y : Moment S) (t : IsTold number call answer x y) where
   abbrev count : ℕ
   count = length (x.history ++ acts_by number t.before)
 
@@ -160,7 +169,7 @@ module _ {S : Type 0} (number : ℕ) (call : Call) (answer : Answer) (x y : Snap
   }
 
 -- a call that is told to go on has gone on
-told_gone : {S : Type 0} (number : ℕ) (call : Call) (x y : Snapshot S) → StepTold number call Going x y → (effects : List Effect) × HasGoneOn number call effects x y
+told_gone : {S : Type 0} (number : ℕ) (call : Call) (x y : Moment S) → StepTold number call Going x y → (effects : List Effect) × HasGoneOn number call effects x y
 told_gone number call x y (inr held) = absurd (let e = held.refused in cc)
 told_gone number call x y (inl t) =
     let w = whole_told number call Going x y t in (
@@ -173,22 +182,22 @@ told_gone number call x y (inl t) =
     )
 
 -- behind what tells nothing, a step tells what it tells
-pub silent_then : {S : Type 0} (session : ℕ) (answer : Answer) (x y z : Snapshot S) → IsSilent x y → TellsStep session answer y z → TellsStep session answer x z
+pub silent_then : {S : Type 0} (session : ℕ) (answer : Answer) (x y z : Moment S) → IsSilent x y → TellsStep session answer y z → TellsStep session answer x z
 silent_then session answer x y z s tells number call is =
     let gone = gone_nowhere session number call x y is s in
     gone_then number call [] x y z gone answer (tells number call (gone_runs number call [] x y z gone session is))
 
 -- the session's running call, if it has one, goes on and on
-pub far_nowhere : {S : Type 0} (session : ℕ) (x : Snapshot S) → HasGoneFar session x x
+pub far_nowhere : {S : Type 0} (session : ℕ) (x : Moment S) → HasGoneFar session x x
 far_nowhere session x number call is = ([], gone_nowhere session number call x x is (record { history_is = refl; calls_is = refl }))
 
-pub far_then : {S : Type 0} (session : ℕ) (x y z : Snapshot S) → HasGoneFar session x y → TellsStep session Going y z → HasGoneFar session x z
+pub far_then : {S : Type 0} (session : ℕ) (x y z : Moment S) → HasGoneFar session x y → TellsStep session Going y z → HasGoneFar session x z
 far_then session x y z far tells number call is =
     let f = far number call is in
     let t = told_gone number (noted_behind call (length x.history) f.0) y z (tells number (noted_behind call (length x.history) f.0) (gone_runs number call f.0 x y z f.1 session is)) in
     (f.0 ++ t.0, gone_further number call f.0 x y z f.1 t.0 t.1)
 
-pub far_last : {S : Type 0} (session : ℕ) (answer : Answer) (x y z : Snapshot S) → HasGoneFar session x y → TellsStep session answer y z → TellsStep session answer x z
+pub far_last : {S : Type 0} (session : ℕ) (answer : Answer) (x y z : Moment S) → HasGoneFar session x y → TellsStep session answer y z → TellsStep session answer x z
 far_last session answer x y z far tells number call is =
     let f = far number call is in
     gone_then number call f.0 x y z f.1 answer (tells number (noted_behind call (length x.history) f.0) (gone_runs number call f.0 x y z f.1 session is))

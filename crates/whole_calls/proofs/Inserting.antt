@@ -7,13 +7,13 @@ use Rattle.index_model.specs.Row.{Row}
 use Rattle.index_model.specs.declared.fault.Fault.TheVariants.{Blocked, Exists, KeyExists}
 use Rattle.session_calls.specs.declared.request.Request.TheVariants.{Insert as ToInsert}
 use Rattle.schedule.proofs.Lists.{get_append_new, get_append_cases}
-use Rattle.whole_calls.proofs.Words.{Effect, Add, Remove, Shape, Action, Ask, AskInsert, Ending, Running, GivenUp, Failed, AnswersRight, end_of, Meets, Call, HasCause, Entry, Fault, Ghosts, ends_call, IsCaused, acts_of, act_count, noted, ended, slot_add, once_added, Answer, Going, Added, Refused, Op, StoreAndSlots, Snapshot, snapshot_of, IsRunningCall, Fits, here_at, slot_of}
+use Rattle.whole_calls.proofs.Words.{Effect, Add, Remove, Shape, Action, Ask, AskInsert, Ending, Running, GivenUp, Failed, AnswersRight, end_of, Meets, Call, HasCause, Entry, Fault, Ghosts, ends_call, IsCaused, acts_of, act_count, noted, ended, slot_add, once_added, Answer, Going, Added, Refused, Op, StoreAndSlots, Moment, snapshot_of, IsRunningCall, Fits, here_at, slot_of}
 use Rattle.whole_calls.specs.Made.{Answered, InsertComesTo}
 use Rattle.whole_calls.specs.Going.{CallGoes, GoesFrom}
 use Rattle.whole_calls.specs.Inserting.{InsertGoes}
-use Rattle.whole_calls.specs.Refusing.{where_inserted, where_asked, has_no_block, is_tall, InsertCallIsCaused}
+use Rattle.whole_calls.specs.Refusing.{causes_of_inserted, causes_of_asked, has_no_block, is_tall, InsertCallIsCaused}
 use Rattle.whole_calls.specs.Stepping.{RunGoes}
-use Rattle.whole_calls.specs.Telling.{MayAnswer, acts_by, noted_behind, AreOwnEffects, IsTold, StepTold, HasNone, TellsEnd, with_call, first_call, NextTold, NothingTold, left_behind, outcome_of, shapes, inserted_call, IsAddedNow, IsNotAdded, InsertTold}
+use Rattle.whole_calls.specs.Telling.{MayAnswer, acts_by, noted_behind, AreOwnEffects, IsTold, StepTold, HasNone, TellsEnd, with_one_call, first_call, NextTold, NothingTold, left_behind, outcome_of, shapes, inserted_call, IsAddedNow, IsNotAdded, InsertTold}
 use Rattle.whole_calls.proofs.Composing.{goes_told}
 use Rattle.whole_calls.proofs.Refusing.{called_wider, begun_called, stopped_before}
 use Rattle.whole_calls.proofs.Gone.{same_ask, same_ending, same_session, whole_told}
@@ -50,7 +50,8 @@ pub record OneAdd (number : ℕ) (e : Entry) (call : Call) (count : ℕ) (effect
   pub action_is : action ≡ suc (before + count)
   pub noted_is : noted_behind call count effects ≡ record call { added = Some action }
 
-one_add : (number : ℕ) (e : Entry) (call : Call) (count : ℕ) (effects : List Effect) (action : ℕ) → call.ask ≡ AskInsert e → call.added ≡ None → (noted_behind call count effects).added ≡ Some action → AreOwnEffects call count effects
+one_add : (number : ℕ) (e : Entry) (call : Call) (count : ℕ) (effects : List Effect) (action : ℕ) → call.ask ≡ AskInsert e → call.added ≡ None
+    → (noted_behind call count effects).added ≡ Some action → AreOwnEffects call count effects
     → OneAdd number e call count effects action
 one_add number e call count [] action ask none some own = absurd cc
 one_add number e call count (Shape ∷ effects) action ask none some own =
@@ -77,7 +78,7 @@ one_add number e call count (Add x ∷ effects) action ask none some own =
 one_add number e call count (Remove es ∷ effects) action ask none some own = absurd (rw ask at own.0)
 
 -- a call that has come to its end, in a session that had none
-pub ended_none : {S : Type 0} (session : ℕ) (x y : Snapshot S) (after : Call) → HasNone session x → y.calls ≡ x.calls ++ after ∷ [] → (after.ending ≡ Running → ⊥) → HasNone session y
+pub ended_none : {S : Type 0} (session : ℕ) (x y : Moment S) (after : Call) → HasNone session x → y.calls ≡ x.calls ++ after ∷ [] → (after.ending ≡ Running → ⊥) → HasNone session y
 ended_none session x y after none calls over number call is =
     elim (get_append_cases x.calls after number call (ap (λ (l : List Call). slice_get l number) (sym calls) ∙ is.found)) [
       | inl old ↦ none number call (record { found = old; session_is = is.session_is; running = is.running })
@@ -85,7 +86,8 @@ ended_none session x y after none calls over number call is =
     ]
 
 -- an insert that a fault has ended has no Add
-failed_has_none : (start : Entry → Bool) (history : List Action) (number : ℕ) (e : Entry) (fault : Fault) (call : Call) → Meets start history number call → call.ask ≡ AskInsert e → call.ending ≡ Failed fault → call.added ≡ None
+failed_has_none : (start : Entry → Bool) (history : List Action) (number : ℕ) (e : Entry) (fault : Fault) (call : Call)
+    → Meets start history number call → call.ask ≡ AskInsert e → call.ending ≡ Failed fault → call.added ≡ None
 failed_has_none start history number e fault call meets ask ending =
     let right = subst (λ (x : Ending). AnswersRight start history number call.began (end_of history x call.until) call.ask call.given call.added x) ending meets.right in
     let mine = subst (λ (a : Ask). AnswersRight start history number call.began call.until a call.given call.added (Failed fault)) ask right in
@@ -104,7 +106,8 @@ insert_may entry Going over may = absurd (over refl)
 insert_may entry answer over may = absurd may
 
 -- what it answers was answered
-pub insert_comes : (entry : Entry) (answer : Answer) (added : Option ℕ) (answers : List Answer) → answer ≢ Going → MayAnswer (AskInsert entry) answer → Answered answer answers → InsertComesTo (outcome_of answer added) answers
+pub insert_comes : (entry : Entry) (answer : Answer) (added : Option ℕ) (answers : List Answer) → answer ≢ Going → MayAnswer (AskInsert entry) answer
+    → Answered answer answers → InsertComesTo (outcome_of answer added) answers
 insert_comes entry (Added action unfinished) added answers over may (inl so) = inl so
 insert_comes entry (Added action unfinished) added answers over may (inr so) = absurd (let e = so.0 in cc)
 insert_comes entry (Refused fault) None answers over may so = so
@@ -128,7 +131,7 @@ of_entry_ends (KeyExists row) h = refl
 of_entry_ends fault h = absurd h
 
 -- an insert that was refused: where it stands then
-pub record IsLeftSo {S : Type 0} (number : ℕ) (call : Call) (fault : Fault) (x y : Snapshot S) : Type 0 where
+pub record IsLeftSo {S : Type 0} (number : ℕ) (call : Call) (fault : Fault) (x y : Moment S) : Type 0 where
   pub effects : List Effect
   pub own : AreOwnEffects call (length x.history) effects
   pub after : Call
@@ -137,14 +140,16 @@ pub record IsLeftSo {S : Type 0} (number : ℕ) (call : Call) (fault : Fault) (x
   pub after_is : (after ≡ noted_behind call (length x.history) effects) ⊎ (after ≡ ended (noted_behind call (length x.history) effects) (Failed fault) (length y.history))
   pub over_is : IsOfEntry fault → after ≡ ended (noted_behind call (length x.history) effects) (Failed fault) (length y.history)
 
-refused_so : {S : Type 0} (number : ℕ) (call : Call) (fault : Fault) (x y : Snapshot S) → IsTold number call (Refused fault) x y → IsLeftSo number call fault x y
+refused_so : {S : Type 0} (number : ℕ) (call : Call) (fault : Fault) (x y : Moment S) → IsTold number call (Refused fault) x y → IsLeftSo number call fault x y
 refused_so number call fault x y t =
     let w = whole_told number call (Refused fault) x y t in
     let same : t.before ≡ w.effects = w.none_is t.told.0 in
     let history : y.history ≡ x.history ++ acts_by number w.effects = w.history_is in
-    let many : length (x.history ++ acts_by number t.before) ≡ length y.history = ap (λ (l : List Effect). length (x.history ++ acts_by number l)) same ∙ ap (λ (l : List Action). length l) (sym history) in
+    let many : length (x.history ++ acts_by number t.before) ≡ length y.history =
+    ap (λ (l : List Effect). length (x.history ++ acts_by number l)) same ∙ ap (λ (l : List Action). length l) (sym history) in
     let is : t.after ≡ (if ends_call fault then ended (noted_behind call (length x.history) w.effects) (Failed fault) (length y.history) else noted_behind call (length x.history) w.effects) =
-    t.told.1 ∙ ap (λ (l : List Effect). if ends_call fault then ended (noted_behind call (length x.history) l) (Failed fault) (length (x.history ++ acts_by number t.before)) else noted_behind call (length x.history) l) same
+    t.told.1 ∙ ap (λ (l : List Effect).
+    if ends_call fault then ended (noted_behind call (length x.history) l) (Failed fault) (length (x.history ++ acts_by number t.before)) else noted_behind call (length x.history) l) same
     ∙ ap (λ (n : ℕ). if ends_call fault then ended (noted_behind call (length x.history) w.effects) (Failed fault) n else noted_behind call (length x.history) w.effects) many in
     record {
       effects = w.effects;
@@ -153,7 +158,9 @@ refused_so number call fault x y t =
       history_is = history;
       calls_is = t.calls_is;
       after_is = by (ends_call fault) is;
-      over_is = λ e. subst (λ (b : Bool). t.after ≡ (if b then ended (noted_behind call (length x.history) w.effects) (Failed fault) (length y.history) else noted_behind call (length x.history) w.effects)) (of_entry_ends fault e) is;
+      over_is = λ e. subst
+          (λ (b : Bool). t.after ≡
+          (if b then ended (noted_behind call (length x.history) w.effects) (Failed fault) (length y.history) else noted_behind call (length x.history) w.effects)) (of_entry_ends fault e) is;
     }
   where
     by : {c : Call} {d : Call} {k : Call} (b : Bool) → k ≡ (if b then d else c) → (k ≡ c) ⊎ (k ≡ d)
@@ -161,7 +168,7 @@ refused_so number call fault x y t =
     by false h = inl h
 
 -- refused at a step, or before it
-left_so : {S : Type 0} (number : ℕ) (call : Call) (fault : Fault) (x y : Snapshot S) → StepTold number call (Refused fault) x y → IsLeftSo number call fault x y
+left_so : {S : Type 0} (number : ℕ) (call : Call) (fault : Fault) (x y : Moment S) → StepTold number call (Refused fault) x y → IsLeftSo number call fault x y
 left_so number call fault x y (inl t) = refused_so number call fault x y t
 left_so number call fault x y (inr h) =
     let same : h.fault ≡ fault = (let e = h.refused in cc) in
@@ -176,21 +183,23 @@ left_so number call fault x y (inr h) =
     }
 
 -- an insert that came so far, and then an end
-module _ {S : Type 0} (g : Ghosts S) (start : Entry → Bool) (session : ℕ) (entry : Entry) (x y z : Snapshot S) (free : HasNone session x) (fits : Fits g start y) (end : TellsEnd session y z) where
+module _ {S : Type 0} (g : Ghosts S) (start : Entry → Bool) (session : ℕ) (entry : Entry) (x y z : Moment S) (free : HasNone session x) (fits : Fits g start y) (end : TellsEnd session y z) where
   abbrev request_call : Call
   request_call = first_call session (ToInsert entry) x
 
-  abbrev begun : Snapshot S
-  begun = with_call x request_call
+  abbrev begun : Moment S
+  begun = with_one_call x request_call
 
   abbrev insert_number : ℕ
   insert_number = length x.calls
 
-  added_told : (action : ℕ) (unfinished : Option Fault) → IsTold insert_number request_call (Added action unfinished) begun y → IsAddedNow session entry (record { action = action; unfinished = unfinished }) x z
+  added_told : (action : ℕ) (unfinished : Option Fault) → IsTold insert_number request_call (Added action unfinished) begun y
+      → IsAddedNow session entry (record { action = action; unfinished = unfinished }) x z
   added_told action unfinished t =
       let w = whole_told insert_number request_call (Added action unfinished) begun y t in
       let o = one_add insert_number entry request_call (length x.history) w.effects action refl refl (ap (λ (c : Call). c.added) (sym w.noted_is) ∙ t.told.noted_is) w.own in
-      let until : act_count t.last + length (x.history ++ acts_by insert_number t.before) ≡ length z.history = more t.last (x.history ++ acts_by insert_number t.before) t.history_is ∙ ap (λ (l : List Action). length l) (sym end.history_is) in
+      let until : act_count t.last + length (x.history ++ acts_by insert_number t.before) ≡ length z.history =
+      more t.last (x.history ++ acts_by insert_number t.before) t.history_is ∙ ap (λ (l : List Action). length l) (sym end.history_is) in
       let after_is : t.after ≡ inserted_call session entry (length x.history) action (EndsAdded action unfinished) (length z.history) =
       t.told.after_is ∙ ap (λ (c : Call). ended c (EndsAdded action unfinished) (act_count t.last + length (x.history ++ acts_by insert_number t.before))) (w.noted_is ∙ o.noted_is)
       ∙ ap (λ (n : ℕ). inserted_call session entry (length x.history) action (EndsAdded action unfinished) n) until in
@@ -200,7 +209,8 @@ module _ {S : Type 0} (g : Ghosts S) (start : Entry → Bool) (session : ℕ) (e
         before = o.before;
         behind = o.behind;
         ending = EndsAdded action unfinished;
-        history_is = end.history_is ∙ w.history_is ∙ ap (λ (l : List Action). x.history ++ l) o.acts_are ∙ sym (append_assoc x.history (shapes insert_number o.before) ((record { by = insert_number; effect = Add entry }) ∷ shapes insert_number o.behind));
+        history_is = end.history_is ∙ w.history_is ∙ ap (λ (l : List Action). x.history ++ l) o.acts_are
+            ∙ sym (append_assoc x.history (shapes insert_number o.before) ((record { by = insert_number; effect = Add entry }) ∷ shapes insert_number o.behind));
         action_is = o.action_is;
         end_is = inl refl;
         calls_is = end.calls_is (ended_none session x y (inserted_call session entry (length x.history) action (EndsAdded action unfinished) (length z.history)) free calls (λ e. cc)) ∙ calls;
@@ -220,7 +230,8 @@ module _ {S : Type 0} (g : Ghosts S) (start : Entry → Bool) (session : ℕ) (e
   found_last : (fault : Fault) (l : IsLeftSo insert_number request_call fault begun y) → slice_get y.calls insert_number ≡ Some l.after
   found_last fault l = ap (λ (cs : List Call). slice_get cs insert_number) (last_call fault l) ∙ get_append_new x.calls l.after
 
-  still_runs : (fault : Fault) (l : IsLeftSo insert_number request_call fault begun y) → l.after ≡ noted_behind request_call (length x.history) l.effects → IsRunningCall y.calls session insert_number l.after
+  still_runs : (fault : Fault) (l : IsLeftSo insert_number request_call fault begun y)
+      → l.after ≡ noted_behind request_call (length x.history) l.effects → IsRunningCall y.calls session insert_number l.after
   still_runs fault l is = record {
     found = found_last fault l;
     session_is = ap (λ (c : Call). c.session) is ∙ same_session request_call (length x.history) l.effects;
@@ -228,7 +239,8 @@ module _ {S : Type 0} (g : Ghosts S) (start : Entry → Bool) (session : ℕ) (e
   }
 
   -- its Add is that of what its session runs
-  same_add : (fault : Fault) (l : IsLeftSo insert_number request_call fault begun y) → l.after ≡ noted_behind request_call (length x.history) l.effects → (noted_behind request_call (length x.history) l.effects).added ≡ slot_add (slot_of y.slots session)
+  same_add : (fault : Fault) (l : IsLeftSo insert_number request_call fault begun y)
+      → l.after ≡ noted_behind request_call (length x.history) l.effects → (noted_behind request_call (length x.history) l.effects).added ≡ slot_add (slot_of y.slots session)
   same_add fault l is =
       let runs = still_runs fault l is in
       let r = runs_in_slot g start y fits session insert_number l.after runs in
@@ -254,7 +266,8 @@ module _ {S : Type 0} (g : Ghosts S) (start : Entry → Bool) (session : ℕ) (e
         key_exists_is = λ row e. over r.1 (KeyExists row) tt e;
       }
     where
-      over : noted_behind request_call (length x.history) l.effects ≡ request_call → (of : Fault) → IsOfEntry of → fault ≡ of → z.calls ≡ x.calls ++ ended request_call (Failed of) (length z.history) ∷ []
+      over : noted_behind request_call (length x.history) l.effects ≡ request_call → (of : Fault) → IsOfEntry of → fault ≡ of
+          → z.calls ≡ x.calls ++ ended request_call (Failed of) (length z.history) ∷ []
       over same of is e =
           let after : Call = ended request_call (Failed of) (length z.history) in
           let after_is : l.after ≡ after =
@@ -264,7 +277,8 @@ module _ {S : Type 0} (g : Ghosts S) (start : Entry → Bool) (session : ℕ) (e
           end.calls_is (ended_none session x y after free calls (λ k. cc)) ∙ calls
 
   -- a session whose insert a fault has ended runs nothing
-  failed_runs_none : (fault : Fault) (l : IsLeftSo insert_number request_call fault begun y) → l.after ≡ ended (noted_behind request_call (length x.history) l.effects) (Failed fault) (length y.history) → slot_of y.slots session ≡ None
+  failed_runs_none : (fault : Fault) (l : IsLeftSo insert_number request_call fault begun y)
+      → l.after ≡ ended (noted_behind request_call (length x.history) l.effects) (Failed fault) (length y.history) → slot_of y.slots session ≡ None
   failed_runs_none fault l is =
       let calls : y.calls ≡ x.calls ++ l.after ∷ [] = last_call fault l in
       let over : l.after.ending ≡ Running → ⊥ = λ e. (let f : l.after.ending ≡ Failed fault = ap (λ (c : Call). c.ending) is in cc) in
@@ -278,37 +292,43 @@ module _ {S : Type 0} (g : Ghosts S) (start : Entry → Bool) (session : ℕ) (e
       cc
 
   -- where it has one, it still runs, and is given up
-  left_with : (fault : Fault) (l : IsLeftSo insert_number request_call fault begun y) (action : ℕ) → slot_add (slot_of y.slots session) ≡ Some action → IsAddedNow session entry (record { action = action; unfinished = Some fault }) x z
+  left_with : (fault : Fault) (l : IsLeftSo insert_number request_call fault begun y) (action : ℕ) → slot_add (slot_of y.slots session) ≡ Some action
+      → IsAddedNow session entry (record { action = action; unfinished = Some fault }) x z
   left_with fault l action some = elim l.after_is [
     | inl is ↦ (
         let o = one_add insert_number entry request_call (length x.history) l.effects action refl refl (same_add fault l is ∙ some) l.own in
         let calls : z.calls ≡ x.calls ++ ended l.after GivenUp (length y.history) ∷ [] =
-        end.ended_is insert_number l.after (still_runs fault l is) ∙ ap (λ (cs : List Call). slice_set cs insert_number (ended l.after GivenUp (length y.history))) (last_call fault l) ∙ set_new x.calls l.after (ended l.after GivenUp (length y.history)) in
+        end.ended_is insert_number l.after (still_runs fault l is)
+        ∙ ap (λ (cs : List Call). slice_set cs insert_number (ended l.after GivenUp (length y.history))) (last_call fault l) ∙ set_new x.calls l.after (ended l.after GivenUp (length y.history)) in
         record {
           before = o.before;
           behind = o.behind;
           ending = GivenUp;
-          history_is = end.history_is ∙ l.history_is ∙ ap (λ (h : List Action). x.history ++ h) o.acts_are ∙ sym (append_assoc x.history (shapes insert_number o.before) ((record { by = insert_number; effect = Add entry }) ∷ shapes insert_number o.behind));
+          history_is = end.history_is ∙ l.history_is ∙ ap (λ (h : List Action). x.history ++ h) o.acts_are
+              ∙ sym (append_assoc x.history (shapes insert_number o.before) ((record { by = insert_number; effect = Add entry }) ∷ shapes insert_number o.behind));
           action_is = o.action_is;
           end_is = inr (refl, λ e. cc);
-          calls_is = calls ∙ ap (λ (c : Call). x.calls ++ ended c GivenUp (length y.history) ∷ []) (is ∙ o.noted_is) ∙ ap (λ (h : List Action). x.calls ++ inserted_call session entry (length x.history) action GivenUp (length h) ∷ []) (sym end.history_is);
+          calls_is = calls ∙ ap (λ (c : Call). x.calls ++ ended c GivenUp (length y.history) ∷ []) (is ∙ o.noted_is)
+              ∙ ap (λ (h : List Action). x.calls ++ inserted_call session entry (length x.history) action GivenUp (length h) ∷ []) (sym end.history_is);
         })
     | inr is ↦ absurd (
         let none : slot_add (slot_of y.slots session) ≡ None = ap slot_add (failed_runs_none fault l is) in cc)
   ]
 
-  left_told : (fault : Fault) (added : Option ℕ) → slot_add (slot_of y.slots session) ≡ added → IsLeftSo insert_number request_call fault begun y → InsertTold session entry (left_behind added fault) x z
+  left_told : (fault : Fault) (added : Option ℕ) → slot_add (slot_of y.slots session) ≡ added → IsLeftSo insert_number request_call fault begun y
+      → InsertTold session entry (left_behind added fault) x z
   left_told fault None is l = left_without fault l is
   left_told fault (Some action) is l = left_with fault l action is
 
-  pub insert_told : (answer : Answer) (added : Option ℕ) → slot_add (slot_of y.slots session) ≡ added → answer ≢ Going → NextTold session (ToInsert entry) answer x y → InsertTold session entry (outcome_of answer added) x z
+  pub insert_told : (answer : Answer) (added : Option ℕ) → slot_add (slot_of y.slots session) ≡ added → answer ≢ Going
+      → NextTold session (ToInsert entry) answer x y → InsertTold session entry (outcome_of answer added) x z
   insert_told (Added action unfinished) added is over (inl t) = added_told action unfinished t
   insert_told (Added action unfinished) added is over (inr h) = absurd (let e = h.refused in cc)
   insert_told (Refused fault) added is over t = left_told fault added is (left_so insert_number request_call fault begun y t)
   insert_told answer added is over t = absurd (insert_may entry answer over (came_may insert_number request_call answer begun y t))
 
 -- an insert that was not begun
-not_begun : {S : Type 0} (session : ℕ) (entry : Entry) (fault : Fault) (x y : Snapshot S) → NothingTold fault x y → IsNotAdded session entry fault x y
+not_begun : {S : Type 0} (session : ℕ) (entry : Entry) (fault : Fault) (x y : Moment S) → NothingTold fault x y → IsNotAdded session entry fault x y
 not_begun session entry fault x y t = record {
   shaped = 0;
   history_is = t.silent.history_is ∙ sym (append-nil x.history);
@@ -318,20 +338,22 @@ not_begun session entry fault x y t = record {
 
 -- why it leaves a fault behind, or is refused
 left_cause : {S : Type 0} (g : Ghosts S) (session least_room : ℕ) (old : StoreAndSlots S) (new : S) (key_was : Row → Bool) (used_up tall : Bool) (fault : Fault) → (IsOfEntry fault → ⊥)
-    → HasCause (where_inserted g session least_room true key_was used_up tall old new) fault → HasCause (where_inserted g session least_room false (λ r. false) used_up tall old new) fault
+    → HasCause (causes_of_inserted g session least_room true key_was used_up tall old new) fault → HasCause (causes_of_inserted g session least_room false (λ r. false) used_up tall old new) fault
 left_cause g session least_room old new key_was used_up tall Exists apart h = absurd (apart tt)
 left_cause g session least_room old new key_was used_up tall (KeyExists row) apart h = absurd (apart tt)
 left_cause g session least_room old new key_was used_up tall fault apart h = h
 
 -- what it leaves unfinished has its cause
-added_cause : {S : Type 0} (g : Ghosts S) (session least_room : ℕ) (old : StoreAndSlots S) (new : S) (key_was : Row → Bool) (used_up tall : Bool) (fault : Fault) → HasCause (once_added (where_inserted g session least_room true key_was used_up tall old new)) fault
-    → HasCause (where_inserted g session least_room false (λ r. false) used_up tall old new) fault
+added_cause : {S : Type 0} (g : Ghosts S) (session least_room : ℕ) (old : StoreAndSlots S) (new : S) (key_was : Row → Bool) (used_up tall : Bool)
+    (fault : Fault) → HasCause (once_added (causes_of_inserted g session least_room true key_was used_up tall old new)) fault
+    → HasCause (causes_of_inserted g session least_room false (λ r. false) used_up tall old new) fault
 added_cause g session least_room old new key_was used_up tall (Blocked block) h = absurd (false≢true h)
 added_cause g session least_room old new key_was used_up tall fault h = h
 
 -- an insert that is run to its end
 module _ {S : Type 0} (g : Ghosts S) (session least_room : ℕ) (entry : Entry) where
-  run_told : (start : Entry → Bool) (x z : Snapshot S) (answer : Answer) (added : Option ℕ) → answer ≢ Going → RunGoes g session least_room (ToInsert entry) answer added start x z → InsertTold session entry (outcome_of answer added) x z
+  run_told : (start : Entry → Bool) (x z : Moment S) (answer : Answer) (added : Option ℕ) → answer ≢ Going
+      → RunGoes g session least_room (ToInsert entry) answer added start x z → InsertTold session entry (outcome_of answer added) x z
   run_told start x z answer added over (inl n) = rw (n.refused, n.none) (not_begun session entry n.fault x z n.told)
   run_told start x z answer added over (inr r) = insert_told g start session entry x r.here z r.free r.fits r.end answer added r.add_is over r.told
 
@@ -339,26 +361,35 @@ module _ {S : Type 0} (g : Ghosts S) (session least_room : ℕ) (entry : Entry) 
   abbrev no_block : StoreAndSlots S → S → Bool
   no_block old new = has_no_block session (Some (g.state old.store).begun) (g.state new)
 
-  caused : (old : StoreAndSlots S) (new : S) (answer : Answer) (added : Option ℕ) → IsInsertAnswer answer → ((action : ℕ) → added ≡ Some action → (fault : Fault) → IsOfEntry fault → answer ≢ Refused fault)
-      → IsCaused (where_asked g session least_room (Some (g.state old.store).begun) false (AskInsert entry) old new) answer → InsertCallIsCaused g session least_room entry old new (outcome_of answer added)
+  caused : (old : StoreAndSlots S) (new : S) (answer : Answer) (added : Option ℕ) → IsInsertAnswer answer
+      → ((action : ℕ) → added ≡ Some action → (fault : Fault) → IsOfEntry fault → answer ≢ Refused fault)
+      → IsCaused (causes_of_asked g session least_room (Some (g.state old.store).begun) false (AskInsert entry) old new) answer
+      → InsertCallIsCaused g session least_room entry old new (outcome_of answer added)
   caused old new (Added action None) added may apart c = tt
   caused old new (Added action (Some fault)) added may apart c = added_cause g session least_room old new (λ r. (g.state new).limits.unique) (no_block old new) (is_tall (g.state new)) fault c
-  caused old new (Refused fault) None may apart c = called_wider g session (ToInsert entry) old (where_inserted g session least_room true (λ r. (g.state new).limits.unique) (no_block old new) (is_tall (g.state new)) old new) refl refl refl fault c
+  caused old new (Refused fault) None may apart c =
+      called_wider g session (ToInsert entry) old
+      (causes_of_inserted g session least_room true (λ r. (g.state new).limits.unique) (no_block old new) (is_tall (g.state new)) old new) refl refl refl fault c
   caused old new (Refused fault) (Some action) may apart c =
       left_cause g session least_room old new (λ r. (g.state new).limits.unique) (no_block old new) (is_tall (g.state new)) fault (λ of. apart action refl fault of refl) c
   caused old new answer added may apart c = absurd may
 
-  may_run : (start : Entry → Bool) (x z : Snapshot S) (answer : Answer) (added : Option ℕ) → answer ≢ Going → RunGoes g session least_room (ToInsert entry) answer added start x z → IsInsertAnswer answer
+  may_run : (start : Entry → Bool) (x z : Moment S) (answer : Answer) (added : Option ℕ) → answer ≢ Going → RunGoes g session least_room (ToInsert entry) answer added start x z → IsInsertAnswer answer
   may_run start x z answer added over (inl n) = subst IsInsertAnswer (sym n.refused) tt
-  may_run start x z answer added over (inr r) = insert_may entry answer over (came_may (length x.calls) (first_call session (ToInsert entry) x) answer (with_call x (first_call session (ToInsert entry) x)) r.here r.told)
+  may_run start x z answer added over (inr r) =
+      insert_may entry answer over (came_may (length x.calls) (first_call session (ToInsert entry) x) answer (with_one_call x (first_call session (ToInsert entry) x)) r.here r.told)
 
-  pub insert_caused : (start : Entry → Bool) (x z : Snapshot S) (answer : Answer) (added : Option ℕ) → answer ≢ Going → RunGoes g session least_room (ToInsert entry) answer added start x z
+  pub insert_caused : (start : Entry → Bool) (x z : Moment S) (answer : Answer) (added : Option ℕ) → answer ≢ Going → RunGoes g session least_room (ToInsert entry) answer added start x z
       → InsertCallIsCaused g session least_room entry (here_at x) z.store (outcome_of answer added)
   insert_caused start x z answer added over (inl n) =
-      rw (n.refused, n.none) (begun_called g session (ToInsert entry) (here_at x) (where_inserted g session least_room true (λ r. (g.state z.store).limits.unique) (no_block (here_at x) z.store) (is_tall (g.state z.store)) (here_at x) z.store) (λ h. stopped_before g session least_room false (here_at x) z.store h) n.fault n.cause)
+      rw (n.refused, n.none)
+      (begun_called g session (ToInsert entry) (here_at x)
+      (causes_of_inserted g session least_room true (λ r. (g.state z.store).limits.unique) (no_block (here_at x) z.store)
+      (is_tall (g.state z.store)) (here_at x) z.store) (λ h. stopped_before g session least_room false (here_at x) z.store h) n.fault n.cause)
   insert_caused start x z answer added over (inr r) =
       caused (here_at x) z.store answer added (may_run start x z answer added over (inr r))
-      (λ action some fault of e. not_there g start session entry x r.here z r.free r.fits r.end action (r.add_is ∙ some) fault of (subst (λ (a : Answer). NextTold session (ToInsert entry) a x r.here) e r.told)) r.caused
+      (λ action some fault of e.
+      not_there g start session entry x r.here z r.free r.fits r.end action (r.add_is ∙ some) fault of (subst (λ (a : Answer). NextTold session (ToInsert entry) a x r.here) e r.told)) r.caused
 
   as_told : (a c : StoreAndSlots S) (answer : Answer) (added : Option ℕ) → answer ≢ Going → GoesFrom g session (RunGoes g session least_room (ToInsert entry) answer added) (Some answer) a c
       → CallGoes g session (InsertTold session entry (outcome_of answer added)) (Some answer) a c
@@ -366,7 +397,8 @@ module _ {S : Type 0} (g : Ghosts S) (session least_room : ℕ) (entry : Entry) 
       goes_told g session (RunGoes g session least_room (ToInsert entry) answer added) (λ s. InsertTold session entry (outcome_of answer added)) (Some answer) (Some answer) a c
       (λ start h hc k kc answers fits by t. (by, run_told start (snapshot_of a h hc) (snapshot_of c k kc) answer added over t))
 
-  pub insert_goes : (a c : StoreAndSlots S) (answer : Answer) (added : Option ℕ) → answer ≢ Going → GoesFrom g session (RunGoes g session least_room (ToInsert entry) answer added) (Some answer) a c → InsertGoes g session entry (outcome_of answer added) a c
+  pub insert_goes : (a c : StoreAndSlots S) (answer : Answer) (added : Option ℕ) → answer ≢ Going
+      → GoesFrom g session (RunGoes g session least_room (ToInsert entry) answer added) (Some answer) a c → InsertGoes g session entry (outcome_of answer added) a c
   insert_goes a c (Added action unfinished) added over goes = inl (as_told a c (Added action unfinished) added over goes)
   insert_goes a c (Refused fault) None over goes = as_told a c (Refused fault) None over goes
   insert_goes a c (Refused fault) (Some action) over goes = inr (record { fault = fault; left = refl; goes = as_told a c (Refused fault) (Some action) over goes })

@@ -1,13 +1,13 @@
 -- One moment behind another, while a session's call goes on.
 use Rattle.std.proofs.Common.{◌≡◌, ◌≤◌, ◌⊎◌, ℕ, Bool, true, false, Option, Some, None, Result, Ok, List, [], refl, sym, ap, subst, inl, inr, ◌∙◌, unwrap_or}
-use Rattle.page_action.specs.Causes.{where_forced}
+use Rattle.page_action.specs.Causes.{causes_of_forced}
 use Rattle.session_calls.specs.Ops.{is_last}
 use Rattle.session_calls.specs.Sessions.{start_number}
-use Rattle.whole_calls.proofs.Words.{Ask, AskScan, Call, HasCause, Entry, Fault, State, IsLater, Continues, Ghosts, DeadSets, IsCaused, asked_of, AnswersNext, Answer, Going, Ready, Gave, Refused, Op, StoreAndSlots, Snapshot, snapshot_of, IsRunningCall, Fits, MovesCall, Steps, Takes, EventDoes, here_at, slot_of, Laws}
+use Rattle.whole_calls.proofs.Words.{Ask, AskScan, Call, HasCause, Entry, Fault, State, IsLater, Continues, Ghosts, DeadSets, IsCaused, asked_of, AnswersNext, Answer, Going, Ready, Gave, Refused, Op, StoreAndSlots, Moment, snapshot_of, IsRunningCall, Fits, MovesCall, Steps, Takes, EventDoes, here_at, slot_of, Laws}
 use Rattle.whole_calls.specs.Going.{CameBy, CallGoes}
-use Rattle.whole_calls.specs.Giving.{AnswersSeek, TellsScan, ScanStays, TellsGiven, given_of, give_came}
-use Rattle.whole_calls.specs.Refusing.{another_runs, is_full_vacuum, where_asked, ScanIsCaused}
-use Rattle.whole_calls.specs.Stepping.{RoomTold, Lasts, StepGoes, HasGoneTo, ScanWaits, ScanGoes}
+use Rattle.whole_calls.specs.Giving.{AnswersSeek, TellsScan, ScanIsUntold, TellsGiven, given_of, given_outcome}
+use Rattle.whole_calls.specs.Refusing.{another_runs, is_full_vacuum, causes_of_asked, ScanIsCaused}
+use Rattle.whole_calls.specs.Stepping.{RoomTold, Lasts, StepGoes, HasGoneTo, ScanGivesNothing, ScanGoes}
 use Rattle.whole_calls.specs.Sweeping.{Followed, IsCountedAs}
 use Rattle.whole_calls.specs.Telling.{TellsEnd}
 use Rattle.whole_calls.proofs.Composing.{joined, to_first}
@@ -20,20 +20,21 @@ use Rattle.whole_calls.proofs.Statistics.{finish_tells, finish_over}
 use Rattle.whole_calls.proofs.Tellings.{runs_in_slot, one_runs, moves_tells, kept_not_exists}
 
 module _ {S : Type 0} (g : Ghosts S) (session : ℕ) where
-  pub lasts_here : (x : Snapshot S) → Lasts g session x x
+  pub lasts_here : (x : Moment S) → Lasts g session x x
   lasts_here x = record { steps = λ f h. h; others = λ other apart. refl }
 
-  pub lasts_then : (x y z : Snapshot S) → Lasts g session x y → Lasts g session y z → Lasts g session x z
+  pub lasts_then : (x y z : Moment S) → Lasts g session x y → Lasts g session y z → Lasts g session x z
   lasts_then x y z one two = record { steps = λ f h. two.steps f (one.steps f h); others = λ other apart. two.others other apart ∙ one.others other apart }
 
-  pub later_of : Laws g → (x y : Snapshot S) → Lasts g session x y → IsLater (g.backing x.store) (g.backing y.store)
+  pub later_of : Laws g → (x y : Moment S) → Lasts g session x y → IsLater (g.backing x.store) (g.backing y.store)
   later_of laws x y lasts = laws.follows_later x.store y.store (lasts.steps x.store (laws.follows_same x.store))
 
-  pub busier_of : (x y : Snapshot S) → Lasts g session x y → another_runs y.slots session ≡ true → another_runs x.slots session ≡ true
+  pub busier_of : (x y : Moment S) → Lasts g session x y → another_runs y.slots session ≡ true → another_runs x.slots session ≡ true
   busier_of x y lasts = others_before x.slots y.slots session lasts.others
 
   -- a step that goes on
-  pub gone_on : (least_room : ℕ) (x y z : Snapshot S) → HasGoneTo g session x y → Lasts g session y z → z.sets ≡ y.sets → (g.state z.store).limits ≡ (g.state y.store).limits → StepGoes g session least_room Going y z → HasGoneTo g session x z
+  pub gone_on : (least_room : ℕ) (x y z : Moment S) → HasGoneTo g session x y → Lasts g session y z → z.sets ≡ y.sets
+      → (g.state z.store).limits ≡ (g.state y.store).limits → StepGoes g session least_room Going y z → HasGoneTo g session x z
   gone_on least_room x y z gone lasts sets limits step = record {
     lasts = lasts_then x y z gone.lasts lasts;
     sets_are = sets ∙ gone.sets_are;
@@ -42,14 +43,16 @@ module _ {S : Type 0} (g : Ghosts S) (session : ℕ) where
     far = far_then session x y z gone.far step.told;
     counted = λ what so. (
         let counts : IsCountedAs what y.sets (g.state y.store) (slot_of y.slots session) → IsCountedAs what y.sets (g.state z.store) (slot_of z.slots session) = step.counts what in
-        in_sets what x.sets y.sets (g.state z.store) (slot_of z.slots session) (sym gone.sets_are) (counts (in_sets what y.sets x.sets (g.state y.store) (slot_of y.slots session) gone.sets_are (gone.counted what so))));
+        in_sets what x.sets y.sets (g.state z.store) (slot_of z.slots session) (sym gone.sets_are)
+        (counts (in_sets what y.sets x.sets (g.state y.store) (slot_of y.slots session) gone.sets_are (gone.counted what so))));
   }
     where
       in_sets : (what : Followed) (sets other : DeadSets) (st : State) (slot : Option Op) → sets ≡ other → IsCountedAs what other st slot → IsCountedAs what sets st slot
       in_sets what sets other st slot same h = subst (λ (l : DeadSets). IsCountedAs what l st slot) (sym same) h
 
 -- a step, by its event
-pub step_goes : {S : Type 0} (g : Ghosts S) (start : Entry → Bool) (session least_room : ℕ) (answer : Answer) (x y : Snapshot S) → (g.backing y.store).honest ≡ true → Fits g start x → (5 ≤ least_room → 5 ≤ (g.backing x.store).promised)
+pub step_goes : {S : Type 0} (g : Ghosts S) (start : Entry → Bool) (session least_room : ℕ) (answer : Answer) (x y : Moment S)
+    → (g.backing y.store).honest ≡ true → Fits g start x → (5 ≤ least_room → 5 ≤ (g.backing x.store).promised)
     → EventDoes g start (MovesCall session Steps) answer x y → StepGoes g session least_room answer x y
 step_goes g start session least_room answer x y honest fits room does = record {
   told = λ number call is. inl (moves_tells g start x y session Steps answer tt fits does number call is);
@@ -62,16 +65,19 @@ step_goes g start session least_room answer x y honest fits room does = record {
 }
 
 -- behind the making of room
-pub room_then : {S : Type 0} (g : Ghosts S) (session least_room : ℕ) (answer : Answer) (x y z : Snapshot S) → IsLater (g.backing x.store) (g.backing y.store) → IsLater (g.backing y.store) (g.backing z.store)
+pub room_then : {S : Type 0} (g : Ghosts S) (session least_room : ℕ) (answer : Answer) (x y z : Moment S)
+    → IsLater (g.backing x.store) (g.backing y.store) → IsLater (g.backing y.store) (g.backing z.store)
     → RoomTold g x y → StepGoes g session least_room answer y z → StepGoes g session least_room answer x z
 room_then g session least_room answer x y z first later room step = record {
   told = silent_then session answer x y z room.silent step.told;
   caused = λ number call is. (
       let runs = subst (λ (cs : List Call). IsRunningCall cs session number call) (sym room.silent.calls_is) is in
       let busy = λ (h : another_runs y.slots session ≡ true). subst (λ (l : List (Option Op)). another_runs l session ≡ true) room.slots_are h in
-      let full = λ (counts : AsksToCount call.ask) (h : is_full_vacuum (slot_of y.slots session) ≡ true). subst (λ (l : List (Option Op)). is_full_vacuum (slot_of l session) ≡ true) room.slots_are h in
-      subst (λ (st : State). IsCaused (where_asked g session least_room (start_number st session) (is_full_vacuum (slot_of x.slots session)) call.ask (here_at x) z.store) answer) room.state_is
-      (cause_wider _ _ (asked_wider g session least_room (here_at x) (here_at y) z.store first later.failures busy (start_number (g.state y.store) session) (is_full_vacuum (slot_of y.slots session)) (is_full_vacuum (slot_of x.slots session)) call.ask full) answer
+      let full = λ (counts : AsksToCount call.ask) (h : is_full_vacuum (slot_of y.slots session) ≡ true).
+      subst (λ (l : List (Option Op)). is_full_vacuum (slot_of l session) ≡ true) room.slots_are h in
+      subst (λ (st : State). IsCaused (causes_of_asked g session least_room (start_number st session) (is_full_vacuum (slot_of x.slots session)) call.ask (here_at x) z.store) answer) room.state_is
+      (cause_wider _ _ (asked_wider g session least_room (here_at x) (here_at y) z.store first later.failures busy
+      (start_number (g.state y.store) session) (is_full_vacuum (slot_of y.slots session)) (is_full_vacuum (slot_of x.slots session)) call.ask full) answer
       (step.caused number call runs)));
   counts = λ what. rw (room.sets_are, room.state_is, room.slots_are) at (step.counts what);
   fewer = rw (room.state_is, room.slots_are) at step.fewer;
@@ -81,7 +87,8 @@ room_then g session least_room answer x y z first later room step = record {
 }
 
 -- the room can't be made
-pub held_goes : {S : Type 0} (g : Ghosts S) (session least_room : ℕ) (fault : Fault) (x y : Snapshot S) → RoomTold g x y → HasCause (where_forced (g.backing x.store) (g.backing y.store)) fault → StepGoes g session least_room (Refused fault) x y
+pub held_goes : {S : Type 0} (g : Ghosts S) (session least_room : ℕ) (fault : Fault) (x y : Moment S) → RoomTold g x y
+    → HasCause (causes_of_forced (g.backing x.store) (g.backing y.store)) fault → StepGoes g session least_room (Refused fault) x y
 held_goes g session least_room fault x y room cause = record {
   told = λ number call is. inr (record {
     fault = fault;
@@ -101,48 +108,53 @@ held_goes g session least_room fault x y room cause = record {
 
 -- a scan of which nothing is told goes on, or has its step
 module _ {S : Type 0} (g : Ghosts S) (session least_room : ℕ) where
-  pub waits_then : (x y z : Snapshot S) → ScanWaits g session x y → ScanWaits g session y z → ScanWaits g session x z
+  pub waits_then : (x y z : Moment S) → ScanGivesNothing g session x y → ScanGivesNothing g session y z → ScanGivesNothing g session x z
   waits_then x y z one two = record { lasts = lasts_then g session x y z one.lasts two.lasts; stays = stays_then session x y z one.stays two.stays }
 
-  pub waits_behind : (answer : Answer) (x y z : Snapshot S) → ScanWaits g session x y → ScanGoes g session least_room answer y z → ScanGoes g session least_room answer x z
+  pub waits_behind : (answer : Answer) (x y z : Moment S) → ScanGivesNothing g session x y → ScanGoes g session least_room answer y z → ScanGoes g session least_room answer x z
   waits_behind answer x y z one two = record { last = two.last; waits = waits_then x y two.last one two.waits; lasts = two.lasts; told = two.told; caused = two.caused }
 
   -- an answer with which it isn't at its end
-  pub waits_on : (answer : Answer) (x y : Snapshot S) → (answer ≡ Going) ⊎ ((count : ℕ) × (answer ≡ Ready count)) → ScanGoes g session least_room answer x y → ScanWaits g session x y
+  pub waits_on : (answer : Answer) (x y : Moment S) → (answer ≡ Going) ⊎ ((count : ℕ) × (answer ≡ Ready count)) → ScanGoes g session least_room answer x y → ScanGivesNothing g session x y
   waits_on answer x y on goes = waits_then x goes.last y goes.waits (record { lasts = goes.lasts; stays = by on })
     where
-      by : (answer ≡ Going) ⊎ ((count : ℕ) × (answer ≡ Ready count)) → ScanStays session goes.last y
+      by : (answer ≡ Going) ⊎ ((count : ℕ) × (answer ≡ Ready count)) → ScanIsUntold session goes.last y
       by (inl is) = going_stays session goes.last y (subst (λ (a : Answer). TellsScan session a goes.last y) is goes.told)
       by (inr is) = ready_stays session is.0 goes.last y (subst (λ (a : Answer). TellsScan session a goes.last y) is.1 goes.told)
 
   -- one that has no entry ready
-  pub waits_none : (answer : Answer) (x y : Snapshot S) → answer ≡ Gave None → ScanGoes g session least_room answer x y → ScanWaits g session x y
-  waits_none answer x y is goes = waits_then x goes.last y goes.waits (record { lasts = goes.lasts; stays = none_stays session goes.last y (subst (λ (a : Answer). TellsScan session a goes.last y) is goes.told) })
+  pub waits_none : (answer : Answer) (x y : Moment S) → answer ≡ Gave None → ScanGoes g session least_room answer x y → ScanGivesNothing g session x y
+  waits_none answer x y is goes =
+      waits_then x goes.last y goes.waits (record { lasts = goes.lasts; stays = none_stays session goes.last y (subst (λ (a : Answer). TellsScan session a goes.last y) is goes.told) })
 
   -- what it tells, from the moment before it
-  pub scan_tells : (answer : Answer) (x y : Snapshot S) → ScanGoes g session least_room answer x y → TellsScan session answer x y
+  pub scan_tells : (answer : Answer) (x y : Moment S) → ScanGoes g session least_room answer x y → TellsScan session answer x y
   scan_tells answer x y goes = scan_then session answer x goes.last y goes.waits.stays goes.told
 
   -- why it is refused, told from the moment before it
-  pub scan_caused : Laws g → (answer : Answer) (x y : Snapshot S) → ScanGoes g session least_room answer x y → ScanIsCaused g session least_room answer x y
+  pub scan_caused : Laws g → (answer : Answer) (x y : Moment S) → ScanGoes g session least_room answer x y → ScanIsCaused g session least_room answer x y
   scan_caused laws answer x y goes number call range is ask =
       let silent = goes.waits.stays number call range is ask in
       let runs = subst (λ (cs : List Call). IsRunningCall cs session number call) (sym silent.calls_is) is in
-      cause_wider _ _ (gone_wider g session least_room (here_at x) (here_at goes.last) y.store (later_of g session laws x goes.last goes.waits.lasts) (later_of g session laws goes.last y goes.lasts).failures
+      cause_wider _ _ (gone_wider g session least_room (here_at x) (here_at goes.last) y.store (later_of g session laws x goes.last goes.waits.lasts)
+      (later_of g session laws goes.last y goes.lasts).failures
       (busier_of g session x goes.last goes.waits.lasts) false false (λ f. f)) answer (goes.caused number call range runs ask)
 
   -- one that has given no entry, and then is over
-  pub scan_ends : Laws g → (came : Answer) (given : Result (Option Entry) Fault) (old mid new : StoreAndSlots S) → given_of came ≡ given → ((entry : Entry) → given ≡ Ok (Some entry) → ⊥) → AnswersSeek came
-      → Continues g.follows old.store mid.store → Continues g.follows mid.store new.store → CallGoes g session (ScanGoes g session least_room came) (Some came) old mid → CallGoes g session (TellsEnd session) None mid new
-      → CallGoes g session (TellsGiven session given) (give_came given) old new
+  pub scan_ends : Laws g → (came : Answer) (given : Result (Option Entry) Fault) (old mid new : StoreAndSlots S) → given_of came ≡ given
+      → ((entry : Entry) → given ≡ Ok (Some entry) → ⊥) → AnswersSeek came
+      → Continues g.follows old.store mid.store → Continues g.follows mid.store new.store
+      → CallGoes g session (ScanGoes g session least_room came) (Some came) old mid → CallGoes g session (TellsEnd session) None mid new
+      → CallGoes g session (TellsGiven session given) (given_outcome given) old new
   scan_ends laws came given old mid new is none kind steps then_steps =
-      joined g laws session (λ s. ScanGoes g session least_room came) (λ s. TellsEnd session) (λ s. TellsGiven session given) (Some came) None (give_came given) old mid new steps then_steps
-      (λ xs ys by so. to_first (give_came given) None xs ys (subst (λ (r : Result (Option Entry) Fault). CameBy xs (give_came r)) is (give_comes came xs kind by)) so)
+      joined g laws session (λ s. ScanGoes g session least_room came) (λ s. TellsEnd session) (λ s. TellsGiven session given) (Some came) None (given_outcome given) old mid new steps then_steps
+      (λ xs ys by so. to_first (given_outcome given) None xs ys (subst (λ (r : Result (Option Entry) Fault). CameBy xs (given_outcome r)) is (give_comes came xs kind by)) so)
       (λ start h hc k kc l lc fx fy fz one two. subst (λ (r : Result (Option Entry) Fault). TellsGiven session r (snapshot_of old h hc) (snapshot_of new l lc)) is
-      (end_given g start session came (snapshot_of old h hc) (snapshot_of mid k kc) (snapshot_of new l lc) fx kind (λ entry some. none entry (sym is ∙ some)) (scan_tells came (snapshot_of old h hc) (snapshot_of mid k kc) one) two))
+      (end_given g start session came (snapshot_of old h hc) (snapshot_of mid k kc) (snapshot_of new l lc) fx kind
+      (λ entry some. none entry (sym is ∙ some)) (scan_tells came (snapshot_of old h hc) (snapshot_of mid k kc) one) two))
 
   -- a step of it
-  pub scan_steps : (answer : Answer) (x y : Snapshot S) → Lasts g session x y → StepGoes g session least_room answer x y → ScanGoes g session least_room answer x y
+  pub scan_steps : (answer : Answer) (x y : Moment S) → Lasts g session x y → StepGoes g session least_room answer x y → ScanGoes g session least_room answer x y
   scan_steps answer x y lasts step = record {
     last = x;
     waits = record { lasts = lasts_here g session x; stays = λ number call range is ask. record { history_is = refl; calls_is = refl } };
@@ -150,11 +162,12 @@ module _ {S : Type 0} (g : Ghosts S) (session least_room : ℕ) where
     told = scan_told session answer x y step.told;
     caused = λ number call range is ask. (
         let full = is_full_vacuum (slot_of x.slots session) in
-        subst (λ (a : Ask). IsCaused (where_asked g session least_room (start_number (g.state x.store) session) full a (here_at x) y.store) answer) ask (step.caused number call is));
+        subst (λ (a : Ask). IsCaused (causes_of_asked g session least_room (start_number (g.state x.store) session) full a (here_at x) y.store) answer) ask (step.caused number call is));
   }
 
   -- asking it for its next entry
-  pub scan_nexts : (start : Entry → Bool) (answer : Answer) (x y : Snapshot S) → Fits g start x → Lasts g session x y → EventDoes g start (MovesCall session Takes) answer x y → ScanGoes g session least_room answer x y
+  pub scan_nexts : (start : Entry → Bool) (answer : Answer) (x y : Moment S) → Fits g start x → Lasts g session x y
+      → EventDoes g start (MovesCall session Takes) answer x y → ScanGoes g session least_room answer x y
   scan_nexts start answer x y fits lasts does = record {
     last = x;
     waits = record { lasts = lasts_here g session x; stays = λ number call range is ask. record { history_is = refl; calls_is = refl } };

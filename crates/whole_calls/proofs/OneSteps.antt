@@ -2,17 +2,17 @@
 use Rattle.std.proofs.Common.{◌≡◌, ◌⊎◌, ℕ, ◌≤◌, zero, suc, Bool, true, false, not, Option, Some, None, List, [], ◌∷◌, ◌++◌, length, slice_get, slice_set, refl, sym, ap, subst, arith, inl, inr, ◌∙◌, unwrap_or}
 use Rattle.index_model.specs.declared.fault.Fault.TheVariants.{Blocked, NoSession}
 use Rattle.index_model.specs.declared.stats.VacuumStats.{VacuumStats}
-use Rattle.page_action.specs.Causes.{where_forced}
+use Rattle.page_action.specs.Causes.{causes_of_forced}
 use Rattle.session_calls.specs.Ops.{ends_call, is_last}
 use Rattle.session_calls.specs.Sessions.{start_number, RefusalChangesNothing, RunsUntilLast}
 use Rattle.session_calls.specs.declared.op.Op.TheVariants.{Insert as Inserts, Scan as Scans, Bulk as Bulks, Cleanup as Cleanups}
 use Rattle.session_calls.proofs.RunningOn.{runs_over}
 use Rattle.schedule.specs.Events.{DoesOneAct}
 use Rattle.schedule.proofs.Lists.{same_some}
-use Rattle.whole_calls.proofs.Words.{Effect, contents_after, Ask, Call, Entry, Fault, HasCause, State, Backing, IsLater, Ghosts, DeadSets, acts_of, IsCaused, IsAsked, Told, slot_add, AnswersStep, Answer, Going, Finished, Checkpointed, Refused, Op, StoreAndSlots, Snapshot, IsRunningCall, Fits, EventDoes, Makes, here_at, here_with, slot_of, has_call, MovesCall, Steps, CallMoves, MovesOn, OthersStay}
+use Rattle.whole_calls.proofs.Words.{Effect, contents_after, Ask, Call, Entry, Fault, HasCause, State, Backing, IsLater, Ghosts, DeadSets, acts_of, IsCaused, IsAsked, Told, slot_add, AnswersStep, Answer, Going, Finished, Checkpointed, Refused, Op, StoreAndSlots, Moment, IsRunningCall, Fits, EventDoes, Makes, here_at, here_with, slot_of, has_call, MovesCall, Steps, CallMoves, MovesOn, OthersStay}
 use Rattle.whole_calls.specs.Going.{IsAmong}
-use Rattle.whole_calls.specs.OneStep.{cut_short, HasStepped, IsGivenUpFor, OneStepGoes, OneStepAlways, OneStepComesTo, IsStepMade, IsRoomTried, IsOneStep}
-use Rattle.whole_calls.specs.Refusing.{is_full_vacuum, where_asked}
+use Rattle.whole_calls.specs.OneStep.{cut_short, HasStepped, IsGivenUpFor, OneStepGoes, OneStepAlways, OneStepComesTo, IsStepMade, IsRoomTried, IsMadeAsStep}
+use Rattle.whole_calls.specs.Refusing.{is_full_vacuum, causes_of_asked}
 use Rattle.whole_calls.specs.Stepping.{RoomTold, StepGoes}
 use Rattle.whole_calls.specs.Telling.{IsOwnEffect, IsSilent, HasNone, TellsEnd}
 use Rattle.whole_calls.proofs.Lasting.{step_goes, room_then}
@@ -21,7 +21,7 @@ use Rattle.whole_calls.proofs.Tellings.{moves_tells, one_runs, runs_has_call, ru
 use Rattle.whole_calls.proofs.Whole.{LeavesAll}
 
 -- what a step tells, by its event
-pub record StepsOnce {S : Type 0} (g : Ghosts S) (session least_room : ℕ) (answer : Answer) (old new : Snapshot S) : Type 0 where
+pub record StepsOnce {S : Type 0} (g : Ghosts S) (session least_room : ℕ) (answer : Answer) (old new : Moment S) : Type 0 where
   pub once : (number : ℕ) (call : Call) → IsRunningCall old.calls session number call → HasStepped number call answer old new
   pub idle : HasNone session old → IsSilent old new
   pub goes : StepGoes g session least_room answer old new
@@ -30,7 +30,8 @@ own_of : (was_there : Entry → Bool) (call : Call) (effect : Option Effect) →
 own_of was_there call None h = tt
 own_of was_there call (Some e) h = h.0
 
-module _ {S : Type 0} (g : Ghosts S) (start : Entry → Bool) (session least_room : ℕ) (answer : Answer) (x y : Snapshot S) (fits : Fits g start x) (does : EventDoes g start (MovesCall session Steps) answer x y) where
+module _ {S : Type 0} (g : Ghosts S) (start : Entry → Bool) (session least_room : ℕ) (answer : Answer) (x y : Moment S) (fits : Fits g start x)
+    (does : EventDoes g start (MovesCall session Steps) answer x y) where
   has_stepped : (number : ℕ) (call : Call) → IsRunningCall x.calls session number call → HasStepped number call answer x y
   has_stepped number call is =
       let goes : CallMoves g start session answer x y = subst (λ (b : Bool). MovesOn g start b session answer x y) (runs_has_call g start x fits session number call is) does.also.happens in
@@ -58,7 +59,7 @@ module _ {S : Type 0} (g : Ghosts S) (start : Entry → Bool) (session least_roo
   }
 
 -- behind the making of room
-module _ {S : Type 0} (g : Ghosts S) (session least_room : ℕ) (x y : Snapshot S) (room : RoomTold g x y) where
+module _ {S : Type 0} (g : Ghosts S) (session least_room : ℕ) (x y : Moment S) (room : RoomTold g x y) where
   runs_then : (number : ℕ) (call : Call) → IsRunningCall x.calls session number call → IsRunningCall y.calls session number call
   runs_then number call is = subst (λ (cs : List Call). IsRunningCall cs session number call) (sym room.silent.calls_is) is
 
@@ -66,7 +67,8 @@ module _ {S : Type 0} (g : Ghosts S) (session least_room : ℕ) (x y : Snapshot 
   none_then none number call is = none number call (subst (λ (cs : List Call). IsRunningCall cs session number call) room.silent.calls_is is)
 
   -- a step
-  pub steps_behind : (answer : Answer) (z : Snapshot S) → IsLater (g.backing x.store) (g.backing y.store) → IsLater (g.backing y.store) (g.backing z.store) → StepsOnce g session least_room answer y z → OneStepGoes g session least_room answer x z
+  pub steps_behind : (answer : Answer) (z : Moment S) → IsLater (g.backing x.store) (g.backing y.store)
+      → IsLater (g.backing y.store) (g.backing z.store) → StepsOnce g session least_room answer y z → OneStepGoes g session least_room answer x z
   steps_behind answer z first later step =
       let goes = room_then g session least_room answer x y z first later room step.goes in
       record {
@@ -91,7 +93,8 @@ module _ {S : Type 0} (g : Ghosts S) (session least_room : ℕ) (x y : Snapshot 
       }
 
   -- a call that is given up, since the room couldn't be made
-  pub given_up_goes : (start : Entry → Bool) (fault : Fault) (added : Option ℕ) (z : Snapshot S) → Fits g start y → HasCause (where_forced (g.backing x.store) (g.backing y.store)) fault → added ≡ slot_add (slot_of y.slots session)
+  pub given_up_goes : (start : Entry → Bool) (fault : Fault) (added : Option ℕ) (z : Moment S) → Fits g start y
+      → HasCause (causes_of_forced (g.backing x.store) (g.backing y.store)) fault → added ≡ slot_add (slot_of y.slots session)
       → LeavesAll g session y.store z.store → TellsEnd session y z → OneStepGoes g session least_room (cut_short added fault) x z
   given_up_goes start fault added z fits cause is leaves end = record {
     told = λ number call runs. inr (given_up number call (runs_then number call runs));
@@ -112,17 +115,18 @@ module _ {S : Type 0} (g : Ghosts S) (session least_room : ℕ) (x y : Snapshot 
       given_up : (number : ℕ) (call : Call) → IsRunningCall y.calls session number call → IsGivenUpFor g number call (cut_short added fault) x z
       given_up number call runs = record {
         fault = fault;
-        cause = subst (λ (b : Backing). HasCause (where_forced (g.backing x.store) b) fault) (sym leaves.backing) cause;
+        cause = subst (λ (b : Backing). HasCause (causes_of_forced (g.backing x.store) b) fault) (sym leaves.backing) cause;
         answer_is = ap (λ (a : Option ℕ). cut_short a fault) (sym (added_is number call runs));
         history_is = end.history_is ∙ room.silent.history_is;
         calls_is = rw (sym room.silent.history_is, sym room.silent.calls_is) (end.ended_is number call runs);
       }
 
-      forced : (a : Option ℕ) (f : Fault) → HasCause (where_forced (g.backing x.store) (g.backing y.store)) f → IsCaused (where_forced (g.backing x.store) (g.backing y.store)) (cut_short a f)
+      forced : (a : Option ℕ) (f : Fault) → HasCause (causes_of_forced (g.backing x.store) (g.backing y.store)) f → IsCaused (causes_of_forced (g.backing x.store) (g.backing y.store)) (cut_short a f)
       forced None f h = h
       forced (Some action) f h = h
 
-      caused : (ask : Ask) → IsCaused (where_asked g session least_room (start_number (g.state x.store) session) (is_full_vacuum (slot_of x.slots session)) ask (here_at x) z.store) (cut_short added fault)
+      caused : (ask : Ask)
+          → IsCaused (causes_of_asked g session least_room (start_number (g.state x.store) session) (is_full_vacuum (slot_of x.slots session)) ask (here_at x) z.store) (cut_short added fault)
       caused ask =
           let full = is_full_vacuum (slot_of x.slots session) in
           let number = start_number (g.state x.store) session in
@@ -138,12 +142,12 @@ module _ {S : Type 0} (g : Ghosts S) (session least_room : ℕ) (x y : Snapshot 
       not_finished (Some action) e = cc
 
 -- a fault of a checkpoint ends a call
-forced_ends : (old new : Backing) (fault : Fault) → HasCause (where_forced old new) fault → ends_call fault ≡ true
+forced_ends : (old new : Backing) (fault : Fault) → HasCause (causes_of_forced old new) fault → ends_call fault ≡ true
 forced_ends old new (Blocked block) h = absurd (true_false (sym h))
 forced_ends old new NoSession h = absurd (true_false (sym h))
 forced_ends old new fault h = refl
 
-short_ends : (old new : Backing) (added : Option ℕ) (fault : Fault) → HasCause (where_forced old new) fault → is_last (cut_short added fault) ≡ true
+short_ends : (old new : Backing) (added : Option ℕ) (fault : Fault) → HasCause (causes_of_forced old new) fault → is_last (cut_short added fault) ≡ true
 short_ends old new None fault h = forced_ends old new fault h
 short_ends old new (Some action) fault h = refl
 
@@ -181,7 +185,8 @@ same_list : (xs ys : List (Option Op)) → length xs ≡ length ys → ((i : ℕ
 same_list [] [] long at = refl
 same_list [] (y ∷ ys) long at = absurd (omega (arith, long))
 same_list (x ∷ xs) [] long at = absurd (omega (arith, long))
-same_list (x ∷ xs) (y ∷ ys) long at = ap (λ (o : Option Op). o ∷ xs) (same_some (Some x) x y refl (at 0)) ∙ ap (λ (l : List (Option Op)). y ∷ l) (same_list xs ys (omega (arith, long)) (λ i. at (suc i)))
+same_list (x ∷ xs) (y ∷ ys) long at = ap (λ (o : Option Op). o ∷ xs) (same_some (Some x) x y refl (at 0))
+    ∙ ap (λ (l : List (Option Op)). y ∷ l) (same_list xs ys (omega (arith, long)) (λ i. at (suc i)))
 
 -- the slots are the same where one session's is, and all others
 same_slots : (xs ys : List (Option Op)) (session : ℕ) → length xs ≡ length ys → OthersStay session ys xs → slot_of xs session ≡ slot_of ys session → xs ≡ ys
@@ -211,7 +216,8 @@ module _ {S : Type 0} (g : Ghosts S) (session : ℕ) (store mid : S) (slots : Li
   }
 
   -- ... and of a call that is given up for a fault
-  pub always_given_up : (fault : Fault) (added : Option ℕ) (new : S) (then_slots : List (Option Op)) → HasCause (where_forced (g.backing store) (g.backing mid)) fault → added ≡ slot_add (slot_of slots session)
+  pub always_given_up : (fault : Fault) (added : Option ℕ) (new : S) (then_slots : List (Option Op))
+      → HasCause (causes_of_forced (g.backing store) (g.backing mid)) fault → added ≡ slot_add (slot_of slots session)
       → (g.state new).acts ≡ (g.state mid).acts → (g.state new).pages ≡ (g.state mid).pages → (g.state new).limits ≡ (g.state mid).limits → (g.state new).frames ≡ (g.state mid).frames
       → OthersStay session slots then_slots → slot_of then_slots session ≡ None → OneStepAlways g session (cut_short added fault) (here_with store slots sets) (here_with new then_slots sets)
   always_given_up fault added new then_slots cause is acts pages limits frames others over =
@@ -236,7 +242,8 @@ short_comes None fault answers h = inl h
 short_comes (Some action) fault answers h = inr (action, fault, refl, h)
 
 -- the step behind the making of room
-pub behind_room : {S : Type 0} (g : Ghosts S) (session least_room : ℕ) (answer : Answer) (old here there : StoreAndSlots S) → (here ≡ old) ⊎ ((count : ℕ) × IsRoomTried g least_room (Checkpointed count) old here) → IsStepMade g session least_room answer here there
-    → IsOneStep g session least_room answer old there
+pub behind_room : {S : Type 0} (g : Ghosts S) (session least_room : ℕ) (answer : Answer) (old here there : StoreAndSlots S) → (here ≡ old)
+    ⊎ ((count : ℕ) × IsRoomTried g least_room (Checkpointed count) old here) → IsStepMade g session least_room answer here there
+    → IsMadeAsStep g session least_room answer old there
 behind_room {S} g session least_room answer old here there (inl same) step = inl (subst (λ (x : StoreAndSlots S). IsStepMade g session least_room answer x there) same step)
 behind_room {S} g session least_room answer old here there (inr tried) step = inr (inl (record { count = tried.0; between = here; checkpoint = tried.1; step = step }))

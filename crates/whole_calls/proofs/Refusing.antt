@@ -11,29 +11,29 @@ use Rattle.latch_table.specs.declared.mode.Mode.{Mode}
 use Rattle.latch_table.specs.declared.mode.Mode.TheVariants.{Shared, Exclusive, Cleanup}
 use Rattle.latch_table.proofs.Tables.{is_held_by_another-by}
 use Rattle.page_action.specs.Contents.{entry_on_live_leaf}
-use Rattle.page_action.specs.Causes.{nothing_wrong, other_row_is_there, where_forced, has_failed, is_at_end, pinned_blocks, count_apart}
+use Rattle.page_action.specs.Causes.{nothing_wrong, other_row_is_there, causes_of_forced, has_failed, is_at_end, pinned_blocks, count_apart}
 use Rattle.descent.specs.Shared.{is_out_of_blocks, count_new, lacks_room, frames_for}
 use Rattle.descent.specs.Ways.{root_level}
 use Rattle.split_finish.specs.Finishes.{frames_of}
-use Rattle.insert_split.specs.Inserts.{InsertFits, InsertStands, leaf_held, images_at, frames_at, takes_block_at, splits_root_at, where_inserting}
+use Rattle.insert_split.specs.Inserts.{InsertInvariant, InsertStands, leaf_held, images_at, frames_at, takes_block_at, splits_root_at, causes_of_inserting}
 use Rattle.insert_split.specs.declared.insert.InsertAt.{InsertAt}
 use Rattle.insert_split.specs.declared.insert.InsertAt.TheVariants.{Coming, Finishing}
 use Rattle.insert_split.specs.declared.insert.Stage.TheVariants.{Start, At, Holding as Holds}
 use Rattle.insert_split.specs.declared.insert.InsertOp.{InsertOp}
-use Rattle.scan.specs.Scans.{ScanFits, leaf_pinned, pins_of, where_scanning}
+use Rattle.scan.specs.Scans.{ScanInvariant, leaf_pinned, pins_of, causes_of_scanning}
 use Rattle.scan.specs.declared.steps.ScanOp.{ScanOp}
 use Rattle.vacuum.specs.Ops.{next_block}
-use Rattle.vacuum.specs.BulkDeletes.{BulkDeleteFits, where_deleting, is_counted_out, has_dead, block_if}
+use Rattle.vacuum.specs.BulkDeletes.{BulkDeleteInvariant, causes_of_deleting, is_counted_out, has_dead, block_if}
 use Rattle.vacuum.specs.declared.steps.BulkDeleteOp.{BulkDeleteOp}
-use Rattle.page_delete.specs.Cleanups.{CleanupFits, where_cleaning}
+use Rattle.page_delete.specs.Cleanups.{CleanupInvariant, causes_of_cleaning}
 use Rattle.page_delete.specs.Needs.{blocks_written}
-use Rattle.page_delete.specs.Ops.{is_counted_out as is_cleanup_full}
+use Rattle.page_delete.specs.Ops.{cleanup_counted_out as is_cleanup_full}
 use Rattle.page_delete.specs.declared.steps.CleanupOp.{CleanupOp}
-use Rattle.session_calls.specs.Sessions.{start_number, after_call, StepIsRefused, RefusalChangesNothing, UnfinishedChangesNothing}
+use Rattle.session_calls.specs.Sessions.{start_number, op_after_call, StepIsRefused, RefusalChangesNothing, UnfinishedChangesNothing}
 use Rattle.session_calls.specs.declared.op.Op.TheVariants.{Insert, Scan, Bulk, Cleanup}
 use Rattle.session_calls.proofs.Meeting.{other_row_is}
-use Rattle.whole_calls.proofs.Words.{Effect, Ask, AskInsert, AskScan, AskBulkDelete, AskCleanup, Call, Circumstances, HasCause, Entry, Fault, State, Backing, IsLater, Ghosts, Page, DeadSets, acts_of, OpFits, IsCaused, once_added, where_stepped, set_at, asked_of, session_of, Told, is_busy, AnswersNext, Answer, Added, Gave, Refused, Op, Request, StoreAndSlots, Snapshot, IsRunningCall, EventDoes, Fits, here_at, slot_of, one_vacuums, MovesCall, Steps, CallMoves, MovesOn, where_moving, where_begun_at, is_of_sets, OthersStay, ends_call}
-use Rattle.whole_calls.specs.Refusing.{others_run, another_runs, is_full_vacuum, where_gone, where_inserted, is_tall, where_asked, where_called, has_no_block}
+use Rattle.whole_calls.proofs.Words.{Effect, Ask, AskInsert, AskScan, AskBulkDelete, AskCleanup, Call, Circumstances, HasCause, Entry, Fault, State, Backing, IsLater, Ghosts, Page, DeadSets, acts_of, OpInvariant, IsCaused, once_added, causes_of_stepped, set_at, asked_of, session_of, Told, is_busy, AnswersNext, Answer, Added, Gave, Refused, Op, Request, StoreAndSlots, Moment, IsRunningCall, EventDoes, Fits, here_at, slot_of, one_vacuums, MovesCall, Steps, CallMoves, MovesOn, causes_of_moving, causes_of_begun_at, is_of_sets, OthersStay, ends_call}
+use Rattle.whole_calls.specs.Refusing.{others_run, another_runs, is_full_vacuum, causes_of_gone, causes_of_inserted, is_tall, causes_of_asked, causes_of_called, has_no_block}
 use Rattle.whole_calls.proofs.Blocks.{blocks_behind, blocks_same}
 use Rattle.whole_calls.proofs.Tellings.{runs_in_slot, runs_has_call, one_runs, true_false}
 use Rattle.schedule.proofs.Causes.{insert_images_few, put_few, frames_few, written_few, frames_for_few, block_few}
@@ -83,7 +83,7 @@ nothing_causes BadLimits h = h
 nothing_causes DeviceTooSmall h = h
 nothing_causes fault h = true_false (sym h)
 
-forced_in : (old new : Backing) (at : Circumstances) → (has_failed old new ≡ true → at.device_failed ≡ true) → (old.stopped ≡ true → at.is_stopped ≡ true) → IsNarrower (where_forced old new) at
+forced_in : (old new : Backing) (at : Circumstances) → (has_failed old new ≡ true → at.device_failed ≡ true) → (old.stopped ≡ true → at.is_stopped ≡ true) → IsNarrower (causes_of_forced old new) at
 forced_in old new at fails stops Io h = fails h
 forced_in old new at fails stops Stopped h = stops h
 forced_in old new at fails stops fault h = absurd (nothing_causes fault h)
@@ -101,7 +101,8 @@ apart_slot false busy is h = h
 idle_from : (from : ℕ) (slots : List (Option Op)) (session : ℕ) → others_run from slots session ≡ false → (at : ℕ) → from + at ≢ session → slot_of slots at ≡ None
 idle_from from [] session h at apart = refl
 idle_from from (slot ∷ slots) session h zero apart =
-    busy_slot slot (apart_slot (from == session) (is_busy slot) (ne_eqb from session (λ same. apart (omega (arith, same)))) (or_none (not (from == session) && is_busy slot) (others_run (suc from) slots session) h).0)
+    busy_slot slot (apart_slot (from == session) (is_busy slot) (ne_eqb from session (λ same. apart (omega (arith, same))))
+    (or_none (not (from == session) && is_busy slot) (others_run (suc from) slots session) h).0)
 idle_from from (slot ∷ slots) session h (suc at) apart =
     idle_from (suc from) slots session (or_none (not (from == session) && is_busy slot) (others_run (suc from) slots session) h).1 at (λ same. apart (omega (arith, same)))
 
@@ -133,7 +134,8 @@ by_bool false f = f refl
 -- another session that runs a call did so before an event of this one
 pub others_before : (old new : List (Option Op)) (session : ℕ) → OthersStay session old new → another_runs new session ≡ true → another_runs old session ≡ true
 others_before old new session stay h = by_bool (another_runs old session) (λ none. absurd (
-    let idle : another_runs new session ≡ false = idle_others new session (λ other apart. ap (λ (o : Option (Option Op)). unwrap_or o None) (stay other apart) ∙ others_idle old session none other apart) in cc))
+    let idle : another_runs new session ≡ false =
+    idle_others new session (λ other apart. ap (λ (o : Option (Option Op)). unwrap_or o None) (stay other apart) ∙ others_idle old session none other apart) in cc))
 
 -- what sessions without a call hold: nothing
 
@@ -142,7 +144,8 @@ beyond_at [] i h = omega arith
 beyond_at (x ∷ xs) zero h = absurd cc
 beyond_at (x ∷ xs) (suc i) h = (let k = beyond_at xs i h in omega (arith, k))
 
-holds_none : {S : Type 0} (g : Ghosts S) (start : Entry → Bool) (now : Snapshot S) → Fits g start now → (other : ℕ) → slot_of now.slots other ≡ None → holding_of (g.state now.store).table other ≡ nothing_held
+holds_none : {S : Type 0} (g : Ghosts S) (start : Entry → Bool) (now : Moment S) → Fits g start now → (other : ℕ) → slot_of now.slots other ≡ None
+    → holding_of (g.state now.store).table other ≡ nothing_held
 holds_none g start now fits other empty = of (slice_get now.slots other) refl
   where
     of : (o : Option (Option Op)) → slice_get now.slots other ≡ o → holding_of (g.state now.store).table other ≡ nothing_held
@@ -208,12 +211,13 @@ fault_tells_none (Added a None) count effect call after fault is told = absurd c
 fault_tells_none answer count effect call after fault is told = absurd cc
 
 -- ... and changes nothing, but that the call is over, or leaves that too
-told_behind : (op : Op) (answer : Answer) (st new : State) (before after : Option Op) → before ≡ Some op → RefusalChangesNothing st new before after answer → UnfinishedChangesNothing st new before answer
-    → (fault : Fault) → fault_of answer ≡ Some fault → (new ≡ after_call op st) ⊎ (new ≡ st)
+told_behind : (op : Op) (answer : Answer) (st new : State) (before after : Option Op) → before ≡ Some op
+    → RefusalChangesNothing st new before after answer → UnfinishedChangesNothing st new before answer
+    → (fault : Fault) → fault_of answer ≡ Some fault → (new ≡ op_after_call op st) ⊎ (new ≡ st)
 told_behind op (Refused f) st new before after is refused unfinished fault told =
     by (ends_call f) (let r : StepIsRefused st new op after f = subst (λ (o : Option Op). RefusalChangesNothing st new o after (Refused f)) is refused in r.state)
   where
-    by : (b : Bool) → new ≡ (if b then after_call op st else st) → (new ≡ after_call op st) ⊎ (new ≡ st)
+    by : (b : Bool) → new ≡ (if b then op_after_call op st else st) → (new ≡ op_after_call op st) ⊎ (new ≡ st)
     by true h = inl h
     by false h = inr h
 told_behind op (Added a (Some f)) st new before after is refused unfinished fault told = inl (subst (λ (o : Option Op). UnfinishedChangesNothing st new o (Added a (Some f))) is unfinished)
@@ -221,7 +225,7 @@ told_behind op (Added a None) st new before after is refused unfinished fault to
 told_behind op answer st new before after is refused unfinished fault told = absurd cc
 
 -- a step of the session's running call
-module _ {S : Type 0} (g : Ghosts S) (start : Entry → Bool) (session least_room : ℕ) (x y : Snapshot S) (fits : Fits g start x) (room : 5 ≤ least_room → 5 ≤ (g.backing x.store).promised)
+module _ {S : Type 0} (g : Ghosts S) (start : Entry → Bool) (session least_room : ℕ) (x y : Moment S) (fits : Fits g start x) (room : 5 ≤ least_room → 5 ≤ (g.backing x.store).promised)
     (limits : (g.state y.store).limits ≡ (g.state x.store).limits) (frames : (g.state y.store).frames ≡ (g.state x.store).frames) (acts : (g.state x.store).acts ≤ (g.state y.store).acts) where
   abbrev st : State
   st = g.state x.store
@@ -256,26 +260,30 @@ module _ {S : Type 0} (g : Ghosts S) (start : Entry → Bool) (session least_roo
   stopped_cause false failed full h = or_right failed (nat_le 18446744073709551615 (g.state y.store).acts || full) (or_left (nat_le 18446744073709551615 (g.state y.store).acts) full (at_end h))
 
   -- frames that a step of an insert needs, beside what it holds
-  insert_frames : (of start_number : ℕ) (e : Entry) (at : InsertAt) → of ≡ session → InsertStands st of start_number e at → nat_lt st.frames (frames_at st at + count_apart (pinned_blocks st.table)) ≡ true
+  insert_frames : (of start_number : ℕ) (e : Entry) (at : InsertAt) → of ≡ session → InsertStands st of start_number e at
+      → nat_lt st.frames (frames_at st at + count_apart (pinned_blocks st.table)) ≡ true
       → (busy || nat_lt (g.state y.store).frames 4) ≡ true
   insert_frames of n e (Coming Start) is stands h = pins_cause 1 1 nothing_held (subst (λ (s : ℕ). holding_of st.table s ≡ nothing_held) is stands) (omega arith) (omega arith) h
   insert_frames of n e (Coming (At way)) is stands h = pins_cause 1 1 nothing_held (subst (λ (s : ℕ). holding_of st.table s ≡ nothing_held) is stands.0) (omega arith) (omega arith) h
   insert_frames of n e (Coming (Holds block)) is stands h =
-      pins_cause (frames_at st (Coming (Holds block))) 3 (leaf_held block) (subst (λ (s : ℕ). holding_of st.table s ≡ leaf_held block) is stands.0) (let k = put_few st (slice_get st.pages block) in omega (arith, k)) (omega arith) h
+      pins_cause (frames_at st (Coming (Holds block))) 3 (leaf_held block) (subst (λ (s : ℕ). holding_of st.table s ≡ leaf_held block) is stands.0)
+      (let k = put_few st (slice_get st.pages block) in omega (arith, k)) (omega arith) h
   insert_frames of n e (Finishing op) is stands h =
       pins_cause (frames_of st op.target op.at) 4 nothing_held (subst (λ (s : ℕ). holding_of st.table s ≡ nothing_held) (stands.0 ∙ is) stands.1.free) few (omega arith) h
     where
       few : frames_of st op.target op.at + 0 ≤ 4
       few = (let k = frames_few st op.target op.at in omega (arith, k))
 
-  inserting : (was_there : Bool) (key_was : Row → Bool) (used_up tall : Bool) (op : InsertOp) → op.session ≡ session → InsertFits st op → ((takes_block_at st op.at && is_out_of_blocks st) ≡ true → used_up ≡ true) → ((splits_root_at st op.at && nat_le 31 (root_level st.pages)) ≡ true → tall ≡ true)
-      → (fault : Fault) → HasCause (record (where_inserting st (g.backing x.store) (g.backing y.store) op.session op.entry op.at) { entry_was_there = was_there; key_was_there = key_was }) fault
-      → HasCause (where_inserted g session least_room was_there key_was used_up tall (here_at x) y.store) fault
+  inserting : (was_there : Bool) (key_was : Row → Bool) (used_up tall : Bool) (op : InsertOp) → op.session ≡ session → InsertInvariant st op
+      → ((takes_block_at st op.at && is_out_of_blocks st) ≡ true → used_up ≡ true) → ((splits_root_at st op.at && nat_le 31 (root_level st.pages)) ≡ true → tall ≡ true)
+      → (fault : Fault) → HasCause (record (causes_of_inserting st (g.backing x.store) (g.backing y.store) op.session op.entry op.at) { entry_was_there = was_there; key_was_there = key_was }) fault
+      → HasCause (causes_of_inserted g session least_room was_there key_was used_up tall (here_at x) y.store) fault
   inserting was_there key_was used_up tall op is f blocks root Stopped h = stopped_cause (g.backing x.store).stopped (has_failed (g.backing x.store) (g.backing y.store)) false h
-  inserting was_there key_was used_up tall op is f blocks root (Blocked b) h = elim (or_cases (is_held_by_another st.table op.session b Shared) (is_held_by_another st.table op.session b Exclusive) h) [
-    | inl shared ↦ held_cause b Shared (subst (λ (s : ℕ). is_held_by_another st.table s b Shared ≡ true) is shared)
-    | inr alone ↦ held_cause b Exclusive (subst (λ (s : ℕ). is_held_by_another st.table s b Exclusive ≡ true) is alone)
-  ]
+  inserting was_there key_was used_up tall op is f blocks root (Blocked b) h =
+      elim (or_cases (is_held_by_another st.table op.session b Shared) (is_held_by_another st.table op.session b Exclusive) h) [
+        | inl shared ↦ held_cause b Shared (subst (λ (s : ℕ). is_held_by_another st.table s b Shared ≡ true) is shared)
+        | inr alone ↦ held_cause b Exclusive (subst (λ (s : ℕ). is_held_by_another st.table s b Exclusive ≡ true) is alone)
+      ]
   inserting was_there key_was used_up tall op is f blocks root IndexFull h = blocks h
   inserting was_there key_was used_up tall op is f blocks root LogFull h = enough least_room (g.backing x.store) (g.backing y.store) (images_at st op.at) room (insert_images_few st op.at) h
   inserting was_there key_was used_up tall op is f blocks root NoFrame h = insert_frames op.session f.start op.entry op.at is f.stands h
@@ -284,13 +292,14 @@ module _ {S : Type 0} (g : Ghosts S) (start : Entry → Bool) (session least_roo
 
   -- where it isn't told whether the entry was there, and of its key only that the index is unique
   any_was : (was_there : Bool) (key_was : Row → Bool) (used_up tall : Bool) → ((row : Row) → key_was row ≡ true → (g.state y.store).limits.unique ≡ true)
-      → (fault : Fault) → HasCause (where_inserted g session least_room was_there key_was used_up tall (here_at x) y.store) fault
-      → HasCause (where_inserted g session least_room true (λ r. (g.state y.store).limits.unique) used_up tall (here_at x) y.store) fault
+      → (fault : Fault) → HasCause (causes_of_inserted g session least_room was_there key_was used_up tall (here_at x) y.store) fault
+      → HasCause (causes_of_inserted g session least_room true (λ r. (g.state y.store).limits.unique) used_up tall (here_at x) y.store) fault
   any_was was_there key_was used_up tall unique Exists h = refl
   any_was was_there key_was used_up tall unique (KeyExists row) h = unique row h
   any_was was_there key_was used_up tall unique fault h = h
 
-  scanning : (op : ScanOp) → op.session ≡ session → ScanFits st op → (fault : Fault) → HasCause (where_scanning st (g.backing x.store) (g.backing y.store) op.session) fault → HasCause (where_gone g session least_room false (here_at x) y.store) fault
+  scanning : (op : ScanOp) → op.session ≡ session → ScanInvariant st op → (fault : Fault)
+      → HasCause (causes_of_scanning st (g.backing x.store) (g.backing y.store) op.session) fault → HasCause (causes_of_gone g session least_room false (here_at x) y.store) fault
   scanning op is f Stopped h = or_left (g.backing x.store).stopped (has_failed (g.backing x.store) (g.backing y.store) || (nat_le 18446744073709551615 (g.state y.store).acts || false)) h
   scanning op is f (Blocked b) h = held_cause b Shared (subst (λ (s : ℕ). is_held_by_another st.table s b Shared ≡ true) is h)
   scanning op is f NoFrame h = pins_cause 1 2 (leaf_pinned op.leaf) (subst (λ (s : ℕ). holding_of st.table s ≡ leaf_pinned op.leaf) is f.held) (few op.leaf) (omega arith) h
@@ -302,11 +311,14 @@ module _ {S : Type 0} (g : Ghosts S) (start : Entry → Bool) (session least_roo
   scanning op is f fault h = h
 
   -- ... or the call has no room to count more
-  counts_cause : (old_stopped failed full : Bool) → (old_stopped || (is_at_end st.acts || full)) ≡ true → (old_stopped || (failed || (nat_le 18446744073709551615 (g.state y.store).acts || full))) ≡ true
+  counts_cause : (old_stopped failed full : Bool) → (old_stopped || (is_at_end st.acts || full)) ≡ true
+      → (old_stopped || (failed || (nat_le 18446744073709551615 (g.state y.store).acts || full))) ≡ true
   counts_cause true failed full h = refl
-  counts_cause false failed full h = or_right failed (nat_le 18446744073709551615 (g.state y.store).acts || full) (or_wider (is_at_end st.acts) full (nat_le 18446744073709551615 (g.state y.store).acts) full at_end (λ k. k) h)
+  counts_cause false failed full h =
+      or_right failed (nat_le 18446744073709551615 (g.state y.store).acts || full) (or_wider (is_at_end st.acts) full (nat_le 18446744073709551615 (g.state y.store).acts) full at_end (λ k. k) h)
 
-  deleting : (dead : Row → Bool) (op : BulkDeleteOp) → op.session ≡ session → BulkDeleteFits st op → (fault : Fault) → HasCause (where_deleting dead st (g.backing x.store) (g.backing y.store) op) fault → HasCause (where_gone g session least_room (is_counted_out op) (here_at x) y.store) fault
+  deleting : (dead : Row → Bool) (op : BulkDeleteOp) → op.session ≡ session → BulkDeleteInvariant st op → (fault : Fault)
+      → HasCause (causes_of_deleting dead st (g.backing x.store) (g.backing y.store) op) fault → HasCause (causes_of_gone g session least_room (is_counted_out op) (here_at x) y.store) fault
   deleting dead op is f Stopped h = counts_cause (g.backing x.store).stopped (has_failed (g.backing x.store) (g.backing y.store)) (is_counted_out op) h
   deleting dead op is f (Blocked b) h = held_cause b Cleanup (subst (λ (s : ℕ). is_held_by_another st.table s b Cleanup ≡ true) is h)
   deleting dead op is f LogFull h =
@@ -315,7 +327,8 @@ module _ {S : Type 0} (g : Ghosts S) (start : Entry → Bool) (session least_roo
   deleting dead op is f NoFrame h = pins_cause 1 1 nothing_held (subst (λ (s : ℕ). holding_of st.table s ≡ nothing_held) is f.held) (omega arith) (omega arith) h
   deleting dead op is f fault h = h
 
-  cleaning : (op : CleanupOp) → op.session ≡ session → CleanupFits st op → (fault : Fault) → HasCause (where_cleaning st (g.backing x.store) (g.backing y.store) op) fault → HasCause (where_gone g session least_room (is_cleanup_full op) (here_at x) y.store) fault
+  cleaning : (op : CleanupOp) → op.session ≡ session → CleanupInvariant st op → (fault : Fault)
+      → HasCause (causes_of_cleaning st (g.backing x.store) (g.backing y.store) op) fault → HasCause (causes_of_gone g session least_room (is_cleanup_full op) (here_at x) y.store) fault
   cleaning op is f Stopped h = counts_cause (g.backing x.store).stopped (has_failed (g.backing x.store) (g.backing y.store)) (is_cleanup_full op) h
   cleaning op is f (Blocked b) h = elim (or_cases (is_held_by_another st.table op.session b Shared) (is_held_by_another st.table op.session b Exclusive) h) [
     | inl shared ↦ held_cause b Shared (subst (λ (s : ℕ). is_held_by_another st.table s b Shared ≡ true) is shared)
@@ -340,40 +353,46 @@ module _ {S : Type 0} (g : Ghosts S) (start : Entry → Bool) (session least_roo
 
   -- what is so of the store behind an answer that tells of a fault
   abbrev TellsNothing : Answer → Op → Type 0
-  TellsNothing answer op = (fault : Fault) → fault_of answer ≡ Some fault → ((g.state y.store).pages ≡ st.pages) × ((g.state y.store ≡ after_call op st) ⊎ (g.state y.store ≡ st))
+  TellsNothing answer op = (fault : Fault) → fault_of answer ≡ Some fault → ((g.state y.store).pages ≡ st.pages) × ((g.state y.store ≡ op_after_call op st) ⊎ (g.state y.store ≡ st))
 
   -- another row of the key is there on a unique index only
   unique_still : (e : Entry) (row : Row) → other_row_is_there st e row ≡ true → (g.state y.store).limits.unique ≡ true
   unique_still e row h = ap (λ (f : Format). f.unique) limits ∙ (other_row_is st e row h).0
 
-  insert_came : (counts_full : Bool) (e : Entry) (op : InsertOp) → op.session ≡ session → InsertFits st op → (answer : Answer) → TellsNothing answer (Insert op)
-      → IsCaused (where_inserting st (g.backing x.store) (g.backing y.store) op.session op.entry op.at) answer
-      → IsCaused (where_asked g session least_room (start_number st session) counts_full (AskInsert e) (here_at x) y.store) answer
+  insert_came : (counts_full : Bool) (e : Entry) (op : InsertOp) → op.session ≡ session → InsertInvariant st op → (answer : Answer) → TellsNothing answer (Insert op)
+      → IsCaused (causes_of_inserting st (g.backing x.store) (g.backing y.store) op.session op.entry op.at) answer
+      → IsCaused (causes_of_asked g session least_room (start_number st session) counts_full (AskInsert e) (here_at x) y.store) answer
   insert_came full e op is f (Refused fault) same c =
       any_was (entry_on_live_leaf st.pages op.entry) (other_row_is_there st op.entry) no_block (is_tall (g.state y.store)) (unique_still op.entry) fault
-      (inserting (entry_on_live_leaf st.pages op.entry) (other_row_is_there st op.entry) no_block (is_tall (g.state y.store)) op is f (used (takes_block_at st op.at) (blocks_behind session op st (g.state y.store) is (same fault refl).1)) (tall (splits_root_at st op.at) (same fault refl).0) fault c)
+      (inserting (entry_on_live_leaf st.pages op.entry) (other_row_is_there st op.entry) no_block (is_tall (g.state y.store)) op is f
+      (used (takes_block_at st op.at) (blocks_behind session op st (g.state y.store) is (same fault refl).1)) (tall (splits_root_at st op.at) (same fault refl).0) fault c)
   insert_came full e op is f (Added a None) same c = tt
   insert_came full e op is f (Added a (Some fault)) same c =
-      narrower_once (where_inserting st (g.backing x.store) (g.backing y.store) op.session op.entry op.at) (where_inserted g session least_room true (λ r. (g.state y.store).limits.unique) no_block (is_tall (g.state y.store)) (here_at x) y.store)
+      narrower_once (causes_of_inserting st (g.backing x.store) (g.backing y.store) op.session op.entry op.at)
+      (causes_of_inserted g session least_room true (λ r. (g.state y.store).limits.unique) no_block (is_tall (g.state y.store)) (here_at x) y.store)
       (λ k h. any_was (entry_on_live_leaf st.pages op.entry) (other_row_is_there st op.entry) no_block (is_tall (g.state y.store)) (unique_still op.entry) k
-      (inserting (entry_on_live_leaf st.pages op.entry) (other_row_is_there st op.entry) no_block (is_tall (g.state y.store)) op is f (used (takes_block_at st op.at) (blocks_behind session op st (g.state y.store) is (same fault refl).1)) (tall (splits_root_at st op.at) (same fault refl).0) k h)) fault c
+      (inserting (entry_on_live_leaf st.pages op.entry) (other_row_is_there st op.entry) no_block (is_tall (g.state y.store)) op is f
+      (used (takes_block_at st op.at) (blocks_behind session op st (g.state y.store) is (same fault refl).1)) (tall (splits_root_at st op.at) (same fault refl).0) k h)) fault c
   insert_came full e op is f answer same c = tt
 
-  op_came : (op : Op) → session_of op ≡ session → OpFits st op → (answer : Answer) → TellsNothing answer op → IsCaused (where_stepped x.sets op st (g.backing x.store) (g.backing y.store)) answer
-      → IsCaused (where_asked g session least_room (start_number st session) (is_full_vacuum (Some op)) (asked_of x.sets op) (here_at x) y.store) answer
+  op_came : (op : Op) → session_of op ≡ session → OpInvariant st op → (answer : Answer) → TellsNothing answer op
+      → IsCaused (causes_of_stepped x.sets op st (g.backing x.store) (g.backing y.store)) answer
+      → IsCaused (causes_of_asked g session least_room (start_number st session) (is_full_vacuum (Some op)) (asked_of x.sets op) (here_at x) y.store) answer
   op_came (Insert op) is f answer same c = insert_came false op.entry op is f answer same c
   op_came (Scan op) is f answer same c = cause_wider _ _ (scanning op is f) answer c
   op_came (Bulk set op) is f answer same c = cause_wider _ _ (deleting (set_at x.sets set) op is f) answer c
   op_came (Cleanup op) is f answer same c = cause_wider _ _ (cleaning op is f) answer c
 
 -- where it appends none, it leaves the pages as they were
-pub quiet_pages : {S : Type 0} (g : Ghosts S) (start : Entry → Bool) (session : ℕ) (answer : Answer) (x y : Snapshot S) → EventDoes g start (MovesCall session Steps) answer x y → (c : CallMoves g start session answer x y)
+pub quiet_pages : {S : Type 0} (g : Ghosts S) (start : Entry → Bool) (session : ℕ) (answer : Answer) (x y : Moment S)
+    → EventDoes g start (MovesCall session Steps) answer x y → (c : CallMoves g start session answer x y)
     → c.effect ≡ None → (g.state y.store).pages ≡ (g.state x.store).pages
 quiet_pages g start session answer x y does c none =
     does.also.quiet.pages (c.history_is ∙ ap (λ (o : Option Effect). x.history ++ acts_of c.number o) none ∙ append-nil x.history)
 
 -- a step of the session's call, by its event
-module _ {S : Type 0} (g : Ghosts S) (start : Entry → Bool) (session least_room : ℕ) (answer : Answer) (x y : Snapshot S) (fits : Fits g start x) (room : 5 ≤ least_room → 5 ≤ (g.backing x.store).promised)
+module _ {S : Type 0} (g : Ghosts S) (start : Entry → Bool) (session least_room : ℕ) (answer : Answer) (x y : Moment S) (fits : Fits g start x)
+    (room : 5 ≤ least_room → 5 ≤ (g.backing x.store).promised)
     (does : EventDoes g start (MovesCall session Steps) answer x y) (number : ℕ) (call : Call) (is : IsRunningCall x.calls session number call) where
   goes_on : CallMoves g start session answer x y
   goes_on = subst (λ (b : Bool). MovesOn g start b session answer x y) (runs_has_call g start x fits session number call is) does.also.happens
@@ -387,18 +406,20 @@ module _ {S : Type 0} (g : Ghosts S) (start : Entry → Bool) (session least_roo
     | inr more ↦ omega (arith, more)
   ]
 
-  pub step_caused : IsCaused (where_asked g session least_room (start_number (g.state x.store) session) (is_full_vacuum (slot_of x.slots session)) call.ask (here_at x) y.store) answer
+  pub step_caused : IsCaused (causes_of_asked g session least_room (start_number (g.state x.store) session) (is_full_vacuum (slot_of x.slots session)) call.ask (here_at x) y.store) answer
   step_caused =
       let r = runs_in_slot g start x fits session number call is in
       let same : r.2.call ≡ call = (one_runs g start x fits session number r.2.number call r.2.call is r.2.is).1 in
       let slot : slot_of x.slots session ≡ Some r.0 = ap (λ (o : Option (Option Op)). unwrap_or o None) r.1 in
       let ask : asked_of x.sets r.0 ≡ call.ask = sym r.2.runs.ask ∙ ap (λ (c : Call). c.ask) same in
-      let caused : IsCaused (where_stepped x.sets r.0 (g.state x.store) (g.backing x.store) (g.backing y.store)) answer = subst (λ (o : Option (Option Op)). IsCaused (where_moving g x.sets x.store y.store Steps o) answer) r.1 does.also.caused in
+      let caused : IsCaused (causes_of_stepped x.sets r.0 (g.state x.store) (g.backing x.store) (g.backing y.store)) answer =
+      subst (λ (o : Option (Option Op)). IsCaused (causes_of_moving g x.sets x.store y.store Steps o) answer) r.1 does.also.caused in
       let left = told_behind r.0 answer (g.state x.store) (g.state y.store) (slot_of x.slots session) (slot_of y.slots session) slot does.also.always.refused does.also.always.tells.unfinished in
-      let came = op_came g start session least_room x y fits room does.also.quiet.limits does.also.quiet.frames acts_on r.0 (r.2.runs.session ∙ r.2.is.session_is) r.2.runs.fits answer (λ fault told. (pages_stay fault told, left fault told)) caused in
+      let came = op_came g start session least_room x y fits room does.also.quiet.limits does.also.quiet.frames acts_on r.0
+      (r.2.runs.session ∙ r.2.is.session_is) r.2.runs.fits answer (λ fault told. (pages_stay fault told, left fault told)) caused in
       let number : Option ℕ = start_number (g.state x.store) session in
-      subst (λ (o : Option Op). IsCaused (where_asked g session least_room number (is_full_vacuum o) call.ask (here_at x) y.store) answer) (sym slot)
-      (subst (λ (a : Ask). IsCaused (where_asked g session least_room number (is_full_vacuum (Some r.0)) a (here_at x) y.store) answer) ask came)
+      subst (λ (o : Option Op). IsCaused (causes_of_asked g session least_room number (is_full_vacuum o) call.ask (here_at x) y.store) answer) (sym slot)
+      (subst (λ (a : Ask). IsCaused (causes_of_asked g session least_room number (is_full_vacuum (Some r.0)) a (here_at x) y.store) answer) ask came)
 
 -- a call that was asked this counts pages or entries: a bulk delete, or a cleanup
 abbrev pub AsksToCount : Ask → Type 0
@@ -408,7 +429,8 @@ AsksToCount (AskBulkDelete dead) = Unit {0}
 AsksToCount AskCleanup = Unit {0}
 
 -- what is a cause since a later moment is one since an earlier
-module _ {S : Type 0} (g : Ghosts S) (session least_room : ℕ) (old mid : StoreAndSlots S) (new : S) (later : IsLater (g.backing old.store) (g.backing mid.store)) (after : (g.backing mid.store).failures ≤ (g.backing new).failures)
+module _ {S : Type 0} (g : Ghosts S) (session least_room : ℕ) (old mid : StoreAndSlots S) (new : S)
+    (later : IsLater (g.backing old.store) (g.backing mid.store)) (after : (g.backing mid.store).failures ≤ (g.backing new).failures)
     (busier : another_runs mid.slots session ≡ true → another_runs old.slots session ≡ true) where
   failed_wider : has_failed (g.backing mid.store) (g.backing new) ≡ true → has_failed (g.backing old.store) (g.backing new) ≡ true
   failed_wider h = (let k = later.failures in nat_less (g.backing old.store).failures (g.backing mid.store).failures (g.backing new).failures k h)
@@ -420,23 +442,25 @@ module _ {S : Type 0} (g : Ghosts S) (session least_room : ℕ) (old mid : Store
       | inl before ↦ inl before
       | inr since ↦ inr (lt-ltb (g.backing old.store).failures (g.backing new).failures (omega (arith, since, after)))
     ])
-    | inr other ↦ or_right (g.backing old.store).stopped (has_failed (g.backing old.store) (g.backing new) || wide) (or_wider (has_failed (g.backing mid.store) (g.backing new)) rest (has_failed (g.backing old.store) (g.backing new)) wide failed_wider more other)
+    | inr other ↦ or_right (g.backing old.store).stopped (has_failed (g.backing old.store) (g.backing new) || wide)
+        (or_wider (has_failed (g.backing mid.store) (g.backing new)) rest (has_failed (g.backing old.store) (g.backing new)) wide failed_wider more other)
   ]
     where
       or_since : (a b c : Bool) → (a ≡ true) ⊎ (b ≡ true) → (a || (b || c)) ≡ true
       or_since a b c (inl h) = or_left a (b || c) h
       or_since a b c (inr h) = or_right a (b || c) (or_left b c h)
 
-  pub gone_wider : (full wide : Bool) → (full ≡ true → wide ≡ true) → IsNarrower (where_gone g session least_room full mid new) (where_gone g session least_room wide old new)
+  pub gone_wider : (full wide : Bool) → (full ≡ true → wide ≡ true) → IsNarrower (causes_of_gone g session least_room full mid new) (causes_of_gone g session least_room wide old new)
   gone_wider full wide more Io h = failed_wider h
   gone_wider full wide more Stopped h =
-      stopped_wider (nat_le 18446744073709551615 (g.state new).acts || full) (nat_le 18446744073709551615 (g.state new).acts || wide) (or_wider (nat_le 18446744073709551615 (g.state new).acts) full (nat_le 18446744073709551615 (g.state new).acts) wide (λ k. k) more) h
+      stopped_wider (nat_le 18446744073709551615 (g.state new).acts || full) (nat_le 18446744073709551615 (g.state new).acts || wide)
+      (or_wider (nat_le 18446744073709551615 (g.state new).acts) full (nat_le 18446744073709551615 (g.state new).acts) wide (λ k. k) more) h
   gone_wider full wide more (Blocked b) h = busier h
   gone_wider full wide more NoFrame h = or_wider (another_runs mid.slots session) (nat_lt (g.state new).frames 4) (another_runs old.slots session) (nat_lt (g.state new).frames 4) busier (λ k. k) h
   gone_wider full wide more fault h = h
 
   inserted_wider : (was_there : Bool) (key_was : Row → Bool) (used_up tall : Bool)
-      → IsNarrower (where_inserted g session least_room was_there key_was used_up tall mid new) (where_inserted g session least_room was_there key_was used_up tall old new)
+      → IsNarrower (causes_of_inserted g session least_room was_there key_was used_up tall mid new) (causes_of_inserted g session least_room was_there key_was used_up tall old new)
   inserted_wider was_there key_was used_up tall Exists h = h
   inserted_wider was_there key_was used_up tall (KeyExists row) h = h
   inserted_wider was_there key_was used_up tall IndexFull h = h
@@ -444,35 +468,41 @@ module _ {S : Type 0} (g : Ghosts S) (session least_room : ℕ) (old mid : Store
   inserted_wider was_there key_was used_up tall fault h = gone_wider false false (λ f. f) fault h
 
   pub asked_wider : (number : Option ℕ) (full wide : Bool) (ask : Ask) → (AsksToCount ask → full ≡ true → wide ≡ true)
-      → IsNarrower (where_asked g session least_room number full ask mid new) (where_asked g session least_room number wide ask old new)
+      → IsNarrower (causes_of_asked g session least_room number full ask mid new) (causes_of_asked g session least_room number wide ask old new)
   asked_wider number full wide (AskInsert e) more = inserted_wider true (λ r. (g.state new).limits.unique) (has_no_block session number (g.state new)) (is_tall (g.state new))
   asked_wider number full wide (AskScan range) more = gone_wider false false (λ f. f)
   asked_wider number full wide ask more = gone_wider full wide (more tt)
 
 -- a log that had failed before stops the call
-pub stopped_before : {S : Type 0} (g : Ghosts S) (session least_room : ℕ) (full : Bool) (old : StoreAndSlots S) (new : S) → (g.backing old.store).stopped ≡ true → (where_gone g session least_room full old new).is_stopped ≡ true
-stopped_before g session least_room full old new h = or_left (g.backing old.store).stopped (has_failed (g.backing old.store) (g.backing new) || (nat_le 18446744073709551615 (g.state new).acts || full)) h
+pub stopped_before : {S : Type 0} (g : Ghosts S) (session least_room : ℕ) (full : Bool) (old : StoreAndSlots S) (new : S)
+    → (g.backing old.store).stopped ≡ true → (causes_of_gone g session least_room full old new).is_stopped ≡ true
+stopped_before g session least_room full old new h =
+    or_left (g.backing old.store).stopped (has_failed (g.backing old.store) (g.backing new) || (nat_le 18446744073709551615 (g.state new).acts || full)) h
 
 -- the room for a step wasn't made: its cause is that of the checkpoint
 pub forced_cause : {S : Type 0} (g : Ghosts S) (session least_room : ℕ) (number : Option ℕ) (full : Bool) (ask : Ask) (old : StoreAndSlots S) (new : S)
-    → IsNarrower (where_forced (g.backing old.store) (g.backing new)) (where_asked g session least_room number full ask old new)
+    → IsNarrower (causes_of_forced (g.backing old.store) (g.backing new)) (causes_of_asked g session least_room number full ask old new)
 forced_cause g session least_room number full ask old new = of ask
   where
-    of : (a : Ask) → IsNarrower (where_forced (g.backing old.store) (g.backing new)) (where_asked g session least_room number full a old new)
-    of (AskInsert e) = forced_in (g.backing old.store) (g.backing new) (where_asked g session least_room number full (AskInsert e) old new) (λ h. h) (stopped_before g session least_room false old new)
-    of (AskScan range) = forced_in (g.backing old.store) (g.backing new) (where_asked g session least_room number full (AskScan range) old new) (λ h. h) (stopped_before g session least_room false old new)
-    of (AskBulkDelete dead) = forced_in (g.backing old.store) (g.backing new) (where_asked g session least_room number full (AskBulkDelete dead) old new) (λ h. h) (stopped_before g session least_room full old new)
-    of AskCleanup = forced_in (g.backing old.store) (g.backing new) (where_asked g session least_room number full AskCleanup old new) (λ h. h) (stopped_before g session least_room full old new)
+    of : (a : Ask) → IsNarrower (causes_of_forced (g.backing old.store) (g.backing new)) (causes_of_asked g session least_room number full a old new)
+    of (AskInsert e) = forced_in (g.backing old.store) (g.backing new) (causes_of_asked g session least_room number full (AskInsert e) old new)
+        (λ h. h) (stopped_before g session least_room false old new)
+    of (AskScan range) =
+        forced_in (g.backing old.store) (g.backing new) (causes_of_asked g session least_room number full (AskScan range) old new) (λ h. h) (stopped_before g session least_room false old new)
+    of (AskBulkDelete dead) =
+        forced_in (g.backing old.store) (g.backing new) (causes_of_asked g session least_room number full (AskBulkDelete dead) old new) (λ h. h) (stopped_before g session least_room full old new)
+    of AskCleanup = forced_in (g.backing old.store) (g.backing new) (causes_of_asked g session least_room number full AskCleanup old new) (λ h. h) (stopped_before g session least_room full old new)
 
 -- a call that wasn't begun
 pub begun_called : {S : Type 0} (g : Ghosts S) (session : ℕ) (request : Request) (old : StoreAndSlots S) (at : Circumstances) → ((g.backing old.store).stopped ≡ true → at.is_stopped ≡ true)
-    → IsNarrower (where_begun_at g old.store (one_vacuums old.slots) old.sets request (slice_get old.slots session)) (where_called g session request old at)
+    → IsNarrower (causes_of_begun_at g old.store (one_vacuums old.slots) old.sets request (slice_get old.slots session)) (causes_of_called g session request old at)
 begun_called g session request old at stops = of (slice_get old.slots session) refl
   where
     none_begins : ((g.backing old.store).stopped || is_at_end (g.state old.store).begun) ≡ true → (at.is_stopped || is_at_end (g.state old.store).begun) ≡ true
     none_begins h = or_wider (g.backing old.store).stopped (is_at_end (g.state old.store).begun) at.is_stopped (is_at_end (g.state old.store).begun) stops (λ k. k) h
 
-    of : (slot : Option (Option Op)) → slice_get old.slots session ≡ slot → IsNarrower (where_begun_at g old.store (one_vacuums old.slots) old.sets request slot) (where_called g session request old at)
+    of : (slot : Option (Option Op)) → slice_get old.slots session ≡ slot
+        → IsNarrower (causes_of_begun_at g old.store (one_vacuums old.slots) old.sets request slot) (causes_of_called g session request old at)
     of None is Stopped h = none_begins h
     of (Some slot) is Stopped h = none_begins h
     of None is NoSession h = or_right (not (is_of_sets old.sets request)) (is_none (slice_get old.slots session)) (ap is_none is)
@@ -482,8 +512,9 @@ begun_called g session request old at stops = of (slice_get old.slots session) r
     of slot is fault h = absurd (nothing_causes fault h)
 
 -- one that was begun, and came to this
-pub called_wider : {S : Type 0} (g : Ghosts S) (session : ℕ) (request : Request) (old : StoreAndSlots S) (at : Circumstances) → at.vacuum_runs ≡ false → at.no_such_session ≡ false → at.session_has_a_call ≡ false
-    → IsNarrower at (where_called g session request old at)
+pub called_wider : {S : Type 0} (g : Ghosts S) (session : ℕ) (request : Request) (old : StoreAndSlots S) (at : Circumstances) → at.vacuum_runs ≡ false
+    → at.no_such_session ≡ false → at.session_has_a_call ≡ false
+    → IsNarrower at (causes_of_called g session request old at)
 called_wider g session request old at vacuums none has_none Stopped h = or_left at.is_stopped (is_at_end (g.state old.store).begun) h
 called_wider g session request old at vacuums none has_none VacuumRunning h = absurd (true_false (sym h ∙ vacuums))
 called_wider g session request old at vacuums none has_none NoSession h = absurd (true_false (sym h ∙ none))
@@ -491,20 +522,23 @@ called_wider g session request old at vacuums none has_none SessionBusy h = absu
 called_wider g session request old at vacuums none has_none fault h = h
 
 -- the call's end leaves of all this what was
-pub gone_behind : {S : Type 0} (g : Ghosts S) (session least_room : ℕ) (full : Bool) (old : StoreAndSlots S) (mid new : S) → g.backing new ≡ g.backing mid → (g.state new).acts ≡ (g.state mid).acts → (g.state new).frames ≡ (g.state mid).frames
-    → where_gone g session least_room full old new ≡ where_gone g session least_room full old mid
+pub gone_behind : {S : Type 0} (g : Ghosts S) (session least_room : ℕ) (full : Bool) (old : StoreAndSlots S) (mid new : S)
+    → g.backing new ≡ g.backing mid → (g.state new).acts ≡ (g.state mid).acts → (g.state new).frames ≡ (g.state mid).frames
+    → causes_of_gone g session least_room full old new ≡ causes_of_gone g session least_room full old mid
 gone_behind g session least_room full old mid new backing acts frames = rw (backing, acts, frames) refl
 
-pub asked_behind : {S : Type 0} (g : Ghosts S) (session least_room : ℕ) (number : Option ℕ) (full : Bool) (ask : Ask) (old : StoreAndSlots S) (mid new : S) → g.backing new ≡ g.backing mid → (g.state new).acts ≡ (g.state mid).acts
+pub asked_behind : {S : Type 0} (g : Ghosts S) (session least_room : ℕ) (number : Option ℕ) (full : Bool) (ask : Ask) (old : StoreAndSlots S)
+    (mid new : S) → g.backing new ≡ g.backing mid → (g.state new).acts ≡ (g.state mid).acts
     → (g.state new).frames ≡ (g.state mid).frames → (g.state new).limits ≡ (g.state mid).limits → (g.state new).pages ≡ (g.state mid).pages → (g.state new).counted ≡ (g.state mid).counted
     → slice_set (g.state new).running session number ≡ slice_set (g.state mid).running session number
-    → where_asked g session least_room number full ask old new ≡ where_asked g session least_room number full ask old mid
+    → causes_of_asked g session least_room number full ask old new ≡ causes_of_asked g session least_room number full ask old mid
 asked_behind g session least_room number full (AskInsert e) old mid new backing acts frames limits pages counted numbers =
-    ap (λ (no_block : Bool). where_inserted g session least_room true (λ r. (g.state new).limits.unique) no_block (is_tall (g.state new)) old new) (blocks_same session number (g.state mid) (g.state new) limits pages counted numbers)
+    ap (λ (no_block : Bool). causes_of_inserted g session least_room true (λ r. (g.state new).limits.unique) no_block (is_tall (g.state new)) old new)
+    (blocks_same session number (g.state mid) (g.state new) limits pages counted numbers)
     ∙ behind (has_no_block session number (g.state mid))
   where
-    behind : (no_block : Bool) → where_inserted g session least_room true (λ r. (g.state new).limits.unique) no_block (is_tall (g.state new)) old new
-        ≡ where_inserted g session least_room true (λ r. (g.state mid).limits.unique) no_block (is_tall (g.state mid)) old mid
+    behind : (no_block : Bool) → causes_of_inserted g session least_room true (λ r. (g.state new).limits.unique) no_block (is_tall (g.state new)) old new
+        ≡ causes_of_inserted g session least_room true (λ r. (g.state mid).limits.unique) no_block (is_tall (g.state mid)) old mid
     behind no_block = rw (backing, acts, frames, limits, pages) refl
 asked_behind g session least_room number full (AskScan range) old mid new backing acts frames limits pages counted numbers = gone_behind g session least_room false old mid new backing acts frames
 asked_behind g session least_room number full ask old mid new backing acts frames limits pages counted numbers = gone_behind g session least_room full old mid new backing acts frames

@@ -92,7 +92,8 @@ RemoveThere start number history [] = Unit {0}
 RemoveThere start number history (effect ∷ effects) = RemovesThere (contents_after start history) effect × RemoveThere start number (history ++ act_of number effect ∷ []) effects
 
 -- after one Remove more
-after_remove : (start : Entry → Bool) (history : List Action) (number : ℕ) (es : List Entry) (e : Entry) → contents_after start (history ++ act_of number (Remove es) ∷ []) e ≡ (contents_after start history e && not (is_among es e))
+after_remove : (start : Entry → Bool) (history : List Action) (number : ℕ) (es : List Entry) (e : Entry)
+    → contents_after start (history ++ act_of number (Remove es) ∷ []) e ≡ (contents_after start history e && not (is_among es e))
 after_remove start history number es e = contents_after-append start history (act_of number (Remove es) ∷ []) e ∙ of (is_among es e) (contents_after start history e)
   where
     of : (b was : Bool) → unwrap_or (if b then Some false else None) was ≡ (was && not b)
@@ -128,11 +129,13 @@ module _ (start : Entry → Bool) (number : ℕ) where
   left_by_all history (effect ∷ effects) apt e = absurd apt.0
 
   -- all were there
-  pub all_were : (history : List Action) (effects : List Effect) → RemoveThere start number history effects → (e : Entry) → is_among (removed_of effects) e ≡ true → contents_after start history e ≡ true
+  pub all_were : (history : List Action) (effects : List Effect) → RemoveThere start number history effects → (e : Entry)
+      → is_among (removed_of effects) e ≡ true → contents_after start history e ≡ true
   all_were history [] apt e h = absurd (true_false (sym h))
   all_were history (Remove es ∷ effects) apt e h = elim (or_cases (is_among es e) (is_among (removed_of effects) e) (sym (is_among-append es (removed_of effects) e) ∙ h)) [
     | inl here ↦ apt.0.1 e here
-    | inr later ↦ and_first (contents_after start history e) (not (is_among es e)) (sym (after_remove start history number es e) ∙ all_were (history ++ act_of number (Remove es) ∷ []) effects apt.1 e later)
+    | inr later ↦ and_first (contents_after start history e) (not (is_among es e))
+        (sym (after_remove start history number es e) ∙ all_were (history ++ act_of number (Remove es) ∷ []) effects apt.1 e later)
   ]
   all_were history (effect ∷ effects) apt e h = absurd apt.0
 
@@ -142,7 +145,9 @@ module _ (start : Entry → Bool) (number : ℕ) where
   all_once history [] apt = tt
   all_once history (Add x ∷ effects) apt = absurd apt.0
   all_once history (Shape ∷ effects) apt = absurd apt.0
-  all_once history (Remove es ∷ effects) apt = distinct_both es (removed_of effects) (distinct_ascending es apt.0.0) (all_once (history ++ act_of number (Remove es) ∷ []) effects apt.1) (λ e here. gone e here (is_among (removed_of effects) e) refl)
+  all_once history (Remove es ∷ effects) apt =
+      distinct_both es (removed_of effects) (distinct_ascending es apt.0.0) (all_once (history ++ act_of number (Remove es) ∷ []) effects apt.1)
+      (λ e here. gone e here (is_among (removed_of effects) e) refl)
     where
       gone : (e : Entry) → is_among es e ≡ true → (b : Bool) → is_among (removed_of effects) e ≡ b → is_among (removed_of effects) e ≡ false
       gone e here false is = is
@@ -174,20 +179,25 @@ pub remove_there : (start : Entry → Bool) (number : ℕ) (calls : List Call) (
     → (history whole : List Action) (effects : List Effect) → whole ≡ history ++ acts_by number effects → ActionsAreOwned start whole calls → RemoveThere start number history effects
 remove_there start number calls call dead found ask history whole [] is owned = tt
 remove_there start number calls call dead found ask history whole (effect ∷ effects) is owned =
-    let at : slice_get whole (length history) ≡ Some (act_of number effect) = ap (λ (l : List Action). slice_get l (length history)) is ∙ get_at history (act_of number effect) (acts_by number effects) in
+    let at : slice_get whole (length history) ≡ Some (act_of number effect) = ap (λ (l : List Action). slice_get l (length history)) is
+    ∙ get_at history (act_of number effect) (acts_by number effects) in
     let own = owned (length history) (act_of number effect) at in
     let same : own.call ≡ call = same_some (slice_get calls number) own.call call own.found found in
     let was : (e : Entry) → contents_after start (take (length history) whole) e ≡ contents_after start history e =
-    λ e. ap (λ (l : List Action). contents_after start l e) (ap (λ (l : List Action). take (length history) l) is ∙ take_at history (act_of number effect ∷ acts_by number effects) (length history) refl) in (
+    λ e. ap (λ (l : List Action). contents_after start l e)
+    (ap (λ (l : List Action). take (length history) l) is ∙ take_at history (act_of number effect ∷ acts_by number effects) (length history) refl) in (
       of effect (subst (λ (c : Call). MayAct (λ e. contents_after start (take (length history) whole) e) (suc (length history)) effect c.ask c.added) same own.may) was,
-      remove_there start number calls call dead found ask (history ++ act_of number effect ∷ []) whole effects (is ∙ sym (append_assoc history (act_of number effect ∷ []) (acts_by number effects))) owned,
+      remove_there start number calls call dead found ask (history ++ act_of number effect ∷ []) whole effects
+          (is ∙ sym (append_assoc history (act_of number effect ∷ []) (acts_by number effects))) owned,
     )
   where
     of : (e : Effect) → MayAct (λ x. contents_after start (take (length history) whole) x) (suc (length history)) e call.ask call.added
         → ((x : Entry) → contents_after start (take (length history) whole) x ≡ contents_after start history x) → RemovesThere (contents_after start history) e
     of (Add x) may was = absurd (rw ask at may)
     of Shape may was = absurd (rw ask at may)
-    of (Remove es) may was = (let m : MayAct (λ x. contents_after start (take (length history) whole) x) (suc (length history)) (Remove es) (AskBulkDelete dead) call.added = rw ask at may in (m.1, λ x among. sym (was x) ∙ (m.2 x among).1))
+    of (Remove es) may was =
+        (let m : MayAct (λ x. contents_after start (take (length history) whole) x) (suc (length history)) (Remove es) (AskBulkDelete dead)
+        call.added = rw ask at may in (m.1, λ x among. sym (was x) ∙ (m.2 x among).1))
 
     get_at : (l : List Action) (a : Action) (m : List Action) → slice_get (l ++ a ∷ m) (length l) ≡ Some a
     get_at l a m = ap (λ (k : List Action). slice_get k (length l)) (sym (append_assoc l (a ∷ []) m)) ∙ get_append_some (l ++ a ∷ []) m (length l) a (get_append_new l a)
@@ -246,7 +256,8 @@ entries_few limits pages (suc n) low stored = of (slice_get pages n) (entries_fe
         omega (arith, all, within)
 
 -- what was removed of these pages' entries is not more than they have
-pub removed_few : (limits : Format) (pages : List Page) (gone : List Entry) → limits.items ≤ 50 → AreStored limits 0 pages → IsDistinct same_entry gone → ((e : Entry) → is_among gone e ≡ true → entry_on_live_leaf pages e ≡ true)
+pub removed_few : (limits : Format) (pages : List Page) (gone : List Entry) → limits.items ≤ 50 → AreStored limits 0 pages
+    → IsDistinct same_entry gone → ((e : Entry) → is_among gone e ≡ true → entry_on_live_leaf pages e ≡ true)
     → length gone ≤ 50 * length pages
 removed_few limits pages gone low stored once were =
     let all = all_few limits 0 pages low stored in

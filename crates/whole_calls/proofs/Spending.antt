@@ -7,7 +7,7 @@ use Rattle.descent.specs.Shared.{MovesFlags}
 use Rattle.session_calls.specs.declared.op.Op.TheVariants.{Insert, Scan, Bulk, Cleanup}
 use Rattle.schedule.proofs.Bounds.{work_bounded}
 use Rattle.schedule.proofs.Lists.{get_set_same, get_within}
-use Rattle.whole_calls.proofs.Words.{Effect, Add, Shape, Action, contents_after, Ask, AskInsert, AskScan, AskBulkDelete, AskCleanup, Call, Entry, Format, State, Ghosts, Page, DeadSets, acts_of, asked_of, add_of, IsAsked, MovesShape, add_after, work_in, OwesLess, Answer, Going, Op, Snapshot, IsRunningCall, EventDoes, Fits, slot_of, has_call, MovesCall, Steps, CallMoves, MovesOn, Laws}
+use Rattle.whole_calls.proofs.Words.{Effect, Add, Shape, Action, contents_after, Ask, AskInsert, AskScan, AskBulkDelete, AskCleanup, Call, Entry, Format, State, Ghosts, Page, DeadSets, acts_of, asked_of, add_of, IsAsked, MovesShape, add_after, work_in, OwesLess, Answer, Going, Op, Moment, IsRunningCall, EventDoes, Fits, slot_of, has_call, MovesCall, Steps, CallMoves, MovesOn, Laws}
 use Rattle.whole_calls.specs.Spending.{brought_by, acts_left, steps_left, TakesFewer}
 use Rattle.whole_calls.proofs.Given.{owes}
 use Rattle.whole_calls.proofs.Tellings.{runs_in_slot, one_runs}
@@ -36,7 +36,7 @@ acts_low st (Some (Bulk set op)) = omega arith
 acts_low st (Some (Cleanup op)) = omega arith
 
 -- there are fewer steps than are counted
-pub steps_few : {S : Type 0} (g : Ghosts S) (laws : Laws g) (start : Entry → Bool) (now : Snapshot S) (session : ℕ) → Fits g start now → (g.state now.store).limits.pages ≤ 65536
+pub steps_few : {S : Type 0} (g : Ghosts S) (laws : Laws g) (start : Entry → Bool) (now : Moment S) (session : ℕ) → Fits g start now → (g.state now.store).limits.pages ≤ 65536
     → steps_left (g.state now.store) (slot_of now.slots session) < 18446744073709551615
 steps_few g laws start now session fits low =
     let work = work_bounded g start now fits low session in
@@ -57,7 +57,7 @@ left_is st sets (Insert op) = refl
 left_is st sets op = refl
 
 -- what the session runs may append what its running call may
-slot_left : {S : Type 0} (g : Ghosts S) (start : Entry → Bool) (now : Snapshot S) (session number : ℕ) (call : Call) (st : State) → Fits g start now → IsRunningCall now.calls session number call
+slot_left : {S : Type 0} (g : Ghosts S) (start : Entry → Bool) (now : Moment S) (session number : ℕ) (call : Call) (st : State) → Fits g start now → IsRunningCall now.calls session number call
     → acts_left st (slot_of now.slots session) ≡ left_by st call.ask call.added
 slot_left g start now session number call st fits is =
     let r = runs_in_slot g start now fits session number call is in
@@ -74,7 +74,8 @@ IsCountedAnew (Bulk set op) = ⊥
 IsCountedAnew (Cleanup op) = ⊥
 
 -- an event that appends an action leaves fewer to be appended
-acts_fewer : (was_there : Entry → Bool) (sets : DeadSets) (op : Op) (added : Option ℕ) (count : ℕ) (effect : Effect) (old new : State) → IsCountedAnew op → IsAsked was_there (asked_of sets op) added (Some effect) → MovesFlags (Some effect) old new
+acts_fewer : (was_there : Entry → Bool) (sets : DeadSets) (op : Op) (added : Option ℕ) (count : ℕ) (effect : Effect) (old new : State)
+    → IsCountedAnew op → IsAsked was_there (asked_of sets op) added (Some effect) → MovesFlags (Some effect) old new
     → left_by new (asked_of sets op) (add_after added (suc count) (Some effect)) < left_by old (asked_of sets op) added
 acts_fewer was_there sets (Insert op) None count (Add e) old new anew asked flags = (let m = flags.most in omega (arith, m))
 acts_fewer was_there sets (Insert op) (Some a) count (Add e) old new anew asked flags = absurd (let n : Some a ≡ None = asked.0.1 in cc)
@@ -90,7 +91,8 @@ same_left old new (AskScan range) added same = same
 same_left old new ask added same = refl
 
 -- a step that goes on leaves fewer
-module _ {S : Type 0} (g : Ghosts S) (start : Entry → Bool) (session : ℕ) (x y : Snapshot S) (honest : (g.backing y.store).honest ≡ true) (fits : Fits g start x) (does : EventDoes g start (MovesCall session Steps) Going x y)
+module _ {S : Type 0} (g : Ghosts S) (start : Entry → Bool) (session : ℕ) (x y : Moment S) (honest : (g.backing y.store).honest ≡ true)
+    (fits : Fits g start x) (does : EventDoes g start (MovesCall session Steps) Going x y)
     (low : (g.state x.store).limits.pages ≤ 65536) where
   abbrev old : State
   old = g.state x.store
@@ -110,7 +112,8 @@ module _ {S : Type 0} (g : Ghosts S) (start : Entry → Bool) (session : ℕ) (x
 
   goes_by : (c : CallMoves g start session Going x y) (op : Op) (effect : Option Effect) → IsCountedAnew op → c.call.ask ≡ asked_of x.sets op → y.history ≡ x.history ++ acts_of c.number effect
       → IsAsked (contents_after start x.history) c.call.ask c.call.added effect → MovesFlags effect old now
-      → acts_left old (slot_of x.slots session) ≡ left_by old c.call.ask c.call.added → acts_left now (slot_of y.slots session) ≡ left_by now c.call.ask (add_after c.call.added (suc (length x.history)) effect)
+      → acts_left old (slot_of x.slots session) ≡ left_by old c.call.ask c.call.added
+      → acts_left now (slot_of y.slots session) ≡ left_by now c.call.ask (add_after c.call.added (suc (length x.history)) effect)
       → fewer_left
   goes_by c op None anew ask history asked flags before behind =
       let same : y.history ≡ x.history = history ∙ append-nil x.history in
@@ -120,9 +123,11 @@ module _ {S : Type 0} (g : Ghosts S) (start : Entry → Bool) (session : ℕ) (x
       let less = less_by (owes (slot_of x.slots session) old now acts) in
       omega (arith, left, less, before, behind)
   goes_by c op (Some e) anew ask history asked flags before behind =
-      let fewer = acts_fewer (contents_after start x.history) x.sets op c.call.added (length x.history) e old now anew (subst (λ (a : Ask). IsAsked (contents_after start x.history) a c.call.added (Some e)) ask asked) flags in
+      let fewer = acts_fewer (contents_after start x.history) x.sets op c.call.added (length x.history) e old now anew
+      (subst (λ (a : Ask). IsAsked (contents_after start x.history) a c.call.added (Some e)) ask asked) flags in
       let was : acts_left old (slot_of x.slots session) ≡ left_by old (asked_of x.sets op) c.call.added = before ∙ ap (λ (a : Ask). left_by old a c.call.added) ask in
-      let is : acts_left now (slot_of y.slots session) ≡ left_by now (asked_of x.sets op) (add_after c.call.added (suc (length x.history)) (Some e)) = behind ∙ ap (λ (a : Ask). left_by now a (add_after c.call.added (suc (length x.history)) (Some e))) ask in
+      let is : acts_left now (slot_of y.slots session) ≡ left_by now (asked_of x.sets op) (add_after c.call.added (suc (length x.history)) (Some e)) =
+      behind ∙ ap (λ (a : Ask). left_by now a (add_after c.call.added (suc (length x.history)) (Some e))) ask in
       let work = work_bounded g start y (fits_behind does) low_now session in
       omega (arith, fewer, was, is, work)
 
@@ -138,7 +143,8 @@ module _ {S : Type 0} (g : Ghosts S) (start : Entry → Bool) (session : ℕ) (x
       let ask : c.call.ask ≡ asked_of x.sets r.0 = ap (λ (k : Call). k.ask) (sym same) ∙ r.2.runs.ask in
       let slot : slot_of x.slots session ≡ Some r.0 = ap (λ (o : Option (Option Op)). unwrap_or o None) r.1 in
       let before : acts_left old (slot_of x.slots session) ≡ left_by old c.call.ask c.call.added = slot_left g start x session c.number c.call old fits c.is in
-      let behind : acts_left now (slot_of y.slots session) ≡ left_by now c.call.ask (add_after c.call.added (suc (length x.history)) c.effect) = slot_left g start y session c.number c.after now (fits_behind does) runs ∙ ap (λ (k : Call). left_by now k.ask k.added) c.told in
+      let behind : acts_left now (slot_of y.slots session) ≡ left_by now c.call.ask (add_after c.call.added (suc (length x.history)) c.effect) =
+      slot_left g start y session c.number c.after now (fits_behind does) runs ∙ ap (λ (k : Call). left_by now k.ask k.added) c.told in
       by r.0 slot ask before behind
     where
       by : (op : Op) → slot_of x.slots session ≡ Some op → c.call.ask ≡ asked_of x.sets op → acts_left old (slot_of x.slots session) ≡ left_by old c.call.ask c.call.added
@@ -158,7 +164,8 @@ module _ {S : Type 0} (g : Ghosts S) (start : Entry → Bool) (session : ℕ) (x
   step_fewer = goes_or_not (has_call x.slots session) does.also.happens
 
 -- so does each step
-pub takes_fewer : {S : Type 0} (g : Ghosts S) (start : Entry → Bool) (session : ℕ) (answer : Answer) (x y : Snapshot S) → (g.backing y.store).honest ≡ true → Fits g start x → EventDoes g start (MovesCall session Steps) answer x y
+pub takes_fewer : {S : Type 0} (g : Ghosts S) (start : Entry → Bool) (session : ℕ) (answer : Answer) (x y : Moment S)
+    → (g.backing y.store).honest ≡ true → Fits g start x → EventDoes g start (MovesCall session Steps) answer x y
     → TakesFewer (g.state x.store) (g.state y.store) (slot_of x.slots session) (slot_of y.slots session) answer
 takes_fewer g start session answer x y honest fits does low going =
     step_fewer g start session x y honest fits (subst (λ (a : Answer). EventDoes g start (MovesCall session Steps) a x y) going does) low

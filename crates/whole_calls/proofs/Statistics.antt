@@ -5,7 +5,7 @@ use Rattle.page_action.specs.Reuse.{is_deleted}
 use Rattle.vacuum.specs.Counts.{deleted_count}
 use Rattle.session_calls.specs.Sessions.{AnswersStep, TellsStats, TellsFree, RunsUntilLast, reusable_in}
 use Rattle.session_calls.specs.declared.op.Op.TheVariants.{Insert, Scan, Bulk, Cleanup}
-use Rattle.whole_calls.proofs.Words.{Ask, Call, Entry, State, Ghosts, Page, DeadSets, asked_of, Told, Answer, Finished, Op, Snapshot, EventDoes, Fits, slot_of, MovesCall, Steps, CallMoves, MovesOn}
+use Rattle.whole_calls.proofs.Words.{Ask, Call, Entry, State, Ghosts, Page, DeadSets, asked_of, Told, Answer, Finished, Op, Moment, EventDoes, Fits, slot_of, MovesCall, Steps, CallMoves, MovesOn}
 use Rattle.whole_calls.specs.Stepping.{FinishTells}
 use Rattle.whole_calls.specs.Sweeping.{TellsPages, TellsFor}
 use Rattle.whole_calls.proofs.Refusing.{quiet_pages}
@@ -17,7 +17,8 @@ deleted_on old new zero same = refl
 deleted_on old new (suc block) same =
     ap (λ (ps : List Page). (if is_deleted ps block then 1 else 0) + deleted_count new block) same ∙ ap (λ (k : ℕ). (if is_deleted old.pages block then 1 else 0) + k) (deleted_on old new block same)
 
-pages_on : (old new : State) (stats : VacuumStats) → new.pages ≡ old.pages → stats.num_pages ≡ length old.pages → stats.pages_deleted ≡ deleted_count old (length old.pages) → stats.pages_free ≡ reusable_in new → TellsPages new stats
+pages_on : (old new : State) (stats : VacuumStats) → new.pages ≡ old.pages → stats.num_pages ≡ length old.pages
+    → stats.pages_deleted ≡ deleted_count old (length old.pages) → stats.pages_free ≡ reusable_in new → TellsPages new stats
 pages_on old new stats same in_use deleted free = record {
   in_use = in_use ∙ ap (λ (ps : List Page). length ps) (sym same);
   deleted = deleted ∙ sym (deleted_on old new (length old.pages) same) ∙ ap (λ (ps : List Page). deleted_count new (length ps)) (sym same);
@@ -25,7 +26,8 @@ pages_on old new stats same in_use deleted free = record {
 }
 
 -- what is told behind the step, by what the session ran before it
-told_by : (sets : DeadSets) (old new : State) (op : Op) (after : Option Op) (stats : VacuumStats) → new.pages ≡ old.pages → AnswersStep (Some op) after (Finished stats) → TellsStats old (Some op) (Finished stats)
+told_by : (sets : DeadSets) (old new : State) (op : Op) (after : Option Op) (stats : VacuumStats) → new.pages ≡ old.pages
+    → AnswersStep (Some op) after (Finished stats) → TellsStats old (Some op) (Finished stats)
     → TellsFree new (Some op) (Finished stats) → TellsFor (asked_of sets op) new stats
 told_by sets old new (Insert op) after stats same kind h free = absurd kind
 told_by sets old new (Scan op) after stats same kind h free = absurd kind
@@ -39,7 +41,8 @@ told_by sets old new (Cleanup op) after stats same kind h free = (
 )
 
 -- a step of the session's call that finishes
-pub finish_tells : {S : Type 0} (g : Ghosts S) (start : Entry → Bool) (session : ℕ) (answer : Answer) (x y : Snapshot S) → Fits g start x → EventDoes g start (MovesCall session Steps) answer x y → FinishTells g session answer x y
+pub finish_tells : {S : Type 0} (g : Ghosts S) (start : Entry → Bool) (session : ℕ) (answer : Answer) (x y : Moment S) → Fits g start x
+    → EventDoes g start (MovesCall session Steps) answer x y → FinishTells g session answer x y
 finish_tells g start session answer x y fits does number call is stats finished =
     let r = runs_in_slot g start x fits session number call is in
     let same : r.2.call ≡ call = (one_runs g start x fits session number r.2.number call r.2.call is r.2.is).1 in
@@ -47,7 +50,8 @@ finish_tells g start session answer x y fits does number call is stats finished 
     let ask : asked_of x.sets r.0 ≡ call.ask = sym r.2.runs.ask ∙ ap (λ (c : Call). c.ask) same in
     let goes : CallMoves g start session answer x y = subst (λ (b : Bool). MovesOn g start b session answer x y) (runs_has_call g start x fits session number call is) does.also.happens in
     let none : goes.effect ≡ None = (subst (λ (a : Answer). Told a (length x.history) goes.effect goes.call goes.after) finished goes.told).none in
-    let kind = subst (λ (a : Answer). AnswersStep (Some r.0) (slot_of y.slots session) a) finished (subst (λ (o : Option Op). AnswersStep o (slot_of y.slots session) answer) slot does.also.always.answers) in
+    let kind = subst (λ (a : Answer). AnswersStep (Some r.0) (slot_of y.slots session) a) finished
+    (subst (λ (o : Option Op). AnswersStep o (slot_of y.slots session) answer) slot does.also.always.answers) in
     let told = subst (λ (a : Answer). TellsStats (g.state x.store) (Some r.0) a) finished (subst (λ (o : Option Op). TellsStats (g.state x.store) o answer) slot does.also.always.tells.stats) in
     let free = subst (λ (a : Answer). TellsFree (g.state y.store) (Some r.0) a) finished (subst (λ (o : Option Op). TellsFree (g.state y.store) o answer) slot does.also.followed.frees) in
     subst (λ (a : Ask). TellsFor a (g.state y.store) stats) ask
@@ -59,7 +63,9 @@ finished_over None (Some op) stats h = absurd cc
 finished_over (Some was) (Some op) stats h = absurd cc
 
 -- ... runs nothing behind it
-pub finish_over : {S : Type 0} (g : Ghosts S) (start : Entry → Bool) (session : ℕ) (answer : Answer) (x y : Snapshot S) → EventDoes g start (MovesCall session Steps) answer x y → (stats : VacuumStats) → answer ≡ Finished stats
+pub finish_over : {S : Type 0} (g : Ghosts S) (start : Entry → Bool) (session : ℕ) (answer : Answer) (x y : Moment S)
+    → EventDoes g start (MovesCall session Steps) answer x y → (stats : VacuumStats) → answer ≡ Finished stats
     → slot_of y.slots session ≡ None
 finish_over g start session answer x y does stats finished =
-    finished_over (slot_of x.slots session) (slot_of y.slots session) stats (subst (λ (a : Answer). RunsUntilLast (slot_of x.slots session) (slot_of y.slots session) a) finished does.also.always.until_last)
+    finished_over (slot_of x.slots session) (slot_of y.slots session) stats
+    (subst (λ (a : Answer). RunsUntilLast (slot_of x.slots session) (slot_of y.slots session) a) finished does.also.always.until_last)

@@ -3,13 +3,13 @@ use Rattle.std.proofs.Common.{◌≡◌, ◌≢◌, ℕ, suc, Bool, true, false,
 use Rattle.std.proofs.lemmas.List.{append-nil}
 use Rattle.index_model.specs.declared.stats.VacuumStats.{VacuumStats}
 use Rattle.session_calls.specs.declared.request.Request.TheVariants.{Insert as ToInsert, Scan as ToScan}
-use Rattle.whole_calls.proofs.Words.{Circumstances, HasCause, Effect, Add, Action, Vacuumed, Call, Fault, Entry, State, Ghosts, DeadSets, asked_by, asks_vacuum, IsCaused, MayDo, ended, Answer, Going, Finished, Refused, Request, StoreAndSlots, Snapshot, snapshot_of, here_at}
+use Rattle.whole_calls.proofs.Words.{Circumstances, HasCause, Effect, Add, Action, Vacuumed, Call, Fault, Entry, State, Ghosts, DeadSets, asked_by, asks_vacuum, IsCaused, MayDo, ended, Answer, Going, Finished, Refused, Request, StoreAndSlots, Moment, snapshot_of, here_at}
 use Rattle.whole_calls.specs.Going.{CameBy, CallGoes, GoesFrom}
 use Rattle.whole_calls.specs.Made.{Answered, ComesTo}
-use Rattle.whole_calls.specs.Refusing.{where_gone, where_asked, where_called}
+use Rattle.whole_calls.specs.Refusing.{causes_of_gone, causes_of_asked, causes_of_called}
 use Rattle.whole_calls.specs.Stepping.{RunGoes}
-use Rattle.whole_calls.specs.Sweeping.{TellsFor, Followed, of_sweep, FollowsFrom, TellsAs, swept_of, swept_came, IsSweptNow, IsSweptSoFar, SweepTold}
-use Rattle.whole_calls.specs.Telling.{MayAnswer, acts_by, noted_behind, AreOwnEffects, IsTold, StepTold, HasNone, TellsEnd, with_call, first_call, NextTold, NothingTold}
+use Rattle.whole_calls.specs.Sweeping.{TellsFor, Followed, of_sweep, FollowsFrom, TellsAs, swept_of, sweep_outcome, IsSweptNow, IsSweptSoFar, SweepTold}
+use Rattle.whole_calls.specs.Telling.{MayAnswer, acts_by, noted_behind, AreOwnEffects, IsTold, StepTold, HasNone, TellsEnd, with_one_call, first_call, NextTold, NothingTold}
 use Rattle.whole_calls.proofs.Composing.{goes_told}
 use Rattle.whole_calls.proofs.Gone.{whole_told}
 use Rattle.whole_calls.proofs.Inserting.{ended_none}
@@ -22,7 +22,8 @@ adds_nothing sets (ToInsert x) vacuums added e h = true_false (sym vacuums)
 adds_nothing sets (ToScan range) vacuums added e h = true_false (sym vacuums)
 adds_nothing sets request vacuums added e h = h
 
-as_it_was : (call : Call) (count : ℕ) (effects : List Effect) → ((added : Option ℕ) (e : Entry) → MayDo call.ask added (Add e) → ⊥) → AreOwnEffects call count effects → noted_behind call count effects ≡ call
+as_it_was : (call : Call) (count : ℕ) (effects : List Effect) → ((added : Option ℕ) (e : Entry) → MayDo call.ask added (Add e) → ⊥)
+    → AreOwnEffects call count effects → noted_behind call count effects ≡ call
 as_it_was call count [] none own = refl
 as_it_was call count (Add e ∷ effects) none own = absurd (none call.added e own.0)
 as_it_was call count (effect ∷ effects) none own = as_it_was call (suc count) effects none own.1
@@ -42,11 +43,12 @@ vacuum_may sets request vacuums Going over h = absurd (over refl)
 vacuum_may sets request vacuums answer over h = absurd h
 
 -- what it answers was answered
-pub sweep_comes : (sets : DeadSets) (request : Request) → asks_vacuum request ≡ true → (answer : Answer) (answers : List Answer) → answer ≢ Going → MayAnswer (asked_by sets request) answer → Answered answer answers
-    → ComesTo (swept_came (swept_of answer)) answers
+pub sweep_comes : (sets : DeadSets) (request : Request) → asks_vacuum request ≡ true → (answer : Answer) (answers : List Answer) → answer ≢ Going
+    → MayAnswer (asked_by sets request) answer → Answered answer answers
+    → ComesTo (sweep_outcome (swept_of answer)) answers
 sweep_comes sets request vacuums answer answers over may = of answer (vacuum_may sets request vacuums answer over may)
   where
-    of : (a : Answer) → IsVacuumAnswer a → Answered a answers → ComesTo (swept_came (swept_of a)) answers
+    of : (a : Answer) → IsVacuumAnswer a → Answered a answers → ComesTo (sweep_outcome (swept_of a)) answers
     of (Finished stats) may so = so
     of (Refused fault) may so = so
     of a may so = absurd may
@@ -57,12 +59,12 @@ swept_tells Tells (Finished stats) h = h stats refl
 swept_tells Tells answer h = tt
 
 -- ... and then an end
-module _ {S : Type 0} (session : ℕ) (request : Request) (vacuums : asks_vacuum request ≡ true) (x y z : Snapshot S) (free : HasNone session x) (end : TellsEnd session y z) where
+module _ {S : Type 0} (session : ℕ) (request : Request) (vacuums : asks_vacuum request ≡ true) (x y z : Moment S) (free : HasNone session x) (end : TellsEnd session y z) where
   abbrev sweep_call : Call
   sweep_call = first_call session request x
 
-  abbrev begun : Snapshot S
-  begun = with_call x sweep_call
+  abbrev begun : Moment S
+  begun = with_one_call x sweep_call
 
   abbrev sweep_number : ℕ
   sweep_number = length x.calls
@@ -72,9 +74,12 @@ module _ {S : Type 0} (session : ℕ) (request : Request) (vacuums : asks_vacuum
       let w = whole_told sweep_number sweep_call (Finished stats) begun y t in
       let same : t.before ≡ w.effects = w.none_is t.told.none in
       let history : z.history ≡ x.history ++ acts_by sweep_number w.effects = end.history_is ∙ w.history_is in
-      let many : length (x.history ++ acts_by sweep_number t.before) ≡ length z.history = ap (λ (l : List Effect). length (x.history ++ acts_by sweep_number l)) same ∙ ap (λ (l : List Action). length l) (sym history) in
+      let many : length (x.history ++ acts_by sweep_number t.before) ≡ length z.history =
+      ap (λ (l : List Effect). length (x.history ++ acts_by sweep_number l)) same ∙ ap (λ (l : List Action). length l) (sym history) in
       let last : Call = ended sweep_call (Vacuumed stats) (length z.history) in
-      let after : t.after ≡ last = t.told.after_is ∙ ap (λ (c : Call). ended c (Vacuumed stats) (length (x.history ++ acts_by sweep_number t.before))) (as_it_was sweep_call (length x.history) t.before (adds_nothing x.sets request vacuums) t.own)
+      let after : t.after ≡ last = t.told.after_is
+      ∙ ap (λ (c : Call). ended c (Vacuumed stats) (length (x.history ++ acts_by sweep_number t.before)))
+      (as_it_was sweep_call (length x.history) t.before (adds_nothing x.sets request vacuums) t.own)
       ∙ ap (λ (n : ℕ). ended sweep_call (Vacuumed stats) n) many in
       let calls : y.calls ≡ x.calls ++ last ∷ [] = t.calls_is ∙ set_new x.calls sweep_call t.after ∙ ap (λ (c : Call). x.calls ++ c ∷ []) after in
       record {
@@ -95,7 +100,7 @@ module _ {S : Type 0} (session : ℕ) (request : Request) (vacuums : asks_vacuum
   sweep_told answer may t = absurd may
 
 -- what it came to was answered
-sweep_came : (answers : List Answer) (answer : Answer) → IsVacuumAnswer answer → CameBy answers (Some answer) → CameBy answers (swept_came (swept_of answer))
+sweep_came : (answers : List Answer) (answer : Answer) → IsVacuumAnswer answer → CameBy answers (Some answer) → CameBy answers (sweep_outcome (swept_of answer))
 sweep_came answers (Finished stats) may h = h
 sweep_came answers (Refused fault) may h = h
 sweep_came answers answer may h = absurd may
@@ -107,7 +112,7 @@ swept_caused at (Refused fault) may h = h
 swept_caused at answer may h = absurd may
 
 -- one that was not begun
-not_swept : {S : Type 0} (session : ℕ) (request : Request) (fault : Fault) (x y : Snapshot S) → NothingTold fault x y → IsSweptSoFar session request x y
+not_swept : {S : Type 0} (session : ℕ) (request : Request) (fault : Fault) (x y : Moment S) → NothingTold fault x y → IsSweptSoFar session request x y
 not_swept session request fault x y t = record { effects = []; own = tt; history_is = t.silent.history_is ∙ sym (append-nil x.history) }
 
 -- what it counts, by the answer
@@ -118,40 +123,45 @@ swept_counts what st answer h = tt
 
 -- a bulk delete or a cleanup that is run to its end
 module _ {S : Type 0} (g : Ghosts S) (session least_room : ℕ) (request : Request) (vacuums : asks_vacuum request ≡ true) (answer : Answer) (added : Option ℕ) (over : answer ≢ Going) where
-  abbrev Runs : (Entry → Bool) → Snapshot S → Snapshot S → Type 0
+  abbrev Runs : (Entry → Bool) → Moment S → Moment S → Type 0
   Runs = RunGoes g session least_room request answer added
 
-  may_run : (start : Entry → Bool) (x z : Snapshot S) → Runs start x z → IsVacuumAnswer answer
+  may_run : (start : Entry → Bool) (x z : Moment S) → Runs start x z → IsVacuumAnswer answer
   may_run start x z (inl n) = subst IsVacuumAnswer (sym n.refused) tt
-  may_run start x z (inr r) = vacuum_may x.sets request vacuums answer over (came_may (length x.calls) (first_call session request x) answer (with_call x (first_call session request x)) r.here r.told)
+  may_run start x z (inr r) =
+      vacuum_may x.sets request vacuums answer over (came_may (length x.calls) (first_call session request x) answer (with_one_call x (first_call session request x)) r.here r.told)
 
-  run_told : (start : Entry → Bool) (x z : Snapshot S) → Runs start x z → SweepTold session request (swept_of answer) x z
+  run_told : (start : Entry → Bool) (x z : Moment S) → Runs start x z → SweepTold session request (swept_of answer) x z
   run_told start x z (inl n) = subst (λ (a : Answer). SweepTold session request (swept_of a) x z) (sym n.refused) (not_swept session request n.fault x z n.told)
   run_told start x z (inr r) = sweep_told session request vacuums x r.here z r.free r.end answer (may_run start x z (inr r)) r.told
 
-  pub sweep_goes : (a c : StoreAndSlots S) → GoesFrom g session Runs (Some answer) a c → CallGoes g session (SweepTold session request (swept_of answer)) (swept_came (swept_of answer)) a c
+  pub sweep_goes : (a c : StoreAndSlots S) → GoesFrom g session Runs (Some answer) a c → CallGoes g session (SweepTold session request (swept_of answer)) (sweep_outcome (swept_of answer)) a c
   sweep_goes a c =
-      goes_told g session Runs (λ s. SweepTold session request (swept_of answer)) (Some answer) (swept_came (swept_of answer)) a c
+      goes_told g session Runs (λ s. SweepTold session request (swept_of answer)) (Some answer) (sweep_outcome (swept_of answer)) a c
       (λ start h hc k kc answers fits by t. (sweep_came answers answer (may_run start (snapshot_of a h hc) (snapshot_of c k kc) t) by, run_told start (snapshot_of a h hc) (snapshot_of c k kc) t))
 
   -- what it counts from its beginning on
-  pub sweep_counts : (what : Followed) (start : Entry → Bool) (x z : Snapshot S) → FollowsFrom what request (g.state x.store) session → Runs start x z → TellsAs what (g.state z.store) (swept_of answer)
+  pub sweep_counts : (what : Followed) (start : Entry → Bool) (x z : Moment S) → FollowsFrom what request (g.state x.store) session → Runs start x z → TellsAs what (g.state z.store) (swept_of answer)
   sweep_counts what start x z follows (inl n) = swept_counts what (g.state z.store) answer (λ stats is. absurd (let e = n.refused in cc))
   sweep_counts what start x z follows (inr r) = swept_counts what (g.state z.store) answer (λ stats is. r.counts what stats follows is)
 
-  pub sweep_tells : (start : Entry → Bool) (x z : Snapshot S) → Runs start x z → IfOk (swept_of answer) (TellsFor (asked_by x.sets request) (g.state z.store))
+  pub sweep_tells : (start : Entry → Bool) (x z : Moment S) → Runs start x z → IfOk (swept_of answer) (TellsFor (asked_by x.sets request) (g.state z.store))
   sweep_tells start x z (inl n) = swept_tells (TellsFor (asked_by x.sets request) (g.state z.store)) answer (λ stats is. absurd (let e = n.refused in cc))
   sweep_tells start x z (inr r) = swept_tells (TellsFor (asked_by x.sets request) (g.state z.store)) answer r.stats
 
-  pub sweep_caused : (start : Entry → Bool) (x z : Snapshot S) → Runs start x z → IfErr (swept_of answer) (HasCause (where_called g session request (here_at x) (where_gone g session least_room false (here_at x) z.store)))
+  pub sweep_caused : (start : Entry → Bool) (x z : Moment S) → Runs start x z
+      → IfErr (swept_of answer) (HasCause (causes_of_called g session request (here_at x) (causes_of_gone g session least_room false (here_at x) z.store)))
   sweep_caused start x z (inl n) =
-      subst (λ (a : Answer). IfErr (swept_of a) (HasCause (where_called g session request (here_at x) (where_gone g session least_room false (here_at x) z.store)))) (sym n.refused)
-      (begun_called g session request (here_at x) (where_gone g session least_room false (here_at x) z.store) (stopped_before g session least_room false (here_at x) z.store) n.fault n.cause)
+      subst (λ (a : Answer). IfErr (swept_of a) (HasCause (causes_of_called g session request (here_at x) (causes_of_gone g session least_room false (here_at x) z.store)))) (sym n.refused)
+      (begun_called g session request (here_at x) (causes_of_gone g session least_room false (here_at x) z.store) (stopped_before g session least_room false (here_at x) z.store) n.fault n.cause)
   sweep_caused start x z (inr r) =
       swept_caused _ answer (may_run start x z (inr r))
-      (cause_wider (where_gone g session least_room false (here_at x) z.store) _ (called_wider g session request (here_at x) (where_gone g session least_room false (here_at x) z.store) refl refl refl) answer (gone_of request vacuums r.caused))
+      (cause_wider (causes_of_gone g session least_room false (here_at x) z.store) _
+      (called_wider g session request (here_at x) (causes_of_gone g session least_room false (here_at x) z.store) refl refl refl) answer (gone_of request vacuums r.caused))
     where
-      gone_of : (req : Request) → asks_vacuum req ≡ true → IsCaused (where_asked g session least_room (Some (g.state x.store).begun) false (asked_by x.sets req) (here_at x) z.store) answer → IsCaused (where_gone g session least_room false (here_at x) z.store) answer
+      gone_of : (req : Request) → asks_vacuum req ≡ true
+          → IsCaused (causes_of_asked g session least_room (Some (g.state x.store).begun) false (asked_by x.sets req) (here_at x) z.store) answer
+          → IsCaused (causes_of_gone g session least_room false (here_at x) z.store) answer
       gone_of (ToInsert e) vac h = absurd (true_false (sym vac))
       gone_of (ToScan range) vac h = absurd (true_false (sym vac))
       gone_of req vac h = h

@@ -2,22 +2,22 @@
 use Rattle.std.proofs.Common.{◌≡◌, ◌≢◌, ℕ, ◌<◌, Bool, true, false, Option, Some, None, List, [], ◌∷◌, ◌++◌, length, slice_get, slice_set, refl, sym, ap, subst, arith, inl, inr, ◌∙◌, unwrap_or}
 use Rattle.std.proofs.lemmas.List.{append-nil}
 use Rattle.index_model.specs.declared.fault.Fault.TheVariants.{Exists, KeyExists}
-use Rattle.page_action.specs.Causes.{where_forced}
+use Rattle.page_action.specs.Causes.{causes_of_forced}
 use Rattle.session_calls.specs.declared.op.Op.TheVariants.{Insert as Inserts, Scan as Scans, Bulk as Bulks, Cleanup as Cleanups}
 use Rattle.index_model.specs.Row.{Row}
 use Rattle.index_model.specs.declared.range.Range.{Range}
 use Rattle.session_calls.specs.Ops.{call_kind}
 use Rattle.session_calls.specs.declared.request.Request.TheVariants.{Insert as ToInsert, Scan as ToScan, Bulk as ToBulk, Cleanup as ToCleanup}
 use Rattle.schedule.proofs.Lists.{get_some, get_within, get_append_new, get_append_some, same_some}
-use Rattle.whole_calls.proofs.Words.{Effect, Action, contents_after, Ask, AskInsert, AskScan, AskBulkDelete, Entry, asked_by, op_before, set_at, RunsOn, GivenUp, Call, Circumstances, HasCause, Fault, Backing, Ghosts, DeadSets, acts_of, asked_of, IsCaused, Told, IsAsked, ended, AnswersStep, AnswersNext, AnswersEnd, Answer, Going, Added, Ready, Done, Finished, Gave, Ended, Refused, Op, Request, Snapshot, IsRunningCall, EventDoes, Fits, slot_of, SlotRuns, SlotMatches, has_call, one_vacuums, Move, Steps, Takes, Upkeep, KeepsStore, BeginsCall, MovesCall, GivesUp, CallMoves, CallBegins, Stays, MovesOn, MayBegin, where_begun_at, AnswersMove}
-use Rattle.whole_calls.specs.Telling.{IsSilent, MayAnswer, MayComeTo, IsOwnEffect, IsTold, StepTold, TellsStep, HasNone, HasBegun, begun_of, BeginTold, TellsEnd, with_call, first_call, NextTold}
+use Rattle.whole_calls.proofs.Words.{Effect, Action, contents_after, Ask, AskInsert, AskScan, AskBulkDelete, Entry, asked_by, op_before, set_at, RunsOn, GivenUp, Call, Circumstances, HasCause, Fault, Backing, Ghosts, DeadSets, acts_of, asked_of, IsCaused, Told, IsAsked, ended, AnswersStep, AnswersNext, AnswersEnd, Answer, Going, Added, Ready, Done, Finished, Gave, Ended, Refused, Op, Request, Moment, IsRunningCall, EventDoes, Fits, slot_of, SlotRuns, SlotMatches, has_call, one_vacuums, Move, Steps, Takes, Upkeep, KeepsStore, BeginsCall, MovesCall, GivesUp, CallMoves, CallBegins, Stays, MovesOn, MayBegin, causes_of_begun_at, AnswersMove}
+use Rattle.whole_calls.specs.Telling.{IsSilent, MayAnswer, MayComeTo, IsOwnEffect, IsTold, StepTold, TellsStep, HasNone, HasBegun, begun_of, BeginTold, TellsEnd, with_one_call, first_call, NextTold}
 use Rattle.whole_calls.proofs.Gone.{silent_then}
 use Rattle.schedule.proofs.Fitting.{running_of}
 
 pub true_false : true ≡ false → ⊥
 true_false h = cc
 
-module _ {S : Type 0} (g : Ghosts S) (start : Entry → Bool) (now : Snapshot S) (fits : Fits g start now) (session : ℕ) where
+module _ {S : Type 0} (g : Ghosts S) (start : Entry → Bool) (now : Moment S) (fits : Fits g start now) (session : ℕ) where
   -- a session with a running call has it in its slot
   pub runs_in_slot : (number : ℕ) (call : Call) → IsRunningCall now.calls session number call → (op : Op) × (slice_get now.slots session ≡ Some (Some op)) × SlotRuns g start now session op
   runs_in_slot number call is =
@@ -66,7 +66,8 @@ next_may sets op (Refused f) h = tt
 next_may sets op answer h = absurd h
 
 -- an answer that is no refusal was told by a step
-pub was_told : {S : Type 0} (number : ℕ) (call : Call) (answer : Answer) (x y : Snapshot S) → ((fault : Fault) → answer ≡ Refused fault → ⊥) → StepTold number call answer x y → IsTold number call answer x y
+pub was_told : {S : Type 0} (number : ℕ) (call : Call) (answer : Answer) (x y : Moment S) → ((fault : Fault) → answer ≡ Refused fault → ⊥)
+    → StepTold number call answer x y → IsTold number call answer x y
 was_told number call answer x y apart (inl t) = t
 was_told number call answer x y apart (inr h) = absurd (apart h.fault h.refused)
 
@@ -128,7 +129,7 @@ comes_on sets None (Some op) answer on h = absurd on
 comes_on sets (Some p) (Some q) answer on h = kind_may sets p q answer on h
 
 -- what a call came to it may answer
-pub came_may : {S : Type 0} (number : ℕ) (call : Call) (answer : Answer) (x y : Snapshot S) → StepTold number call answer x y → MayAnswer call.ask answer
+pub came_may : {S : Type 0} (number : ℕ) (call : Call) (answer : Answer) (x y : Moment S) → StepTold number call answer x y → MayAnswer call.ask answer
 came_may number call answer x y (inl t) = t.may
 came_may number call answer x y (inr h) = subst (λ (a : Answer). MayAnswer call.ask a) (sym h.refused) (refused_may call.ask h.fault)
 
@@ -144,7 +145,8 @@ may_of sets Takes of op after answer h = next_may sets op answer h
 may_of sets GivesUp of op after answer h = absurd of
 
 -- an event of a session that has a running call
-pub moves_tells : {S : Type 0} (g : Ghosts S) (start : Entry → Bool) (x y : Snapshot S) (session : ℕ) (move : Move) (answer : Answer) → GoesOnBy move → Fits g start x → EventDoes g start (MovesCall session move) answer x y
+pub moves_tells : {S : Type 0} (g : Ghosts S) (start : Entry → Bool) (x y : Moment S) (session : ℕ) (move : Move) (answer : Answer) → GoesOnBy move
+    → Fits g start x → EventDoes g start (MovesCall session move) answer x y
     → (number : ℕ) (call : Call) → IsRunningCall x.calls session number call → IsTold number call answer x y
 moves_tells g start x y session move answer of fits does number call is =
     let goes : CallMoves g start session answer x y = subst (λ (b : Bool). MovesOn g start b session answer x y) (runs_has_call g start x fits session number call is) does.also.happens in
@@ -181,22 +183,24 @@ not_of_entry at entry key fault cause = (
 )
 
 -- a beginning is not refused because an entry or its key was there
-begin_not_exists : {S : Type 0} (g : Ghosts S) (store : S) (vacuums : Bool) (sets : DeadSets) (request : Request) (o : Option (Option Op)) (fault : Fault) → HasCause (where_begun_at g store vacuums sets request o) fault → IsNotOfEntry fault
+begin_not_exists : {S : Type 0} (g : Ghosts S) (store : S) (vacuums : Bool) (sets : DeadSets) (request : Request) (o : Option (Option Op))
+    (fault : Fault) → HasCause (causes_of_begun_at g store vacuums sets request o) fault → IsNotOfEntry fault
 begin_not_exists g store vacuums sets request None fault cause =
-    not_of_entry (where_begun_at g store vacuums sets request None) (λ h. true_false (sym h)) (λ row h. true_false (sym h)) fault cause
+    not_of_entry (causes_of_begun_at g store vacuums sets request None) (λ h. true_false (sym h)) (λ row h. true_false (sym h)) fault cause
 begin_not_exists g store vacuums sets request (Some slot) fault cause =
-    not_of_entry (where_begun_at g store vacuums sets request (Some slot)) (λ h. true_false (sym h)) (λ row h. true_false (sym h)) fault cause
+    not_of_entry (causes_of_begun_at g store vacuums sets request (Some slot)) (λ h. true_false (sym h)) (λ row h. true_false (sym h)) fault cause
 
 -- nor is a checkpoint
-pub kept_not_exists : (old new : Backing) (fault : Fault) → HasCause (where_forced old new) fault → IsNotOfEntry fault
-kept_not_exists old new fault cause = not_of_entry (where_forced old new) (λ h. true_false (sym h)) (λ row h. true_false (sym h)) fault cause
+pub kept_not_exists : (old new : Backing) (fault : Fault) → HasCause (causes_of_forced old new) fault → IsNotOfEntry fault
+kept_not_exists old new fault cause = not_of_entry (causes_of_forced old new) (λ h. true_false (sym h)) (λ row h. true_false (sym h)) fault cause
 
 -- the circumstances of a beginning
-abbrev begins_at : {S : Type 0} → Ghosts S → ℕ → Request → Snapshot S → Circumstances
-begins_at g session request x = where_begun_at g x.store (one_vacuums x.slots) x.sets request (slice_get x.slots session)
+abbrev begins_at : {S : Type 0} → Ghosts S → ℕ → Request → Moment S → Circumstances
+begins_at g session request x = causes_of_begun_at g x.store (one_vacuums x.slots) x.sets request (slice_get x.slots session)
 
 -- a beginning
-pub begins_told : {S : Type 0} (g : Ghosts S) (start : Entry → Bool) (session : ℕ) (request : Request) (answer : Answer) (x y : Snapshot S) → EventDoes g start (BeginsCall session request) answer x y → BeginTold session request (begun_of answer) x y
+pub begins_told : {S : Type 0} (g : Ghosts S) (start : Entry → Bool) (session : ℕ) (request : Request) (answer : Answer) (x y : Moment S)
+    → EventDoes g start (BeginsCall session request) answer x y → BeginTold session request (begun_of answer) x y
 begins_told {S} g start session request answer x y does = of (slice_get x.slots session) does.also.happens (begin_not_exists g x.store (one_vacuums x.slots) x.sets request (slice_get x.slots session))
   where
     stays : ((fault : Fault) → HasCause (begins_at g session request x) fault → IsNotOfEntry fault) → Stays g answer x y → BeginTold session request (begun_of answer) x y
@@ -209,20 +213,22 @@ begins_told {S} g start session request answer x y does = of (slice_get x.slots 
     begun : CallBegins g session request answer x y → BeginTold session request (begun_of answer) x y
     begun b = subst (λ (a : Answer). BeginTold session request (begun_of a) x y) (sym b.told) (record { history_is = b.history_is; calls_is = b.calls_is })
 
-    of : (p : Option (Option Op)) → MayBegin g p session request answer x y → ((fault : Fault) → HasCause (begins_at g session request x) fault → IsNotOfEntry fault) → BeginTold session request (begun_of answer) x y
+    of : (p : Option (Option Op)) → MayBegin g p session request answer x y
+        → ((fault : Fault) → HasCause (begins_at g session request x) fault → IsNotOfEntry fault) → BeginTold session request (begun_of answer) x y
     of None h why = stays why h
     of (Some None) h why = elim h [ inl b ↦ begun b | inr s ↦ stays why s ]
     of (Some (Some op)) h why = stays why h
 
 -- what is done for the store tells nothing
-pub keeps_silent : {S : Type 0} (g : Ghosts S) (start : Entry → Bool) (upkeep : Upkeep) (answer : Answer) (x y : Snapshot S) → EventDoes g start (KeepsStore upkeep) answer x y → IsSilent x y
+pub keeps_silent : {S : Type 0} (g : Ghosts S) (start : Entry → Bool) (upkeep : Upkeep) (answer : Answer) (x y : Moment S) → EventDoes g start (KeepsStore upkeep) answer x y → IsSilent x y
 keeps_silent g start upkeep answer x y does = elim does.also.happens [
   | inl kept ↦ record { history_is = kept.still.history_is; calls_is = kept.still.calls_is }
   | inr stays ↦ record { history_is = stays.still.history_is; calls_is = stays.still.calls_is }
 ]
 
 -- an end
-pub ends_tells : {S : Type 0} (g : Ghosts S) (start : Entry → Bool) (x y : Snapshot S) (session : ℕ) (answer : Answer) → Fits g start x → EventDoes g start (MovesCall session GivesUp) answer x y → TellsEnd session x y
+pub ends_tells : {S : Type 0} (g : Ghosts S) (start : Entry → Bool) (x y : Moment S) (session : ℕ) (answer : Answer) → Fits g start x
+    → EventDoes g start (MovesCall session GivesUp) answer x y → TellsEnd session x y
 ends_tells {S} g start x y session answer fits does = of (has_call x.slots session) refl does.also.happens
   where
     given_up : (number : ℕ) (call : Call) → IsRunningCall x.calls session number call → answer ≡ Ended
@@ -239,7 +245,8 @@ ends_tells {S} g start x y session answer fits does = of (has_call x.slots sessi
           calls_is = λ free. absurd (free goes.number goes.call goes.is);
           ended_is = λ number call runs. (
               let same = one_runs g start x fits session number goes.number call goes.call runs goes.is in
-              goes.calls_is ∙ ap (λ (n : ℕ). slice_set x.calls n goes.after) same.0 ∙ ap (λ (c : Call). slice_set x.calls number c) (told.after_is ∙ ap (λ (c : Call). ended c GivenUp (length x.history)) same.1));
+              goes.calls_is ∙ ap (λ (n : ℕ). slice_set x.calls n goes.after) same.0
+              ∙ ap (λ (c : Call). slice_set x.calls number c) (told.after_is ∙ ap (λ (c : Call). ended c GivenUp (length x.history)) same.1));
         }
     of false is stays = record {
       history_is = stays.still.history_is;
@@ -252,15 +259,15 @@ set_new [] x y = refl
 set_new (z ∷ xs) x y = ap (λ l. z ∷ l) (set_new xs x y)
 
 -- a call that has just begun, and then came so far
-module _ {S : Type 0} (session : ℕ) (request : Request) (x y z : Snapshot S) (began : HasBegun session request x y) where
+module _ {S : Type 0} (session : ℕ) (request : Request) (x y z : Moment S) (began : HasBegun session request x y) where
   abbrev first : Call
   first = first_call session request x
 
-  next_runs : IsRunningCall (with_call x first).calls session (length x.calls) first
+  next_runs : IsRunningCall (with_one_call x first).calls session (length x.calls) first
   next_runs = record { found = get_append_new x.calls first; session_is = refl; running = refl }
 
   pub begun_next : (answer : Answer) → TellsStep session answer y z → NextTold session request answer x z
-  begun_next answer tells = silent_then session answer (with_call x first) y z (record { history_is = began.history_is; calls_is = began.calls_is }) tells (length x.calls) first next_runs
+  begun_next answer tells = silent_then session answer (with_one_call x first) y z (record { history_is = began.history_is; calls_is = began.calls_is }) tells (length x.calls) first next_runs
 
   pub begun_runs : IsRunningCall y.calls session (length x.calls) first
   begun_runs = record { found = ap (λ (l : List Call). slice_get l (length x.calls)) began.calls_is ∙ next_runs.found; session_is = refl; running = refl }
@@ -269,7 +276,8 @@ module _ {S : Type 0} (session : ℕ) (request : Request) (x y z : Snapshot S) (
   pub begun_free : (g : Ghosts S) (start : Entry → Bool) → Fits g start y → HasNone session x
   begun_free g start fits number call is =
       let now = begun_runs in
-      let old : IsRunningCall y.calls session number call = record { found = ap (λ (l : List Call). slice_get l number) began.calls_is ∙ get_append_some x.calls (first ∷ []) number call is.found; session_is = is.session_is; running = is.running } in
+      let old : IsRunningCall y.calls session number call =
+      record { found = ap (λ (l : List Call). slice_get l number) began.calls_is ∙ get_append_some x.calls (first ∷ []) number call is.found; session_is = is.session_is; running = is.running } in
       let e : number ≡ length x.calls = (one_runs g start y fits session (length x.calls) number first call now old).0 in
       let within : number < length x.calls = get_within x.calls number call is.found in
       omega (arith, e, within)

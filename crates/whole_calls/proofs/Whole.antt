@@ -4,9 +4,9 @@ use Rattle.index_model.specs.Limits.{AreLimits}
 use Rattle.index_model.specs.declared.stats.VacuumStats.{VacuumStats}
 use Rattle.session_calls.specs.Sessions.{start_number, after_slot}
 use Rattle.session_calls.specs.declared.request.Request.TheVariants.{Insert as ToInsert, Scan as ToScan, Bulk as ToBulk, Cleanup as ToCleanup}
-use Rattle.whole_calls.proofs.Words.{Action, Ask, Call, Entry, State, Ghosts, DeadSets, asked_by, IsCaused, set_at, slot_add, Answer, Finished, Op, Request, Snapshot, IsRunningCall, Fits, here_at, slot_of, Laws}
-use Rattle.whole_calls.specs.Refusing.{where_asked, is_full_vacuum}
-use Rattle.whole_calls.specs.Stepping.{Lasts, FinishGoes, BeginGoes, HasRun}
+use Rattle.whole_calls.proofs.Words.{Action, Ask, Call, Entry, State, Ghosts, DeadSets, asked_by, IsCaused, set_at, slot_add, Answer, Finished, Op, Request, Moment, IsRunningCall, Fits, here_at, slot_of, Laws}
+use Rattle.whole_calls.specs.Refusing.{causes_of_asked, is_full_vacuum}
+use Rattle.whole_calls.specs.Stepping.{Lasts, FinishGoes, BeginGoes, HasCompleted}
 use Rattle.whole_calls.specs.Sweeping.{Followed, of_sweep, of_cleanup, FollowsFrom, IsCountedAs, CountsThrough, TellsFor}
 use Rattle.whole_calls.specs.Telling.{noted_behind, first_call, TellsEnd}
 use Rattle.whole_calls.proofs.Counting.{tells_on}
@@ -27,8 +27,8 @@ pub record LeavesAll {S : Type 0} (g : Ghosts S) (session : ℕ) (old new : S) :
   pub numbers : (number : Option ℕ) → slice_set (g.state new).running session number ≡ slice_set (g.state old).running session number
 
 -- a call that has begun is run to its last answer, and given up
-pub record RunsOut {S : Type 0} (g : Ghosts S) (session least_room : ℕ) (answer : Answer) (added : Option ℕ) (start : Entry → Bool) (old new : Snapshot S) : Type 0 where
-  pub here : Snapshot S
+pub record RunsOut {S : Type 0} (g : Ghosts S) (session least_room : ℕ) (answer : Answer) (added : Option ℕ) (start : Entry → Bool) (old new : Moment S) : Type 0 where
+  pub here : Moment S
   pub fits : Fits g start here
   pub finish : FinishGoes g session least_room answer start old here
   pub add : added ≡ slot_add (slot_of here.slots session)
@@ -37,15 +37,15 @@ pub record RunsOut {S : Type 0} (g : Ghosts S) (session least_room : ℕ) (answe
   pub state : g.state new.store ≡ after_slot (slot_of here.slots session) (g.state here.store)
 
 -- the moments before the call, behind its beginning, behind its last step, and behind its end
-module _ {S : Type 0} (g : Ghosts S) (laws : Laws g) (start : Entry → Bool) (session least_room : ℕ) (request : Request) (answer : Answer) (added : Option ℕ) (x y w : Snapshot S)
+module _ {S : Type 0} (g : Ghosts S) (laws : Laws g) (start : Entry → Bool) (session least_room : ℕ) (request : Request) (answer : Answer) (added : Option ℕ) (x y w : Moment S)
     (begun : BeginGoes g session request (Ok tt) x y) (fits_y : Fits g start y) (first : Lasts g session x y) (out : RunsOut g session least_room answer added start y w) where
-  abbrev z : Snapshot S
+  abbrev z : Moment S
   z = out.here
 
   abbrev finish : FinishGoes g session least_room answer start y out.here
   finish = out.finish
 
-  abbrev last : Snapshot S
+  abbrev last : Moment S
   last = finish.last
 
   abbrev number : ℕ
@@ -70,11 +70,12 @@ module _ {S : Type 0} (g : Ghosts S) (laws : Laws g) (start : Entry → Bool) (s
       of (ToInsert e) is history asks so = absurd asks
       of (ToScan range) is history asks so = absurd asks
       of (ToBulk set) is history asks so =
-          bulk_fills g laws start session y fits_y are number (first_call session (ToBulk set) x) (set_at x.sets set) is refl (sym (ap (λ (l : List Action). length l) history)) last finish.fits finish.gone (so of_sweep tt) full
+          bulk_fills g laws start session y fits_y are number (first_call session (ToBulk set) x) (set_at x.sets set) is refl
+          (sym (ap (λ (l : List Action). length l) history)) last finish.fits finish.gone (so of_sweep tt) full
       of ToCleanup is history asks so = cleanup_fills g laws start session y fits_y are last finish.gone (so of_cleanup tt) full
 
   -- why it is refused, told from the moment before it
-  caused : AreLimits (g.state y.store).limits → IsCaused (where_asked g session least_room (Some (g.state x.store).begun) false (asked_by x.sets request) (here_at x) z.store) answer
+  caused : AreLimits (g.state y.store).limits → IsCaused (causes_of_asked g session least_room (Some (g.state x.store).begun) false (asked_by x.sets request) (here_at x) z.store) answer
   caused are =
       let far = finish.gone.far number call runs in
       let then_call = noted_behind call (length y.history) far.0 in
@@ -83,10 +84,13 @@ module _ {S : Type 0} (g : Ghosts S) (laws : Laws g) (start : Entry → Bool) (s
       let behind = later_of g session laws last z finish.lasts in
       let full = is_full_vacuum (slot_of last.slots session) in
       let asked : then_call.ask ≡ call.ask = same_ask call (length y.history) far.0 in
-      let number_is : start_number (g.state last.store) session ≡ Some (g.state x.store).begun = ap (λ (l : List (Option ℕ)). unwrap_or (slice_get l session) None) finish.gone.numbers ∙ begun.number refl in
-      let came = subst (λ (a : Ask). IsCaused (where_asked g session least_room (start_number (g.state last.store) session) full a (here_at last) z.store) answer) asked (finish.step.caused number then_call then_runs) in
-      let came_so = subst (λ (n : Option ℕ). IsCaused (where_asked g session least_room n full call.ask (here_at last) z.store) answer) number_is came in
-      cause_wider _ _ (asked_wider g session least_room (here_at x) (here_at last) z.store (later_of g session laws x last up_to) behind.failures (busier_of g session x last up_to) (Some (g.state x.store).begun) full false call.ask (has_room are)) answer came_so
+      let number_is : start_number (g.state last.store) session ≡ Some (g.state x.store).begun =
+      ap (λ (l : List (Option ℕ)). unwrap_or (slice_get l session) None) finish.gone.numbers ∙ begun.number refl in
+      let came = subst (λ (a : Ask).
+      IsCaused (causes_of_asked g session least_room (start_number (g.state last.store) session) full a (here_at last) z.store) answer) asked (finish.step.caused number then_call then_runs) in
+      let came_so = subst (λ (n : Option ℕ). IsCaused (causes_of_asked g session least_room n full call.ask (here_at last) z.store) answer) number_is came in
+      cause_wider _ _ (asked_wider g session least_room (here_at x) (here_at last) z.store (later_of g session laws x last up_to) behind.failures
+      (busier_of g session x last up_to) (Some (g.state x.store).begun) full false call.ask (has_room are)) answer came_so
 
   -- what it tells at its end
   told_stats : (stats : VacuumStats) → answer ≡ Finished stats → TellsFor (asked_by x.sets request) (g.state w.store) stats
@@ -99,7 +103,7 @@ module _ {S : Type 0} (g : Ghosts S) (laws : Laws g) (start : Entry → Bool) (s
       subst (λ (st : State). TellsFor (asked_by x.sets request) st stats) (sym same)
       (subst (λ (a : Ask). TellsFor a (g.state z.store) stats) asked (finish.step.stats number then_call then_runs stats finished))
 
-  pub has_run : AreLimits (g.state y.store).limits → HasRun g session least_room request answer added start x w
+  pub has_run : AreLimits (g.state y.store).limits → HasCompleted g session least_room request answer added start x w
   has_run are = record {
     here = z;
     fits = out.fits;
@@ -107,7 +111,8 @@ module _ {S : Type 0} (g : Ghosts S) (laws : Laws g) (start : Entry → Bool) (s
     told = begun_next session request x y z begun.told answer (far_last session answer y last z finish.gone.far finish.step.told);
     add_is = sym out.add;
     end = out.end;
-    caused = rw (asked_behind g session least_room (Some (g.state x.store).begun) false (asked_by x.sets request) (here_at x) z.store w.store out.leaves.backing out.leaves.acts out.leaves.frames out.leaves.limits out.leaves.pages out.leaves.counted
+    caused = rw (asked_behind g session least_room (Some (g.state x.store).begun) false (asked_by x.sets request) (here_at x) z.store w.store
+        out.leaves.backing out.leaves.acts out.leaves.frames out.leaves.limits out.leaves.pages out.leaves.counted
         (out.leaves.numbers (Some (g.state x.store).begun))) (caused are);
     stats = told_stats;
     counts = λ what stats follows is. (

@@ -10,7 +10,7 @@ use Rattle.session_calls.specs.Sessions.{work_in, given_one, ended}
 use Rattle.session_calls.specs.declared.answer.Answer.{Answer}
 use Rattle.session_calls.specs.declared.answer.Answer.TheVariants.{Going, Ready, Done, Gave, Refused}
 use Rattle.session_calls.specs.declared.op.Op.{Op}
-use Rattle.schedule.specs.TheoremMoments.{Snapshot, IsRunningCall}
+use Rattle.schedule.specs.TheoremMoments.{Moment, IsRunningCall}
 use Rattle.whole_calls.specs.Telling.{IsSilent, StepTold}
 
 -- where the scan is to go on, or has given an entry, less is left to do
@@ -21,12 +21,12 @@ GoesDown old new before after (Gave (Some entry)) = work_in new after < work_in 
 GoesDown old new before after answer = Unit {0}
 
 -- a step, or what was asked for, is told of the session's scan, if it runs one
-abbrev pub TellsScan : {S : Type 0} → ℕ → Answer → Snapshot S → Snapshot S → Type 0
+abbrev pub TellsScan : {S : Type 0} → ℕ → Answer → Moment S → Moment S → Type 0
 TellsScan session answer old new = (number : ℕ) (call : Call) (range : Range) → IsRunningCall old.calls session number call → call.ask ≡ AskScan range → StepTold number call answer old new
 
 -- nothing is told of the session's scan
-abbrev pub ScanStays : {S : Type 0} → ℕ → Snapshot S → Snapshot S → Type 0
-ScanStays session old new = (number : ℕ) (call : Call) (range : Range) → IsRunningCall old.calls session number call → call.ask ≡ AskScan range → IsSilent old new
+abbrev pub ScanIsUntold : {S : Type 0} → ℕ → Moment S → Moment S → Type 0
+ScanIsUntold session old new = (number : ℕ) (call : Call) (range : Range) → IsRunningCall old.calls session number call → call.ask ≡ AskScan range → IsSilent old new
 
 -- what asking a scan for its next entry, or else a step of it, may answer
 abbrev pub AnswersAdvance : Answer → Type 0
@@ -52,10 +52,10 @@ given_of (Refused fault) = Err fault
 given_of answer = Err NoSession
 
 -- ... and what it came to
-abbrev pub give_came : Result (Option Entry) Fault → Option Answer
-give_came (Ok (Some entry)) = Some (Gave (Some entry))
-give_came (Ok None) = Some Done
-give_came (Err fault) = Some (Refused fault)
+abbrev pub given_outcome : Result (Option Entry) Fault → Option Answer
+given_outcome (Ok (Some entry)) = Some (Gave (Some entry))
+given_outcome (Ok None) = Some Done
+given_outcome (Err fault) = Some (Refused fault)
 
 -- each entry that a scan gives leaves less to do
 abbrev pub GiveLeavesLess : State → State → Option Op → Option Op → Result (Option Entry) Fault → Type 0
@@ -69,16 +69,16 @@ EndsUnlessGiven (Ok None) slot = slot ≡ None
 EndsUnlessGiven (Err fault) slot = slot ≡ None
 
 -- no action is appended, and the call of this number has become this one; no other is changed
-pub record Becomes {S : Type 0} (number : ℕ) (after : Call) (old new : Snapshot S) : Type 0 where
+pub record Becomes {S : Type 0} (number : ℕ) (after : Call) (old new : Moment S) : Type 0 where
   pub history_is : new.history ≡ old.history
   pub calls_is : new.calls ≡ slice_set old.calls number after
 
 -- the call has given one entry more; or it has finished, with all that it gave; or it is over, and no action is appended
-abbrev pub GivenTold : {S : Type 0} → ℕ → Call → Result (Option Entry) Fault → Snapshot S → Snapshot S → Type 0
+abbrev pub GivenTold : {S : Type 0} → ℕ → Call → Result (Option Entry) Fault → Moment S → Moment S → Type 0
 GivenTold number call (Ok (Some entry)) old new = Becomes number (given_one call entry) old new
 GivenTold number call (Ok None) old new = Becomes number (ended call EndsFinished (length old.history)) old new
 GivenTold number call (Err fault) old new = new.history ≡ old.history
 
 -- ... of the session's running scan
-abbrev pub TellsGiven : {S : Type 0} → ℕ → Result (Option Entry) Fault → Snapshot S → Snapshot S → Type 0
+abbrev pub TellsGiven : {S : Type 0} → ℕ → Result (Option Entry) Fault → Moment S → Moment S → Type 0
 TellsGiven session result old new = (number : ℕ) (call : Call) (range : Range) → IsRunningCall old.calls session number call → call.ask ≡ AskScan range → GivenTold number call result old new

@@ -5,9 +5,9 @@ use Rattle.index_model.specs.Calls.{Call}
 use Rattle.index_model.specs.declared.entry.Entry.{Entry}
 use Rattle.page_action.specs.declared.page_store.PageStore.{Ghosts}
 use Rattle.session_calls.specs.declared.answer.Answer.{Answer}
-use Rattle.schedule.specs.TheoremMoments.{StoreAndSlots, Snapshot, snapshot_of}
+use Rattle.schedule.specs.TheoremMoments.{StoreAndSlots, Moment, snapshot_of}
 use Rattle.schedule.specs.Events.{AreOf}
-use Rattle.schedule.specs.TheoremRuns.{Ran, Carries}
+use Rattle.schedule.specs.TheoremRuns.{Ran, ForEachHistory}
 use Rattle.schedule.specs.declared.event.Event.{Event}
 
 -- the answer is one of these
@@ -23,7 +23,8 @@ CameBy answers (Some answer) = IsAmong answers answer
 -- There is a continuation of the history and of the calls that fits now, by a run of events of this session with these
 -- answers. What the call came to is the answer of one of them, so a refusal has the cause of that event; and this is told
 -- from the moment before to the moment after.
-pub record CallRuns {S : Type 0} (g : Ghosts S) (session : ℕ) (Tells : Snapshot S → Snapshot S → Type 0) (came : Option Answer) (old new : StoreAndSlots S) (start : Entry → Bool) (history : List Action) (calls : List Call) : Type 0 where
+pub record CallRuns {S : Type 0} (g : Ghosts S) (session : ℕ) (Tells : Moment S → Moment S → Type 0) (came : Option Answer)
+    (old new : StoreAndSlots S) (start : Entry → Bool) (history : List Action) (calls : List Call) : Type 0 where
   pub then_history : List Action
   pub then_calls : List Call
   pub events : List Event
@@ -34,9 +35,9 @@ pub record CallRuns {S : Type 0} (g : Ghosts S) (session : ℕ) (Tells : Snapsho
   pub tells : Tells (snapshot_of old history calls) (snapshot_of new then_history then_calls)
 
 -- ... for whatever fitted before, where the device has kept its model up to now
-abbrev pub CallGoes : {S : Type 0} → Ghosts S → ℕ → (Snapshot S → Snapshot S → Type 0) → Option Answer → StoreAndSlots S → StoreAndSlots S → Type 0
-CallGoes g session Tells came old new = Carries g old new (CallRuns g session Tells came old new)
+abbrev pub CallGoes : {S : Type 0} → Ghosts S → ℕ → (Moment S → Moment S → Type 0) → Option Answer → StoreAndSlots S → StoreAndSlots S → Type 0
+CallGoes g session Tells came old new = ForEachHistory g old new (CallRuns g session Tells came old new)
 
 -- ... where what is told speaks of the contents at the start
-abbrev pub GoesFrom : {S : Type 0} → Ghosts S → ℕ → ((Entry → Bool) → Snapshot S → Snapshot S → Type 0) → Option Answer → StoreAndSlots S → StoreAndSlots S → Type 0
-GoesFrom g session Tells came old new = Carries g old new (λ start history calls. CallRuns g session (Tells start) came old new start history calls)
+abbrev pub GoesFrom : {S : Type 0} → Ghosts S → ℕ → ((Entry → Bool) → Moment S → Moment S → Type 0) → Option Answer → StoreAndSlots S → StoreAndSlots S → Type 0
+GoesFrom g session Tells came old new = ForEachHistory g old new (λ start history calls. CallRuns g session (Tells start) came old new start history calls)

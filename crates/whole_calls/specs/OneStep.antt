@@ -5,7 +5,7 @@ use Rattle.index_model.specs.Calls.{GivenUp, Call}
 use Rattle.index_model.specs.Faults.{HasCause}
 use Rattle.index_model.specs.declared.fault.Fault.{Fault}
 use Rattle.index_model.specs.declared.fault.Fault.TheVariants.{Blocked}
-use Rattle.page_action.specs.Causes.{where_forced}
+use Rattle.page_action.specs.Causes.{causes_of_forced}
 use Rattle.page_action.specs.declared.page_store.PageStore.{Ghosts}
 use Rattle.session_calls.specs.Ops.{RunsOn}
 use Rattle.session_calls.specs.Sessions.{Told, AnswersStep, RunsUntilLast, ended, slot_add}
@@ -16,7 +16,7 @@ use Rattle.session_calls.specs.declared.answer.Answer.TheVariants.{Added, Checkp
 use Rattle.schedule.specs.Events.{OthersStay, IsUnchanged, DoesOneAct}
 use Rattle.schedule.specs.Making.{Makes}
 use Rattle.schedule.specs.TheoremKinds.{Steps, GivesUp, Checkpoints, MovesCall, KeepsStore}
-use Rattle.schedule.specs.TheoremMoments.{StoreAndSlots, Snapshot, IsRunningCall}
+use Rattle.schedule.specs.TheoremMoments.{StoreAndSlots, Moment, IsRunningCall}
 use Rattle.whole_calls.specs.Going.{IsAmong}
 use Rattle.whole_calls.specs.Refusing.{is_full_vacuum, CallIsCaused}
 use Rattle.whole_calls.specs.Spending.{TakesFewer}
@@ -30,7 +30,7 @@ cut_short (Some action) fault = Added action (Some fault)
 
 -- the call of this number has made one step, with an action of this effect or none, which it was asked for; what is told of it; no other
 -- call is changed
-pub record HasStepped {S : Type 0} (number : ℕ) (call : Call) (answer : Answer) (old new : Snapshot S) : Type 0 where
+pub record HasStepped {S : Type 0} (number : ℕ) (call : Call) (answer : Answer) (old new : Moment S) : Type 0 where
   pub effect : Option Effect
   pub after : Call
   pub may : MayAnswer call.ask answer
@@ -41,20 +41,20 @@ pub record HasStepped {S : Type 0} (number : ℕ) (call : Call) (answer : Answer
 
 -- the checkpoint before a step was refused with this fault, and the call of this number is given up for it: no action is appended, and no
 -- other call is changed
-pub record IsGivenUpFor {S : Type 0} (g : Ghosts S) (number : ℕ) (call : Call) (answer : Answer) (old new : Snapshot S) : Type 0 where
+pub record IsGivenUpFor {S : Type 0} (g : Ghosts S) (number : ℕ) (call : Call) (answer : Answer) (old new : Moment S) : Type 0 where
   pub fault : Fault
-  pub cause : HasCause (where_forced (g.backing old.store) (g.backing new.store)) fault
+  pub cause : HasCause (causes_of_forced (g.backing old.store) (g.backing new.store)) fault
   pub answer_is : answer ≡ cut_short call.added fault
   pub history_is : new.history ≡ old.history
   pub calls_is : new.calls ≡ slice_set old.calls number (ended call GivenUp (length old.history))
 
 -- the one or the other, of the session's running call
-abbrev pub TellsOneStep : {S : Type 0} → Ghosts S → ℕ → Answer → Snapshot S → Snapshot S → Type 0
+abbrev pub TellsOneStep : {S : Type 0} → Ghosts S → ℕ → Answer → Moment S → Moment S → Type 0
 TellsOneStep g session answer old new =
     (number : ℕ) (call : Call) → IsRunningCall old.calls session number call → HasStepped number call answer old new ⊎ IsGivenUpFor g number call answer old new
 
 -- what one step of a session's call does to whatever fitted before
-pub record OneStepGoes {S : Type 0} (g : Ghosts S) (session least_room : ℕ) (answer : Answer) (old new : Snapshot S) : Type 0 where
+pub record OneStepGoes {S : Type 0} (g : Ghosts S) (session least_room : ℕ) (answer : Answer) (old new : Moment S) : Type 0 where
   -- the session's call has made a step, or is given up
   pub told : TellsOneStep g session answer old new
   -- where it has none, nothing is told
@@ -113,8 +113,8 @@ pub record IsStepCutShort {S : Type 0} (g : Ghosts S) (session least_room : ℕ)
   pub told : answer ≡ cut_short (slot_add (slot_of old.slots session)) fault
 
 -- the events that one step of a session's call is made of, whatever the pages are
-abbrev pub IsOneStep : {S : Type 0} → Ghosts S → ℕ → ℕ → Answer → StoreAndSlots S → StoreAndSlots S → Type 0
-IsOneStep g session least_room answer old new =
+abbrev pub IsMadeAsStep : {S : Type 0} → Ghosts S → ℕ → ℕ → Answer → StoreAndSlots S → StoreAndSlots S → Type 0
+IsMadeAsStep g session least_room answer old new =
     IsStepMade g session least_room answer old new ⊎ IsStepBehind g session least_room answer old new ⊎ IsStepCutShort g session least_room answer old new
 
 -- how room is made before a step: nothing is done, or a checkpoint is made, or refused with this fault

@@ -19,10 +19,10 @@ use Rattle.session_calls.specs.declared.op.Op.TheVariants.{Insert, Scan, Bulk, C
 use Rattle.session_calls.specs.declared.request.Request.{Request}
 use Rattle.session_calls.specs.declared.request.Request.TheVariants.{Insert as ToInsert}
 use Rattle.session_calls.specs.Slots.{is_of_sets, slot_of, one_vacuums}
-use Rattle.schedule.specs.TheoremMoments.{StoreAndSlots, Snapshot, IsRunningCall}
-use Rattle.schedule.specs.Snapshots.{here_at}
+use Rattle.schedule.specs.TheoremMoments.{StoreAndSlots, Moment, IsRunningCall}
+use Rattle.schedule.specs.MomentInvariants.{here_at}
 use Rattle.vacuum.specs.BulkDeletes.{is_counted_out}
-use Rattle.page_delete.specs.Ops.{is_counted_out as is_cleanup_full}
+use Rattle.page_delete.specs.Ops.{cleanup_counted_out as is_cleanup_full}
 use Rattle.whole_calls.specs.declared.inserted.Inserted.{Inserted}
 
 -- one of these slots, which are those from this number on, runs a call, and is not the session's
@@ -46,8 +46,8 @@ is_full_vacuum (Some (Cleanup op)) = is_cleanup_full op
 -- device call failed meanwhile; the log had failed before, or a counter is at its end; another session runs a call, and may hold
 -- a page or a frame; there are fewer frames than one act needs. The log is full only where less room is asked for than one image
 -- more than an act has.
-abbrev pub where_gone : {S : Type 0} → Ghosts S → ℕ → ℕ → Bool → StoreAndSlots S → S → Circumstances
-where_gone g session least_room counts_full old new = record nothing_wrong {
+abbrev pub causes_of_gone : {S : Type 0} → Ghosts S → ℕ → ℕ → Bool → StoreAndSlots S → S → Circumstances
+causes_of_gone g session least_room counts_full old new = record nothing_wrong {
   device_failed = has_failed (g.backing old.store) (g.backing new);
   is_stopped = (g.backing old.store).stopped || (has_failed (g.backing old.store) (g.backing new) || (nat_le 18446744073709551615 (g.state new).acts || counts_full));
   is_held_by_another = λ b. another_runs old.slots session;
@@ -57,8 +57,8 @@ where_gone g session least_room counts_full old new = record nothing_wrong {
 
 -- ... of an insert also that its entry was there, or another row of its key, that no block can be had or that the root is on level 31,
 -- as far as these say so
-abbrev pub where_inserted : {S : Type 0} → Ghosts S → ℕ → ℕ → Bool → (Row → Bool) → Bool → Bool → StoreAndSlots S → S → Circumstances
-where_inserted g session least_room was_there key_was no_block tall old new = record (where_gone g session least_room false old new) {
+abbrev pub causes_of_inserted : {S : Type 0} → Ghosts S → ℕ → ℕ → Bool → (Row → Bool) → Bool → Bool → StoreAndSlots S → S → Circumstances
+causes_of_inserted g session least_room was_there key_was no_block tall old new = record (causes_of_gone g session least_room false old new) {
   entry_was_there = was_there;
   key_was_there = key_was;
   no_block_is_free = no_block;
@@ -80,23 +80,23 @@ is_tall st = nat_le 31 (root_level st.pages)
 -- What may be the cause where a call is refused that was asked this and has this start number, or leaves a split unfinished: of an
 -- insert that may also be that its entry was there, on a unique index that its key was, that no block can be had while it runs, or
 -- that the root is on level 31.
-abbrev pub where_asked : {S : Type 0} → Ghosts S → ℕ → ℕ → Option ℕ → Bool → Ask → StoreAndSlots S → S → Circumstances
-where_asked g session least_room number counts_full (AskInsert e) old new =
-    where_inserted g session least_room true (λ r. (g.state new).limits.unique) (has_no_block session number (g.state new)) (is_tall (g.state new)) old new
-where_asked g session least_room number counts_full (AskScan range) old new = where_gone g session least_room false old new
-where_asked g session least_room number counts_full (AskBulkDelete dead) old new = where_gone g session least_room counts_full old new
-where_asked g session least_room number counts_full AskCleanup old new = where_gone g session least_room counts_full old new
+abbrev pub causes_of_asked : {S : Type 0} → Ghosts S → ℕ → ℕ → Option ℕ → Bool → Ask → StoreAndSlots S → S → Circumstances
+causes_of_asked g session least_room number counts_full (AskInsert e) old new =
+    causes_of_inserted g session least_room true (λ r. (g.state new).limits.unique) (has_no_block session number (g.state new)) (is_tall (g.state new)) old new
+causes_of_asked g session least_room number counts_full (AskScan range) old new = causes_of_gone g session least_room false old new
+causes_of_asked g session least_room number counts_full (AskBulkDelete dead) old new = causes_of_gone g session least_room counts_full old new
+causes_of_asked g session least_room number counts_full AskCleanup old new = causes_of_gone g session least_room counts_full old new
 
 -- what the session's running call came to had its cause
-abbrev pub CallIsCaused : {S : Type 0} → Ghosts S → ℕ → ℕ → Bool → Answer → Snapshot S → Snapshot S → Type 0
+abbrev pub CallIsCaused : {S : Type 0} → Ghosts S → ℕ → ℕ → Bool → Answer → Moment S → Moment S → Type 0
 CallIsCaused g session least_room counts_full answer old new =
     (number : ℕ) (call : Call) → IsRunningCall old.calls session number call
-    → IsCaused (where_asked g session least_room (start_number (g.state old.store) session) counts_full call.ask (here_at old) new.store) answer
+    → IsCaused (causes_of_asked g session least_room (start_number (g.state old.store) session) counts_full call.ask (here_at old) new.store) answer
 
 -- why a call is refused that is run from its beginning on: for one of these causes, or since it wasn't begun: the log had failed or a
 -- counter was at its end; there is no such session, or no such set; the session has a call; a bulk delete or a cleanup runs
-abbrev pub where_called : {S : Type 0} → Ghosts S → ℕ → Request → StoreAndSlots S → Circumstances → Circumstances
-where_called g session request old at = record at {
+abbrev pub causes_of_called : {S : Type 0} → Ghosts S → ℕ → Request → StoreAndSlots S → Circumstances → Circumstances
+causes_of_called g session request old at = record at {
   is_stopped = at.is_stopped || is_at_end (g.state old.store).begun;
   vacuum_runs = asks_vacuum request && one_vacuums old.slots;
   no_such_session = not (is_of_sets old.sets request) || is_none (slice_get old.slots session);
@@ -107,17 +107,18 @@ where_called g session request old at = record at {
 -- was the count of calls begun before it
 abbrev pub InsertCallIsCaused : {S : Type 0} → Ghosts S → ℕ → ℕ → Entry → StoreAndSlots S → S → Result Inserted Fault → Type 0
 InsertCallIsCaused g session least_room entry old new (Ok inserted) =
-    IsFaultCaused (where_inserted g session least_room false (λ r. false) (has_no_block session (Some (g.state old.store).begun) (g.state new)) (is_tall (g.state new)) old new) inserted.unfinished
+    IsFaultCaused (causes_of_inserted g session least_room false (λ r. false) (has_no_block session (Some (g.state old.store).begun) (g.state new)) (is_tall (g.state new)) old new) inserted.unfinished
 InsertCallIsCaused g session least_room entry old new (Err fault) =
-    HasCause (where_called g session (ToInsert entry) old
-    (where_inserted g session least_room true (λ r. (g.state new).limits.unique) (has_no_block session (Some (g.state old.store).begun) (g.state new)) (is_tall (g.state new)) old new)) fault
+    HasCause (causes_of_called g session (ToInsert entry) old
+    (causes_of_inserted g session least_room true (λ r. (g.state new).limits.unique) (has_no_block session (Some (g.state old.store).begun) (g.state new)) (is_tall (g.state new)) old new)) fault
 
 -- what the session's running scan came to had its cause
-abbrev pub ScanIsCaused : {S : Type 0} → Ghosts S → ℕ → ℕ → Answer → Snapshot S → Snapshot S → Type 0
+abbrev pub ScanIsCaused : {S : Type 0} → Ghosts S → ℕ → ℕ → Answer → Moment S → Moment S → Type 0
 ScanIsCaused g session least_room answer old new =
-    (number : ℕ) (call : Call) (range : Range) → IsRunningCall old.calls session number call → call.ask ≡ AskScan range → IsCaused (where_gone g session least_room false (here_at old) new.store) answer
+    (number : ℕ) (call : Call) (range : Range) → IsRunningCall old.calls session number call → call.ask ≡ AskScan range
+    → IsCaused (causes_of_gone g session least_room false (here_at old) new.store) answer
 
 -- why the session's running scan gives no entry that is asked for one
 abbrev pub GiveIsCaused : {S : Type 0} → Ghosts S → ℕ → ℕ → StoreAndSlots S → S → Result (Option Entry) Fault → List Call → Type 0
 GiveIsCaused g session least_room old new result calls =
-    (number : ℕ) (call : Call) (range : Range) → IsRunningCall calls session number call → call.ask ≡ AskScan range → IfErr result (HasCause (where_gone g session least_room false old new))
+    (number : ℕ) (call : Call) (range : Range) → IsRunningCall calls session number call → call.ask ≡ AskScan range → IfErr result (HasCause (causes_of_gone g session least_room false old new))

@@ -14,38 +14,38 @@ use Rattle.session_calls.specs.Sessions.{start_number, slot_add}
 use Rattle.session_calls.specs.declared.answer.Answer.{Answer}
 use Rattle.session_calls.specs.declared.answer.Answer.TheVariants.{Going, Finished, Refused}
 use Rattle.session_calls.specs.declared.request.Request.{Request}
-use Rattle.schedule.specs.TheoremMoments.{Snapshot, IsRunningCall}
+use Rattle.schedule.specs.TheoremMoments.{Moment, IsRunningCall}
 use Rattle.schedule.specs.TheoremRuns.{Fits}
 use Rattle.session_calls.specs.Slots.{slot_of, one_vacuums}
-use Rattle.schedule.specs.Snapshots.{here_at}
-use Rattle.schedule.specs.Events.{OthersStay, where_begun_at}
-use Rattle.whole_calls.specs.Giving.{TellsScan, ScanStays}
-use Rattle.whole_calls.specs.Refusing.{where_asked, is_full_vacuum, CallIsCaused, ScanIsCaused}
+use Rattle.schedule.specs.MomentInvariants.{here_at}
+use Rattle.schedule.specs.Events.{OthersStay, causes_of_begun_at}
+use Rattle.whole_calls.specs.Giving.{TellsScan, ScanIsUntold}
+use Rattle.whole_calls.specs.Refusing.{causes_of_asked, is_full_vacuum, CallIsCaused, ScanIsCaused}
 use Rattle.whole_calls.specs.Spending.{TakesFewer}
 use Rattle.whole_calls.specs.Sweeping.{Followed, IsCountedAs, TellsAs, TellsFor, CountsThrough, BeginsToCount, FollowsFrom}
 use Rattle.whole_calls.specs.Telling.{IsSilent, TellsStep, HasGoneFar, HasNone, BeginTold, NextTold, NothingTold, TellsEnd}
 
 -- the room for an act is made, or not: nothing is told, and neither pages nor slots are changed
-pub record RoomTold {S : Type 0} (g : Ghosts S) (old new : Snapshot S) : Type 0 where
+pub record RoomTold {S : Type 0} (g : Ghosts S) (old new : Moment S) : Type 0 where
   pub silent : IsSilent old new
   pub state_is : g.state new.store ≡ g.state old.store
   pub slots_are : new.slots ≡ old.slots
   pub sets_are : new.sets ≡ old.sets
 
 -- the one store comes behind the other, and what other sessions run is as it was
-pub record Lasts {S : Type 0} (g : Ghosts S) (session : ℕ) (old new : Snapshot S) : Type 0 where
+pub record Lasts {S : Type 0} (g : Ghosts S) (session : ℕ) (old new : Moment S) : Type 0 where
   pub steps : Continues g.follows old.store new.store
   pub others : OthersStay session old.slots new.slots
 
 -- the session's running call that finishes tells how many pages there are
-abbrev pub FinishTells : {S : Type 0} → Ghosts S → ℕ → Answer → Snapshot S → Snapshot S → Type 0
+abbrev pub FinishTells : {S : Type 0} → Ghosts S → ℕ → Answer → Moment S → Moment S → Type 0
 FinishTells g session answer old new =
     (number : ℕ) (call : Call) → IsRunningCall old.calls session number call → (stats : VacuumStats) → answer ≡ Finished stats → TellsFor call.ask (g.state new.store) stats
 
 -- What a step of the session's call tells, or the refusal of the room for it; why it is refused; what is counted on; that fewer steps are
 -- left where it goes on, and each running call keeps its start number then; and the statistics where it finishes, behind which the session
 -- runs nothing.
-pub record StepGoes {S : Type 0} (g : Ghosts S) (session least_room : ℕ) (answer : Answer) (old new : Snapshot S) : Type 0 where
+pub record StepGoes {S : Type 0} (g : Ghosts S) (session least_room : ℕ) (answer : Answer) (old new : Moment S) : Type 0 where
   pub told : TellsStep session answer old new
   pub caused : CallIsCaused g session least_room (is_full_vacuum (slot_of old.slots session)) answer old new
   pub counts : (what : Followed) → CountsThrough what old.sets (g.state old.store) (g.state new.store) (slot_of old.slots session) (slot_of new.slots session) answer
@@ -55,7 +55,7 @@ pub record StepGoes {S : Type 0} (g : Ghosts S) (session least_room : ℕ) (answ
   pub over : (stats : VacuumStats) → answer ≡ Finished stats → slot_of new.slots session ≡ None
 
 -- the session's call has gone on so far, and has counted on; each running call has its start number still
-pub record HasGoneTo {S : Type 0} (g : Ghosts S) (session : ℕ) (old new : Snapshot S) : Type 0 where
+pub record HasGoneTo {S : Type 0} (g : Ghosts S) (session : ℕ) (old new : Moment S) : Type 0 where
   pub lasts : Lasts g session old new
   pub sets_are : new.sets ≡ old.sets
   pub limits_are : (g.state new.store).limits ≡ (g.state old.store).limits
@@ -64,8 +64,8 @@ pub record HasGoneTo {S : Type 0} (g : Ghosts S) (session : ℕ) (old new : Snap
   pub counted : (what : Followed) → IsCountedAs what old.sets (g.state old.store) (slot_of old.slots session) → IsCountedAs what old.sets (g.state new.store) (slot_of new.slots session)
 
 -- steps that went on, up to a moment that fits, and the last one
-pub record FinishGoes {S : Type 0} (g : Ghosts S) (session least_room : ℕ) (answer : Answer) (start : Entry → Bool) (old new : Snapshot S) : Type 0 where
-  pub last : Snapshot S
+pub record FinishGoes {S : Type 0} (g : Ghosts S) (session least_room : ℕ) (answer : Answer) (start : Entry → Bool) (old new : Moment S) : Type 0 where
+  pub last : Moment S
   pub fits : Fits g start last
   pub gone : HasGoneTo g session old last
   pub lasts : Lasts g session last new
@@ -73,46 +73,46 @@ pub record FinishGoes {S : Type 0} (g : Ghosts S) (session least_room : ℕ) (an
 
 -- a call is begun, or nothing is told; what has begun has the count of calls begun before it for its start number; and what a vacuum
 -- follows that has begun
-pub record BeginGoes {S : Type 0} (g : Ghosts S) (session : ℕ) (request : Request) (result : Result (Unit {0}) Fault) (old new : Snapshot S) : Type 0 where
+pub record BeginGoes {S : Type 0} (g : Ghosts S) (session : ℕ) (request : Request) (result : Result (Unit {0}) Fault) (old new : Moment S) : Type 0 where
   pub told : BeginTold session request result old new
   pub number : result ≡ Ok tt → start_number (g.state new.store) session ≡ Some (g.state old.store).begun
   pub counts : (what : Followed) → FollowsFrom what request (g.state old.store) session → BeginsToCount what new.sets (g.state new.store) (slot_of new.slots session) result
 
 -- the call was not begun
-pub record NotRun {S : Type 0} (g : Ghosts S) (session : ℕ) (request : Request) (answer : Answer) (added : Option ℕ) (old new : Snapshot S) : Type 0 where
+pub record NotRun {S : Type 0} (g : Ghosts S) (session : ℕ) (request : Request) (answer : Answer) (added : Option ℕ) (old new : Moment S) : Type 0 where
   pub fault : Fault
   pub refused : answer ≡ Refused fault
   pub none : added ≡ None
   pub told : NothingTold fault old new
-  pub cause : HasCause (where_begun_at g old.store (one_vacuums old.slots) old.sets request (slice_get old.slots session)) fault
+  pub cause : HasCause (causes_of_begun_at g old.store (one_vacuums old.slots) old.sets request (slice_get old.slots session)) fault
 
 -- the call was begun in a session with none, came to this answer, and was given up, so far as it still ran: its Add was this then; why
 -- it was refused, and what is counted, and told, at its end
-pub record HasRun {S : Type 0} (g : Ghosts S) (session least_room : ℕ) (request : Request) (answer : Answer) (added : Option ℕ) (start : Entry → Bool) (old new : Snapshot S) : Type 0 where
-  pub here : Snapshot S
+pub record HasCompleted {S : Type 0} (g : Ghosts S) (session least_room : ℕ) (request : Request) (answer : Answer) (added : Option ℕ) (start : Entry → Bool) (old new : Moment S) : Type 0 where
+  pub here : Moment S
   pub fits : Fits g start here
   pub free : HasNone session old
   pub told : NextTold session request answer old here
   pub add_is : slot_add (slot_of here.slots session) ≡ added
   pub end : TellsEnd session here new
-  pub caused : IsCaused (where_asked g session least_room (Some (g.state old.store).begun) false (asked_by old.sets request) (here_at old) new.store) answer
+  pub caused : IsCaused (causes_of_asked g session least_room (Some (g.state old.store).begun) false (asked_by old.sets request) (here_at old) new.store) answer
   pub counts : (what : Followed) (stats : VacuumStats) → FollowsFrom what request (g.state old.store) session → answer ≡ Finished stats → TellsAs what (g.state new.store) (Ok stats)
   pub stats : (stats : VacuumStats) → answer ≡ Finished stats → TellsFor (asked_by old.sets request) (g.state new.store) stats
 
 -- the one or the other
-abbrev pub RunGoes : {S : Type 0} → Ghosts S → ℕ → ℕ → Request → Answer → Option ℕ → (Entry → Bool) → Snapshot S → Snapshot S → Type 0
+abbrev pub RunGoes : {S : Type 0} → Ghosts S → ℕ → ℕ → Request → Answer → Option ℕ → (Entry → Bool) → Moment S → Moment S → Type 0
 RunGoes g session least_room request answer added start old new =
-    NotRun g session request answer added old new ⊎ HasRun g session least_room request answer added start old new
+    NotRun g session request answer added old new ⊎ HasCompleted g session least_room request answer added start old new
 
 -- nothing is told of the session's scan so far
-pub record ScanWaits {S : Type 0} (g : Ghosts S) (session : ℕ) (old new : Snapshot S) : Type 0 where
+pub record ScanGivesNothing {S : Type 0} (g : Ghosts S) (session : ℕ) (old new : Moment S) : Type 0 where
   pub lasts : Lasts g session old new
-  pub stays : ScanStays session old new
+  pub stays : ScanIsUntold session old new
 
 -- behind steps of the session's scan that told nothing, one with this answer, and why it is refused
-pub record ScanGoes {S : Type 0} (g : Ghosts S) (session least_room : ℕ) (answer : Answer) (old new : Snapshot S) : Type 0 where
-  pub last : Snapshot S
-  pub waits : ScanWaits g session old last
+pub record ScanGoes {S : Type 0} (g : Ghosts S) (session least_room : ℕ) (answer : Answer) (old new : Moment S) : Type 0 where
+  pub last : Moment S
+  pub waits : ScanGivesNothing g session old last
   pub lasts : Lasts g session last new
   pub told : TellsScan session answer last new
   pub caused : ScanIsCaused g session least_room answer last new

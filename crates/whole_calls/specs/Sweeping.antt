@@ -21,7 +21,7 @@ use Rattle.session_calls.specs.declared.op.Op.{Op}
 use Rattle.session_calls.specs.declared.op.Op.TheVariants.{Insert, Scan, Bulk, Cleanup}
 use Rattle.session_calls.specs.declared.request.Request.{Request}
 use Rattle.session_calls.specs.declared.request.Request.TheVariants.{Bulk as ToBulk, Cleanup as ToCleanup}
-use Rattle.schedule.specs.TheoremMoments.{Snapshot}
+use Rattle.schedule.specs.TheoremMoments.{Moment}
 use Rattle.whole_calls.specs.Telling.{acts_by, AreOwnEffects, first_call}
 
 -- what a bulk delete or a cleanup answers that came to this
@@ -31,9 +31,9 @@ swept_of (Refused fault) = Err fault
 swept_of answer = Err NoSession
 
 -- ... and what it came to
-abbrev pub swept_came : Result VacuumStats Fault → Option Answer
-swept_came (Ok stats) = Some (Finished stats)
-swept_came (Err fault) = Some (Refused fault)
+abbrev pub sweep_outcome : Result VacuumStats Fault → Option Answer
+sweep_outcome (Ok stats) = Some (Finished stats)
+sweep_outcome (Err fault) = Some (Refused fault)
 
 -- the entries that these effects remove
 abbrev pub removed_of : List Effect → List Entry
@@ -44,20 +44,20 @@ removed_of (Shape ∷ effects) = removed_of effects
 
 -- the actions of the bulk delete or cleanup that is asked for, one behind the other, are its own; its call has finished with these
 -- statistics
-pub record IsSweptNow {S : Type 0} (session : ℕ) (request : Request) (stats : VacuumStats) (old new : Snapshot S) : Type 0 where
+pub record IsSweptNow {S : Type 0} (session : ℕ) (request : Request) (stats : VacuumStats) (old new : Moment S) : Type 0 where
   pub effects : List Effect
   pub own : AreOwnEffects (first_call session request old) (length old.history) effects
   pub history_is : new.history ≡ old.history ++ acts_by (length old.calls) effects
   pub calls_is : new.calls ≡ old.calls ++ ended (first_call session request old) (Vacuumed stats) (length new.history) ∷ []
 
 -- it has done the actions that it was asked for, so far
-pub record IsSweptSoFar {S : Type 0} (session : ℕ) (request : Request) (old new : Snapshot S) : Type 0 where
+pub record IsSweptSoFar {S : Type 0} (session : ℕ) (request : Request) (old new : Moment S) : Type 0 where
   pub effects : List Effect
   pub own : AreOwnEffects (first_call session request old) (length old.history) effects
   pub history_is : new.history ≡ old.history ++ acts_by (length old.calls) effects
 
 -- it has finished, or it was refused and is over
-abbrev pub SweepTold : {S : Type 0} → ℕ → Request → Result VacuumStats Fault → Snapshot S → Snapshot S → Type 0
+abbrev pub SweepTold : {S : Type 0} → ℕ → Request → Result VacuumStats Fault → Moment S → Moment S → Type 0
 SweepTold session request (Ok stats) old new = IsSweptNow session request stats old new
 SweepTold session request (Err fault) old new = IsSweptSoFar session request old new
 

@@ -16,12 +16,12 @@ use Rattle.session_calls.specs.Sessions.{Told, MayDo, noted, ended}
 use Rattle.session_calls.specs.declared.answer.Answer.{Answer}
 use Rattle.session_calls.specs.declared.answer.Answer.TheVariants.{Begun, Going, Added, Ready, Done, Finished, Gave, Refused}
 use Rattle.session_calls.specs.declared.request.Request.{Request}
-use Rattle.schedule.specs.TheoremMoments.{Snapshot, IsRunningCall}
-pub use Rattle.schedule.specs.CallLists.{with_call}
+use Rattle.schedule.specs.TheoremMoments.{Moment, IsRunningCall}
+pub use Rattle.schedule.specs.CallLists.{with_one_call}
 use Rattle.whole_calls.specs.declared.inserted.Inserted.{Inserted}
 
 -- the history and the calls are as they were
-pub record IsSilent {S : Type 0} (old new : Snapshot S) : Type 0 where
+pub record IsSilent {S : Type 0} (old new : Moment S) : Type 0 where
   pub history_is : new.history ≡ old.history
   pub calls_is : new.calls ≡ old.calls
 
@@ -65,13 +65,13 @@ IsOwnEffect call None = Unit {0}
 IsOwnEffect call (Some effect) = MayDo call.ask call.added effect
 
 -- the call of this number has done these effects, which it was asked for, and still runs; no other call is changed
-pub record HasGoneOn {S : Type 0} (number : ℕ) (call : Call) (effects : List Effect) (old new : Snapshot S) : Type 0 where
+pub record HasGoneOn {S : Type 0} (number : ℕ) (call : Call) (effects : List Effect) (old new : Moment S) : Type 0 where
   pub own : AreOwnEffects call (length old.history) effects
   pub history_is : new.history ≡ old.history ++ acts_by number effects
   pub calls_is : new.calls ≡ slice_set old.calls number (noted_behind call (length old.history) effects)
 
 -- the call of this number has done these effects, and then a step with this one, if any, is told so; no other call is changed
-pub record IsTold {S : Type 0} (number : ℕ) (call : Call) (answer : Answer) (old new : Snapshot S) : Type 0 where
+pub record IsTold {S : Type 0} (number : ℕ) (call : Call) (answer : Answer) (old new : Moment S) : Type 0 where
   pub before : List Effect
   pub last : Option Effect
   pub after : Call
@@ -83,14 +83,14 @@ pub record IsTold {S : Type 0} (number : ℕ) (call : Call) (answer : Answer) (o
   pub calls_is : new.calls ≡ slice_set old.calls number after
 
 -- nothing is told, and what was refused was not refused because the entry or its key was there
-pub record NothingTold {S : Type 0} (fault : Fault) (old new : Snapshot S) : Type 0 where
+pub record NothingTold {S : Type 0} (fault : Fault) (old new : Moment S) : Type 0 where
   pub silent : IsSilent old new
   pub not_exists : fault ≢ Exists
   pub not_key_exists : (row : Row) → fault ≢ KeyExists row
 
 -- the call of this number has gone on so far, and still runs; the room for a further step was refused, not because the entry or
 -- its key was there
-pub record IsHeldUp {S : Type 0} (number : ℕ) (call : Call) (answer : Answer) (old new : Snapshot S) : Type 0 where
+pub record IsHeldUp {S : Type 0} (number : ℕ) (call : Call) (answer : Answer) (old new : Moment S) : Type 0 where
   pub fault : Fault
   pub refused : answer ≡ Refused fault
   pub before : List Effect
@@ -99,23 +99,23 @@ pub record IsHeldUp {S : Type 0} (number : ℕ) (call : Call) (answer : Answer) 
   pub not_key_exists : (row : Row) → fault ≢ KeyExists row
 
 -- steps were made, the last with this answer; or the room for a further one could not be made
-abbrev pub StepTold : {S : Type 0} → ℕ → Call → Answer → Snapshot S → Snapshot S → Type 0
+abbrev pub StepTold : {S : Type 0} → ℕ → Call → Answer → Moment S → Moment S → Type 0
 StepTold number call answer old new = IsTold number call answer old new ⊎ IsHeldUp number call answer old new
 
 -- ... of the session's running call
-abbrev pub TellsStep : {S : Type 0} → ℕ → Answer → Snapshot S → Snapshot S → Type 0
+abbrev pub TellsStep : {S : Type 0} → ℕ → Answer → Moment S → Moment S → Type 0
 TellsStep session answer old new = (number : ℕ) (call : Call) → IsRunningCall old.calls session number call → StepTold number call answer old new
 
 -- the session's running call, if it has one, has gone on so far
-abbrev pub HasGoneFar : {S : Type 0} → ℕ → Snapshot S → Snapshot S → Type 0
+abbrev pub HasGoneFar : {S : Type 0} → ℕ → Moment S → Moment S → Type 0
 HasGoneFar session old new = (number : ℕ) (call : Call) → IsRunningCall old.calls session number call → (effects : List Effect) × HasGoneOn number call effects old new
 
 -- the session has no running call
-abbrev pub HasNone : {S : Type 0} → ℕ → Snapshot S → Type 0
+abbrev pub HasNone : {S : Type 0} → ℕ → Moment S → Type 0
 HasNone session now = (number : ℕ) (call : Call) → IsRunningCall now.calls session number call → ⊥
 
 -- a call is begun: it gets the next number
-pub record HasBegun {S : Type 0} (session : ℕ) (request : Request) (old new : Snapshot S) : Type 0 where
+pub record HasBegun {S : Type 0} (session : ℕ) (request : Request) (old new : Moment S) : Type 0 where
   pub history_is : new.history ≡ old.history
   pub calls_is : new.calls ≡ old.calls ++ begun_call session (asked_by old.sets request) (length old.history) ∷ []
 
@@ -126,29 +126,29 @@ begun_of (Refused fault) = Err fault
 begun_of answer = Err NoSession
 
 -- a call is begun, or nothing is told
-abbrev pub BeginTold : {S : Type 0} → ℕ → Request → Result (Unit {0}) Fault → Snapshot S → Snapshot S → Type 0
+abbrev pub BeginTold : {S : Type 0} → ℕ → Request → Result (Unit {0}) Fault → Moment S → Moment S → Type 0
 BeginTold session request (Ok begun) old new = HasBegun session request old new
 BeginTold session request (Err fault) old new = NothingTold fault old new
 
 -- what a beginning came to
-abbrev pub begin_came : Result (Unit {0}) Fault → Option Answer
-begin_came (Ok begun) = Some Begun
-begin_came (Err fault) = Some (Refused fault)
+abbrev pub begin_outcome : Result (Unit {0}) Fault → Option Answer
+begin_outcome (Ok begun) = Some Begun
+begin_outcome (Err fault) = Some (Refused fault)
 
 -- the session's call is given up, if it still runs: no action is appended, and no other call is changed
-pub record TellsEnd {S : Type 0} (session : ℕ) (old new : Snapshot S) : Type 0 where
+pub record TellsEnd {S : Type 0} (session : ℕ) (old new : Moment S) : Type 0 where
   pub history_is : new.history ≡ old.history
   pub calls_is : HasNone session old → new.calls ≡ old.calls
   pub ended_is : (number : ℕ) (call : Call) → IsRunningCall old.calls session number call → new.calls ≡ slice_set old.calls number (ended call GivenUp (length old.history))
 
 -- the call that a request begins now
-abbrev pub first_call : {S : Type 0} → ℕ → Request → Snapshot S → Call
+abbrev pub first_call : {S : Type 0} → ℕ → Request → Moment S → Call
 first_call session request now = begun_call session (asked_by now.sets request) (length now.history)
 
 -- the call that is begun now comes to this
-abbrev pub NextTold : {S : Type 0} → ℕ → Request → Answer → Snapshot S → Snapshot S → Type 0
+abbrev pub NextTold : {S : Type 0} → ℕ → Request → Answer → Moment S → Moment S → Type 0
 NextTold session request answer old new =
-    StepTold (length old.calls) (first_call session request old) answer (with_call old (first_call session request old)) new
+    StepTold (length old.calls) (first_call session request old) answer (with_one_call old (first_call session request old)) new
 
 -- an insert that is refused: where its entry is added, that fault is left behind
 abbrev pub left_behind : Option ℕ → Fault → Result Inserted Fault
@@ -176,7 +176,7 @@ IsEndOf inserted ending = (ending ≡ EndsAdded inserted.action inserted.unfinis
 
 -- One action of the history adds the entry; it is that of this insert, whose call is over. Before and behind it the insert
 -- has changed the shape of the pages only.
-pub record IsAddedNow {S : Type 0} (session : ℕ) (entry : Entry) (inserted : Inserted) (old new : Snapshot S) : Type 0 where
+pub record IsAddedNow {S : Type 0} (session : ℕ) (entry : Entry) (inserted : Inserted) (old new : Moment S) : Type 0 where
   pub before : ℕ
   pub behind : ℕ
   pub ending : Ending
@@ -186,7 +186,7 @@ pub record IsAddedNow {S : Type 0} (session : ℕ) (entry : Entry) (inserted : I
   pub calls_is : new.calls ≡ old.calls ++ inserted_call session entry (length old.history) inserted.action ending (length new.history) ∷ []
 
 -- the insert has changed the shape of the pages only; where the entry or its key was there, the call has ended with this
-pub record IsNotAdded {S : Type 0} (session : ℕ) (entry : Entry) (fault : Fault) (old new : Snapshot S) : Type 0 where
+pub record IsNotAdded {S : Type 0} (session : ℕ) (entry : Entry) (fault : Fault) (old new : Moment S) : Type 0 where
   pub shaped : ℕ
   pub history_is : new.history ≡ old.history ++ shapes (length old.calls) shaped
   pub exists_is : fault ≡ Exists → new.calls ≡ old.calls ++ ended (begun_call session (AskInsert entry) (length old.history)) (Failed Exists) (length new.history) ∷ []
@@ -194,14 +194,14 @@ pub record IsNotAdded {S : Type 0} (session : ℕ) (entry : Entry) (fault : Faul
       → new.calls ≡ old.calls ++ ended (begun_call session (AskInsert entry) (length old.history)) (Failed (KeyExists row)) (length new.history) ∷ []
 
 -- the entry is added, or no entry is
-abbrev pub InsertTold : {S : Type 0} → ℕ → Entry → Result Inserted Fault → Snapshot S → Snapshot S → Type 0
+abbrev pub InsertTold : {S : Type 0} → ℕ → Entry → Result Inserted Fault → Moment S → Moment S → Type 0
 InsertTold session entry (Ok inserted) old new = IsAddedNow session entry inserted old new
 InsertTold session entry (Err fault) old new = IsNotAdded session entry fault old new
 
 -- what making room came to, where it was refused
-abbrev pub room_came : Result (Unit {0}) Fault → Option Answer
-room_came (Ok made) = None
-room_came (Err fault) = Some (Refused fault)
+abbrev pub room_outcome : Result (Unit {0}) Fault → Option Answer
+room_outcome (Ok made) = None
+room_outcome (Err fault) = Some (Refused fault)
 
 -- there is room for so many images, or the log is empty
 abbrev pub RoomIsMade : ℕ → Format → Backing → Type 0

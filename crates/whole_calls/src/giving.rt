@@ -7,10 +7,10 @@ ghost use Rattle.session_calls.specs.Ops.{op_before, RunsOn};
 ghost use Rattle.session_calls.specs.declared.request.Request.TheVariants.{Scan as ToScan};
 ghost use Rattle.schedule.specs.Sessions.{here, op_of, KeepsOthers};
 ghost use Rattle.session_calls.specs.Slots.{one_vacuums};
-ghost use Rattle.schedule.specs.Events.{IsUnchanged, where_begun_at};
-ghost use Rattle.schedule.specs.TheoremRuns.{Carries};
-ghost use Rattle.whole_calls.specs.Telling.{BeginTold, begin_came};
-ghost use Rattle.whole_calls.specs.Giving.{GoesDown, AnswersAdvance, AnswersSeek, EndsUnlessGiven, GiveLeavesLess, TellsGiven, given_of, give_came};
+ghost use Rattle.schedule.specs.Events.{IsUnchanged, causes_of_begun_at};
+ghost use Rattle.schedule.specs.TheoremRuns.{ForEachHistory};
+ghost use Rattle.whole_calls.specs.Telling.{BeginTold, begin_outcome};
+ghost use Rattle.whole_calls.specs.Giving.{GoesDown, AnswersAdvance, AnswersSeek, EndsUnlessGiven, GiveLeavesLess, TellsGiven, given_of, given_outcome};
 ghost use Rattle.whole_calls.specs.Going.{IsAmong, CallGoes};
 ghost use Rattle.whole_calls.specs.Made.{IsMadeOf, Answered, ComesTo};
 ghost use Rattle.whole_calls.specs.Refusing.{GiveIsCaused};
@@ -116,16 +116,16 @@ pub fn give<S: PageStore, T: DeadRows>(
     ensures less { (S.backing store.new).honest ≡ true
         → GiveLeavesLess (S.state store.old) (S.state store.new)
         (op_of calls.old session) (op_of calls.new session) result }
-    ensures goes { CallGoes S.PageStore session (TellsGiven session result) (give_came result)
+    ensures goes { CallGoes S.PageStore session (TellsGiven session result) (given_outcome result)
         (here T.DeadRows store.old calls.old sets.now)
         (here T.DeadRows store.new calls.new sets.now) }
     // Whatever the pages are: so it answers None only behind a step that answered `Done`.
-    ensures made { IsMadeOf S.PageStore session least_room (ComesTo (give_came result))
+    ensures made { IsMadeOf S.PageStore session least_room (ComesTo (given_outcome result))
         (here T.DeadRows store.old calls.old sets.now)
         (here T.DeadRows store.new calls.new sets.now) }
     // With `least_room` 5 or more it never answers `LogFull`.
     ensures cause { let old = here T.DeadRows store.old calls.old sets.now in
-        Carries S.PageStore old (here T.DeadRows store.new calls.new sets.now)
+        ForEachHistory S.PageStore old (here T.DeadRows store.new calls.new sets.now)
         (λ start history calls.
         GiveIsCaused S.PageStore session least_room old store.new result calls) }
 {
@@ -155,11 +155,11 @@ pub fn open<S: PageStore, T: DeadRows>(
     ensures steps { Continues S.follows store.old store.new }
     ensures others { KeepsOthers session calls.old calls.new }
     ensures goes { CallGoes S.PageStore session (BeginTold session (ToScan range) result)
-        (begin_came result)
+        (begin_outcome result)
         (here T.DeadRows store.old calls.old sets.now)
         (here T.DeadRows store.new calls.new sets.now) }
     ensures made { (least_room : ℕ) → IsMadeOf S.PageStore session least_room
-        (ComesTo (begin_came result)) (here T.DeadRows store.old calls.old sets.now)
+        (ComesTo (begin_outcome result)) (here T.DeadRows store.old calls.old sets.now)
         (here T.DeadRows store.new calls.new sets.now) }
     ensures begins { OnOk result (op_of calls.new session
         ≡ Some (op_before session (ToScan range))) }
@@ -167,7 +167,7 @@ pub fn open<S: PageStore, T: DeadRows>(
         (here T.DeadRows store.old calls.old sets.now)
         (here T.DeadRows store.new calls.new sets.now)) }
     ensures cause { IfErr result
-        (HasCause (where_begun_at S.PageStore store.old (one_vacuums calls.old.slots.items)
+        (HasCause (causes_of_begun_at S.PageStore store.old (one_vacuums calls.old.slots.items)
         (map T.is_in sets.now) (ToScan range) (slice_get calls.old.slots.items session))) }
 {
     begin(store, calls, sets, session, Request::Scan(range))

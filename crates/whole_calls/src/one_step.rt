@@ -5,7 +5,7 @@ ghost use Rattle.page_action.specs.States.{Continues};
 ghost use Rattle.schedule.specs.Sessions.{here};
 ghost use Rattle.whole_calls.specs.Going.{CallGoes};
 ghost use Rattle.whole_calls.specs.Made.{IsMadeOf};
-ghost use Rattle.whole_calls.specs.OneStep.{IsOneStep, OneStepAlways, OneStepComesTo, OneStepGoes, cut_short};
+ghost use Rattle.whole_calls.specs.OneStep.{IsMadeAsStep, OneStepAlways, OneStepComesTo, OneStepGoes, cut_short};
 
 use crate::running::{give_up, make_room};
 use index_model::{DeadRows, Fault};
@@ -48,7 +48,7 @@ pub fn take_step<S: PageStore, T: DeadRows>(
         (here T.DeadRows store.old calls.old sets.now)
         (here T.DeadRows store.new calls.new sets.now) }
     // Which events it is made of.
-    ensures events { IsOneStep S.PageStore session least_room result
+    ensures events { IsMadeAsStep S.PageStore session least_room result
         (here T.DeadRows store.old calls.old sets.now)
         (here T.DeadRows store.new calls.new sets.now) }
     ensures always { OneStepAlways S.PageStore session result

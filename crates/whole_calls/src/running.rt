@@ -4,26 +4,26 @@
 
 ghost use Rattle.std.specs.Prelude.{◌≡◌, ◌≢◌, ◌≤◌, ℕ, true, List, Option, Some, None, OnOk, OnErr, IfErr, map, slice_get};
 ghost use Rattle.index_model.specs.Faults.{HasCause};
-ghost use Rattle.page_action.specs.Causes.{where_forced};
+ghost use Rattle.page_action.specs.Causes.{causes_of_forced};
 ghost use Rattle.page_action.specs.States.{Continues};
 ghost use Rattle.session_calls.specs.TheoremCalls.{DeadSets, asked_by};
 ghost use Rattle.session_calls.specs.Ops.{op_before, RunsOn};
-ghost use Rattle.session_calls.specs.Sessions.{AnswersStep, LeavesLess, OnlyWritersAct, after_slot};
+ghost use Rattle.session_calls.specs.Sessions.{AnswersStep, StepLeavesLess, OnlyWritersAct, after_slot};
 ghost use Rattle.session_calls.specs.declared.op.Op.{Op};
 ghost use Rattle.schedule.specs.Sessions.{here, op_of, KeepsOthers};
 ghost use Rattle.session_calls.specs.Slots.{one_vacuums};
-ghost use Rattle.schedule.specs.Snapshots.{here_with};
-ghost use Rattle.schedule.specs.Events.{IsUnchanged, where_begun_at};
+ghost use Rattle.schedule.specs.MomentInvariants.{here_with};
+ghost use Rattle.schedule.specs.Events.{IsUnchanged, causes_of_begun_at};
 ghost use Rattle.schedule.specs.Making.{Makes};
 ghost use Rattle.schedule.specs.TheoremKinds.{BeginsCall, GivesUp, MovesCall, kind_of};
-ghost use Rattle.schedule.specs.TheoremRuns.{Carries};
+ghost use Rattle.schedule.specs.TheoremRuns.{ForEachHistory};
 ghost use Rattle.whole_calls.specs.Going.{IsAmong, CameBy, CallGoes, GoesFrom};
 ghost use Rattle.whole_calls.specs.Inserting.{InsertGoes};
 ghost use Rattle.whole_calls.specs.Made.{IsMadeOf, Answered, ComesTo, InsertComesTo};
 ghost use Rattle.whole_calls.specs.OneStep.{MakesRoom};
 ghost use Rattle.whole_calls.specs.Refusing.{InsertCallIsCaused};
 ghost use Rattle.whole_calls.specs.Stepping.{RoomTold, BeginGoes, StepGoes, FinishGoes, RunGoes};
-ghost use Rattle.whole_calls.specs.Telling.{RoomIsMade, MayAnswer, MayComeTo, TellsEnd, left_behind, outcome_of, begun_of, begin_came, room_came};
+ghost use Rattle.whole_calls.specs.Telling.{RoomIsMade, MayAnswer, MayComeTo, TellsEnd, left_behind, outcome_of, begun_of, begin_outcome, room_outcome};
 
 use crate::inserted::Inserted;
 use index_model::{DeadRows, Entry, Fault};
@@ -36,11 +36,11 @@ use vacuum::nothing_is_counted;
 pub(crate) fn make_room<S: PageStore>(store: &mut S, least_room: u32) -> Result<(), Fault>
     ensures steps { Continues S.follows store.old store.new }
     ensures goes { (session : ℕ) (slots : List (Option Op)) (sets : DeadSets)
-        → CallGoes S.PageStore session (RoomTold S.PageStore) (room_came result)
+        → CallGoes S.PageStore session (RoomTold S.PageStore) (room_outcome result)
         (here_with store.old slots sets) (here_with store.new slots sets) }
     // Where the log has the room, none is made.
     ensures made { (session : ℕ) (slots : List (Option Op)) (sets : DeadSets)
-        → IsMadeOf S.PageStore session least_room (λ answers. CameBy answers (room_came result))
+        → IsMadeOf S.PageStore session least_room (λ answers. CameBy answers (room_outcome result))
         (here_with store.old slots sets) (here_with store.new slots sets) }
     ensures tried { (slots : List (Option Op)) (sets : DeadSets)
         → MakesRoom S.PageStore least_room result
@@ -51,7 +51,7 @@ pub(crate) fn make_room<S: PageStore>(store: &mut S, least_room: u32) -> Result<
     ensures promise { OnOk result (5 ≤ least_room → 5 ≤ (S.backing store.new).promised) }
     ensures state { S.state store.new ≡ S.state store.old }
     ensures cause { IfErr result
-        (HasCause (where_forced (S.backing store.old) (S.backing store.new))) }
+        (HasCause (causes_of_forced (S.backing store.old) (S.backing store.new))) }
 {
     let _limits = store.limits();
     if store.room() >= least_room {
@@ -84,7 +84,7 @@ pub(crate) fn step<S: PageStore, T: DeadRows>(
     ensures calm { OnlyWritersAct (op_of calls.old session) (S.state store.old)
         (S.state store.new) }
     ensures less { (S.backing store.new).honest ≡ true
-        → LeavesLess (S.state store.old) (S.state store.new)
+        → StepLeavesLess (S.state store.old) (S.state store.new)
         (op_of calls.old session) (op_of calls.new session) result }
     ensures kind { AnswersStep (op_of calls.old session) (op_of calls.new session) result }
     // What the session runs then, if anything, is of the kind that it ran before.
@@ -152,11 +152,11 @@ pub(crate) fn begin<S: PageStore, T: DeadRows>(
     ensures steps { Continues S.follows store.old store.new }
     ensures others { KeepsOthers session calls.old calls.new }
     ensures goes { CallGoes S.PageStore session (BeginGoes S.PageStore session request result)
-        (begin_came result)
+        (begin_outcome result)
         (here T.DeadRows store.old calls.old sets.now)
         (here T.DeadRows store.new calls.new sets.now) }
     ensures made { (least_room : ℕ) → IsMadeOf S.PageStore session least_room
-        (λ answers. CameBy answers (begin_came result))
+        (λ answers. CameBy answers (begin_outcome result))
         (here T.DeadRows store.old calls.old sets.now)
         (here T.DeadRows store.new calls.new sets.now) }
     ensures begins { OnOk result (op_of calls.new session ≡ Some (op_before session request)) }
@@ -164,7 +164,7 @@ pub(crate) fn begin<S: PageStore, T: DeadRows>(
         (here T.DeadRows store.old calls.old sets.now)
         (here T.DeadRows store.new calls.new sets.now)) }
     ensures cause { IfErr result
-        (HasCause (where_begun_at S.PageStore store.old (one_vacuums calls.old.slots.items)
+        (HasCause (causes_of_begun_at S.PageStore store.old (one_vacuums calls.old.slots.items)
         (map T.is_in sets.now) request (slice_get calls.old.slots.items session))) }
     ensures limits { (S.state store.new).limits ≡ (S.state store.old).limits }
 {
@@ -303,7 +303,7 @@ pub fn insert<S: PageStore, T: DeadRows>(
         (here T.DeadRows store.new calls.new sets.now) }
     // With `least_room` 5 or more it never answers `LogFull`.
     ensures cause { let old = here T.DeadRows store.old calls.old sets.now in
-        Carries S.PageStore old (here T.DeadRows store.new calls.new sets.now)
+        ForEachHistory S.PageStore old (here T.DeadRows store.new calls.new sets.now)
         (λ start history calls.
         InsertCallIsCaused S.PageStore session least_room entry old store.new result) }
 {

@@ -7,11 +7,11 @@ ghost use Rattle.page_delete.specs.Counts.{deleted_in};
 ghost use Rattle.session_calls.specs.declared.request.Request.TheVariants.{Bulk as ToBulk, Cleanup as ToCleanup};
 ghost use Rattle.schedule.specs.Sessions.{here, op_of, KeepsOthers};
 ghost use Rattle.schedule.specs.Events.{OthersStay};
-ghost use Rattle.schedule.specs.TheoremRuns.{Carries};
+ghost use Rattle.schedule.specs.TheoremRuns.{ForEachHistory};
 ghost use Rattle.whole_calls.specs.Going.{CallGoes};
 ghost use Rattle.whole_calls.specs.Made.{IsMadeOf, ComesTo};
-ghost use Rattle.whole_calls.specs.Refusing.{where_called, where_gone};
-ghost use Rattle.whole_calls.specs.Sweeping.{SweepTold, swept_of, swept_came, TellsEntries, TellsCleaned, TellsDeleted, TellsPages, LeavesOnlyNeeded, IsUndisturbed};
+ghost use Rattle.whole_calls.specs.Refusing.{causes_of_called, causes_of_gone};
+ghost use Rattle.whole_calls.specs.Sweeping.{SweepTold, swept_of, sweep_outcome, TellsEntries, TellsCleaned, TellsDeleted, TellsPages, LeavesOnlyNeeded, IsUndisturbed};
 
 use crate::running::run_call;
 use index_model::{DeadRows, Fault, VacuumStats};
@@ -48,27 +48,27 @@ pub fn bulk_delete<S: PageStore, T: DeadRows>(
     ensures others { KeepsOthers session calls.old calls.new }
     ensures over { op_of calls.old session ≡ None → op_of calls.new session ≡ None }
     ensures goes { CallGoes S.PageStore session (SweepTold session (ToBulk set) result)
-        (swept_came result)
+        (sweep_outcome result)
         (here T.DeadRows store.old calls.old sets.now)
         (here T.DeadRows store.new calls.new sets.now) }
     // Whatever the pages are.
-    ensures made { IsMadeOf S.PageStore session least_room (ComesTo (swept_came result))
+    ensures made { IsMadeOf S.PageStore session least_room (ComesTo (sweep_outcome result))
         (here T.DeadRows store.old calls.old sets.now)
         (here T.DeadRows store.new calls.new sets.now) }
-    ensures entries { Carries S.PageStore (here T.DeadRows store.old calls.old sets.now)
+    ensures entries { ForEachHistory S.PageStore (here T.DeadRows store.old calls.old sets.now)
         (here T.DeadRows store.new calls.new sets.now) (λ start history calls.
         TellsEntries (S.state store.new) result) }
     // It has deleted no page.
-    ensures stats { Carries S.PageStore (here T.DeadRows store.old calls.old sets.now)
+    ensures stats { ForEachHistory S.PageStore (here T.DeadRows store.old calls.old sets.now)
         (here T.DeadRows store.new calls.new sets.now) (λ start history calls. IfOk result
         (λ stats. TellsPages (S.state store.new) stats × (stats.pages_newly_deleted ≡ 0))) }
     // With `least_room` 5 or more it never answers `LogFull`; and it is never refused because it
     // had no room to count.
     ensures cause { let old = here T.DeadRows store.old calls.old sets.now in
-        Carries S.PageStore old (here T.DeadRows store.new calls.new sets.now)
+        ForEachHistory S.PageStore old (here T.DeadRows store.new calls.new sets.now)
         (λ start history calls. IfErr result
-        (HasCause (where_called S.PageStore session (ToBulk set) old
-        (where_gone S.PageStore session least_room false old store.new)))) }
+        (HasCause (causes_of_called S.PageStore session (ToBulk set) old
+        (causes_of_gone S.PageStore session least_room false old store.new)))) }
 {
     let request = Request::Bulk(set);
     swept(run_call(store, calls, sets, session, request, least_room).answer)
@@ -91,34 +91,34 @@ pub fn clean_up<S: PageStore, T: DeadRows>(
     ensures others { KeepsOthers session calls.old calls.new }
     ensures over { op_of calls.old session ≡ None → op_of calls.new session ≡ None }
     ensures goes { CallGoes S.PageStore session (SweepTold session ToCleanup result)
-        (swept_came result)
+        (sweep_outcome result)
         (here T.DeadRows store.old calls.old sets.now)
         (here T.DeadRows store.new calls.new sets.now) }
     // Whatever the pages are.
-    ensures made { IsMadeOf S.PageStore session least_room (ComesTo (swept_came result))
+    ensures made { IsMadeOf S.PageStore session least_room (ComesTo (sweep_outcome result))
         (here T.DeadRows store.old calls.old sets.now)
         (here T.DeadRows store.new calls.new sets.now) }
-    ensures entries { Carries S.PageStore (here T.DeadRows store.old calls.old sets.now)
+    ensures entries { ForEachHistory S.PageStore (here T.DeadRows store.old calls.old sets.now)
         (here T.DeadRows store.new calls.new sets.now) (λ start history calls.
         TellsCleaned (S.state store.new) result) }
     // As many more pages are deleted as it tells: it reuses none.
-    ensures deleted { Carries S.PageStore (here T.DeadRows store.old calls.old sets.now)
+    ensures deleted { ForEachHistory S.PageStore (here T.DeadRows store.old calls.old sets.now)
         (here T.DeadRows store.new calls.new sets.now) (λ start history calls.
         TellsDeleted (deleted_in (S.state store.old)) (S.state store.new) result) }
     // It has removed no entry.
-    ensures stats { Carries S.PageStore (here T.DeadRows store.old calls.old sets.now)
+    ensures stats { ForEachHistory S.PageStore (here T.DeadRows store.old calls.old sets.now)
         (here T.DeadRows store.new calls.new sets.now) (λ start history calls. IfOk result
         (λ stats. TellsPages (S.state store.new) stats × (stats.tuples_removed ≡ 0))) }
-    ensures spares { Carries S.PageStore (here T.DeadRows store.old calls.old sets.now)
+    ensures spares { ForEachHistory S.PageStore (here T.DeadRows store.old calls.old sets.now)
         (here T.DeadRows store.new calls.new sets.now) (λ start history calls.
         IsUndisturbed (S.state store.old) session → LeavesOnlyNeeded (S.state store.new) result) }
     // With `least_room` 5 or more it never answers `LogFull`; and it is never refused because it
     // had no room to count.
     ensures cause { let old = here T.DeadRows store.old calls.old sets.now in
-        Carries S.PageStore old (here T.DeadRows store.new calls.new sets.now)
+        ForEachHistory S.PageStore old (here T.DeadRows store.new calls.new sets.now)
         (λ start history calls. IfErr result
-        (HasCause (where_called S.PageStore session ToCleanup old
-        (where_gone S.PageStore session least_room false old store.new)))) }
+        (HasCause (causes_of_called S.PageStore session ToCleanup old
+        (causes_of_gone S.PageStore session least_room false old store.new)))) }
 {
     let request = Request::Cleanup;
     swept(run_call(store, calls, sets, session, request, least_room).answer)

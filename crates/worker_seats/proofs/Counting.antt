@@ -72,7 +72,8 @@ counted n k log = sum_below n (λ w. weigh (λ _. 1) (jobs_in (notes_from k w lo
 -- where the workers below n have every note, the first is of one of them, and they have the others
 first_seated : (n k : ℕ) (x : ℕ × ℕ) (xs : List (ℕ × ℕ)) → counted n k (x ∷ xs) ≡ suc (length xs) → (x.0 < n) × (counted n (suc k) xs ≡ length xs)
 first_seated n k x xs e =
-    let a = sum_same n (λ w. weigh (λ _. 1) (jobs_in (notes_from k w (x ∷ xs)))) (λ w. (if x.0 == w then 1 else 0) + weigh (λ _. 1) (jobs_in (notes_from (suc k) w xs))) (λ w. weigh_notes (λ _. 1) k w x xs) in
+    let a = sum_same n (λ w. weigh (λ _. 1) (jobs_in (notes_from k w (x ∷ xs))))
+    (λ w. (if x.0 == w then 1 else 0) + weigh (λ _. 1) (jobs_in (notes_from (suc k) w xs))) (λ w. weigh_notes (λ _. 1) k w x xs) in
     let b = sum_add n (λ w. if x.0 == w then 1 else 0) (λ w. weigh (λ _. 1) (jobs_in (notes_from (suc k) w xs))) in
     let rest = shares_fit (λ _. 1) n (suc k) xs in
     let long : weigh (λ _. 1) (jobs_in xs) ≡ length xs = weigh_one (jobs_in xs) ∙ jobs_long xs in
@@ -192,7 +193,15 @@ noted_once n workers popped log all own counted j l = each_once n workers log lo
     same w = weigh_one (jobs_in (notes_by w log)) ∙ jobs_long (notes_by w log)
 
     long : length log ≡ n
-    long = omega (arith, counted, sum_same workers (λ w. weigh (λ _. 1) (jobs_in (notes_by w log))) (λ w. length (notes_by w log)) same, own (λ _. 1), all (λ _. 1), weigh_one (below n), length_of_below n)
+    long = omega (
+      arith,
+      counted,
+      sum_same workers (λ w. weigh (λ _. 1) (jobs_in (notes_by w log))) (λ w. length (notes_by w log)) same,
+      own (λ _. 1),
+      all (λ _. 1),
+      weigh_one (below n),
+      length_of_below n,
+    )
 
 -- ... and what was popped is what the log has, however it is weighed
 pub noted_all : (n workers : ℕ) (popped : List ℕ) (log : List (ℕ × ℕ)) → ((h : ℕ → ℕ) → weigh h (below n) ≡ weigh h popped + weigh h [])

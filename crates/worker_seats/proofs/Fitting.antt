@@ -7,7 +7,7 @@ use lib.ListN.{get_elem?}
 use Rattle.crossbeam_utils.specs.Register.{Turns, Forks, Merges}
 use Rattle.atomic_table.proofs.Lists.{at_set, at_snoc}
 use Rattle.worker_seats.specs.declared.seating.SeatView.{SeatView}
-use Rattle.worker_seats.specs.Seats.{notes_from, notes_by, keeper_of, nobody, beside, keeper_in, seat_in, keeper_of_one_more, seat_of_one_more, after_start, after_note, KeeperFits, SeatFits, ViewFits, SitApart, SeatsFit, HasStarted, HasNoted, HasChecked}
+use Rattle.worker_seats.specs.Seats.{notes_from, notes_by, keeper_of, nobody, beside, keeper_in, seat_in, keeper_of_one_more, seat_of_one_more, after_start, after_note, KeeperFits, SeatFits, ViewFits, SitApart, SeatsFit, SeatHasStarted, HasNoted, HasChecked}
 use Rattle.worker_seats.proofs.Rows.{get_front, get_last, get_within, set_else, set_here}
 
 -- a view that is another keeps, or sits, as that does
@@ -52,7 +52,8 @@ apart_set views by w apart free i j u v ei ej su sv same =
     (at_set views by j w v ej))
     (at_set views by i w u ei)
 
-each_snoc : (desk : ℕ) (log : List (ℕ × ℕ)) (running : List (Option ℕ)) (views : List SeatView) (w : SeatView) → Each desk log running views → ((j : ℕ) → ViewFits desk log running j w) → Each desk log running (views ++ w ∷ [])
+each_snoc : (desk : ℕ) (log : List (ℕ × ℕ)) (running : List (Option ℕ)) (views : List SeatView) (w : SeatView) → Each desk log running views
+    → ((j : ℕ) → ViewFits desk log running j w) → Each desk log running (views ++ w ∷ [])
 each_snoc desk log running views w each mine j u e = ⊎_elim (λ x. each j u x) (λ (x : w ≡ u). subst (ViewFits desk log running j) x (mine j)) (at_snoc views w u j e)
 
 at_end : (l : List SeatView) (a b : SeatView) (j : ℕ) → get_elem? l j ≢ some b → get_elem? (l ++ a ∷ []) j ≡ some b → j ≡ length l
@@ -72,7 +73,8 @@ at_cases [] a b (suc j) e = absurd (some-ne-none b (sym e))
 at_cases (x ∷ xs) a b zero e = inl e
 at_cases (x ∷ xs) a b (suc j) e = ⊎_elim (λ h. inl h) (λ h. inr (ap suc h.0, h.1)) (at_cases xs a b j e)
 
-apart_snoc : (views : List SeatView) (w : SeatView) → SitApart views → ((j : ℕ) (u : SeatView) → get_elem? views j ≡ some u → u.sits ≡ true → w.sits ≡ true → u.worker ≢ w.worker) → SitApart (views ++ w ∷ [])
+apart_snoc : (views : List SeatView) (w : SeatView) → SitApart views
+    → ((j : ℕ) (u : SeatView) → get_elem? views j ≡ some u → u.sits ≡ true → w.sits ≡ true → u.worker ≢ w.worker) → SitApart (views ++ w ∷ [])
 apart_snoc views w apart free i j u v ei ej su sv same =
     ⊎_elim
     (λ x. ⊎_elim
@@ -173,7 +175,7 @@ module _ (words : List ℕ) (views : List SeatView) (h : SeatsFit words views) (
       apart = apart_set views pass (after_note v job) h.apart (λ j u apart e su sw. another j u apart e su);
     }
 
-pub starts_turns : (pass : ℕ) (v : SeatView) (new : List ℕ) → v.keeps ≡ true → v.sits ≡ true → Turns SeatsFit pass v (λ _. new) HasStarted
+pub starts_turns : (pass : ℕ) (v : SeatView) (new : List ℕ) → v.keeps ≡ true → v.sits ≡ true → Turns SeatsFit pass v (λ _. new) SeatHasStarted
 starts_turns pass v new keeps sits words views h at = (after_start v (slice_index new 0), starts words views h pass v at keeps sits new (slice_index new 0), refl)
 
 pub notes_turns : (pass : ℕ) (v : SeatView) (new : List ℕ) → v.keeps ≡ true → v.sits ≡ true → Turns SeatsFit pass v (λ _. new) HasNoted
@@ -265,7 +267,13 @@ sits_down pass v other u keeps words views h at apart there =
       log = h.log;
       running = h.running;
       each = each_set h.desk h.log h.running (set views pass w) other nobody
-          (λ j y _ e. each_set h.desk h.log h.running views pass w (λ i z _ e'. h.each i z e') (record { keeper = λ c. record { desk_is = (f.keeper keeps).desk_is; log_is = (f.keeper keeps).log_is; running_is = (f.keeper keeps).running_is }; seat = λ c. record { job_is = (g.seat c).job_is; notes_is = (g.seat c).notes_is } }) j y e)
+          (λ j y _ e. each_set h.desk h.log h.running views pass w (λ i z _ e'. h.each i z e')
+          (record {
+            keeper = λ c.
+                record { desk_is = (f.keeper keeps).desk_is; log_is = (f.keeper keeps).log_is; running_is = (f.keeper keeps).running_is };
+            seat =
+                λ c. record { job_is = (g.seat c).job_is; notes_is = (g.seat c).notes_is };
+          }) j y e)
           (record { keeper = λ c. absurd (off c); seat = λ c. absurd (off c) });
       apart = two;
     }
@@ -282,7 +290,8 @@ sits_down pass v other u keeps words views h at apart there =
         (λ (q : (j ≢ other) × (get_elem? (set views pass (beside v u)) j ≡ some z)). ⊎_elim
         (λ (r : (i ≡ pass) × (beside v u ≡ y)). ⊎_elim
         (λ (s : (j ≡ pass) × (beside v u ≡ z)). r.0 ∙ sym s.0)
-        (λ (s : (j ≢ pass) × (get_elem? views j ≡ some z)). absurd (q.0 (h.apart j other z u s.1 was sz (ap (λ (t : SeatView). t.sits) r.1 ∙ sy) (sym same ∙ ap (λ (t : SeatView). t.worker) (sym r.1)))))
+        (λ (s : (j ≢ pass) × (get_elem? views j ≡ some z)).
+        absurd (q.0 (h.apart j other z u s.1 was sz (ap (λ (t : SeatView). t.sits) r.1 ∙ sy) (sym same ∙ ap (λ (t : SeatView). t.worker) (sym r.1)))))
         (at_set views pass j (beside v u) z q.1))
         (λ (r : (i ≢ pass) × (get_elem? views i ≡ some y)). ⊎_elim
         (λ (s : (j ≡ pass) × (beside v u ≡ z)). absurd (p.0 (h.apart i other y u r.1 was sy (ap (λ (t : SeatView). t.sits) s.1 ∙ sz) (same ∙ ap (λ (t : SeatView). t.worker) (sym s.1)))))

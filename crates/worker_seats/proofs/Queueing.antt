@@ -83,7 +83,8 @@ idle_snoc views w mine idle j u e none = ⊎_elim (λ x. idle j u x none)
     (λ (x : w ≡ u). subst (λ (y : QueueView). y.parts ≡ 0 → y.popped ≡ []) x mine none)
     (at_snoc views w u j e)
 
-know_set : (n m : ℕ) (views : List QueueView) (pass : ℕ) (w : QueueView) → (0 < w.parts → w.pushed ≡ m) → ((j : ℕ) (u : QueueView) → j ≢ pass → get_elem? views j ≡ some u → 0 < u.parts → u.pushed ≡ m) → AllKnowPushed m (set views pass w)
+know_set : (n m : ℕ) (views : List QueueView) (pass : ℕ) (w : QueueView) → (0 < w.parts → w.pushed ≡ m)
+    → ((j : ℕ) (u : QueueView) → j ≢ pass → get_elem? views j ≡ some u → 0 < u.parts → u.pushed ≡ m) → AllKnowPushed m (set views pass w)
 know_set n m views pass w mine others j u e part = ⊎_elim
     (λ (x : (j ≡ pass) × (w ≡ u)). subst (λ (y : QueueView). 0 < y.parts → y.pushed ≡ m) x.1 mine part)
     (λ (x : (j ≢ pass) × (get_elem? views j ≡ some u)). others j u x.0 x.1 part)
@@ -233,5 +234,6 @@ module _ {T : Type 0} (job : T → ℕ) where
   pub forks_of : (pass : ℕ) (v : QueueView) → 1 < v.parts → Forks (EachOnceOf job) pass v (queue_view (v.parts - 1) v.pushed v.popped) (queue_view 1 v.pushed [])
   forks_of pass v two tickets views b at = forks pass v two (map job tickets) views b at
 
-  pub merges_of : (pass : ℕ) (v : QueueView) (other : ℕ) (u : QueueView) → 0 < v.parts → Merges (EachOnceOf job) pass v other u (queue_view (v.parts + u.parts) v.pushed (v.popped ++ u.popped)) (queue_view 0 0 [])
+  pub merges_of : (pass : ℕ) (v : QueueView) (other : ℕ) (u : QueueView) → 0 < v.parts
+      → Merges (EachOnceOf job) pass v other u (queue_view (v.parts + u.parts) v.pushed (v.popped ++ u.popped)) (queue_view 0 0 [])
   merges_of pass v other u some_part tickets views b at apart there = merges pass v other u some_part (map job tickets) views b at apart there

@@ -34,12 +34,12 @@ abbrev pub keeper_of : List (ℕ × ℕ) → List (Option ℕ) → SeatView
 keeper_of log running = record { keeps = true; log = log; running = running; sits = false; worker = 0; job = None; notes = [] }
 
 -- the view of a seat: for this session, which runs this job or none, with these notes
-abbrev pub seat_of : Bool → ℕ → Option ℕ → List (ℕ × ℕ) → SeatView
-seat_of sits worker job notes = record { keeps = false; log = []; running = []; sits = sits; worker = worker; job = job; notes = notes }
+abbrev pub seat_view : Bool → ℕ → Option ℕ → List (ℕ × ℕ) → SeatView
+seat_view sits worker job notes = record { keeps = false; log = []; running = []; sits = sits; worker = worker; job = job; notes = notes }
 
 -- the view of a pass that knows nothing
 abbrev pub nobody : SeatView
-nobody = seat_of false 0 None []
+nobody = seat_view false 0 None []
 
 -- the keeper's view with that of a seat beside it
 abbrev pub beside : SeatView → SeatView → SeatView
@@ -50,14 +50,14 @@ abbrev pub keeper_in : SeatView → SeatView
 keeper_in v = record nobody { keeps = v.keeps; log = v.log; running = v.running }
 
 abbrev pub seat_in : SeatView → SeatView
-seat_in v = seat_of v.sits v.worker v.job v.notes
+seat_in v = seat_view v.sits v.worker v.job v.notes
 
 -- the keeper's view with one session more, which runs nothing, and the view of that session's seat
 abbrev pub keeper_of_one_more : SeatView → SeatView
 keeper_of_one_more v = record (keeper_in v) { running = v.running ++ None ∷ [] }
 
 abbrev pub seat_of_one_more : SeatView → SeatView
-seat_of_one_more v = seat_of true (length v.running) None (notes_by (length v.running) v.log)
+seat_of_one_more v = seat_view true (length v.running) None (notes_by (length v.running) v.log)
 
 -- the view after the session's call for this job has begun
 abbrev pub after_start : SeatView → ℕ → SeatView
@@ -104,8 +104,8 @@ pub record SeatsFit (words : List ℕ) (views : List SeatView) : Type 0 where
   pub apart : SitApart views
 
 -- an exchange of the cell's words begins the call of the job that is the first word now
-abbrev pub HasStarted : SeatView → List ℕ → List ℕ → SeatView → Type 0
-HasStarted v before after w = w ≡ after_start v (slice_index after 0)
+abbrev pub SeatHasStarted : SeatView → List ℕ → List ℕ → SeatView → Type 0
+SeatHasStarted v before after w = w ≡ after_start v (slice_index after 0)
 
 -- ... ends it, with its note
 abbrev pub HasNoted : SeatView → List ℕ → List ℕ → SeatView → Type 0

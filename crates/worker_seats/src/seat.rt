@@ -1,7 +1,7 @@
 //! A worker's seat.
 
 ghost use Rattle.std.specs.Prelude.{◌≡◌, ◌+◌, ◌++◌, ◌∷◌, [], true, length, Some, None, slice_get, slice_set};
-ghost use Rattle.worker_seats.specs.Seats.{seat_of, keeper_of, notes_by, known_by};
+ghost use Rattle.worker_seats.specs.Seats.{seat_view, keeper_of, notes_by, known_by};
 
 use crate::run::Run;
 use crate::seating::{Checks, Notes, Opening, SeatCell, SeatPass, Sitting, Starts};
@@ -20,7 +20,7 @@ pub struct Seat<J: Run> {
     pub ghost cell: { pass.table_id ≡ J.seats },
     pub ghost idle: { pass.me.1 ≡ [] },
     pub ghost sits: { known_by pass
-        ≡ seat_of true worker (known_by pass).job (known_by pass).notes },
+        ≡ seat_view true worker (known_by pass).job (known_by pass).notes },
     pub ghost counted: { share.amount ≡ length (known_by pass).notes },
 }
 

@@ -37,9 +37,9 @@ impl Protocol<[u64; 2], SeatView> for SeatRule {
 pub struct Starts;
 
 impl Outcome<[u64; 2], SeatView> for Starts {
-    ghost use Rattle.worker_seats.specs.Seats.{HasStarted};
+    ghost use Rattle.worker_seats.specs.Seats.{SeatHasStarted};
 
-    ghost then = { HasStarted };
+    ghost then = { SeatHasStarted };
 }
 
 /// A call ends, with its note.

@@ -17,7 +17,7 @@ use Rattle.page_action.specs.Stored.{AreStored}
 use Rattle.index_model.specs.declared.dead_rows.DeadRows.{Ghosts as SetGhosts}
 use Rattle.page_action.specs.declared.page_store.PageStore.{Ghosts}
 use Rattle.recovery.specs.Opening.{IsFreshlyOpened}
-use Rattle.schedule.specs.Snapshots.{IsUnused}
+use Rattle.schedule.specs.MomentInvariants.{IsUnused}
 use Rattle.world.specs.Worlds.{WorldFits, WorldKeeps}
 use Rattle.world.specs.declared.world.World.{World}
 
@@ -81,8 +81,10 @@ tree_has_pages [] tree = absurd (none tree.meta tree.meta_at)
 tree_has_pages (page ∷ pages) tree = omega arith
 
 -- a world begins with the contents of these pages, by whatever name they are called
-pub same_start : {S T : Type 0} (g : Ghosts S) (d : SetGhosts T) (world : World S T) (read pages : List Page) → read ≡ pages → WorldFits g d world (entry_on_live_leaf read) [] [] → WorldFits g d world (entry_on_live_leaf pages) [] []
+pub same_start : {S T : Type 0} (g : Ghosts S) (d : SetGhosts T) (world : World S T) (read pages : List Page) → read ≡ pages
+    → WorldFits g d world (entry_on_live_leaf read) [] [] → WorldFits g d world (entry_on_live_leaf pages) [] []
 same_start g d world read pages same fits = subst (λ (ps : List Page). WorldFits g d world (entry_on_live_leaf ps) [] []) same fits
 
-pub same_kept : {S T : Type 0} (g : Ghosts S) (d : SetGhosts T) (world : World S T) (read pages : List Page) → read ≡ pages → WorldKeeps g d world (entry_on_live_leaf read) [] [] → WorldKeeps g d world (entry_on_live_leaf pages) [] []
+pub same_kept : {S T : Type 0} (g : Ghosts S) (d : SetGhosts T) (world : World S T) (read pages : List Page) → read ≡ pages
+    → WorldKeeps g d world (entry_on_live_leaf read) [] [] → WorldKeeps g d world (entry_on_live_leaf pages) [] []
 same_kept g d world read pages same keeps = subst (λ (ps : List Page). WorldKeeps g d world (entry_on_live_leaf ps) [] []) same keeps

@@ -7,8 +7,8 @@ use Rattle.index_model.specs.declared.dead_rows.DeadRows.{Ghosts as SetGhosts}
 use Rattle.page_action.specs.declared.page_store.PageStore.{Ghosts}
 use Rattle.session_calls.specs.declared.answer.Answer.{Answer}
 use Rattle.schedule.specs.TheoremCrashes.{KeepsHistory, IsCrashSafe}
-use Rattle.schedule.specs.TheoremRuns.{Carries, Runs, EventFollows, Fits}
-use Rattle.schedule.specs.TheoremMoments.{StoreAndSlots, Snapshot, snapshot_of}
+use Rattle.schedule.specs.TheoremRuns.{ForEachHistory, Runs, EventFollows, Fits}
+use Rattle.schedule.specs.TheoremMoments.{StoreAndSlots, Moment, snapshot_of}
 use Rattle.schedule.specs.declared.event.Event.{Event}
 use Rattle.world.specs.declared.world.World.{World}
 
@@ -17,7 +17,7 @@ abbrev pub inside : {S T : Type 0} → SetGhosts T → World S T → StoreAndSlo
 inside rows world = record { store = world.store; slots = world.calls.slots.items; sets = map rows.is_in world.sets.items }
 
 -- the moment at which a world stands, told by this history and these calls
-abbrev pub snapshot_in : {S T : Type 0} → SetGhosts T → World S T → List Action → List Call → Snapshot S
+abbrev pub snapshot_in : {S T : Type 0} → SetGhosts T → World S T → List Action → List Call → Moment S
 snapshot_in rows world history calls = snapshot_of (inside rows world) history calls
 
 -- these contents at the start, this history and these calls fit the world
@@ -33,8 +33,8 @@ abbrev pub WorldIsSafe : {S T : Type 0} → Ghosts S → SetGhosts T → World S
 WorldIsSafe g rows old new start history calls = WorldKeeps g rows old start history calls → IsCrashSafe g start (snapshot_in rows old history calls) (snapshot_in rows new history calls)
 
 -- where the device has kept its model up to now, this holds of whatever fitted the world before
-abbrev pub WorldCarries : {S T : Type 0} → Ghosts S → SetGhosts T → World S T → World S T → ((Entry → Bool) → List Action → List Call → Type 0) → Type 0
-WorldCarries g rows old new goes = Carries g (inside rows old) (inside rows new) goes
+abbrev pub ForEachWorldHistory : {S T : Type 0} → Ghosts S → SetGhosts T → World S T → World S T → ((Entry → Bool) → List Action → List Call → Type 0) → Type 0
+ForEachWorldHistory g rows old new goes = ForEachHistory g (inside rows old) (inside rows new) goes
 
 -- there is a continuation of the history and of the calls that fits the world now, by this event with this answer
 abbrev pub WorldGoes : {S T : Type 0} → Ghosts S → SetGhosts T → World S T → World S T → Event → Answer → (Entry → Bool) → List Action → List Call → Type 0

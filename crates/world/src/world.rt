@@ -39,20 +39,20 @@ pub struct NotMade<S, T> {
 impl<S: PageStore, T: DeadRows + Drop> World<S, T> {
     ghost use Rattle.std.specs.Prelude.{◌≡◌, ◌⊎◌, ◌<◌, ◌≤◌, ◌∷◌, [], true, IfOk, IfErr, OnOk, OnErr, length, slice_get, Some, None, ◌+◌, drop, take, IsOk, vec_len, vec_capacity};
     ghost use Rattle.index_model.specs.Faults.{HasCause};
-    ghost use Rattle.page_action.specs.Causes.{where_read};
+    ghost use Rattle.page_action.specs.Causes.{causes_of_read};
     ghost use Rattle.page_action.specs.Contents.{entry_on_live_leaf};
     ghost use Rattle.page_action.specs.States.{Continues};
     ghost use Rattle.schedule.specs.TheoremKinds.{MovesCall, GivesUp, kind_of};
     ghost use Rattle.schedule.specs.Events.{EventAlways, IsUnchanged};
     ghost use Rattle.schedule.specs.Making.{EachAlways};
-    ghost use Rattle.schedule.specs.TheoremRuns.{Carries, Runs};
+    ghost use Rattle.schedule.specs.TheoremRuns.{ForEachHistory, Runs};
     ghost use Rattle.session_calls.specs.Sessions.{ready_count};
     ghost use Rattle.session_calls.specs.Slots.{has_call, slot_of};
-    ghost use Rattle.schedule.specs.Snapshots.{IsUnused};
+    ghost use Rattle.schedule.specs.MomentInvariants.{IsUnused};
     ghost use Rattle.whole_calls.specs.Going.{CallGoes};
     ghost use Rattle.whole_calls.specs.Made.{IsMadeOf};
-    ghost use Rattle.whole_calls.specs.OneStep.{IsOneStep, OneStepAlways, OneStepComesTo, OneStepGoes};
-    ghost use Rattle.world.specs.Worlds.{WorldFits, WorldKeeps, WorldIsSafe, WorldGoes, WorldCarries, KeepsSessions, inside};
+    ghost use Rattle.whole_calls.specs.OneStep.{IsMadeAsStep, OneStepAlways, OneStepComesTo, OneStepGoes};
+    ghost use Rattle.world.specs.Worlds.{WorldFits, WorldKeeps, WorldIsSafe, WorldGoes, ForEachWorldHistory, KeepsSessions, inside};
 
     /// A world over the store with so many sessions, none of which has a call, and the sets of dead rows that its events
     /// may name. Refused with `BadLimits` unless it is 1 to 64 sessions, and with `NoMemory`; the store and the sets are
@@ -97,7 +97,7 @@ impl<S: PageStore, T: DeadRows + Drop> World<S, T> {
     pub fn one(&mut self, event: Event) -> Answer
         ensures steps { Continues S.follows self.old.store self.new.store }
         ensures same { KeepsSessions self.old self.new }
-        ensures goes { WorldCarries S.PageStore T.DeadRows self.old self.new
+        ensures goes { ForEachWorldHistory S.PageStore T.DeadRows self.old self.new
             (WorldGoes S.PageStore T.DeadRows self.old self.new event result) }
         ensures always { EventAlways S.PageStore (kind_of event) result
             (inside T.DeadRows self.old) (inside T.DeadRows self.new) }
@@ -117,7 +117,7 @@ impl<S: PageStore, T: DeadRows + Drop> World<S, T> {
             (inside T.DeadRows self.old) (inside T.DeadRows self.new) }
         ensures made { IsMadeOf S.PageStore session least_room (OneStepComesTo result)
             (inside T.DeadRows self.old) (inside T.DeadRows self.new) }
-        ensures events { IsOneStep S.PageStore session least_room result
+        ensures events { IsMadeAsStep S.PageStore session least_room result
             (inside T.DeadRows self.old) (inside T.DeadRows self.new) }
         ensures always { OneStepAlways S.PageStore session result
             (inside T.DeadRows self.old) (inside T.DeadRows self.new) }
@@ -138,7 +138,7 @@ impl<S: PageStore, T: DeadRows + Drop> World<S, T> {
         ensures same { KeepsSessions self.old self.new }
         ensures runs { OnOk result (let old = inside T.DeadRows self.old in
             let new = inside T.DeadRows self.new in
-            Carries S.PageStore old new (Runs S.PageStore old new events.now
+            ForEachHistory S.PageStore old new (Runs S.PageStore old new events.now
             (drop (length answers.old.items) answers.new.items))) }
         ensures always { OnOk result (EachAlways S.PageStore events.now
             (drop (length answers.old.items) answers.new.items)
@@ -169,13 +169,13 @@ impl<S: PageStore, T: DeadRows + Drop> World<S, T> {
         ensures sets { self.new.sets ≡ self.old.sets }
         ensures unchanged { IsUnchanged S.PageStore
             (inside T.DeadRows self.old) (inside T.DeadRows self.new) }
-        ensures fits { WorldCarries S.PageStore T.DeadRows self.old self.new
+        ensures fits { ForEachWorldHistory S.PageStore T.DeadRows self.old self.new
             (WorldFits S.PageStore T.DeadRows self.new) }
-        ensures crash { WorldCarries S.PageStore T.DeadRows self.old self.new
+        ensures crash { ForEachWorldHistory S.PageStore T.DeadRows self.old self.new
             (WorldIsSafe S.PageStore T.DeadRows self.old self.new) }
         ensures page { (S.backing self.new.store).honest ≡ true
             → IfOk result (λ page. slice_get (S.state self.old.store).pages block ≡ Some page) }
-        ensures cause { IfErr result (HasCause (where_read (S.state self.old.store)
+        ensures cause { IfErr result (HasCause (causes_of_read (S.state self.old.store)
             (S.backing self.old.store) (S.backing self.new.store) block)) }
     {
         self.store.page(block)
@@ -185,7 +185,7 @@ impl<S: PageStore, T: DeadRows + Drop> World<S, T> {
     pub fn abandon(&mut self, session: u32) -> Answer
         ensures steps { Continues S.follows self.old.store self.new.store }
         ensures same { KeepsSessions self.old self.new }
-        ensures goes { WorldCarries S.PageStore T.DeadRows self.old self.new
+        ensures goes { ForEachWorldHistory S.PageStore T.DeadRows self.old self.new
             (WorldGoes S.PageStore T.DeadRows self.old self.new (Event.End session) result) }
         ensures always { EventAlways S.PageStore (MovesCall session GivesUp) result
             (inside T.DeadRows self.old) (inside T.DeadRows self.new) }

@@ -60,9 +60,11 @@ one τ (v ∷ w ∷ vs) t = absurd t.1
 pub nardsill_proved_call_spec : {M : Type 1} → statement M
 nardsill_proved_call_spec 𝓤 𝓛 𝓜 𝓡 wired =
     let H = 𝓛.H in let 𝓣 = tables 𝓤 H 𝓜 𝓡 𝓡.env in let R : RattleType = inner.the_row in
-    let G = store.ghosts (file_device.the_row unknown.the_row start.ghosts) (device.ghosts unknown.the_row start.ghosts start.dict) (device.dict unknown.the_row start.ghosts start.dict) in let c = clauses 𝓛 𝓜.mem 𝓡.returns in let fn : Fn = code.function in
+    let G = store.ghosts (file_device.the_row unknown.the_row start.ghosts) (device.ghosts unknown.the_row start.ghosts start.dict)
+    (device.dict unknown.the_row start.ghosts start.dict) in let c = clauses 𝓛 𝓜.mem 𝓡.returns in let fn : Fn = code.function in
     let hs : Stays ended.signature.params ended.kept = (stay_dropped (plain (λ _. RawPtr)) yes, (stay_dropped (plain (λ _. ask.the_row)) yes, tt)) in
-    proved_at 𝓛 ended hs c 𝓜 𝓡 (Goes-dropped 𝓛 0 (plain (λ _. RawPtr)) yes (λ κs x f. refl), (Goes-dropped 𝓛 0 (plain (λ _. ask.the_row)) yes (λ κs x f. refl), tt)) #self fn (code.unfolded 𝓤 H 𝓜 𝓡 wired) (λ z are.
+    proved_at 𝓛 ended hs c 𝓜 𝓡
+    (Goes-dropped 𝓛 0 (plain (λ _. RawPtr)) yes (λ κs x f. refl), (Goes-dropped 𝓛 0 (plain (λ _. ask.the_row)) yes (λ κs x f. refl), tt)) #self fn (code.unfolded 𝓤 H 𝓜 𝓡 wired) (λ z are.
     let Post : Val → SProp 𝓤 = (walk_of 𝓛 ended hs c).post z in let p : Ptr = z.0.3.0 in let a = z.0.3.1.0 in let vss = z.0.4 in let h = z.1 in
     let got = one (lone (ask.the_row).mir) vss.1.0 (((ask_laws.the_row_laws).lawful 𝓛).typed a vss.1.0 are.1.0) in let w : Val = got.0 in let typed = got.2 in
     qed 𝓛 ((‵ ftrue ⊛ ‵ (owns (types_at ended.signature.params z.0.0) z.0.3 vss)) ∷ ‵ (lies_at R full_share p h) ∷ []) ∵
@@ -71,23 +73,31 @@ nardsill_proved_call_spec 𝓤 𝓛 𝓜 𝓡 wired =
     regoal ! (λ (us : List Val). prop (WpFn 𝓤 H 𝓣.C 𝓣.Λ fn us Post)) (λ i. (rawptr_Tells p vss.0 are.0 ∙ ap rawptr_vals e) i ++ (got.1 i ++ [])) refl $
     enter ! 𝓣.C 𝓣.Λ fn (vptr b o ∷ w ∷ []) Post $ alloc_all ! (λ l. pass_all ! refl ((tt, tt), (typed, tt)) $ let Ev : Env 𝓤 H = env fn.locals l in
     lft_new ! tt (λ α. let κ : Lft = α ∷ [] in move ! (1 ∷ 0 ∷ []) $
-    use1 𝓛 (later (some (λ (γ : GName). ‵ ((MutRef (named 0) κ R).own_val (record { ref_ptr = (b, o); ghost_name = γ; now = h }) (vptr b o ∷ [])) ⊛ ‵ (flent κ (Body (mem R) b o γ))))) (lends_ref 𝓛 R (named 0) κ h b o) $ await ! tt $ pick ! (λ γ. split ! $
-    first ! $ blocks ! $ sets ! (of_opd ! (get ! refl)) refl (tt, tt) $ sets ! (of_opd ! (get ! refl)) refl (tt, tt) $ sets_last ! (addr ! (through ! refl (stop !))) refl (tt, tt) $ exec ! 𝓣.C 𝓣.Λ Ev steps.t-2 (at_ret Ev Post) $
+    use1 𝓛 (later (some (λ (γ : GName).
+    ‵ ((MutRef (named 0) κ R).own_val (record { ref_ptr = (b, o); ghost_name = γ; now = h }) (vptr b o ∷ [])) ⊛ ‵
+    (flent κ (Body (mem R) b o γ))))) (lends_ref 𝓛 R (named 0) κ h b o) $ await ! tt $ pick ! (λ γ. split ! $
+    first ! $ blocks ! $ sets ! (of_opd ! (get ! refl)) refl (tt, tt) $ sets ! (of_opd ! (get ! refl)) refl (tt, tt) $ sets_last !
+    (addr ! (through ! refl (stop !))) refl (tt, tt) $ exec ! 𝓣.C 𝓣.Λ Ev steps.t-2 (at_ret Ev Post) $
     sets ! (of_opd ! (get ! refl)) refl (tt, tt) $ sets ! (of_opd ! (get ! refl)) refl typed $
     let k = triple_of 𝓛 callee.signature (callee.spec 𝓛 𝓜.mem 𝓡.returns) in let x : MutBor R.Denot = record { ref_ptr = (b, o); ghost_name = γ; now = h } in
     let y : k.Ghost = (((κ, tt), (full_share, tt), tt, (x, (a, tt)), (vptr b o ∷ [], (w ∷ [], tt))), tt) in
     move ! (3 ∷ []) $ nothing ! $ move ! (1 ∷ 0 ∷ []) $ fjoin ! $ move ! (1 ∷ 0 ∷ []) $ fjoin ! $
     nothing ! $ move ! (3 ∷ 0 ∷ []) $ join ! $ join ! $ nothing ! $ move ! (1 ∷ 0 ∷ []) $ join ! $ use1 𝓛 (raw (k.pre y)) (id⊢ 𝓤 (k.pre y)) $
     calls_at ! (λ f. framed 𝓤 H 𝓜 𝓣 f) k (met 𝓤 𝓛 𝓜 𝓡 (code.calls-nardsill::calls::serve 𝓡.env wired)) y (and_then ! (get ! refl) (and_then ! (get ! refl) (no_more !))) (λ v.
-    use1 𝓛 (later (some (λ (r : (answer.the_row).Denot). ((‵ (flft κ full_share) ⊛ ‵ ftrue) ⊛ ‵ ((answer.the_row).own_val r (v ∷ []))) ⊛ raw (ensured 𝓛 callee.ended (callee.clauses 𝓛 𝓜.mem 𝓡.returns) (κ, tt) (x, (a, tt)) tt r)))) (id⊢ 𝓤 _) $ await ! tt $ pick ! (λ r.
+    use1 𝓛 (later (some (λ (r : (answer.the_row).Denot).
+    ((‵ (flft κ full_share) ⊛ ‵ ftrue) ⊛ ‵ ((answer.the_row).own_val r (v ∷ []))) ⊛ raw
+    (ensured 𝓛 callee.ended (callee.clauses 𝓛 𝓜.mem 𝓡.returns) (κ, tt) (x, (a, tt)) tt r)))) (id⊢ 𝓤 _) $ await ! tt $ pick ! (λ r.
     split ! $ move ! (1 ∷ []) $
-    use1 𝓛 (some (λ (ls : Lasts callee.ended (κ, tt) (x, (a, tt))). ‵ (lasts callee.ended (κ, tt) (x, (a, tt)) ls) ⊛ raw (fact 𝓤 (IsServed G a r h.index (ls.0).index h.dead (ls.0).dead)))) (id⊢ 𝓤 _) $ pick ! (λ ls. split ! $ move ! (1 ∷ []) $ heard ! (IsServed G a r h.index (ls.0).index h.dead (ls.0).dead) (λ told.
+    use1 𝓛 (some (λ (ls : Lasts callee.ended (κ, tt) (x, (a, tt))).
+    ‵ (lasts callee.ended (κ, tt) (x, (a, tt)) ls) ⊛ raw (fact 𝓤 (IsServed G a r h.index (ls.0).index h.dead (ls.0).dead)))) (id⊢ 𝓤 _) $ pick !
+    (λ ls. split ! $ move ! (1 ∷ []) $ heard ! (IsServed G a r h.index (ls.0).index h.dead (ls.0).dead) (λ told.
     fsplit ! $ move ! (1 ∷ []) $ drop ! $ fsplit ! $ move ! (1 ∷ []) $ drop ! $ move ! (1 ∷ []) $ split ! $ split ! $ lft_end ! tt $ move ! (1 ∷ []) $ drop ! $ move ! (0 ∷ 3 ∷ 2 ∷ []) $
     use3 𝓛 (later (‵ (part_at R full_share ls.0 b o))) (ref_back 𝓛 R κ γ ls.0 b o) $ await ! tt $ move ! (1 ∷ []) $
     peeks ! answer.the_row (Is answer.the_row) (shows 𝓛 answer.the_row) r (v ∷ []) (λ is. lands_as ! refl refl (((answer_laws.the_row_laws).lawful 𝓛).typed r (v ∷ []) is).0 $
     returns ! (look_at ! 0 refl) $ free_all ! refl $
     rewrite ! 1 (λ (q : Ptr). ‵ (lies_at R full_share q ls.0)) (sym e) refl $
     use0 𝓛 (raw (fact 𝓤 (IsServed G a r h.index (ls.0).index h.dead (ls.0).dead))) (fact_i 𝓤 (IsServed G a r h.index (ls.0).index h.dead (ls.0).dead) (emp 𝓤) told) $ move ! (2 ∷ 0 ∷ []) $ join ! $
-    use1 𝓛 (raw (ex 𝓤 (λ (u : R.Denot). sep 𝓤 (sem 𝓛 (lies_at R full_share p u)) (fact 𝓤 (IsServed G a r h.index (u).index h.dead (u).dead))))) (ex_i 𝓤 (λ (u : R.Denot). sep 𝓤 (sem 𝓛 (lies_at R full_share p u)) (fact 𝓤 (IsServed G a r h.index (u).index h.dead (u).dead))) ls.0) $
+    use1 𝓛 (raw (ex 𝓤 (λ (u : R.Denot). sep 𝓤 (sem 𝓛 (lies_at R full_share p u)) (fact 𝓤 (IsServed G a r h.index (u).index h.dead (u).dead)))))
+    (ex_i 𝓤 (λ (u : R.Denot). sep 𝓤 (sem 𝓛 (lies_at R full_share p u)) (fact 𝓤 (IsServed G a r h.index (u).index h.dead (u).dead))) ls.0) $
     move ! (1 ∷ []) $ nothing ! $ nothing ! $ fjoin ! $ nothing ! $ fjoin ! $ nothing ! $
     by ! (leaves 𝓛 ended hs c z v r (tt, (tt, tt)) (tt, (tt, tt)))))))))))))

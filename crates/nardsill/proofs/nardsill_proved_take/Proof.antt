@@ -77,15 +77,21 @@ nardsill_proved_take_spec 𝓤 𝓛 𝓜 𝓡 wired =
     -- [the file; the handle; the arguments]
     move ! (2 ∷ []) $ split ! $ move ! (1 ∷ []) $ fsplit ! $ move ! (1 ∷ []) $ fsplit ! $ move ! (1 ∷ []) $ fsplit ! $
     rewrite ! 0 (λ (us : List Val). ‵ ((ask.the_row).own_val a us)) got.1 refl $ keep ! (6 ∷ 5 ∷ 0 ∷ []) $
-    regoal ! (λ (us : List Val). prop (WpFn 𝓤 H 𝓣.C 𝓣.Λ fn us Post)) (λ i. (rawptr_Tells p vss.0 are.0 ∙ ap rawptr_vals e) i ++ ((rawptr_Tells s vss.1.0 are.1.0 ∙ ap rawptr_vals e') i ++ (got.1 i ++ []))) refl $
+    regoal ! (λ (us : List Val). prop (WpFn 𝓤 H 𝓣.C 𝓣.Λ fn us Post))
+    (λ i. (rawptr_Tells p vss.0 are.0 ∙ ap rawptr_vals e) i ++ ((rawptr_Tells s vss.1.0 are.1.0 ∙ ap rawptr_vals e') i ++ (got.1 i ++ []))) refl $
     enter ! 𝓣.C 𝓣.Λ fn (vptr b o ∷ vptr b' o' ∷ w ∷ []) Post $ alloc_all ! (λ l. pass_all ! refl ((tt, tt), ((tt, tt), (typed, tt))) $ let Ev : Env 𝓤 H = env fn.locals l in
     -- [the handle; the file; what was asked; the locals]
     lft_new ! tt (λ α. let κ : Lft = α ∷ [] in move ! (1 ∷ []) $
-    use1 𝓛 (later (some (λ (γ : GName). ‵ ((MutRef (named 0) κ R).own_val (record { ref_ptr = (b, o); ghost_name = γ; now = h }) (vptr b o ∷ [])) ⊛ ‵ (flent κ (Body (mem R) b o γ))))) (lends_ref 𝓛 R (named 0) κ h b o) $ await ! tt $ pick ! (λ γ. split ! $
+    use1 𝓛 (later (some (λ (γ : GName).
+    ‵ ((MutRef (named 0) κ R).own_val (record { ref_ptr = (b, o); ghost_name = γ; now = h }) (vptr b o ∷ [])) ⊛ ‵
+    (flent κ (Body (mem R) b o γ))))) (lends_ref 𝓛 R (named 0) κ h b o) $ await ! tt $ pick ! (λ γ. split ! $
     lft_new ! tt (λ β. let κ' : Lft = β ∷ [] in move ! (4 ∷ []) $
-    use1 𝓛 (later (some (λ (δ : GName). ‵ ((MutRef (named 1) κ' Q).own_val (record { ref_ptr = (b', o'); ghost_name = δ; now = g }) (vptr b' o' ∷ [])) ⊛ ‵ (flent κ' (Body (mem Q) b' o' δ))))) (lends_ref 𝓛 Q (named 1) κ' g b' o') $ await ! tt $ pick ! (λ δ. split ! $
+    use1 𝓛 (later (some (λ (δ : GName).
+    ‵ ((MutRef (named 1) κ' Q).own_val (record { ref_ptr = (b', o'); ghost_name = δ; now = g }) (vptr b' o' ∷ [])) ⊛ ‵
+    (flent κ' (Body (mem Q) b' o' δ))))) (lends_ref 𝓛 Q (named 1) κ' g b' o') $ await ! tt $ pick ! (λ δ. split ! $
     -- [the file's loan; what gives it back; its token; the handle's loan; what gives it back; its token; what was asked; the locals]
-    first ! $ blocks ! $ sets ! (of_opd ! (get ! refl)) refl (tt, tt) $ sets ! (of_opd ! (get ! refl)) refl (tt, tt) $ sets_last ! (addr ! (through ! refl (stop !))) refl (tt, tt) $ exec ! 𝓣.C 𝓣.Λ Ev steps.t-2 (at_ret Ev Post) $
+    first ! $ blocks ! $ sets ! (of_opd ! (get ! refl)) refl (tt, tt) $ sets ! (of_opd ! (get ! refl)) refl (tt, tt) $ sets_last !
+    (addr ! (through ! refl (stop !))) refl (tt, tt) $ exec ! 𝓣.C 𝓣.Λ Ev steps.t-2 (at_ret Ev Post) $
     sets ! (of_opd ! (get ! refl)) refl (tt, tt) $
     first ! $ blocks ! $ sets_last ! (addr ! (through ! refl (stop !))) refl (tt, tt) $ exec ! 𝓣.C 𝓣.Λ Ev steps.t-4 (at_ret Ev Post) $
     sets ! (of_opd ! (get ! refl)) refl (tt, tt) $ sets ! (of_opd ! (get ! refl)) refl typed $
@@ -94,10 +100,16 @@ nardsill_proved_take_spec 𝓤 𝓛 𝓜 𝓡 wired =
     let y : k.Ghost = (((κ, (κ', tt)), (full_share, (full_share, tt)), tt, (x, (x', (a, tt))), (vptr b o ∷ [], (vptr b' o' ∷ [], (w ∷ [], tt)))), tt) in
     move ! (6 ∷ []) $ nothing ! $ move ! (1 ∷ 0 ∷ []) $ fjoin ! $ move ! (1 ∷ 0 ∷ []) $ fjoin ! $ move ! (3 ∷ 0 ∷ []) $ fjoin ! $
     nothing ! $ move ! (3 ∷ 0 ∷ []) $ join ! $ move ! (4 ∷ 0 ∷ []) $ join ! $ join ! $ nothing ! $ move ! (1 ∷ 0 ∷ []) $ join ! $ use1 𝓛 (raw (k.pre y)) (id⊢ 𝓤 (k.pre y)) $
-    calls_at ! (λ f. framed 𝓤 H 𝓜 𝓣 f) k (met 𝓤 𝓛 𝓜 𝓡 (code.calls-nardsill::opening::take 𝓡.env wired)) y (and_then ! (get ! refl) (and_then ! (get ! refl) (and_then ! (get ! refl) (no_more !)))) (λ v.
-    use1 𝓛 (later (some (λ (r : (answer.the_row).Denot). ((‵ (flft κ full_share) ⊛ (‵ (flft κ' full_share) ⊛ ‵ ftrue)) ⊛ ‵ ((answer.the_row).own_val r (v ∷ []))) ⊛ raw (ensured 𝓛 callee.ended (callee.clauses 𝓛 𝓜.mem 𝓡.returns) (κ, (κ', tt)) (x, (x', (a, tt))) tt r)))) (id⊢ 𝓤 _) $ await ! tt $ pick ! (λ r.
+    calls_at ! (λ f. framed 𝓤 H 𝓜 𝓣 f) k (met 𝓤 𝓛 𝓜 𝓡 (code.calls-nardsill::opening::take 𝓡.env wired)) y
+    (and_then ! (get ! refl) (and_then ! (get ! refl) (and_then ! (get ! refl) (no_more !)))) (λ v.
+    use1 𝓛 (later (some (λ (r : (answer.the_row).Denot).
+    ((‵ (flft κ full_share) ⊛ (‵ (flft κ' full_share) ⊛ ‵ ftrue)) ⊛ ‵ ((answer.the_row).own_val r (v ∷ []))) ⊛ raw
+    (ensured 𝓛 callee.ended (callee.clauses 𝓛 𝓜.mem 𝓡.returns) (κ, (κ', tt)) (x, (x', (a, tt))) tt r)))) (id⊢ 𝓤 _) $ await ! tt $ pick ! (λ r.
     split ! $ move ! (1 ∷ []) $
-    use1 𝓛 (some (λ (ls : Lasts callee.ended (κ, (κ', tt)) (x, (x', (a, tt)))). ‵ (lasts callee.ended (κ, (κ', tt)) (x, (x', (a, tt))) ls) ⊛ raw (fact 𝓤 ((ls.1.0 ≡ g) × IsTaken D G B r h.index (ls.0).index h.dead (ls.0).dead)))) (id⊢ 𝓤 _) $ pick ! (λ ls. split ! $ move ! (1 ∷ []) $ heard ! ((ls.1.0 ≡ g) × IsTaken D G B r h.index (ls.0).index h.dead (ls.0).dead) (λ told.
+    use1 𝓛 (some (λ (ls : Lasts callee.ended (κ, (κ', tt)) (x, (x', (a, tt)))).
+    ‵ (lasts callee.ended (κ, (κ', tt)) (x, (x', (a, tt))) ls) ⊛ raw
+    (fact 𝓤 ((ls.1.0 ≡ g) × IsTaken D G B r h.index (ls.0).index h.dead (ls.0).dead)))) (id⊢ 𝓤 _) $ pick !
+    (λ ls. split ! $ move ! (1 ∷ []) $ heard ! ((ls.1.0 ≡ g) × IsTaken D G B r h.index (ls.0).index h.dead (ls.0).dead) (λ told.
     fsplit ! $ fsplit ! $ move ! (1 ∷ []) $ drop ! $ move ! (1 ∷ []) $ fsplit ! $ move ! (1 ∷ []) $ drop ! $ fsplit ! $ move ! (1 ∷ []) $ drop ! $
     -- [the file's last value; the handle's; the tokens and the answer; what gives the file back; what gives the handle back; the locals]
     move ! (2 ∷ []) $ split ! $ split ! $ lft_end ! tt $ move ! (1 ∷ []) $ split ! $ lft_end ! tt $ move ! (1 ∷ []) $ drop ! $
@@ -110,7 +122,8 @@ nardsill_proved_take_spec 𝓤 𝓛 𝓜 𝓡 wired =
     rewrite ! 1 (λ (q : Ptr). ‵ (lies_at R full_share q ls.0)) (sym e) refl $ rewrite ! 2 (λ (q : Ptr). ‵ (lies_at Q full_share q ls.1.0)) (sym e') refl $
     rewrite ! 2 (λ (u : Q.Denot). ‵ (lies_at Q full_share s u)) told.0 refl $
     use0 𝓛 (raw (fact 𝓤 (IsTaken D G B r h.index (ls.0).index h.dead (ls.0).dead))) (fact_i 𝓤 (IsTaken D G B r h.index (ls.0).index h.dead (ls.0).dead) (emp 𝓤) told.1) $ move ! (2 ∷ 0 ∷ []) $ join ! $
-    use1 𝓛 (raw (ex 𝓤 (λ (u : R.Denot). sep 𝓤 (sem 𝓛 (lies_at R full_share p u)) (fact 𝓤 (IsTaken D G B r h.index (u).index h.dead (u).dead))))) (ex_i 𝓤 (λ (u : R.Denot). sep 𝓤 (sem 𝓛 (lies_at R full_share p u)) (fact 𝓤 (IsTaken D G B r h.index (u).index h.dead (u).dead))) ls.0) $
+    use1 𝓛 (raw (ex 𝓤 (λ (u : R.Denot). sep 𝓤 (sem 𝓛 (lies_at R full_share p u)) (fact 𝓤 (IsTaken D G B r h.index (u).index h.dead (u).dead)))))
+    (ex_i 𝓤 (λ (u : R.Denot). sep 𝓤 (sem 𝓛 (lies_at R full_share p u)) (fact 𝓤 (IsTaken D G B r h.index (u).index h.dead (u).dead))) ls.0) $
     move ! (0 ∷ 2 ∷ []) $ join ! $
     move ! (1 ∷ []) $ nothing ! $ nothing ! $ fjoin ! $ nothing ! $ fjoin ! $ nothing ! $ fjoin ! $ nothing ! $
     by ! (leaves 𝓛 ended hs c z v r (tt, (tt, (tt, tt))) (tt, (tt, (tt, tt)))))))))))))))))

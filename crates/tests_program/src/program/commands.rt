@@ -1,6 +1,6 @@
 //! Command lines, and outputs that are long or fail.
 
-use super::{Printed, played, runs, text};
+use super::runs;
 use command_line::execute;
 use device::Unknown;
 use std::fs::File;
@@ -9,6 +9,7 @@ use std::rt::Files;
 use std::sync::Wait;
 use std::test::*;
 use std::thread::Threads;
+use tests_player::{Printed, played, text};
 
 #[test]
 fn command_lines(rt: HostRuntime) -> Result<(), Fail> {

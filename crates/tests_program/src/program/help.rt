@@ -1,12 +1,13 @@
 //! The help, beside what it tells of: the lines that are read, the answers that are printed, the faults.
 
-use super::{played, runs, text};
+use super::runs;
 use command_line::{Crash, Line, parse};
 use index_model::{Entry, Fault, Key, RowAddr, VacuumStats};
 use session_calls::Answer;
 use std::alloc::{AllocError, Global};
 use std::io;
 use std::test::*;
+use tests_player::{played, text};
 use text_forms::print_answer;
 
 const PLAY: [&str; 3] = ["btidx", "play", "--help"];

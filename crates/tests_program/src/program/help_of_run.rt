@@ -2,7 +2,6 @@
 
 use super::help::{columns, filled, is_form_of, part, set};
 use super::jobs::made;
-use super::{played, text};
 use command_line::{JobLine, parse_job};
 use std::alloc::AllocError;
 use std::fs::{self, File};
@@ -11,6 +10,7 @@ use std::rt::Files;
 use std::sync::Wait;
 use std::test::*;
 use std::thread::Threads;
+use tests_player::{played, text};
 
 const FILES: [&str; 2] = ["btidx_help_of_run.idx", "btidx_help_of_run.jobs"];
 

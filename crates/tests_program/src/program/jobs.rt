@@ -1,13 +1,14 @@
 //! Runs of jobs over indexes in files. Each test has files of its own.
 
 use super::files::patch;
-use super::{played, runs, text};
+use super::runs;
 use std::fs::{self, File};
 use std::process::Abort;
 use std::rt::Files;
 use std::sync::Wait;
 use std::test::*;
 use std::thread::Threads;
+use tests_player::{played, text};
 
 /// Makes an empty index of 64 blocks with a log of 65,536 bytes, and a file of these jobs.
 pub fn made(

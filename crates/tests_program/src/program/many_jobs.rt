@@ -1,7 +1,7 @@
 //! Four thousand jobs over indexes in files, a thousand on each, in runs of 1, 2, 4 and 8 workers. Behind each run the file is opened
 //! again, checked, and listed; what it lists is what the runs told of their jobs.
 
-use super::{played, runs, text};
+use super::runs;
 use std::alloc::{AllocError, Global};
 use std::fs::{self, File};
 use std::process::Abort;
@@ -9,6 +9,7 @@ use std::rt::Files;
 use std::sync::Wait;
 use std::test::*;
 use std::thread::Threads;
+use tests_player::{played, text};
 
 /// An index, and the file of its jobs; the stride from key to key, which has no divisor with the number of keys; and how many pages
 /// are held in memory.

@@ -4,7 +4,7 @@
 use access_method::Index;
 use command_line::{DeadList, End, check_pages_one};
 use device::{CrashImage, MemDevice};
-use index_model::{Entry, Fault, Limits};
+use index_model::{DeadRows, Entry, Fault, Limits};
 use page_action::PageStore;
 use page_store::Store;
 use recovery::{create, open};
@@ -51,7 +51,10 @@ pub fn store(alloc: Global, device: MemDevice) -> Result<Store<MemDevice>, Fault
 }
 
 /// An insert that is run to its end.
-pub fn put(world: &mut Memory, entry: Entry) -> Result<(), Fault> {
+pub fn put<S: PageStore, T: DeadRows + Drop>(
+    world: &mut World<S, T>,
+    entry: Entry,
+) -> Result<(), Fault> {
     one(world, Event::Insert(0, entry))?;
     for _ in 0..STEPS {
         match world.one(Event::Step(0)) {
@@ -63,7 +66,10 @@ pub fn put(world: &mut Memory, entry: Entry) -> Result<(), Fault> {
     Err(Fault::PageDamaged(0))
 }
 
-pub fn one(world: &mut Memory, event: Event) -> Result<(), Fault> {
+pub fn one<S: PageStore, T: DeadRows + Drop>(
+    world: &mut World<S, T>,
+    event: Event,
+) -> Result<(), Fault> {
     match world.one(event) {
         Answer::Refused(fault) => Err(fault),
         _ => Ok(()),

@@ -5,7 +5,7 @@ use Rattle.tree_shape.specs.Nodes.{nodes_of}
 use Rattle.damages.specs.Damages.{index_of, start, first_child}
 use Rattle.amcheck.specs.AllStops.{AreAllStops}
 use Rattle.amcheck.specs.LevelDamages.{IsClearLevel, AreOfUpper}
-use Rattle.amcheck.specs.Stops.{blocks_of}
+use Rattle.amcheck.specs.Stops.{stop_blocks}
 use Rattle.amcheck.specs.declared.stops.Stop.{Stop}
 use Rattle.amcheck.proofs.AllStops.{blocks_append}
 use Rattle.tree_shape.proofs.Few.{few_blocks}
@@ -24,15 +24,15 @@ loop-depth-init g c = record {
   more_room = refl;
   far = omega arith;
   chains = c.requires.no_stops;
-  added = c.requires.none ∙ ap blocks_of (sym c.requires.no_stops);
+  added = c.requires.none ∙ ap stop_blocks (sym c.requires.no_stops);
   clear = λ d lt. absurd (omega arith);
   begin = c.requires.root;
 }
 
 -- the blocks that were met are those of the stops of all levels so far
-added_level : (g : Over) (c : In-Ok g) → c.judge_level.new.met.blocks.items ≡ blocks_of (c.loop-depth.chains.items ++ c.judge_level.new.stops.items)
+added_level : (g : Over) (c : In-Ok g) → c.judge_level.new.met.blocks.items ≡ stop_blocks (c.loop-depth.chains.items ++ c.judge_level.new.stops.items)
 added_level g c =
-    c.in-Ok.ensures.added ∙ ap (λ (l : List ℕ). l ++ blocks_of c.judge_level.new.stops.items) c.loop-depth.invariant.added
+    c.in-Ok.ensures.added ∙ ap (λ (l : List ℕ). l ++ stop_blocks c.judge_level.new.stops.items) c.loop-depth.invariant.added
     ∙ sym (blocks_append c.loop-depth.chains.items c.judge_level.new.stops.items)
 
 pub keep-requires : goal.keep-requires
@@ -53,7 +53,8 @@ keep-requires g c =
 
 pub returns-in-Err-clause-some : goal.returns-in-Err-clause-some
 returns-in-Err-clause-some g c =
-    first_level c.args.keys c.args.pages.now c.loop-depth.depth c.in-Err.damage.number c.in-Err.damage.block (omega (arith, c.loop-depth-test.true, c.requires.top)) c.loop-depth.invariant.clear c.in-Err.ensures.first
+    first_level c.args.keys c.args.pages.now c.loop-depth.depth c.in-Err.damage.number c.in-Err.damage.block
+    (omega (arith, c.loop-depth-test.true, c.requires.top)) c.loop-depth.invariant.clear c.in-Err.ensures.first
 
 pub loop-depth-preserved : goal.loop-depth-preserved
 loop-depth-preserved g c =
@@ -68,8 +69,9 @@ loop-depth-preserved g c =
       more_room = c.keep.ensures.room ∙ c.loop-depth.invariant.more_room;
       far = omega (arith, c.loop-depth-test.true);
       chains = subst (λ (d : ℕ). AreAllStops (index_of c.args.pages.now) d c.keep.new.chains.items) next
-          (let all : AreAllStops (index_of c.args.pages.now) (suc depth) c.keep.new.chains.items = (c.loop-depth.chains.items, c.judge_level.new.stops.items, kept, c.loop-depth.invariant.chains, c.in-Ok.ensures.whole) in all);
-      added = added_level g (goal.at.loop-depth-preserved g c).In-Ok ∙ ap blocks_of (sym kept);
+          (let all : AreAllStops (index_of c.args.pages.now) (suc depth) c.keep.new.chains.items =
+          (c.loop-depth.chains.items, c.judge_level.new.stops.items, kept, c.loop-depth.invariant.chains, c.in-Ok.ensures.whole) in all);
+      added = added_level g (goal.at.loop-depth-preserved g c).In-Ok ∙ ap stop_blocks (sym kept);
       upper = subst (λ (d : ℕ). AreOfUpper (index_of c.args.pages.now) d c.judge_level.new.seen c.judge_level.new.met) next c.judge_level.ensures.upper;
       clear = λ d lt. elim (cases_lt d depth) [
         | inl before ↦ c.loop-depth.invariant.clear d before

@@ -3,7 +3,7 @@ use Rattle.damages.specs.Damages.{index_of, start}
 use Rattle.amcheck.specs.LevelDamages.{IsClearLevel, AreOfUpper}
 use Rattle.amcheck.specs.AllStops.{AreAllStops}
 use Rattle.amcheck.specs.Marks.{IsMet}
-use Rattle.amcheck.specs.Stops.{blocks_of}
+use Rattle.amcheck.specs.Stops.{stop_blocks}
 use Rattle.amcheck.proofs.chain_damages.find_chain_damage.Given as goal
 
 abbrev pub invariant-loop-depth : goal.invariant-loop-depth
@@ -15,7 +15,7 @@ invariant-loop-depth g l = record {
   more_room : vec_capacity l.chains ≡ vec_capacity l.fn.chains;
   far : l.depth ≤ suc l.top;
   chains : AreAllStops (index_of l.pages) l.depth l.chains.items;
-  added : l.met.blocks.items ≡ blocks_of l.chains.items;
+  added : l.met.blocks.items ≡ stop_blocks l.chains.items;
   clear : (d : ℕ) → d < l.depth → IsClearLevel (index_of l.pages) l.keys d;
   begin : l.begin ≡ start (index_of l.pages) l.depth;
 }

@@ -32,5 +32,6 @@ returns-in-Some-clause-upper g c = upper g (goal.at.returns-in-Some-clause-upper
 pub returns-in-None-clause-whole : goal.returns-in-None-clause-whole
 returns-in-None-clause-whole g c = record {
   are = c.walk-end.ensures.stops;
-  ends = ends_clear (index_of c.args.pages.now) c.args.keys c.args.depth (length c.walk-end.new.stops.items) c.walk-end.result (omega (arith, c.requires.level)) c.in-None.ensures.none c.walk-end.ensures.end;
+  ends = ends_clear (index_of c.args.pages.now) c.args.keys c.args.depth (length c.walk-end.new.stops.items) c.walk-end.result
+      (omega (arith, c.requires.level)) c.in-None.ensures.none c.walk-end.ensures.end;
 }

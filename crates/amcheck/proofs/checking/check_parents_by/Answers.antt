@@ -28,7 +28,8 @@ pub returns-clause-answer : goal.returns-clause-answer
 returns-clause-answer g c honest =
     subst (λ (ps : List Page). IsAnswer true (g.S.PageStore.state c.args.store.now).limits.unique ps c.told.result) (c.in-Ok-read_pages.ensures.read.same honest)
     (subst (λ (keys : Bool). IsAnswer true keys c.in-Ok-read_pages.pages c.told.result) (ap (λ (f : Format). f.unique) c.format-keys.ensures.value)
-    (answer_told true c.format-keys.result.unique c.in-Ok-read_pages.pages c.judge.result c.told.result c.judge.ensures.sound c.judge.ensures.report c.judge.ensures.first c.told.ensures.ok c.told.ensures.err))
+    (answer_told true c.format-keys.result.unique c.in-Ok-read_pages.pages c.judge.result c.told.result c.judge.ensures.sound c.judge.ensures.report
+    c.judge.ensures.first c.told.ensures.ok c.told.ensures.err))
 
 pub returns-in-Err-read_pages-clause-unread : goal.returns-in-Err-read_pages-clause-unread
 returns-in-Err-read_pages-clause-unread g c same = absurd (c.in-Err-read_pages.ensures.memory (same_fault _ NoMemory same))
@@ -66,10 +67,13 @@ returns-clause-order g c =
 
 pub returns-clause-tree : goal.returns-clause-tree
 returns-clause-tree g c honest =
-    tree_told (g.S.PageStore.state c.args.store.now) c.in-Ok-read_pages.pages c.format-keys.result.unique (ap (λ (f : Format). f.unique) c.format-keys.ensures.value) c.in-Ok-read_pages.ensures.read.stored
+    tree_told (g.S.PageStore.state c.args.store.now) c.in-Ok-read_pages.pages c.format-keys.result.unique
+    (ap (λ (f : Format). f.unique) c.format-keys.ensures.value) c.in-Ok-read_pages.ensures.read.stored
     (c.in-Ok-read_pages.ensures.read.same honest) c.judge.result c.told.result c.told.ensures.ok c.told.ensures.err c.judge.ensures.tree c.judge.ensures.unique
 
 pub returns-clause-fault : goal.returns-clause-fault
 returns-clause-fault g c =
-    fault_told (g.S.PageStore.state c.args.store.now) c.in-Ok-read_pages.pages c.format-keys.result.unique (ap (λ (f : Format). f.unique) c.format-keys.ensures.value) c.in-Ok-read_pages.ensures.read.stored
-    (g.S.PageStore.backing c.args.store.now) (g.S.PageStore.backing c.read_pages.new.store) c.in-Ok-read_pages.ensures.read.same c.judge.result c.told.result c.told.ensures.ok c.told.ensures.err c.judge.ensures.damaged
+    fault_told (g.S.PageStore.state c.args.store.now) c.in-Ok-read_pages.pages c.format-keys.result.unique
+    (ap (λ (f : Format). f.unique) c.format-keys.ensures.value) c.in-Ok-read_pages.ensures.read.stored
+    (g.S.PageStore.backing c.args.store.now) (g.S.PageStore.backing c.read_pages.new.store) c.in-Ok-read_pages.ensures.read.same c.judge.result
+    c.told.result c.told.ensures.ok c.told.ensures.err c.judge.ensures.damaged

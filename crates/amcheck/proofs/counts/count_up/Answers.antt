@@ -1,6 +1,6 @@
 use Rattle.std.proofs.Common.{◌≡◌, ◌<◌, length, ap, ◌∙◌, arith}
 use Rattle.tree_shape.specs.Nodes.{Node, node_of, node_from, nodes_of}
-use Rattle.amcheck.specs.Reports.{entry_count, one_if_half_dead, one_if_deleted, one_if_flagged}
+use Rattle.amcheck.specs.Reports.{count_entries_on, one_if_half_dead, one_if_deleted, one_if_flagged}
 use Rattle.damages.proofs.Fitting.{page_there}
 use Rattle.amcheck.proofs.Kept.{total_drop, one_half_dead, one_deleted, one_flagged}
 use Rattle.amcheck.proofs.counts.count_up.Goals as goal
@@ -23,7 +23,7 @@ loop-block-preserved c =
     record {
       levels = old.levels;
       pages = old.pages;
-      entries = omega (arith, old.entries, entries, total_drop entry_count pages block page.0 page.1);
+      entries = omega (arith, old.entries, entries, total_drop count_entries_on pages block page.0 page.1);
       half_dead = omega (arith, old.half_dead, half_dead, total_drop (λ p. one_if_half_dead p.state) pages block page.0 page.1);
       deleted = omega (arith, old.deleted, deleted, total_drop (λ p. one_if_deleted p.state) pages block page.0 page.1);
       unfinished = omega (arith, old.unfinished, unfinished, total_drop (λ p. one_if_flagged p.split) pages block page.0 page.1);

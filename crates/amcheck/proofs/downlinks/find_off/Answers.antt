@@ -12,7 +12,8 @@ returns-then-not-is_below-clause-some c =
 
 pub loop-item-preserved : goal.loop-item-preserved
 loop-item-preserved c =
-    one_more (λ (d : Downlink). IsOnLevel (index_of c.args.pages.now) (suc c.args.depth) d.child) (from_low c.args.low.now c.args.links.now) c.loop-item.item (c.loop-item.item + 1) c.link_at-link.result c.link_at-link.ensures
+    one_more (λ (d : Downlink). IsOnLevel (index_of c.args.pages.now) (suc c.args.depth) d.child) (from_low c.args.low.now c.args.links.now)
+    c.loop-item.item (c.loop-item.item + 1) c.link_at-link.result c.link_at-link.ensures
     (c.if-not-is_below.ensures.0 refl) (omega arith) c.loop-item.invariant
 
 pub returns-clause-none : goal.returns-clause-none

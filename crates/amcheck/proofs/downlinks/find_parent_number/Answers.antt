@@ -2,7 +2,7 @@ use Rattle.std.proofs.Common.{◌≡◌, true, false, List, Some, get_or, slice_
 use Rattle.page_codec.specs.declared.page.Downlink.{Downlink}
 use Rattle.tree_shape.specs.Chains.{from_low}
 use Rattle.tree_shape.specs.Nodes.{nodes_of}
-use Rattle.amcheck.specs.Downlinks.{HasWrongBound, LacksLink, HasExtra, AreNoted}
+use Rattle.amcheck.specs.Downlinks.{HasWrongBound, LacksLink, HasExtra, DownlinksAreNoted}
 use Rattle.amcheck.proofs.ItemsNoted.{least_nine, least_none}
 use Rattle.amcheck.proofs.downlinks.find_parent_number.Goals.{Else-lacks_link}
 use Rattle.amcheck.proofs.downlinks.find_parent_number.Goals as goal
@@ -33,18 +33,21 @@ has_extra-requires-clause-in_use c item link found =
 pub returns-then-has_extra-clause-least : goal.returns-then-has_extra-clause-least
 returns-then-has_extra-clause-least c =
     let at = goal.at.returns-then-has_extra-clause-least c in
-    least_nine (nodes_of c.args.pages.now) c.args.stops.now c.args.linked.now (from_low c.args.low.now (nodes_of c.args.pages.now c.args.stop.now.block).links) c.args.top (nodes_of c.args.pages.now c.args.stop.now.block) c.args.stop.now
+    least_nine (nodes_of c.args.pages.now) c.args.stops.now c.args.linked.now
+    (from_low c.args.low.now (nodes_of c.args.pages.now c.args.stop.now.block).links) c.args.top (nodes_of c.args.pages.now c.args.stop.now.block) c.args.stop.now
     (not_seven at.Else-lacks_link) (not_eight at.Else-lacks_link)
     (subst (HasExtra (nodes_of c.args.pages.now) c.args.stops.now c.args.linked.now) (sym (links_are at.Else-lacks_link)) (c.if-has_extra.ensures.extra.0 refl))
 
 pub returns-clause-least : goal.returns-clause-least
 returns-clause-least c =
     let at = goal.at.returns-clause-least c in
-    least_none (nodes_of c.args.pages.now) c.args.stops.now c.args.linked.now (from_low c.args.low.now (nodes_of c.args.pages.now c.args.stop.now.block).links) c.args.top (nodes_of c.args.pages.now c.args.stop.now.block) c.args.stop.now
+    least_none (nodes_of c.args.pages.now) c.args.stops.now c.args.linked.now
+    (from_low c.args.low.now (nodes_of c.args.pages.now c.args.stop.now.block).links) c.args.top (nodes_of c.args.pages.now c.args.stop.now.block) c.args.stop.now
     (not_seven at.Else-lacks_link) (not_eight at.Else-lacks_link)
     (λ w. let k : false ≡ true = c.if-has_extra.ensures.extra.1 (subst (HasExtra (nodes_of c.args.pages.now) c.args.stops.now c.args.linked.now) (links_are at.Else-lacks_link) w) in absurd cc)
 
 pub returns-clause-noted : goal.returns-clause-noted
 returns-clause-noted c =
     let at = goal.at.returns-clause-noted c in
-    subst (λ (l : List Downlink). AreNoted (from_low c.args.low.now l) (length l) c.args.linked.now c.has_extra.new.linked) (sym (items_are at.Else-lacks_link)) (c.if-has_extra.ensures.noted refl)
+    subst (λ (l : List Downlink). DownlinksAreNoted (from_low c.args.low.now l) (length l) c.args.linked.now c.has_extra.new.linked)
+    (sym (items_are at.Else-lacks_link)) (c.if-has_extra.ensures.noted refl)

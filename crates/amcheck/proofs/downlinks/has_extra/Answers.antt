@@ -16,7 +16,8 @@ bounds-linked-link c = (let lt = c.requires.in_use c.loop-item.item c.link_at-li
 
 pub returns-then-is_extra-clause-extra : goal.returns-then-is_extra-clause-extra
 returns-then-is_extra-clause-extra c = (
-  λ e. extra_now (nodes_of c.args.pages.now) c.args.stops.now (from_low c.args.low.now c.args.links.now) c.loop-item.item c.args.linked.now c.loop-item.linked c.link_at-link.result c.link_at-link.ensures c.loop-item.invariant.noted (c.if-is_extra.ensures.0 refl),
+  λ e. extra_now (nodes_of c.args.pages.now) c.args.stops.now (from_low c.args.low.now c.args.links.now) c.loop-item.item c.args.linked.now
+      c.loop-item.linked c.link_at-link.result c.link_at-link.ensures c.loop-item.invariant.noted (c.if-is_extra.ensures.0 refl),
   λ w. refl,
 )
 
@@ -25,7 +26,8 @@ loop-item-preserved c =
     let lt = c.requires.in_use c.loop-item.item c.link_at-link.result c.link_at-link.ensures in
     record {
       size = length-set c.loop-item.linked c.link_at-link.result.child true ∙ c.loop-item.invariant.size;
-      noted = noted_more (nodes_of c.args.pages.now) c.args.stops.now (from_low c.args.low.now c.args.links.now) c.loop-item.item c.args.linked.now c.loop-item.linked c.link_at-link.result c.link_at-link.ensures c.loop-item.invariant.noted
+      noted = noted_more (nodes_of c.args.pages.now) c.args.stops.now (from_low c.args.low.now c.args.links.now) c.loop-item.item c.args.linked.now
+          c.loop-item.linked c.link_at-link.result c.link_at-link.ensures c.loop-item.invariant.noted
           (c.loop-item.item + 1) (omega (arith, lt, c.requires.size, c.loop-item.invariant.size)) (λ extra. let k : false ≡ true = c.if-is_extra.ensures.1 extra in absurd cc) (omega arith);
     }
 

@@ -14,7 +14,8 @@ returns-then-has_other_low c = (
 
 pub loop-item-preserved : goal.loop-item-preserved
 loop-item-preserved c =
-    one_more (λ (d : Downlink). HasOtherLow (nodes_of c.args.pages.now) c.args.stops.now d → ⊥) (from_low c.args.low.now c.args.links.now) c.loop-item.item (c.loop-item.item + 1) c.link_at-link.result c.link_at-link.ensures
+    one_more (λ (d : Downlink). HasOtherLow (nodes_of c.args.pages.now) c.args.stops.now d → ⊥) (from_low c.args.low.now c.args.links.now)
+    c.loop-item.item (c.loop-item.item + 1) c.link_at-link.result c.link_at-link.ensures
     (λ h. let k : false ≡ true = c.if-has_other_low.ensures.1 h in absurd cc) (omega arith) c.loop-item.invariant
 
 pub returns : goal.returns

@@ -5,7 +5,7 @@ use Rattle.page_codec.specs.declared.page.Downlink.{Downlink}
 use Rattle.tree_shape.specs.Chains.{from_low}
 use Rattle.tree_shape.specs.Nodes.{nodes_of}
 use Rattle.damages.specs.Damages.{index_of}
-use Rattle.amcheck.specs.Downlinks.{IsOff, AreBelow, AreNoted, IsWrongAmong}
+use Rattle.amcheck.specs.Downlinks.{IsOff, AreBelow, DownlinksAreNoted, IsWrongAmong}
 use Rattle.amcheck.specs.ParentDamages.{AreChildrenBelow}
 use Rattle.amcheck.specs.Stops.{high_at, IsLeastNumber}
 use Rattle.amcheck.specs.declared.stops.Stop.{Stop}
@@ -34,7 +34,8 @@ links t = from_low (high_at (nodes_of t.args.pages.now) (stop t.args.stops.now t
 
 -- the downlinks as they were read
 links_are : (t : Start) (low : Option Bound) (read : List Downlink)
-    → low ≡ high_at (nodes_of t.args.pages.now) (stop t.args.stops.now t.args.place).low_at → read ≡ (nodes_of t.args.pages.now (stop t.args.stops.now t.args.place).block).links → from_low low read ≡ links t
+    → low ≡ high_at (nodes_of t.args.pages.now) (stop t.args.stops.now t.args.place).low_at
+    → read ≡ (nodes_of t.args.pages.now (stop t.args.stops.now t.args.place).block).links → from_low low read ≡ links t
 links_are t low read low_is read_is = (λ i. from_low (low_is i) (read_is i))
 
 pub overflow_sub-top : goal.overflow_sub-top
@@ -55,8 +56,10 @@ pub returns-in-Some-clause-first : goal.returns-in-Some-clause-first
 returns-in-Some-clause-first c =
     let t = (goal.at.returns-in-Some-clause-first c).Start in
     let level = c.sketch.result.now.level in
-    child_off c.args.pages.now c.args.stops.now c.requires.stops c.requires.sound c.args.place (stop c.args.stops.now c.args.place) (there t) (c.args.top - level) (sum t level c.sketch.ensures.is.level) c.in-Some.child
-    (subst (λ (l : List Downlink). IsOff (index_of c.args.pages.now) (c.args.top - level) l c.in-Some.child) (links_are t c.low-low.result c.links-links.result.now c.low-low.ensures c.links-links.ensures) c.in-Some.ensures.some)
+    child_off c.args.pages.now c.args.stops.now c.requires.stops c.requires.sound c.args.place (stop c.args.stops.now c.args.place) (there t)
+    (c.args.top - level) (sum t level c.sketch.ensures.is.level) c.in-Some.child
+    (subst (λ (l : List Downlink). IsOff (index_of c.args.pages.now) (c.args.top - level) l c.in-Some.child)
+    (links_are t c.low-low.result c.links-links.result.now c.low-low.ensures c.links-links.ensures) c.in-Some.ensures.some)
 
 pub find_parent_number-requires-clause-once : goal.find_parent_number-requires-clause-once
 find_parent_number-requires-clause-once c = blocks_once c.args.pages.now c.args.stops.now c.requires.stops c.requires.sound
@@ -68,7 +71,8 @@ pub find_parent_number-requires-clause-in_use : goal.find_parent_number-requires
 find_parent_number-requires-clause-in_use c item link found =
     let t = (goal.at.find_parent_number-requires-clause-in_use c).Start in
     let level = c.sketch.result.now.level in
-    let all = subst (AreBelow (index_of c.args.pages.now) (c.args.top - level)) (links_are t c.low-low.result c.links-links.result.now c.low-low.ensures c.links-links.ensures) c.in_default.ensures.none in
+    let all = subst (AreBelow (index_of c.args.pages.now) (c.args.top - level))
+    (links_are t c.low-low.result c.links-links.result.now c.low-low.ensures c.links-links.ensures) c.in_default.ensures.none in
     (all item link (subst (λ (o : Option Bound). slice_get (from_low o (nodes_of c.args.pages.now (stop c.args.stops.now c.args.place).block).links) item ≡ Some link) c.low-low.ensures found)).in_use
 
 -- what was found, in the words of the stop
@@ -78,9 +82,12 @@ least : (t : Start) (low : Option Bound) (top : ℕ) (o : Option ℕ) → low �
     → IsLeastNumber (IsWrongAmong (nodes_of t.args.pages.now) t.args.stops.now t.args.linked.now (links t) (index_of t.args.pages.now).top
     (nodes_of t.args.pages.now (stop t.args.stops.now t.args.place).block) (stop t.args.stops.now t.args.place)) o
 least t low top o low_is top_is found =
-    subst (λ (l : Option Bound). IsLeastNumber (IsWrongAmong (nodes_of t.args.pages.now) t.args.stops.now t.args.linked.now (from_low l (nodes_of t.args.pages.now (stop t.args.stops.now t.args.place).block).links) (index_of t.args.pages.now).top
+    subst (λ (l : Option Bound).
+    IsLeastNumber (IsWrongAmong (nodes_of t.args.pages.now) t.args.stops.now t.args.linked.now
+    (from_low l (nodes_of t.args.pages.now (stop t.args.stops.now t.args.place).block).links) (index_of t.args.pages.now).top
     (nodes_of t.args.pages.now (stop t.args.stops.now t.args.place).block) (stop t.args.stops.now t.args.place)) o) low_is
-    (subst (λ (n : ℕ). IsLeastNumber (IsWrongAmong (nodes_of t.args.pages.now) t.args.stops.now t.args.linked.now (from_low low (nodes_of t.args.pages.now (stop t.args.stops.now t.args.place).block).links) n
+    (subst (λ (n : ℕ). IsLeastNumber
+    (IsWrongAmong (nodes_of t.args.pages.now) t.args.stops.now t.args.linked.now (from_low low (nodes_of t.args.pages.now (stop t.args.stops.now t.args.place).block).links) n
     (nodes_of t.args.pages.now (stop t.args.stops.now t.args.place).block) (stop t.args.stops.now t.args.place)) o) top_is found)
 
 children : (t : Start) (level : ℕ) (low : Option Bound) (read : List Downlink) → level ≡ (nodes_of t.args.pages.now (stop t.args.stops.now t.args.place).block).level
@@ -103,12 +110,15 @@ returns-in-None-clause-marked c =
     let s = stop c.args.stops.now c.args.place in
     marked_more c.args.pages.now c.args.stops.now c.requires.stops c.requires.sound c.args.place s (there t) c.args.linked.now c.requires.marked c.requires.clear
     c.find_parent_number.new.linked (length (nodes_of c.args.pages.now s.block).links) refl
-    (subst (λ (o : Option Bound). AreNoted (from_low o (nodes_of c.args.pages.now s.block).links) (length (nodes_of c.args.pages.now s.block).links) c.args.linked.now c.find_parent_number.new.linked) c.low-low.ensures c.in-None.ensures.noted)
+    (subst (λ (o : Option Bound).
+    DownlinksAreNoted (from_low o (nodes_of c.args.pages.now s.block).links) (length (nodes_of c.args.pages.now s.block).links) c.args.linked.now
+    c.find_parent_number.new.linked) c.low-low.ensures c.in-None.ensures.noted)
 
 pub returns-in-Some-find_parent_number-clause-first :
     goal.returns-in-Some-find_parent_number-clause-first
 returns-in-Some-find_parent_number-clause-first c =
     let t = (goal.at.returns-in-Some-find_parent_number-clause-first c).Start in
-    page_first c.args.pages.now c.args.stops.now c.requires.stops c.requires.sound c.args.place (stop c.args.stops.now c.args.place) (there t) c.args.linked.now c.requires.marked c.requires.clear c.in-Some-find_parent_number.number
+    page_first c.args.pages.now c.args.stops.now c.requires.stops c.requires.sound c.args.place (stop c.args.stops.now c.args.place) (there t)
+    c.args.linked.now c.requires.marked c.requires.clear c.in-Some-find_parent_number.number
     (children t c.sketch.result.now.level c.low-low.result c.links-links.result.now c.sketch.ensures.is.level c.low-low.ensures c.links-links.ensures c.in_default.ensures.none)
     (least t c.low-low.result c.args.top (Some c.in-Some-find_parent_number.number) c.low-low.ensures c.requires.top c.in-Some-find_parent_number.ensures.least)

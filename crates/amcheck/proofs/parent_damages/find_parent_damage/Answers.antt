@@ -7,7 +7,8 @@ use Rattle.amcheck.proofs.parent_damages.find_parent_damage.Goals as goal
 
 pub returns-in-Some-clause-some : goal.returns-in-Some-clause-some
 returns-in-Some-clause-some c =
-    first_parent c.args.pages.now c.args.stops.now c.requires.stops c.requires.sound c.loop-place.place c.in-Some.damage.number c.in-Some.damage.block c.loop-place.invariant.clear c.in-Some.ensures.first
+    first_parent c.args.pages.now c.args.stops.now c.requires.stops c.requires.sound c.loop-place.place c.in-Some.damage.number c.in-Some.damage.block
+    c.loop-place.invariant.clear c.in-Some.ensures.first
 
 pub returns-clause-none : goal.returns-clause-none
 returns-clause-none c k lt = c.loop-place.invariant.clear k (omega (arith, lt, c.loop-place-test.false))

@@ -6,7 +6,7 @@ use Rattle.latch_table.specs.Holdings.{pinned_blocks}
 use Rattle.page_action.proofs.Framing.{takes_next, takes_rest}
 use Rattle.page_action.proofs.StoredPages.{stored-add}
 use Rattle.page_action.specs.Frames.{TakesFrame, TakesFrames}
-use Rattle.page_action.specs.Causes.{where_read}
+use Rattle.page_action.specs.Causes.{causes_of_read}
 use Rattle.page_action.specs.Room.{KeepsRoom}
 use Rattle.page_action.specs.States.{State, IsLater}
 use Rattle.page_action.specs.Stored.{IsStored, AreStored}
@@ -35,15 +35,19 @@ room_on g c =
     (subst (λ (s : State). KeepsRoom s (g.S.PageStore.backing c.loop-block.store) (g.S.PageStore.backing c.fetch.new.self)) old.state_is c.fetch.ensures.room) (later g c) (omega (arith, few, acts))
 
 -- the pages before this one, and this one
-frames_on : (g : Over) (c : After-fetch g) → TakesFrames (g.S.PageStore.state c.args.store.now).frames (pinned_blocks (g.S.PageStore.state c.args.store.now).table) (blocks_below c.loop-block.block ++ c.loop-block.block ∷ [])
+frames_on : (g : Over) (c : After-fetch g)
+    → TakesFrames (g.S.PageStore.state c.args.store.now).frames (pinned_blocks (g.S.PageStore.state c.args.store.now).table) (blocks_below c.loop-block.block ++ c.loop-block.block ∷ [])
     (g.S.PageStore.memory c.args.store.now) (g.S.PageStore.memory c.fetch.new.self) (g.S.PageStore.backing c.args.store.now) (g.S.PageStore.backing c.fetch.new.self)
 frames_on g c =
     let st = g.S.PageStore.state c.args.store.now in
     let mid = c.loop-block.store in
     takes_next st.frames (pinned_blocks st.table) (blocks_below c.loop-block.block) c.loop-block.block
-    (g.S.PageStore.memory c.args.store.now) (g.S.PageStore.memory mid) (g.S.PageStore.memory c.fetch.new.self) (g.S.PageStore.backing c.args.store.now) (g.S.PageStore.backing mid) (g.S.PageStore.backing c.fetch.new.self)
+    (g.S.PageStore.memory c.args.store.now) (g.S.PageStore.memory mid) (g.S.PageStore.memory c.fetch.new.self)
+    (g.S.PageStore.backing c.args.store.now) (g.S.PageStore.backing mid) (g.S.PageStore.backing c.fetch.new.self)
     c.loop-block.invariant.frames
-    (subst (λ (s : State). TakesFrame s.frames (pinned_blocks s.table) c.loop-block.block (g.S.PageStore.memory mid) (g.S.PageStore.memory c.fetch.new.self) (g.S.PageStore.backing mid) (g.S.PageStore.backing c.fetch.new.self))
+    (subst (λ (s : State).
+    TakesFrame s.frames (pinned_blocks s.table) c.loop-block.block (g.S.PageStore.memory mid) (g.S.PageStore.memory c.fetch.new.self)
+    (g.S.PageStore.backing mid) (g.S.PageStore.backing c.fetch.new.self))
     c.loop-block.invariant.state_is c.fetch.ensures.frame)
 
 pub returns-in-Err-clause-frames : goal.returns-in-Err-clause-frames
@@ -51,7 +55,9 @@ returns-in-Err-clause-frames g c =
     let here = (goal.at.returns-in-Err-clause-frames g c).After-fetch in
     let st = g.S.PageStore.state c.args.store.now in
     let others = below_next (length st.pages) c.loop-block.block (omega (arith, c.loop-block-test.true, c.used-used.ensures)) in
-    subst (λ (bs : List ℕ). TakesFrames st.frames (pinned_blocks st.table) bs (g.S.PageStore.memory c.args.store.now) (g.S.PageStore.memory c.fetch.new.self) (g.S.PageStore.backing c.args.store.now) (g.S.PageStore.backing c.fetch.new.self)) (sym others.1)
+    subst (λ (bs : List ℕ).
+    TakesFrames st.frames (pinned_blocks st.table) bs (g.S.PageStore.memory c.args.store.now) (g.S.PageStore.memory c.fetch.new.self)
+    (g.S.PageStore.backing c.args.store.now) (g.S.PageStore.backing c.fetch.new.self)) (sym others.1)
     (takes_rest st.frames (pinned_blocks st.table) (blocks_below c.loop-block.block ++ c.loop-block.block ∷ []) others.0
     (g.S.PageStore.memory c.args.store.now) (g.S.PageStore.memory c.fetch.new.self) (g.S.PageStore.backing c.args.store.now) (g.S.PageStore.backing c.fetch.new.self) (frames_on g here))
 
@@ -59,14 +65,16 @@ pub returns-clause-frames : goal.returns-clause-frames
 returns-clause-frames g c =
     let st = g.S.PageStore.state c.args.store.now in
     let all : c.loop-block.block ≡ length st.pages = omega (arith, c.loop-block-test.false, c.loop-block.auto.block-end, c.used-used.ensures) in
-    subst (λ (n : ℕ). TakesFrames st.frames (pinned_blocks st.table) (blocks_below n) (g.S.PageStore.memory c.args.store.now) (g.S.PageStore.memory c.loop-block.store) (g.S.PageStore.backing c.args.store.now) (g.S.PageStore.backing c.loop-block.store))
+    subst (λ (n : ℕ). TakesFrames st.frames (pinned_blocks st.table) (blocks_below n) (g.S.PageStore.memory c.args.store.now)
+    (g.S.PageStore.memory c.loop-block.store) (g.S.PageStore.backing c.args.store.now) (g.S.PageStore.backing c.loop-block.store))
     all c.loop-block.invariant.frames
 
 pub returns-in-Err-clause-room : goal.returns-in-Err-clause-room
 returns-in-Err-clause-room g c = room_on g (goal.at.returns-in-Err-clause-room g c).After-fetch
 
 pub returns-in-Err-clause-memory : goal.returns-in-Err-clause-memory
-returns-in-Err-clause-memory g c = never_memory (g.S.PageStore.state c.loop-block.store) (g.S.PageStore.backing c.loop-block.store) (g.S.PageStore.backing c.fetch.new.self) c.loop-block.block c.in-Err.fault c.in-Err.ensures.cause
+returns-in-Err-clause-memory g c =
+    never_memory (g.S.PageStore.state c.loop-block.store) (g.S.PageStore.backing c.loop-block.store) (g.S.PageStore.backing c.fetch.new.self) c.loop-block.block c.in-Err.fault c.in-Err.ensures.cause
 
 pub returns-in-Err-clause-cause : goal.returns-in-Err-clause-cause
 returns-in-Err-clause-cause g c =
@@ -74,9 +82,11 @@ returns-in-Err-clause-cause g c =
     let l = later g before in
     let old = c.loop-block.invariant in
     let used : c.loop-block.block < length (g.S.PageStore.state c.args.store.now).pages = omega (arith, c.loop-block-test.true, c.used-used.ensures) in
-    cause_on (g.S.PageStore.state c.args.store.now) (g.S.PageStore.backing c.args.store.now) (g.S.PageStore.backing c.loop-block.store) (g.S.PageStore.backing c.fetch.new.self) c.loop-block.block c.in-Err.fault
+    cause_on (g.S.PageStore.state c.args.store.now) (g.S.PageStore.backing c.args.store.now) (g.S.PageStore.backing c.loop-block.store)
+    (g.S.PageStore.backing c.fetch.new.self) c.loop-block.block c.in-Err.fault
     l.failures old.alive (lt-leb (length (g.S.PageStore.state c.args.store.now).pages) c.loop-block.block used)
-    (subst (λ (s : State). HasCause (where_read s (g.S.PageStore.backing c.loop-block.store) (g.S.PageStore.backing c.fetch.new.self) c.loop-block.block) c.in-Err.fault) old.state_is c.in-Err.ensures.cause)
+    (subst (λ (s : State).
+    HasCause (causes_of_read s (g.S.PageStore.backing c.loop-block.store) (g.S.PageStore.backing c.fetch.new.self) c.loop-block.block) c.in-Err.fault) old.state_is c.in-Err.ensures.cause)
 
 -- the page that is read stands at its block
 stored_here : (g : Over) (c : After-view g) → IsStored (g.S.PageStore.state c.args.store.now).limits (0 + length c.loop-block.room.list.pages) c.view.result.now
@@ -108,6 +118,7 @@ loop-block-preserved g c =
       room_is = subst (HasPageRoom c.add.new.self) c.used-used.ensures c.add.ensures.room;
       kept = room_on g before;
       frames = subst (λ (n : ℕ). TakesFrames (g.S.PageStore.state c.args.store.now).frames (pinned_blocks (g.S.PageStore.state c.args.store.now).table) (blocks_below n)
-          (g.S.PageStore.memory c.args.store.now) (g.S.PageStore.memory c.fetch.new.self) (g.S.PageStore.backing c.args.store.now) (g.S.PageStore.backing c.fetch.new.self)) (sym (add-one c.loop-block.block)) (frames_on g before);
+          (g.S.PageStore.memory c.args.store.now) (g.S.PageStore.memory c.fetch.new.self) (g.S.PageStore.backing c.args.store.now)
+          (g.S.PageStore.backing c.fetch.new.self)) (sym (add-one c.loop-block.block)) (frames_on g before);
       alive = λ stopped. old.alive (c.in-Ok.ensures.alive stopped);
     }

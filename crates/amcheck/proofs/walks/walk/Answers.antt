@@ -21,20 +21,23 @@ returns-then-has-clause-end c =
 pub returns-in-None-clause-added : goal.returns-in-None-clause-added
 returns-in-None-clause-added c =
     added_all c.args.pages.now c.args.depth c.args.met.now.blocks.items c.loop.met c.loop.stops.items c.loop.stop c.loop.counter c.loop.invariant.walked
-    c.add.new.self (subst (IsMet c.add.new.self) c.len-in-loop.ensures c.add.ensures.met) c.add.ensures.added (level_there c.args.pages.now c.args.level c.args.depth c.loop.stop.block c.requires.level (c.if-not-is_on_level.ensures.0 refl))
+    c.add.new.self (subst (IsMet c.add.new.self) c.len-in-loop.ensures c.add.ensures.met) c.add.ensures.added
+    (level_there c.args.pages.now c.args.level c.args.depth c.loop.stop.block c.requires.level (c.if-not-is_on_level.ensures.0 refl))
     c.push_reserved.new.self.items c.push_reserved.ensures.items
 
 pub returns-in-None-clause-stops : goal.returns-in-None-clause-stops
 returns-in-None-clause-stops c =
     are_stops_more c.args.pages.now c.args.depth c.args.met.now.blocks.items c.loop.met c.loop.stops.items c.loop.stop c.loop.counter c.loop.invariant.walked
-    c.add.new.self (subst (IsMet c.add.new.self) c.len-in-loop.ensures c.add.ensures.met) c.add.ensures.added (level_there c.args.pages.now c.args.level c.args.depth c.loop.stop.block c.requires.level (c.if-not-is_on_level.ensures.0 refl))
+    c.add.new.self (subst (IsMet c.add.new.self) c.len-in-loop.ensures c.add.ensures.met) c.add.ensures.added
+    (level_there c.args.pages.now c.args.level c.args.depth c.loop.stop.block c.requires.level (c.if-not-is_on_level.ensures.0 refl))
     c.push_reserved.new.self.items c.push_reserved.ensures.items
 
 pub returns-in-None-clause-end : goal.returns-in-None-clause-end
 returns-in-None-clause-end c =
     let on = c.if-not-is_on_level.ensures.0 refl in
     ends_whole c.args.pages.now c.args.depth c.args.met.now.blocks.items c.loop.met c.loop.stops.items c.loop.stop c.loop.counter c.loop.invariant.walked
-    c.add.new.self (subst (IsMet c.add.new.self) c.len-in-loop.ensures c.add.ensures.met) c.add.ensures.added (level_there c.args.pages.now c.args.level c.args.depth c.loop.stop.block c.requires.level on)
+    c.add.new.self (subst (IsMet c.add.new.self) c.len-in-loop.ensures c.add.ensures.met) c.add.ensures.added
+    (level_there c.args.pages.now c.args.level c.args.depth c.loop.stop.block c.requires.level on)
     c.push_reserved.new.self.items c.push_reserved.ensures.items (sym c.sketch-sketch.ensures.is.right ∙ c.in-None.is)
 
 pub loop-preserved : goal.loop-preserved
@@ -42,7 +45,8 @@ loop-preserved c =
     let on = c.if-not-is_on_level.ensures.0 refl in
     record {
       walked = walk_goes_on c.args.pages.now c.args.depth c.args.met.now.blocks.items c.loop.met c.loop.stops.items c.loop.stop c.loop.counter c.loop.invariant.walked
-          c.add.new.self (subst (IsMet c.add.new.self) c.len-in-loop.ensures c.add.ensures.met) c.add.ensures.added (level_there c.args.pages.now c.args.level c.args.depth c.loop.stop.block c.requires.level on)
+          c.add.new.self (subst (IsMet c.add.new.self) c.len-in-loop.ensures c.add.ensures.met) c.add.ensures.added
+          (level_there c.args.pages.now c.args.level c.args.depth c.loop.stop.block c.requires.level on)
           c.push_reserved.new.self.items c.push_reserved.ensures.items c.in-Some.right c.next_stop-stop.result (c.loop.counter + 1)
           (sym c.sketch-sketch.ensures.is.right ∙ c.in-Some.is) c.next_stop-stop.ensures.block (c.next_stop-stop.ensures.spot (nodes_of c.args.pages.now) c.sketch-sketch.ensures.is) (omega arith);
       room = c.push_reserved.ensures.capacity ∙ c.loop.invariant.room;

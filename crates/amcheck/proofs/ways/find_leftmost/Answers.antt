@@ -1,5 +1,5 @@
 use Rattle.std.proofs.Common.{◌≡◌, ◌+◌, true, false, length, refl, sym, ◌∙◌, arith}
-use Rattle.damages.specs.Damages.{index_of, way_left}
+use Rattle.damages.specs.Damages.{index_of, left_after_steps}
 use Rattle.damages.proofs.TreePlaces.{head_is}
 use Rattle.amcheck.specs.Ways.{IsClearWay}
 use Rattle.amcheck.proofs.WaysLeft.{begin_way, way_off, way_back, way_goes_on, way_ends, kept_more, kept_so_far, way_is_short, level_there, level_back}
@@ -27,10 +27,11 @@ returns-then-seen-block-clause-first c =
 pub returns-in-None-clause-kept : goal.returns-in-None-clause-kept
 returns-in-None-clause-kept c =
     kept_more c.args.pages.now c.args.depth c.args.seen.now c.loop.seen c.loop.block c.loop.counter c.loop.invariant c.requires.apart
-    (level_there c.args.pages.now c.args.level c.args.depth c.loop.block c.requires.level (c.if-not-is_on_level.ensures.0 refl)) (λ mark. let k : true ≡ false = sym mark ∙ c.if-seen-block.false in absurd cc)
+    (level_there c.args.pages.now c.args.level c.args.depth c.loop.block c.requires.level (c.if-not-is_on_level.ensures.0 refl))
+    (λ mark. let k : true ≡ false = sym mark ∙ c.if-seen-block.false in absurd cc)
 
 -- the way ends at the leftmost page
-ends : (c : goal.In-None) → (c.loop.block ≡ way_left (index_of c.args.pages.now) c.args.depth (length c.args.pages.now)) × IsClearWay (index_of c.args.pages.now) c.args.depth
+ends : (c : goal.In-None) → (c.loop.block ≡ left_after_steps (index_of c.args.pages.now) c.args.depth (length c.args.pages.now)) × IsClearWay (index_of c.args.pages.now) c.args.depth
 ends c =
     let on = level_there c.args.pages.now c.args.level c.args.depth c.loop.block c.requires.level (c.if-not-is_on_level.ensures.0 refl) in
     let left = sym c.sketch.ensures.is.left ∙ c.in-None.is in
@@ -54,4 +55,6 @@ pub returns-clause-kept : goal.returns-clause-kept
 returns-clause-kept c = kept_so_far c.args.pages.now c.args.depth c.args.seen.now c.loop.seen c.loop.block c.loop.counter c.loop.invariant c.requires.apart
 
 pub returns-clause-first : goal.returns-clause-first
-returns-clause-first c = absurd (way_is_short c.args.pages.now c.args.depth c.args.seen.now c.loop.seen c.loop.block c.loop.counter c.loop.invariant c.requires.apart (omega (arith, c.loop-test.false, c.len-end.ensures)) c.requires.some)
+returns-clause-first c =
+    absurd (way_is_short c.args.pages.now c.args.depth c.args.seen.now c.loop.seen c.loop.block c.loop.counter c.loop.invariant c.requires.apart
+    (omega (arith, c.loop-test.false, c.len-end.ensures)) c.requires.some)

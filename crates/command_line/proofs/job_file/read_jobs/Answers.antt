@@ -22,7 +22,8 @@ loop-rest-preserved c =
     let counted : c.in_ok-set.set ≡ sets_with c.loop-rest.set c.job_of-job.result =
     c.in_ok-set.ensures.count ∙ ap (sets_with c.loop-rest.set) (sym c.job_of-job.ensures) in
     record {
-      spelled = λ more. rw (counted, pushed) (spelled_on all here (lines_of c.first_line.result.1.now) c.first_line.result.0.now c.loop-rest.set jobs c.job_of-job.result first spells old.spelled more);
+      spelled = λ more. rw (counted, pushed)
+          (spelled_on all here (lines_of c.first_line.result.1.now) c.first_line.result.0.now c.loop-rest.set jobs c.job_of-job.result first spells old.spelled more);
       behind = λ more. rw (counted, pushed) (behind_on c.loop-rest.set jobs c.job_of-job.result old.behind more);
       sets = c.in_ok-set.ensures.sets old.sets;
     }
@@ -30,7 +31,8 @@ loop-rest-preserved c =
 pub returns-clause-jobs : goal.returns-clause-jobs
 returns-clause-jobs c =
     let jobs = c.loop-rest.jobs.items in
-    subst (SpellJobs 0 (lines_of c.args.text.now)) (append-nil jobs) (c.loop-rest.invariant.spelled [] (subst (λ (text : List ℕ). SpellJobs c.loop-rest.set (lines_of text) []) (sym (none_left c.loop-rest.rest.now c.loop-rest-test.ensures)) (tt {0})))
+    subst (SpellJobs 0 (lines_of c.args.text.now)) (append-nil jobs)
+    (c.loop-rest.invariant.spelled [] (subst (λ (text : List ℕ). SpellJobs c.loop-rest.set (lines_of text) []) (sym (none_left c.loop-rest.rest.now c.loop-rest-test.ensures)) (tt {0})))
 
 pub returns-clause-sets : goal.returns-clause-sets
 returns-clause-sets c =

@@ -1,6 +1,6 @@
 use Rattle.std.proofs.Common.{◌≡◌, take}
 use Rattle.page_action.specs.States.{Continues}
-use Rattle.command_line.specs.Listing.{Lists}
+use Rattle.command_line.specs.Listing.{PrintsPages}
 use Rattle.command_line.proofs.listing.list_pages.Given as goal
 
 abbrev pub invariant-loop-block : goal.invariant-loop-block
@@ -11,5 +11,5 @@ invariant-loop-block g l =
     record {
       steps : Continues g.S.PageStore.follows l.fn.store l.store;
       state_is : state l.store ≡ state l.fn.store;
-      lists : Lists (backing l.store).honest (take l.block (state l.fn.store).pages) (contents l.fn.out) (contents l.out);
+      lists : PrintsPages (backing l.store).honest (take l.block (state l.fn.store).pages) (contents l.fn.out) (contents l.out);
     }

@@ -16,5 +16,6 @@ returns-in_ok-print_answer-in_default g c =
     record {
       ends = tt;
       end = n.0;
-      printed = subst (λ (last : List ℕ). Appends a d (run ++ last)) (sym n.1) (Appends-trans a b d run (answer_text c.args.answer.now ++ 10 ∷ []) c.in_ok-print_run.ensures c.in_ok-print_answer-in_default.ensures);
+      printed = subst (λ (last : List ℕ). Appends a d (run ++ last)) (sym n.1)
+          (Appends-trans a b d run (answer_text c.args.answer.now ++ 10 ∷ []) c.in_ok-print_run.ensures c.in_ok-print_answer-in_default.ensures);
     }

@@ -1,6 +1,6 @@
 use Rattle.std.proofs.Common.{◌≡◌}
 use Rattle.page_action.specs.States.{Continues}
-use Rattle.world.specs.Worlds.{WorldCarries}
+use Rattle.world.specs.Worlds.{ForEachWorldHistory}
 use Rattle.command_line.specs.Stepping.{KeepsSizes}
 use Rattle.command_line.proofs.Stepped.{HasGone, IsWithin}
 use Rattle.command_line.proofs.stepping.run_call.Given as goal
@@ -13,8 +13,8 @@ invariant-loop-left g l =
       steps : Continues store.follows l.fn.world.store l.world.store;
       limits : (store.state l.world.store).limits ≡ (store.state l.fn.world.store).limits;
       sizes : KeepsSizes store l.fn.world l.world;
-      gone : WorldCarries store rows l.fn.world l.world (HasGone store rows l.session l.fn.world l.world);
-      within : WorldCarries store rows l.fn.world l.world (λ start history calls. IsWithin store rows l.session l.left l.fn.world l.world);
+      gone : ForEachWorldHistory store rows l.fn.world l.world (HasGone store rows l.session l.fn.world l.world);
+      within : ForEachWorldHistory store rows l.fn.world l.world (λ start history calls. IsWithin store rows l.session l.left l.fn.world l.world);
     }
 
 abbrev pub decreases-loop-left : goal.decreases-loop-left

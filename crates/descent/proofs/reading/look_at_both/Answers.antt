@@ -1,6 +1,6 @@
 use Rattle.std.proofs.Common.{Some, slice_get, sym, ap, subst, ◌∙◌}
 use Rattle.index_model.specs.Faults.{HasCause}
-use Rattle.page_action.specs.Causes.{where_read}
+use Rattle.page_action.specs.Causes.{causes_of_read}
 use Rattle.page_action.specs.States.{State, Backing, IsLater}
 use Rattle.page_codec.specs.declared.page.Page.{Page}
 use Rattle.descent.proofs.Working.{read_cause, rooms_kept}
@@ -8,7 +8,8 @@ use Rattle.descent.proofs.reading.look_at_both.Goals as goal
 
 pub returns-in-Ok-clause-pages : goal.returns-in-Ok-clause-pages
 returns-in-Ok-clause-pages g c honest =
-    let later : IsLater (g.S.PageStore.backing c.fetch.new.self) (g.S.PageStore.backing c.fetch-2.new.self) = g.met.S.PageStore.laws.follows_later _ _ (c.fetch-2.ensures.steps _ (g.met.S.PageStore.laws.follows_same _)) in
+    let later : IsLater (g.S.PageStore.backing c.fetch.new.self) (g.S.PageStore.backing c.fetch-2.new.self) =
+    g.met.S.PageStore.laws.follows_later _ _ (c.fetch-2.ensures.steps _ (g.met.S.PageStore.laws.follows_same _)) in
     let first_state = c.fetch.ensures.state ∙ c.ask_for-2.ensures.state ∙ c.ask_for.ensures.state in (
       ap (λ (s : State). slice_get s.pages c.args.first) (sym first_state) ∙ c.view.ensures.page (later.honest honest) ∙ ap (λ (p : Page). Some p) (sym c.copy_to.ensures),
       ap (λ (s : State). slice_get s.pages c.args.second) (sym (c.fetch-2.ensures.state ∙ first_state)) ∙ c.view-in-Ok.ensures.page honest ∙ ap (λ (p : Page). Some p) (sym c.copy_to-in-Ok.ensures),
@@ -42,4 +43,4 @@ returns-in-Err-clause-cause g c honest room one two images frames takes splits s
     let earlier : IsLater first second = subst (λ (b : Backing). IsLater b second) was later in
     read_cause st first second third c.args.session images frames takes splits c.args.second c.in-Err.fault earlier.failures
     (λ h. ap (λ (b : Backing). b.stopped) (sym was) ∙ c.in_ok-fetch.ensures.alive h) honest two some
-    (subst (λ (s : State). HasCause (where_read s second third c.args.second) c.in-Err.fault) before c.in-Err.ensures.cause)
+    (subst (λ (s : State). HasCause (causes_of_read s second third c.args.second) c.in-Err.fault) before c.in-Err.ensures.cause)

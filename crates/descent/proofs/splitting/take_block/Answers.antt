@@ -1,7 +1,7 @@
 use Rattle.std.proofs.Common.{arith, true, ◌<◌, ◌≤◌, sym, subst}
 use Rattle.index_model.specs.Faults.{HasCause}
 use Rattle.page_action.specs.States.{State}
-use Rattle.descent.specs.Shared.{where_working}
+use Rattle.descent.specs.Shared.{causes_of_working}
 use Rattle.descent.proofs.Blocks.{fresh_past_meta}
 use Rattle.descent.proofs.Working.{full_cause}
 use Rattle.descent.proofs.splitting.take_block.Goals as goal
@@ -18,5 +18,5 @@ pub returns-in-Err-clause-cause : goal.returns-in-Err-clause-cause
 returns-in-Err-clause-cause g c room images frames splits =
     let st : State = g.S.PageStore.state c.args.store.now in
     let old = g.S.PageStore.backing c.args.store.now in
-    subst (HasCause (where_working st old old c.args.session images frames true splits)) (sym c.in-Err.ensures.fault)
+    subst (HasCause (causes_of_working st old old c.args.session images frames true splits)) (sym c.in-Err.ensures.fault)
     (full_cause st old old c.args.session images frames splits c.in-Err.ensures.full)

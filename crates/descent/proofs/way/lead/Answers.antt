@@ -4,15 +4,18 @@ use Rattle.descent.proofs.way.lead.Goals as goal
 
 pub returns-then-is_astray-clause-goes : goal.returns-then-is_astray-clause-goes
 returns-then-is_astray-clause-goes c = λ st start clear h found on whole few.
-    absurd (on_its_level st start clear c.args.aim.now c.args.to c.args.most c.args.page.now c.args.way.now h found on whole few (c.is_astray.ensures.live c.if-is_astray.true) (c.is_astray.ensures.level c.if-is_astray.true))
+    absurd (on_its_level st start clear c.args.aim.now c.args.to c.args.most c.args.page.now c.args.way.now h found on whole few
+    (c.is_astray.ensures.live c.if-is_astray.true) (c.is_astray.ensures.level c.if-is_astray.true))
 
 pub returns-then-is_passed-clause-goes : goal.returns-then-is_passed-clause-goes
 returns-then-is_passed-clause-goes c = λ st start clear h found on whole few.
-    rw (c.going.ensures, c.go_right.ensures) (leads_right st start clear c.args.aim.now c.args.to c.args.most c.args.page.now c.args.way.now h found on whole few (c.is_passed.ensures.passed c.if-is_passed.true))
+    rw (c.going.ensures, c.go_right.ensures)
+    (leads_right st start clear c.args.aim.now c.args.to c.args.most c.args.page.now c.args.way.now h found on whole few (c.is_passed.ensures.passed c.if-is_passed.true))
 
 pub returns-then-way-to-clause-goes : goal.returns-then-way-to-clause-goes
 returns-then-way-to-clause-goes c = λ st start clear h found on whole few.
-    leads_here st start clear c.args.aim.now c.args.to c.args.most c.args.page.now c.args.way.now h found on whole few (c.is_passed.ensures.live c.if-is_passed.false) (c.is_passed.ensures.within c.if-is_passed.false) c.if-way-to.true
+    leads_here st start clear c.args.aim.now c.args.to c.args.most c.args.page.now c.args.way.now h found on whole few
+    (c.is_passed.ensures.live c.if-is_passed.false) (c.is_passed.ensures.within c.if-is_passed.false) c.if-way-to.true
 
 pub returns-clause-goes : goal.returns-clause-goes
 returns-clause-goes c = λ st start clear h found on whole few.

@@ -1,12 +1,12 @@
 use Rattle.std.proofs.Common.{◌≡◌, ℕ, [], ◌∷◌, ◌++◌, List, refl, ap, ◌∙◌, rules}
-use Rattle.device.specs.Record.{Call, Write}
+use Rattle.device.specs.Record.{DeviceCall, Write}
 use Rattle.device.specs.Past.{writes_of}
 use Rattle.device.specs.declared.record.Piece.{Piece}
 use Rattle.device.proofs.record.write_noted.Goals as goal
 
 writes_push : (pieces : List Piece) (piece : Piece) → writes_of (pieces ++ piece ∷ []) ≡ writes_of pieces ++ Write piece.at piece.bytes.items ∷ []
 writes_push [] piece = refl
-writes_push (p ∷ pieces) piece = ap (λ (l : List Call). Write p.at p.bytes.items ∷ l) (writes_push pieces piece)
+writes_push (p ∷ pieces) piece = ap (λ (l : List DeviceCall). Write p.at p.bytes.items ∷ l) (writes_push pieces piece)
 
 pub returns-clause-noted : goal.returns-clause-noted
 returns-clause-noted c =

@@ -52,7 +52,8 @@ loop-preserved c =
             least = omega (arith, w.node-is, before.least);
             low = subst (λ (n : ℕ). is_at_most most (number_at tree n) ≡ true) (sym w.node-is)
                 (second_at_most most _ _ (ap (is_at_most most) (sym (c.requires.winners node before.least small)) ∙ before.low) beyond);
-            leads = λ levels is. subst (λ (n : ℕ). LeadsToLowest tree size most n levels) (sym w.node-is) (right_leads tree size most node levels c.requires.winners before.least beyond (below levels is));
+            leads = λ levels is.
+                subst (λ (n : ℕ). LeadsToLowest tree size most n levels) (sym w.node-is) (right_leads tree size most node levels c.requires.winners before.least beyond (below levels is));
           }
     ]
 

@@ -14,7 +14,8 @@ loop-node-init c =
     record {
       least = omega (arith, c.args.shape.full, leftmost-least c.args.shape.depth 1);
       inside = omega (arith, c.requires.place, c.requires.places);
-      others = λ node one small not_above. winner_stays tree at c.args.number node (λ e. omega (arith, e)) (λ e. not_above (omega (arith, e))) (λ e. not_above (omega (arith, e))) (c.requires.winners node one small);
+      others = λ node one small not_above.
+          winner_stays tree at c.args.number node (λ e. omega (arith, e)) (λ e. not_above (omega (arith, e))) (λ e. not_above (omega (arith, e))) (c.requires.winners node one small);
       blocks = drop-set-add size tree c.args.block c.args.number;
     }
 
@@ -32,7 +33,10 @@ loop-node-preserved c =
       least = one;
       inside = omega arith;
       others = λ node from to not_above. elim (cases_eq node above) [
-        | inl same ↦ subst (IsWinner _) (sym same) (winner_put tree above c.lesser.result one inside (c.lesser.ensures ∙ ap (λ (a : Option ℕ). lesser a c.number_at-in-loop-node.result) c.number_at.ensures ∙ ap (λ (b : Option ℕ). lesser (number_at tree (2 * above)) b) c.number_at-in-loop-node.ensures))
+        | inl same ↦ subst (IsWinner _) (sym same)
+            (winner_put tree above c.lesser.result one inside
+            (c.lesser.ensures ∙ ap (λ (a : Option ℕ). lesser a c.number_at-in-loop-node.result) c.number_at.ensures
+            ∙ ap (λ (b : Option ℕ). lesser (number_at tree (2 * above)) b) c.number_at-in-loop-node.ensures))
         | inr other ↦ winner_stays tree above c.lesser.result node other (λ e. not_above (omega (arith, e))) (λ e. not_above (omega (arith, e))) (before.others node from to other)
       ];
       blocks = drop-set-lt size tree above c.lesser.result small ∙ before.blocks;

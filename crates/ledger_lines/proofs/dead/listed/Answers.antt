@@ -9,7 +9,8 @@ joined : (rows : List Row) (row : Row) (new : List (List ℕ)) → map row_text 
 joined [] row new = refl
 joined (first ∷ rows) row new = ap (λ (ws : List (List ℕ)). row_text first ∷ ws) (joined rows row new)
 
-named_on : (all words new : List (List ℕ)) (rows pushed : List Row) (row : Row) → all ≡ map row_text rows ++ words → words ≡ row_text row ∷ new → pushed ≡ rows ++ row ∷ [] → all ≡ map row_text pushed ++ new
+named_on : (all words new : List (List ℕ)) (rows pushed : List Row) (row : Row) → all ≡ map row_text rows ++ words → words ≡ row_text row ∷ new
+    → pushed ≡ rows ++ row ∷ [] → all ≡ map row_text pushed ++ new
 named_on all words new rows pushed row was next push =
     was ∙ ap (λ (ws : List (List ℕ)). map row_text rows ++ ws) next ∙ joined rows row new ∙ ap (λ (rs : List Row). map row_text rs ++ new) (sym push)
 

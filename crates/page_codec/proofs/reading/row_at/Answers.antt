@@ -15,5 +15,6 @@ returns-in-Ok-clause-found c =
     let block : take 4 bytes ≡ little_bytes 4 row.block =
     sym (ap (λ (n : ℕ). little_bytes 4 n) (ap (λ (r : Row). r.block) c.in-Ok.ensures.0 ∙ c.u32_at-block.ensures) ∙ four_again bytes (omega (arith, c.requires)) small) in
     let offset : take 2 (drop 4 bytes) ≡ little_bytes 2 row.offset =
-    sym (ap (λ (n : ℕ). little_bytes 2 n) (ap (λ (r : Row). r.offset) c.in-Ok.ensures.0 ∙ c.u16_at-offset.ensures) ∙ two_again (drop 4 bytes) (omega (arith, length-drop 4 bytes, c.requires)) behind) in
+    sym (ap (λ (n : ℕ). little_bytes 2 n) (ap (λ (r : Row). r.offset) c.in-Ok.ensures.0 ∙ c.u16_at-offset.ensures)
+    ∙ two_again (drop 4 bytes) (omega (arith, length-drop 4 bytes, c.requires)) behind) in
     (c.in-Ok.ensures.1, begins_row row bytes block offset)

@@ -57,7 +57,8 @@ row_is c b at zeros = row_there b.key b.row c.tail-behind.result.now at.valid.ro
 pub returns-in_err-row-clause-only : goal.returns-in_err-row-clause-only
 returns-in_err-row-clause-only c = λ b h begins.
     let there = some_there b c.args.bytes.now h begins (no_zeros_there (goal.at.returns-in_err-row-clause-only c).After-begins_with c.if-begins_with.false) in
-    let row = row_is (goal.at.returns-in_err-row-clause-only c).After-tail-behind there.0 there.2 (λ zeros. let yes = c.begins_with-2.ensures.1 zeros in let no_ = c.if-begins_with-2.false in absurd cc) in
+    let row = row_is (goal.at.returns-in_err-row-clause-only c).After-tail-behind there.0 there.2
+    (λ zeros. let yes = c.begins_with-2.ensures.1 zeros in let no_ = c.if-begins_with-2.false in absurd cc) in
     let some = c.row_at.ensures.only row.0 row.1 row.3 in
     let none = c.in_err-row.was in
     absurd cc

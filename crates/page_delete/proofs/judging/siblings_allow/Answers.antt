@@ -10,7 +10,8 @@ use Rattle.page_delete.proofs.judging.siblings_allow.Goals as goal
 -- the second reading is behind the first
 mid_honest : (g : Over) (c : After-right_is_live g) → (g.S.PageStore.backing c.right_is_live.new.store).honest ≡ true → (g.S.PageStore.backing c.left_is_whole.new.store).honest ≡ true
 mid_honest g c h =
-    let later : IsLater (g.S.PageStore.backing c.left_is_whole.new.store) (g.S.PageStore.backing c.right_is_live.new.store) = g.met.S.PageStore.laws.follows_later _ _ (c.right_is_live.ensures.steps _ (g.met.S.PageStore.laws.follows_same _)) in
+    let later : IsLater (g.S.PageStore.backing c.left_is_whole.new.store) (g.S.PageStore.backing c.right_is_live.new.store) =
+    g.met.S.PageStore.laws.follows_later _ _ (c.right_is_live.ensures.steps _ (g.met.S.PageStore.laws.follows_same _)) in
     later.honest h
 
 pub returns-then-is_live-clause-answer : goal.returns-then-is_live-clause-answer

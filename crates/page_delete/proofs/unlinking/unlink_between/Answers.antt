@@ -4,7 +4,7 @@ use Rattle.page_action.specs.States.{State, IsLater, after_act}
 use Rattle.page_action.specs.Stored.{AreActable}
 use Rattle.descent.proofs.Working.{act_cause_of}
 use Rattle.page_delete.specs.Needs.{blocks_unlinked_at}
-use Rattle.page_delete.specs.Parts.{DeletesOn, IsTaken, IsTakenLeft, IsTakenRight, IsInUse, PageGoes, IsNotDead, PinnedLeavesStay, unlinked}
+use Rattle.page_delete.specs.Parts.{DeletesOn, IsTakenToChange, IsTakenLeft, IsTakenRight, IsInUse, PageGoes, IsNotDead, PinnedLeavesStay, unlinked}
 use Rattle.page_delete.proofs.Moving.{unlinking_moves}
 use Rattle.page_delete.proofs.Pinned.{pinned_unlinking}
 use Rattle.page_delete.proofs.Trying.{tried_acted, tried_refused}
@@ -19,8 +19,8 @@ module _ (g : Over) (c : After-act_between g) (honest : (g.S.PageStore.backing c
   abbrev st : State
   st = g.S.PageStore.state c.args.store.now
 
-  page_taken : IsTaken st true c.args.session c.args.page.block c.args.page
-  page_taken = subst (λ (h : Bool). IsTaken st h c.args.session c.args.page.block c.args.page) honest c.requires.page
+  page_taken : IsTakenToChange st true c.args.session c.args.page.block c.args.page
+  page_taken = subst (λ (h : Bool). IsTakenToChange st h c.args.session c.args.page.block c.args.page) honest c.requires.page
 
   right_taken : IsTakenRight st true c.args.session c.args.page c.args.right.block c.args.right
   right_taken = subst (λ (h : Bool). IsTakenRight st h c.args.session c.args.page c.args.right.block c.args.right) honest c.requires.right
@@ -31,23 +31,27 @@ module _ (g : Over) (c : After-act_between g) (honest : (g.S.PageStore.backing c
 -- ... as it did
 was_honest : (g : Over) (c : After-act_between g) → (g.S.PageStore.backing c.act_between.new.store).honest ≡ true → (g.S.PageStore.backing c.args.store.now).honest ≡ true
 was_honest g c h =
-    let later : IsLater (g.S.PageStore.backing c.args.store.now) (g.S.PageStore.backing c.act_between.new.store) = g.met.S.PageStore.laws.follows_later _ _ (c.act_between.ensures.steps _ (g.met.S.PageStore.laws.follows_same _)) in
+    let later : IsLater (g.S.PageStore.backing c.args.store.now) (g.S.PageStore.backing c.act_between.new.store) =
+    g.met.S.PageStore.laws.follows_later _ _ (c.act_between.ensures.steps _ (g.met.S.PageStore.laws.follows_same _)) in
     later.honest h
 
 pub returns-in-Ok-clause-all : goal.returns-in-Ok-clause-all
 returns-in-Ok-clause-all g c =
     let at = (goal.at.returns-in-Ok-clause-all g c).After-act_between in
     let old = g.S.PageStore.state c.args.store.now in
-    tried_acted g.S.PageStore c.args.session (blocks_unlinked_at c.args.page.block) (IsInUse c.args.page.block) (PageGoes c.args.page.block) (IsNotDead c.args.page.block) c.args.store.now c.act_between.new.store
+    tried_acted g.S.PageStore c.args.session (blocks_unlinked_at c.args.page.block) (IsInUse c.args.page.block) (PageGoes c.args.page.block)
+    (IsNotDead c.args.page.block) c.args.store.now c.act_between.new.store
     (unlinked c.args.left c.args.page c.args.right c.begun-number.result) c.act_between.ensures.steps c.in-Ok.ensures.done
     (ap (λ (s : State). length s.pages) c.in-Ok.ensures.done
     ∙ used_unlinking old c.args.session _ c.args.page c.args.right c.begun-number.result c.args.left c.requires.page.used c.requires.right.taken.used c.requires.left)
     (λ h. let honest = was_honest g at h in
     subst (λ (s : State). PageGoes c.args.page.block old s) (sym c.in-Ok.ensures.done)
-    (unlinking_moves old c.args.page c.args.right c.begun-number.result (c.requires.page.found honest) c.requires.dead (c.requires.right.taken.found honest) c.args.session c.args.left (left_taken g at honest) c.in-Ok.ensures.may))
+    (unlinking_moves old c.args.page c.args.right c.begun-number.result (c.requires.page.found honest) c.requires.dead
+    (c.requires.right.taken.found honest) c.args.session c.args.left (left_taken g at honest) c.in-Ok.ensures.may))
     (λ h. let honest = was_honest g at h in
     subst (λ (s : State). PinnedLeavesStay c.args.session old s) (sym c.in-Ok.ensures.done)
-    (pinned_unlinking old c.args.page c.args.right c.begun-number.result (c.requires.page.found honest) c.requires.dead (c.requires.right.taken.found honest) c.args.session c.args.left (left_taken g at honest) c.in-Ok.ensures.may))
+    (pinned_unlinking old c.args.page c.args.right c.begun-number.result (c.requires.page.found honest) c.requires.dead
+    (c.requires.right.taken.found honest) c.args.session c.args.left (left_taken g at honest) c.in-Ok.ensures.may))
     (λ h order below.
     let honest = was_honest g at h in
     subst (λ (s : State). DeletesOn c.args.session old s) (sym (c.in-Ok.ensures.done ∙ ap (λ (n : ℕ). after_act (unlinked c.args.left c.args.page c.args.right n) old) c.begun-number.ensures))
@@ -58,13 +62,15 @@ pub returns-in-Err-clause-all : goal.returns-in-Err-clause-all
 returns-in-Err-clause-all g c =
     let at = (goal.at.returns-in-Err-clause-all g c).After-act_between in
     let old = g.S.PageStore.state c.args.store.now in
-    tried_refused g.S.PageStore c.args.session (blocks_unlinked_at c.args.page.block) (IsInUse c.args.page.block) (PageGoes c.args.page.block) (IsNotDead c.args.page.block) c.args.store.now c.act_between.new.store c.in-Err.fault
+    tried_refused g.S.PageStore c.args.session (blocks_unlinked_at c.args.page.block) (IsInUse c.args.page.block) (PageGoes c.args.page.block)
+    (IsNotDead c.args.page.block) c.args.store.now c.act_between.new.store c.in-Err.fault
     c.act_between.ensures.steps c.in-Err.ensures.refused
     (λ h order room there.
     let honest = was_honest g at h in
     let images = blocks_unlinked_at c.args.page.block old in
     let are : map (λ (page : Page). page.block) (unlinked c.args.left c.args.page c.args.right c.begun-number.result) ≡ images =
-    unlinked_are old (g.S.PageStore.backing c.args.store.now).honest c.args.session c.begun-number.result c.args.page c.args.right c.args.page.left c.args.page.right c.args.left c.requires.right_is c.requires.left
+    unlinked_are old (g.S.PageStore.backing c.args.store.now).honest c.args.session c.begun-number.result c.args.page c.args.right c.args.page.left
+    c.args.page.right c.args.left c.requires.right_is c.requires.left
     ∙ sym (dead_blocks old c.args.page (c.requires.page.found honest) c.requires.dead) in
     act_cause_of old (g.S.PageStore.backing c.args.store.now) (g.S.PageStore.backing c.args.store.now) (g.S.PageStore.backing c.act_between.new.store) c.args.session images false false
     (unlinked c.args.left c.args.page c.args.right c.begun-number.result) c.in-Err.fault (omega arith) (λ s. s) refl are

@@ -1,16 +1,18 @@
 use Rattle.std.proofs.Common.{ℕ, subst}
 use Rattle.device.specs.Disk.{Writes}
 use Rattle.page_codec.specs.Spelling.{page_bytes}
-use Rattle.device_layout.specs.Layout.{place}
+use Rattle.page_codec.specs.Places.{place}
 use Rattle.page_store.proofs.Places.{block_goes, block_has}
 use Rattle.page_store.proofs.writing.write_page.Given.{Over}
 use Rattle.page_store.proofs.writing.write_page.Goals.{After-put_page}
 use Rattle.page_store.proofs.writing.write_page.Goals as goal
 
 -- the bytes of the page are written at the block's place
-written : (g : Over) (c : After-put_page g) → Writes (place c.args.limits c.args.block) (page_bytes c.args.page.now) c.put_page.result (g.D.Device.trace c.args.device.now) (g.D.Device.trace c.put_page.new.device)
+written : (g : Over) (c : After-put_page g)
+    → Writes (place c.args.limits c.args.block) (page_bytes c.args.page.now) c.put_page.result (g.D.Device.trace c.args.device.now) (g.D.Device.trace c.put_page.new.device)
 written g c =
-    subst (λ (at : ℕ). Writes at (page_bytes c.args.page.now) c.put_page.result (g.D.Device.trace c.args.device.now) (g.D.Device.trace c.put_page.new.device)) c.page_place.ensures c.put_page.ensures.trace
+    subst (λ (at : ℕ). Writes at (page_bytes c.args.page.now) c.put_page.result (g.D.Device.trace c.args.device.now)
+    (g.D.Device.trace c.put_page.new.device)) c.page_place.ensures c.put_page.ensures.trace
 
 pub returns-clause-moments : goal.returns-clause-moments
 returns-clause-moments g c =

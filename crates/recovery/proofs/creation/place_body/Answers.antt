@@ -1,7 +1,7 @@
 use Rattle.std.proofs.Common.{ℕ, ◌+◌, ◌-◌, ◌*◌, arith}
 use Rattle.device.specs.Moments.{Goes}
 use Rattle.device.specs.Places.{ChangesOnly}
-use Rattle.device_layout.specs.Layout.{place}
+use Rattle.page_codec.specs.Places.{place}
 use Rattle.index_model.specs.declared.format.Format.{Format}
 use Rattle.recovery.proofs.Creating.{only_now, wider_goes, more_goes, synced_goes, body_made}
 use Rattle.recovery.proofs.creation.place_body.Given.{Over}
@@ -15,11 +15,13 @@ abbrev behind : Format → ℕ
 behind limits = limits.log_bytes + 4096 * limits.pages
 
 -- the gate is one of them
-gate_goes : (g : Over) (c : After-place g) → Goes (ChangesOnly 4096 (behind c.args.limits.now) (g.D.Device.trace c.args.device.now).now) (g.D.Device.trace c.args.device.now) (g.D.Device.trace c.place.new.device)
+gate_goes : (g : Over) (c : After-place g)
+    → Goes (ChangesOnly 4096 (behind c.args.limits.now) (g.D.Device.trace c.args.device.now).now) (g.D.Device.trace c.args.device.now) (g.D.Device.trace c.place.new.device)
 gate_goes g c = wider_goes 4096 1 4096 (behind c.args.limits.now) _ _ (omega arith) (omega (arith, c.requires.allowed.log_from)) c.place.ensures.moments
 
 -- and so are the pages
-pages_go : (g : Over) (c : After-place_pages g) → Goes (ChangesOnly 4096 (behind c.args.limits.now) (g.D.Device.trace c.args.device.now).now) (g.D.Device.trace c.args.device.now) (g.D.Device.trace c.place_pages.new.device)
+pages_go : (g : Over) (c : After-place_pages g)
+    → Goes (ChangesOnly 4096 (behind c.args.limits.now) (g.D.Device.trace c.args.device.now).now) (g.D.Device.trace c.args.device.now) (g.D.Device.trace c.place_pages.new.device)
 pages_go g c =
     let limits = c.args.limits.now in
     more_goes (place limits 0) (4096 * limits.pages) 4096 (behind limits) _ _ _ (omega arith) (omega arith) (gate_goes g (goal.at.After-place_pages g c).After-place) c.place_pages.ensures.moments
@@ -32,7 +34,8 @@ returns-in_err-place_pages-clause-moments g c = pages_go g (goal.at.returns-in_e
 
 pub returns-clause-there : goal.returns-clause-there
 returns-clause-there g c =
-    body_made c.args.limits.now c.sync.result _ _ _ c.in_ok-place.ensures.there (only_now (place c.args.limits.now 0) (4096 * c.args.limits.now.pages) _ _ c.place_pages.ensures.moments) c.in_ok-place_pages.ensures.there
+    body_made c.args.limits.now c.sync.result _ _ _ c.in_ok-place.ensures.there
+    (only_now (place c.args.limits.now 0) (4096 * c.args.limits.now.pages) _ _ c.place_pages.ensures.moments) c.in_ok-place_pages.ensures.there
     (omega (arith, c.requires.allowed.log_from)) c.sync.ensures.trace
 
 pub returns-clause-moments : goal.returns-clause-moments

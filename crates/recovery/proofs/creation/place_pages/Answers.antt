@@ -2,7 +2,7 @@ use Rattle.std.proofs.Common.{ℕ, ◌-◌, ◌*◌, ◌<◌, ◌≤◌, arith}
 use Rattle.device.specs.Disk.{Trace}
 use Rattle.device.specs.Moments.{Goes}
 use Rattle.device.specs.Places.{ChangesOnly}
-use Rattle.device_layout.specs.Layout.{place}
+use Rattle.page_codec.specs.Places.{place}
 use Rattle.index_model.specs.declared.format.Format.{Format}
 use Rattle.recovery.proofs.Creating.{on_ok, only_now, wider_goes, more_goes, pages_made}
 use Rattle.recovery.proofs.creation.place_pages.Given.{Over}
@@ -24,7 +24,8 @@ page_goes limits block t u v below few = more_goes (place limits block) 4096 (pl
 
 meta_goes : (g : Over) (c : After-place_page g) → PagesGo c.args.limits.now (g.D.Device.trace c.args.device.now) (g.D.Device.trace c.place_page.new.device)
 meta_goes g c =
-    page_goes c.args.limits.now c.first_meta.result.block _ _ _ (omega (arith, c.first_meta.ensures.block)) (omega (arith, c.requires.allowed.pages_from)) (zeros_go g (goal.at.After-place_page g c).After-place_zeros) c.place_page.ensures.moments
+    page_goes c.args.limits.now c.first_meta.result.block _ _ _ (omega (arith, c.first_meta.ensures.block))
+    (omega (arith, c.requires.allowed.pages_from)) (zeros_go g (goal.at.After-place_page g c).After-place_zeros) c.place_page.ensures.moments
 
 pub returns-in_err-place_zeros-clause-moments : goal.returns-in_err-place_zeros-clause-moments
 returns-in_err-place_zeros-clause-moments g c = zeros_go g (goal.at.returns-in_err-place_zeros-clause-moments g c).After-place_zeros
@@ -40,5 +41,6 @@ returns-clause-there g c = on_ok _ _ c.place_page-2.result
 
 pub returns-clause-moments : goal.returns-clause-moments
 returns-clause-moments g c =
-    page_goes c.args.limits.now c.first_leaf.result.block _ _ _ (omega (arith, c.first_leaf.ensures.block)) (omega (arith, c.requires.allowed.pages_from)) (meta_goes g (goal.at.returns-clause-moments g c).After-place_page)
+    page_goes c.args.limits.now c.first_leaf.result.block _ _ _ (omega (arith, c.first_leaf.ensures.block))
+    (omega (arith, c.requires.allowed.pages_from)) (meta_goes g (goal.at.returns-clause-moments g c).After-place_page)
     c.place_page-2.ensures.moments

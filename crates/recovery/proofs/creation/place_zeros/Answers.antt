@@ -1,7 +1,7 @@
 use Rattle.std.proofs.Common.{ℕ, ◌∙◌, ◌-◌, ◌*◌, replicate, subst, arith}
 use Rattle.device.specs.Moments.{Goes}
 use Rattle.device.specs.Places.{Has, ChangesOnly}
-use Rattle.device_layout.specs.Layout.{place}
+use Rattle.page_codec.specs.Places.{place}
 use Rattle.recovery.proofs.Creating.{only_now, more_goes, zeros_more}
 use Rattle.recovery.proofs.creation.place_zeros.Given.{Over}
 use Rattle.recovery.proofs.creation.place_zeros.Goals.{After-place}
@@ -14,7 +14,8 @@ module _ (g : Over) (c : After-place g) where
       let before = g.D.Device.trace c.loop-block.device in
       subst (λ (n : ℕ). Goes (ChangesOnly n 4096 before.now) before (g.D.Device.trace c.place.new.device)) c.page_place.ensures c.place.ensures.moments
 
-  more : Goes (ChangesOnly (place c.args.limits.now 2) (4096 * (c.args.limits.now.pages - 2)) (g.D.Device.trace c.args.device.now).now) (g.D.Device.trace c.args.device.now) (g.D.Device.trace c.place.new.device)
+  more : Goes (ChangesOnly (place c.args.limits.now 2) (4096 * (c.args.limits.now.pages - 2)) (g.D.Device.trace c.args.device.now).now)
+      (g.D.Device.trace c.args.device.now) (g.D.Device.trace c.place.new.device)
   more =
       more_goes (place c.args.limits.now c.loop-block.block) 4096 (place c.args.limits.now 2) (4096 * (c.args.limits.now.pages - 2)) _ (g.D.Device.trace c.loop-block.device) _
       (omega (arith, c.loop-block.auto.block)) (omega (arith, c.loop-block.auto.block, c.loop-block-test.true)) c.loop-block.invariant.moments written

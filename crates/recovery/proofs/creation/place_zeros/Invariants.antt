@@ -1,7 +1,7 @@
 use Rattle.std.proofs.Common.{◌≡◌, ◌-◌, ◌*◌, length}
 use Rattle.device.specs.Moments.{Goes}
 use Rattle.device.specs.Places.{ChangesOnly}
-use Rattle.device_layout.specs.Layout.{place}
+use Rattle.page_codec.specs.Places.{place}
 use Rattle.recovery.specs.Fresh.{AreZero}
 use Rattle.recovery.proofs.creation.place_zeros.Given as goal
 

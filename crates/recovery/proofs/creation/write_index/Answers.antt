@@ -11,7 +11,8 @@ returns-in_err-place_body-clause-moments g c =
     placing_goes c.args.limits.now _ _ c.place_front.ensures.moments _ (c.args.limits.now.log_bytes + 4096 * c.args.limits.now.pages) c.in_ok-place_front.ensures.there c.place_body.ensures.moments
 
 pub returns-clause-made : goal.returns-clause-made
-returns-clause-made g c = fresh_made c.args.limits.now c.place_front-2.result _ _ _ c.spell_superblock.ensures c.in_ok-place_body.ensures.there c.place_front-2.ensures.moments c.place_front-2.ensures.there
+returns-clause-made g c =
+    fresh_made c.args.limits.now c.place_front-2.result _ _ _ c.spell_superblock.ensures c.in_ok-place_body.ensures.there c.place_front-2.ensures.moments c.place_front-2.ensures.there
 
 pub returns-clause-moments : goal.returns-clause-moments
 returns-clause-moments g c =

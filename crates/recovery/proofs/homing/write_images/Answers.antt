@@ -10,7 +10,8 @@ use Rattle.recovery.proofs.homing.write_images.Goals as goal
 pub returns-in_err-place-clause-moments : goal.returns-in_err-place-clause-moments
 returns-in_err-place-clause-moments g c =
     goes_on _ _ _ _ c.loop-block.invariant.moments
-    (named_goes c.args.limits c.args.found.now c.loop-block.block _ c.in-Some.bytes.now (g.D.Device.trace c.loop-block.device) _ c.in-Some.ensures.kept c.in-Some.ensures.len c.page_place.ensures c.place.ensures.moments _ c.loop-block-test.true c.loop-block.invariant.now)
+    (named_goes c.args.limits c.args.found.now c.loop-block.block _ c.in-Some.bytes.now (g.D.Device.trace c.loop-block.device) _
+    c.in-Some.ensures.kept c.in-Some.ensures.len c.page_place.ensures c.place.ensures.moments _ c.loop-block-test.true c.loop-block.invariant.now)
 
 -- what was written up to a block, where the device stands so
 abbrev Written : (g : Over) → Joined-image g → g.row.D.Denot → Type 0
@@ -32,11 +33,13 @@ loop-block-preserved g c =
     elim c.match-image.branch [
       | in-Some+in_ok-place w ↦
           let after = g.D.Device.trace w.place.new.device in
-          let on = named_goes c.args.limits c.args.found.now c.loop-block.block _ w.in-Some.bytes.now before after w.in-Some.ensures.kept w.in-Some.ensures.len w.page_place.ensures w.place.ensures.moments _ c.loop-block-test.true i.now in
+          let on = named_goes c.args.limits c.args.found.now c.loop-block.block _ w.in-Some.bytes.now before after w.in-Some.ensures.kept
+          w.in-Some.ensures.len w.page_place.ensures w.place.ensures.moments _ c.loop-block-test.true i.now in
           subst (Written g c) (sym w.device-is) (record {
             moments = goes_on _ _ before after i.moments on;
             now = goes_now _ before after on i.now;
-            written = one_homed c.args.limits c.args.found.now c.loop-block.block _ w.in-Some.bytes.now before after w.in-Some.ensures.kept w.in-Some.ensures.len w.page_place.ensures w.place.ensures.moments w.in_ok-place.ensures.there i.written;
+            written = one_homed c.args.limits c.args.found.now c.loop-block.block _ w.in-Some.bytes.now before after w.in-Some.ensures.kept
+                w.in-Some.ensures.len w.page_place.ensures w.place.ensures.moments w.in_ok-place.ensures.there i.written;
             len = w.place.ensures.calls.len ∙ i.len;
             honest = w.place.ensures.calls.honest ∙ i.honest;
             failures = w.in_ok-place.ensures.calls.failures ∙ i.failures;

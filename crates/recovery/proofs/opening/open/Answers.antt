@@ -6,7 +6,7 @@ use Rattle.page_store.specs.Logged.{StandsOpened}
 use Rattle.page_store.specs.Rooms.{limits_of_room, pages_of_room}
 use Rattle.page_store.specs.Stores.{state_of}
 use Rattle.page_store.specs.Writing.{AreSeen}
-use Rattle.device.specs.Disk.{Moment}
+use Rattle.device.specs.Disk.{DiskMoment}
 use Rattle.recovery.proofs.Blocks.{seen_of}
 use Rattle.recovery.specs.Opening.{IsFound, IsFront, HasGroups, StandsOnDevice}
 use Rattle.recovery.specs.Reading.{AreInUse}
@@ -44,7 +44,8 @@ returns-in-Ok-clause-read g c = λ honest.
     (ap (λ (st : State). st.limits) c.new.ensures.state) (ap (λ (st : State). st.pages) c.new.ensures.state))
 
 -- what was read stands on the device
-seen_on : (honest : Bool) (old : List ℕ) (m : Moment) (parts : Parts) → honest ≡ true → IsFound honest old m.seen parts → AreSeen (limits_of_room parts.found.room) (pages_of_room parts.found.room) m
+seen_on : (honest : Bool) (old : List ℕ) (m : DiskMoment) (parts : Parts) → honest ≡ true → IsFound honest old m.seen parts
+    → AreSeen (limits_of_room parts.found.room) (pages_of_room parts.found.room) m
 seen_on honest old m parts is found =
     let all = found.restored.read in
     subst (λ (limits : Format). AreSeen limits (pages_of_room parts.found.room) m) (sym all.read.limits_are)

@@ -2,7 +2,7 @@ use Rattle.std.proofs.Common.{◌≡◌, ◌≤◌, List, ⊎_elim, inl, inr, le
 use Rattle.device.specs.Disk.{Trace}
 use Rattle.device.specs.Moments.{Goes}
 use Rattle.index_model.specs.declared.format.Format.{Format}
-use Rattle.device_layout.specs.Layout.{place}
+use Rattle.page_codec.specs.Places.{place}
 use Rattle.page_store.specs.Restart.{LeavesPages, RestartsTo}
 use Rattle.page_codec.specs.declared.page.Page.{Page}
 use Rattle.recovery.specs.Index.{HasIndex}
@@ -47,15 +47,20 @@ returns-clause-moments g c = λ honest limits pages index.
 pub returns-clause-cause : goal.returns-clause-cause
 returns-clause-cause g c =
     fails_behind c.restore.result _ _ _ _ _ c.in_ok-limits.ensures.cause
-    (λ e why. restore_refuses c.in_ok-limits.limits (g.D.Device.is_honest c.restore.new.device) (g.D.Device.is_honest c.find_limits.new.device) c.args.frames (g.D.Device.trace c.args.device.now) (g.D.Device.trace c.find_limits.new.device)
-    (g.D.Device.trace c.restore.new.device) e _ _ _ c.in_ok-limits.ensures.frames c.restore.ensures.calls.honest c.in_ok-limits.ensures.front c.find_limits.ensures.calls.trace c.in_ok-limits.ensures.cause why)
+    (λ e why. restore_refuses c.in_ok-limits.limits (g.D.Device.is_honest c.restore.new.device) (g.D.Device.is_honest c.find_limits.new.device)
+    c.args.frames (g.D.Device.trace c.args.device.now) (g.D.Device.trace c.find_limits.new.device)
+    (g.D.Device.trace c.restore.new.device) e _ _ _ c.in_ok-limits.ensures.frames c.restore.ensures.calls.honest c.in_ok-limits.ensures.front
+    c.find_limits.ensures.calls.trace c.in_ok-limits.ensures.cause why)
     c.restore.ensures.cause
 
 pub returns-clause-found : goal.returns-clause-found
 returns-clause-found g c =
-    let long : place c.in_ok-limits.limits c.in_ok-limits.limits.pages ≤ length (g.D.Device.trace c.restore.new.device).now.seen = omega (arith, c.restore.ensures.calls.len, ap (λ (t : Trace). length t.now.seen) c.find_limits.ensures.calls.trace, c.in_ok-limits.ensures.long) in
-    found_index c.restore.result c.in_ok-limits.limits (g.D.Device.is_honest c.restore.new.device) (g.D.Device.trace c.args.device.now) (g.D.Device.trace c.find_limits.new.device) (g.D.Device.trace c.restore.new.device).now.seen
-    c.find_limits.ensures.calls.trace c.in_ok-limits.ensures.allowed long (λ honest. c.in_ok-limits.ensures.front (c.restore.ensures.calls.honest honest)) c.restore.ensures.restored c.restore.ensures.undamaged
+    let long : place c.in_ok-limits.limits c.in_ok-limits.limits.pages ≤ length (g.D.Device.trace c.restore.new.device).now.seen =
+    omega (arith, c.restore.ensures.calls.len, ap (λ (t : Trace). length t.now.seen) c.find_limits.ensures.calls.trace, c.in_ok-limits.ensures.long) in
+    found_index c.restore.result c.in_ok-limits.limits (g.D.Device.is_honest c.restore.new.device) (g.D.Device.trace c.args.device.now)
+    (g.D.Device.trace c.find_limits.new.device) (g.D.Device.trace c.restore.new.device).now.seen
+    c.find_limits.ensures.calls.trace c.in_ok-limits.ensures.allowed long
+    (λ honest. c.in_ok-limits.ensures.front (c.restore.ensures.calls.honest honest)) c.restore.ensures.restored c.restore.ensures.undamaged
 
 pub returns-clause-outside : goal.returns-clause-outside
 returns-clause-outside g c =

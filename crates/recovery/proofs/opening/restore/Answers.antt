@@ -26,7 +26,8 @@ synced g c pages restarts =
     (firm_then c.args.limits t u is, restarts_then c.args.limits t u is pages restarts)
 
 -- a crash leaves it while the log is restored
-log_leaves : (g : Over) (c : After-restore_log g) → IsTrue (g.D.Device.is_honest c.restore_log.new.device) → (pages : List Page) → RestartsTo c.args.limits (g.D.Device.trace c.args.device.now).now.seen pages
+log_leaves : (g : Over) (c : After-restore_log g) → IsTrue (g.D.Device.is_honest c.restore_log.new.device) → (pages : List Page)
+    → RestartsTo c.args.limits (g.D.Device.trace c.args.device.now).now.seen pages
     → Goes (LeavesPages c.args.limits pages) (g.D.Device.trace c.args.device.now) (g.D.Device.trace c.restore_log.new.device)
 log_leaves g c honest pages restarts =
     let here = synced g c pages restarts in
@@ -34,14 +35,16 @@ log_leaves g c honest pages restarts =
     (c.restore_log.ensures.moments honest here.0 pages here.1)
 
 -- ... and while the pages are read
-pages_leave : (g : Over) (c : After-read_pages g) → IsTrue (g.D.Device.is_honest c.read_pages.new.device) → (pages : List Page) → RestartsTo c.args.limits (g.D.Device.trace c.args.device.now).now.seen pages
+pages_leave : (g : Over) (c : After-read_pages g) → IsTrue (g.D.Device.is_honest c.read_pages.new.device) → (pages : List Page)
+    → RestartsTo c.args.limits (g.D.Device.trace c.args.device.now).now.seen pages
     → Goes (LeavesPages c.args.limits pages) (g.D.Device.trace c.args.device.now) (g.D.Device.trace c.read_pages.new.device)
 pages_leave g c honest pages restarts =
     subst (λ (w : Trace). Goes (LeavesPages c.args.limits pages) (g.D.Device.trace c.args.device.now) w) (sym c.read_pages.ensures.calls.trace)
     (log_leaves g (goal.at.After-read_pages g c).After-restore_log (c.read_pages.ensures.calls.honest honest) pages restarts)
 
 -- the log as it was opened
-stands : (g : Over) (c : After-read_pages g) → IsTrue (g.D.Device.is_honest c.read_pages.new.device) → (pages : List Page) → RestartsTo c.args.limits (g.D.Device.trace c.args.device.now).now.seen pages
+stands : (g : Over) (c : After-read_pages g) → IsTrue (g.D.Device.is_honest c.read_pages.new.device) → (pages : List Page)
+    → RestartsTo c.args.limits (g.D.Device.trace c.args.device.now).now.seen pages
     → StandsOpened c.in_ok-log.log (g.D.Device.trace c.restore_log.new.device).now pages
 stands g c honest pages restarts =
     let here = synced g (goal.at.After-read_pages g c).After-restore_log pages restarts in
@@ -62,12 +65,14 @@ returns-in_err-log-clause-cause g c =
     let honest = g.D.Device.is_honest c.restore_log.new.device in
     refused c.from_residual-in_err-log.result c.in_err-log.field-0.0 _
     (IsIoOr (IsRestoreRefusal c.args.limits honest t v) (g.D.Device.failures c.args.device.now) (g.D.Device.failures c.restore_log.new.device)) c.from_residual-in_err-log.ensures.1
-    (log_refuses c.args.limits t (g.D.Device.trace c.sync.new.self) c.in_ok-sync.ensures.trace honest v c.in_err-log.field-0.0 _ _ _ c.in_ok-sync.ensures.failures c.in_err-log.ensures.cause c.in_err-log.ensures.damaged)
+    (log_refuses c.args.limits t (g.D.Device.trace c.sync.new.self) c.in_ok-sync.ensures.trace honest v c.in_err-log.field-0.0 _ _ _
+    c.in_ok-sync.ensures.failures c.in_err-log.ensures.cause c.in_err-log.ensures.damaged)
 
 pub returns-in_err-found-clause-same : goal.returns-in_err-found-clause-same
 returns-in_err-found-clause-same g c = λ honest pages some restarts.
     let here = stands g (goal.at.returns-in_err-found-clause-same g c).After-read_pages honest pages restarts in
-    let use' = opened_in_use c.args.limits pages c.in_ok-log.log (g.D.Device.trace c.restore_log.new.device).now (g.D.Device.trace c.args.device.now).now.seen c.in_ok-log.ensures.opened restarts here in
+    let use' = opened_in_use c.args.limits pages c.in_ok-log.log (g.D.Device.trace c.restore_log.new.device).now
+    (g.D.Device.trace c.args.device.now).now.seen c.in_ok-log.ensures.opened restarts here in
     refused c.from_residual-in_err-found.result c.in_err-found.field-0.0 _ _ c.from_residual-in_err-found.ensures.1
     (pages_refuse c.args.limits pages _ (g.D.Device.trace c.restore_log.new.device).now.seen c.in_err-found.field-0.0 _ _ honest use' some c.in_err-found.ensures.cause)
 
@@ -95,7 +100,8 @@ log_inside g c = behind_on c.args.limits _ _ _ (synced_inside g c) c.restore_log
 
 pages_inside : (g : Over) (c : After-read_pages g) → ChangesBehindFront c.args.limits (g.D.Device.trace c.args.device.now) (g.D.Device.trace c.read_pages.new.device)
 pages_inside g c =
-    subst (λ (w : Trace). ChangesBehindFront c.args.limits (g.D.Device.trace c.args.device.now) w) (sym c.read_pages.ensures.calls.trace) (log_inside g (goal.at.After-read_pages g c).After-restore_log)
+    subst (λ (w : Trace). ChangesBehindFront c.args.limits (g.D.Device.trace c.args.device.now) w) (sym c.read_pages.ensures.calls.trace)
+    (log_inside g (goal.at.After-read_pages g c).After-restore_log)
 
 pub returns-in_err-sync-clause-outside : goal.returns-in_err-sync-clause-outside
 returns-in_err-sync-clause-outside g c = sync_inside c.args.limits c.sync.result _ _ c.sync.ensures.trace

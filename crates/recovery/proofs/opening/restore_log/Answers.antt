@@ -45,7 +45,8 @@ named g c =
     named_from c.args.limits c.in-Ok.found _ (g.D.Device.trace c.replay.new.device) _ c.replay.ensures.trace c.bring_home.ensures.moments
 
 -- so a crash leaves the index
-home_leaves : (g : Over) (c : After-bring_home g) (pages : List Page) → Index g c pages → Goes (LeavesPages c.args.limits pages) (g.D.Device.trace c.args.device.now) (g.D.Device.trace c.bring_home.new.device)
+home_leaves : (g : Over) (c : After-bring_home g) (pages : List Page) → Index g c pages
+    → Goes (LeavesPages c.args.limits pages) (g.D.Device.trace c.args.device.now) (g.D.Device.trace c.bring_home.new.device)
 home_leaves g c pages r = goes_weaker _ _ _ (g.D.Device.trace c.bring_home.new.device) (written_leaves _ _ _ _ _ r) (named g c)
 
 pub returns-in_err-bring_home-clause-moments : goal.returns-in_err-bring_home-clause-moments
@@ -105,7 +106,8 @@ returns-in_err-bring_home-clause-outside g c = home_inside g (goal.at.returns-in
 
 reset_inside : (g : Over) (c : After-reset g) → ChangesBehindFront c.args.limits (g.D.Device.trace c.args.device.now) (g.D.Device.trace c.reset.new.device)
 reset_inside g c =
-    let range = subst (λ (limits : Format). ChangesItsRange limits (g.D.Device.trace c.bring_home.new.device) (g.D.Device.trace c.reset.new.device)) c.in-Ok.ensures.opened.limits_are c.reset.ensures.outside in
+    let range = subst (λ (limits : Format). ChangesItsRange limits (g.D.Device.trace c.bring_home.new.device) (g.D.Device.trace c.reset.new.device))
+    c.in-Ok.ensures.opened.limits_are c.reset.ensures.outside in
     behind_on c.args.limits _ _ _ (home_inside g (found g c)) (log_inside c.args.limits _ _ range)
 
 pub returns-in_err-reset-clause-outside : goal.returns-in_err-reset-clause-outside

@@ -1,8 +1,8 @@
 use Rattle.std.proofs.Common.{rules, ◌≡◌, ◌∙◌, take, sym, ap, subst, Ok}
 use Rattle.index_model.specs.Limits.{AreLimits}
 use Rattle.index_model.specs.declared.format.Format.{Format}
-use Rattle.recovery.specs.Superblock.{number_at, layout_of, is_unique, IsLayout}
-use Rattle.device_layout.specs.Layout.{magic, superblock}
+use Rattle.recovery.specs.Superblock.{spelled_number, layout_of, is_unique, IsLayout}
+use Rattle.page_codec.specs.Places.{magic, superblock}
 use Rattle.recovery.proofs.Spelling.{layout_spelled, is_layout, sizes_read, magic_spelled}
 use Rattle.recovery.proofs.superblock.read_superblock.Goals.{After-number_at-5}
 use Rattle.recovery.proofs.superblock.read_superblock.Goals as goal
@@ -14,11 +14,14 @@ returns-then-ne-clause-only c = λ limits are is.
 
 pub returns-in_default-clause-only : goal.returns-in_default-clause-only
 returns-in_default-clause-only c = λ limits are is.
-    absurd (c.in_default.ensures.none (subst IsLayout (sym (c.number_at.ensures ∙ (ap (number_at 8) is ∙ layout_spelled limits))) (is_layout limits.layout)))
+    absurd (c.in_default.ensures.none (subst IsLayout (sym (c.number_at.ensures ∙ (ap (spelled_number 8) is ∙ layout_spelled limits))) (is_layout limits.layout)))
 
 -- the sizes that were read
-read : (c : After-number_at-5) (limits : Format) → AreLimits limits → c.args.bytes.now ≡ superblock limits → record { layout = c.in-Some.layout; unique = c.is_unique.result; items = c.number_at-3.result; pages = c.number_at-4.result; log_bytes = c.number_at-5.result } ≡ limits
-read c limits are is = sizes_read c.args.bytes.now limits _ _ _ _ _ are is (c.in-Some.ensures.found.1 ∙ ap layout_of c.number_at.ensures) (c.is_unique.ensures ∙ ap (is_unique c.in-Some.layout) c.number_at-2.ensures) c.number_at-3.ensures c.number_at-4.ensures c.number_at-5.ensures
+read : (c : After-number_at-5) (limits : Format) → AreLimits limits → c.args.bytes.now ≡ superblock limits
+    → record { layout = c.in-Some.layout; unique = c.is_unique.result; items = c.number_at-3.result; pages = c.number_at-4.result; log_bytes = c.number_at-5.result } ≡ limits
+read c limits are is =
+    sizes_read c.args.bytes.now limits _ _ _ _ _ are is (c.in-Some.ensures.found.1 ∙ ap layout_of c.number_at.ensures)
+    (c.is_unique.ensures ∙ ap (is_unique c.in-Some.layout) c.number_at-2.ensures) c.number_at-3.ensures c.number_at-4.ensures c.number_at-5.ensures
 
 pub returns-then-not-are_valid-clause-only : goal.returns-then-not-are_valid-clause-only
 returns-then-not-are_valid-clause-only c = λ limits are is.

@@ -40,5 +40,6 @@ returns-clause-noted c =
     let c' = (goal.at.returns-clause-noted c).After-from_le_bytes-count in
     let here = behind c' in
     let long : length (take 4 here) ≡ 4 = length-take-le 4 here (omega (arith, c.in_ok-number.ensures.cases.2, ap length c.tail.ensures.value)) in
-    group_noted c.args.limits.now c.args.log.now c.in_ok-number.bodies.now (take 4 here) c.args.at c.from_le_bytes-count.result _ _ refl (bodies c') long (take_small 4 here (λ i. subst (Fits w8) (sym (get_or-drop c.args.at c.args.log.now i 0)) (c.type_inv.log (c.args.at + i)))) (number c')
+    group_noted c.args.limits.now c.args.log.now c.in_ok-number.bodies.now (take 4 here) c.args.at c.from_le_bytes-count.result _ _ refl (bodies c')
+    long (take_small 4 here (λ i. subst (Fits w8) (sym (get_or-drop c.args.at c.args.log.now i 0)) (c.type_inv.log (c.args.at + i)))) (number c')
     (omega arith) (omega arith) (omega arith) c.if-not-note_images.ensures.noted

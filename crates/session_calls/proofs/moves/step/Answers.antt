@@ -6,7 +6,7 @@ use Rattle.session_calls.specs.declared.op.Op.{Op}
 use Rattle.session_calls.proofs.Going.{event_of_last, event_of_more, low_of}
 use Rattle.std.specs.Prelude.{if◌then◌else◌, Some, None}
 use Rattle.page_action.specs.States.{State, Backing}
-use Rattle.session_calls.specs.Due.{CountsDown}
+use Rattle.session_calls.specs.Due.{DueCountsDown}
 use Rattle.session_calls.specs.Sessions.{LeavesOwnFlagged, StandsByAnswer, KeepsBeforePins, CountsEntries, CountsPages, SparesLeaves}
 use Rattle.session_calls.proofs.Counting.{flagged_on, counts_over}
 use Rattle.session_calls.proofs.Deleting.{tells_over, deletes_over, spares_over}
@@ -32,7 +32,9 @@ returns-then-is_last-clause-goes g c honest start history number call fits =
     let low : call.session < 64 = subst (λ (t : ℕ). t < 64) mine.runs.session (low_of old c.in-Some.op mine.runs.fits) in
     let goes = rw (sym c.let_go.ensures.backing) at (c.step-answer.ensures.goes (rw (sym c.let_go.ensures.backing) honest) start history number call mine) in
     rw is (event_of_last _ old mid (g.S.PageStore.state c.let_go.new.store) start history number call c.in-Some.op c.step-answer.new.self c.step-answer.result mine.runs.ask mine.world low goes
-    (sym c.is_last.ensures ∙ c.if-is_last.true) (c.let_go.ensures.state ∙ ap (λ (v : Bool). let_go v (session_of c.step-answer.new.self) mid) c.step-answer.ensures.all.sweep ∙ ap (λ (t : ℕ). let_go (is_sweep c.in-Some.op) t mid) (c.step-answer.ensures.all.session ∙ mine.runs.session)) mine.running)
+    (sym c.is_last.ensures ∙ c.if-is_last.true)
+    (c.let_go.ensures.state ∙ ap (λ (v : Bool). let_go v (session_of c.step-answer.new.self) mid) c.step-answer.ensures.all.sweep
+    ∙ ap (λ (t : ℕ). let_go (is_sweep c.in-Some.op) t mid) (c.step-answer.ensures.all.session ∙ mine.runs.session)) mine.running)
 
 pub returns-else-is_last-clause-goes : goal.returns-else-is_last-clause-goes
 returns-else-is_last-clause-goes g c honest start history number call fits =
@@ -41,7 +43,9 @@ returns-else-is_last-clause-goes g c honest start history number call fits =
     let sets = map g.T.DeadRows.is_in c.args.sets.now in
     let mine = subst (λ (slot : Option Op). SlotFits old sets start history number call slot) is fits in
     let low : call.session < 64 = subst (λ (t : ℕ). t < 64) mine.runs.session (low_of old c.in-Some.op mine.runs.fits) in
-    rw (is, c.if-not-slot.false) (event_of_more _ old (g.S.PageStore.state c.step-answer.new.store) (g.S.PageStore.state c.step-answer.new.store) start history number call c.in-Some.op c.step-answer.new.self c.step-answer.result mine.runs.ask mine.world low
+    rw (is, c.if-not-slot.false)
+    (event_of_more _ old (g.S.PageStore.state c.step-answer.new.store) (g.S.PageStore.state c.step-answer.new.store) start history number call
+    c.in-Some.op c.step-answer.new.self c.step-answer.result mine.runs.ask mine.world low
     (c.step-answer.ensures.goes honest start history number call mine) (sym c.is_last.ensures ∙ c.if-is_last.false) refl mine.running)
 
 -- what is followed of a call that ends with this step
@@ -58,7 +62,7 @@ returns-then-is_last-clause-follows g c honest =
     let pages = ap (λ (st : State). st.pages) c.let_go.ensures.state ∙ go_pages (is_sweep after) (session_of after) mid in
     rw is (record {
       due = λ fitted left due. counts_over old mid new (Some c.in-Some.op) left c.step-answer.result
-          (subst (λ (b : Bool). CountsDown old mid (Some c.in-Some.op) (if b then None else Some after) left c.step-answer.result) last
+          (subst (λ (b : Bool). DueCountsDown old mid (Some c.in-Some.op) (if b then None else Some after) left c.step-answer.result) last
           (c.step-answer.ensures.due model fitted.fits.world.order fitted.fits.runs.fits left due));
       flagged = λ fitted own. flagged_on mid new (Some c.in-Some.op) None c.step-answer.result pages
           (subst (λ (b : Bool). LeavesOwnFlagged mid (Some c.in-Some.op) (if b then None else Some after) c.step-answer.result) last
@@ -85,7 +89,7 @@ returns-else-is_last-clause-follows g c honest =
     let sets = map g.T.DeadRows.is_in c.args.sets.now in
     let on = sym c.is_last.ensures ∙ c.if-is_last.false in
     rw (is, c.if-not-slot.false) (record {
-      due = λ fitted left due. subst (λ (b : Bool). CountsDown old new (Some c.in-Some.op) (if b then None else Some after) left c.step-answer.result) on
+      due = λ fitted left due. subst (λ (b : Bool). DueCountsDown old new (Some c.in-Some.op) (if b then None else Some after) left c.step-answer.result) on
           (c.step-answer.ensures.due honest fitted.fits.world.order fitted.fits.runs.fits left due);
       flagged = λ fitted own. subst (λ (b : Bool). LeavesOwnFlagged new (Some c.in-Some.op) (if b then None else Some after) c.step-answer.result) on
           (c.step-answer.ensures.flagged honest fitted.fits.world.order fitted.fits.world.starts fitted.fits.runs.fits own);

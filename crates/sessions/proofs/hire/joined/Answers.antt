@@ -11,7 +11,8 @@ loop-handle-preserved g c =
     let rest = c.in-Some.ensures.steps.0 in
     let fewer = c.in-Some.ensures.steps.1 in
     let more = length-append yielded (h ∷ []) in
-    let each : (k : ℕ) → IfSome (slice_get (yielded ++ h ∷ c.next.new.self.rest.items) k) (λ h. h.promise.0 ≡ k) = λ k. subst (λ l. IfSome (slice_get (yielded ++ l) k) (λ h. h.promise.0 ≡ k)) rest (i.3 k) in
+    let each : (k : ℕ) → IfSome (slice_get (yielded ++ h ∷ c.next.new.self.rest.items) k) (λ h. h.promise.0 ≡ k) = λ k.
+    subst (λ l. IfSome (slice_get (yielded ++ l) k) (λ h. h.promise.0 ≡ k)) rest (i.3 k) in
     let here : h.promise.0 ≡ length yielded = some_middle (λ n h. h.promise.0 ≡ n) yielded h c.next.new.self.rest.items each in (
       omega (arith, c.push_reserved.ensures.len, i.0, more),
       c.push_reserved.ensures.capacity ∙ i.1,

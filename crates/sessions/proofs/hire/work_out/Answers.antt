@@ -31,7 +31,8 @@ returns-clause-rest g c k =
     let own = c.work-own-2 in
     let here = c.gather.ensures.seats ∙ ap (λ l. l ++ map (λ w. w.seat) staff.items) c.requires.seats.0 in
     subst (λ l. IfSome (slice_get l k) (λ s. (known_by s.pass).job ≡ None)) (sym (c.push_reserved.ensures.items ∙ ap (λ l. l ++ own.result.0 ∷ []) here))
-    (some_snoc (λ n s. (known_by s.pass).job ≡ None) (map (λ w. w.seat) staff.items) own.result.0 (each_mapped (λ w. w.seat) (λ s. (known_by s.pass).job ≡ None) (λ w. w.rests) staff.items) own.ensures.idle k)
+    (some_snoc (λ n s. (known_by s.pass).job ≡ None) (map (λ w. w.seat) staff.items) own.result.0
+    (each_mapped (λ w. w.seat) (λ s. (known_by s.pass).job ≡ None) (λ w. w.rests) staff.items) own.ensures.idle k)
 
 pub returns-clause-popped : goal.returns-clause-popped
 returns-clause-popped g c h =
@@ -42,10 +43,12 @@ returns-clause-popped g c h =
     let more = again.ensures.did in
     let here = c.gather.ensures.seats ∙ ap (λ l. l ++ map (λ w. w.seat) staff.items) c.requires.seats.0 in
     let items = c.push_reserved.ensures.items ∙ ap (λ l. l ++ again.result.0 ∷ []) here in
-    let all = ap (λ l. sum_over (λ s. weigh h (jobs_in (known_by s.pass).notes)) l) items ∙ sum_over_snoc (λ s. weigh h (jobs_in (known_by s.pass).notes)) (map (λ w. w.seat) staff.items) again.result.0 in
+    let all = ap (λ l. sum_over (λ s. weigh h (jobs_in (known_by s.pass).notes)) l) items
+    ∙ sum_over_snoc (λ s. weigh h (jobs_in (known_by s.pass).notes)) (map (λ w. w.seat) staff.items) again.result.0 in
     let others = sum_over_mapped (λ w. w.seat) (λ s. weigh h (jobs_in (known_by s.pass).notes)) staff.items in
     let first : weigh h (view own.result.1).popped ≡ weigh h (jobs_in did.0) = ap (weigh h) (did.2 ∙ ap (λ l. l ++ jobs_in did.0) c.requires.popped) in
     let notes : (known_by again.result.0.pass).notes ≡ did.0 ++ more.0 = more.1 ∙ ap (λ l. l ++ more.0) (did.1 ∙ ap (λ l. l ++ did.0) c.requires.fresh) in
     let mine : weigh h (jobs_in (known_by again.result.0.pass).notes) ≡ weigh h (jobs_in did.0) + weigh h (jobs_in more.0) = ap (λ l. weigh h (jobs_in l)) notes ∙ weigh_notes h did.0 more.0 in
-    let last : weigh h (view again.result.1).popped ≡ weigh h (view c.gather.new.pass).popped + weigh h (jobs_in more.0) = ap (weigh h) more.2 ∙ weigh-append h (view c.gather.new.pass).popped (jobs_in more.0) in
+    let last : weigh h (view again.result.1).popped ≡ weigh h (view c.gather.new.pass).popped + weigh h (jobs_in more.0) = ap (weigh h) more.2
+    ∙ weigh-append h (view c.gather.new.pass).popped (jobs_in more.0) in
     omega (arith, all, others, first, mine, last, c.gather.ensures.popped h)

@@ -4,7 +4,7 @@ use Rattle.worker_seats.specs.Seats.{keeper_of}
 use Rattle.world.specs.Worlds.{inside}
 use Rattle.sessions.specs.declared.record.Record.{Record}
 use Rattle.sessions.specs.Acted.{HasActed}
-use Rattle.sessions.specs.Kept.{Keeps}
+use Rattle.sessions.specs.Kept.{KeepsFitting}
 use Rattle.sessions.specs.Notes.{notes_of, jobs_of}
 use Rattle.sessions.proofs.Acting.{acts_first}
 use Rattle.sessions.proofs.Handing.{comes_first}
@@ -16,10 +16,14 @@ invariant_of-result g c =
     let empty = c.requires.history in
     let now = inside g.T.DeadRows c.args.world in
     record {
-      kept = merely (λ honest contents acts calls stood. subst (λ (h : List Record). Keeps g.S.PageStore g.J.Jobs.jobs contents acts calls (g.J.Jobs.kept_then contents acts calls) now c.actions-start.result c.args.pending.items h) (sym empty)
-          (keeps_first g.S.PageStore g.J.Jobs.jobs contents acts calls (g.J.Jobs.kept_then contents acts calls) now c.actions-start.result c.args.pending.items (c.requires.stood.fits contents acts calls stood)
+      kept = merely (λ honest contents acts calls stood.
+          subst (λ (h : List Record).
+          KeepsFitting g.S.PageStore g.J.Jobs.jobs contents acts calls (g.J.Jobs.kept_then contents acts calls) now c.actions-start.result c.args.pending.items h) (sym empty)
+          (keeps_first g.S.PageStore g.J.Jobs.jobs contents acts calls (g.J.Jobs.kept_then contents acts calls) now c.actions-start.result
+          c.args.pending.items (c.requires.stood.fits contents acts calls stood)
           (c.requires.stood.safe contents acts calls stood) (c.actions-start.ensures ∙ (c.requires.stood.fits contents acts calls stood).explains.count) c.requires.pending));
-      acted = merely (subst (λ (h : List Record). HasActed g.S.PageStore g.J.Jobs.handed g.J.Jobs.jobs now c.args.pending.items h) (sym empty) (acts_first g.S.PageStore g.J.Jobs.handed g.J.Jobs.jobs now c.args.pending.items c.requires.handed c.requires.pending));
+      acted = merely (subst (λ (h : List Record). HasActed g.S.PageStore g.J.Jobs.handed g.J.Jobs.jobs now c.args.pending.items h) (sym empty)
+          (acts_first g.S.PageStore g.J.Jobs.handed g.J.Jobs.jobs now c.args.pending.items c.requires.handed c.requires.pending));
       matches = merely (record { runs = λ s p h. absurd (c.requires.pending s p h); rests = λ s h. c.requires.rests s; beyond = λ s l. c.requires.rests s });
       seats = c.requires.seats;
       workers = c.requires.workers;

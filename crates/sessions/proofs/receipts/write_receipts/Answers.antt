@@ -67,7 +67,8 @@ loop-place-preserved c =
     let had = slice_get_read calls.items calls.len r.worker n calls.ok.0 (omega (arith, inside, i.1)) c.index_mut-in-loop-place.ensures.value in (
       i.0,
       i.1,
-      (λ p t l here. ap (λ x. slice_get (set receipts.items r.job x) t.job) c.receipt.ensures ∙ written_next h place r at receipts.items (omega (arith, job, i.0, receipts.ok.0)) c.requires.once i.2 p t l here),
+      (λ p t l here. ap (λ x. slice_get (set receipts.items r.job x) t.job) c.receipt.ensures
+          ∙ written_next h place r at receipts.items (omega (arith, job, i.0, receipts.ok.0)) c.requires.once i.2 p t l here),
       (λ worker l. counted_next h place r at calls.items _ n had i.3 worker l),
       sum_one_more calls.items r.worker n had ∙ ap (λ k. k + 1) i.4,
     )

@@ -9,7 +9,8 @@ use Rattle.sessions.proofs.run.run_jobs.Goals as goal
 
 pub returns-clause-later : goal.returns-clause-later
 returns-clause-later g c =
-    IfOk-weaker c.run_listed.result (IsFinished g.S.PageStore g.T.DeadRows c.args.jobs.now c.args.workers c.args.world) (λ done. ∥ IsLater (g.S.PageStore.backing c.args.world.store) (g.S.PageStore.backing done.world.store) ∥₁)
+    IfOk-weaker c.run_listed.result (IsFinished g.S.PageStore g.T.DeadRows c.args.jobs.now c.args.workers c.args.world)
+    (λ done. ∥ IsLater (g.S.PageStore.backing c.args.world.store) (g.S.PageStore.backing done.world.store) ∥₁)
     (λ done f. ∥∥₁_map f.comes (λ k. k.later)) c.run_listed.ensures.done
 
 pub returns-clause-start : goal.returns-clause-start
@@ -19,10 +20,12 @@ returns-clause-start g c =
 
 pub returns-clause-sessions : goal.returns-clause-sessions
 returns-clause-sessions g c =
-    IfOk-weaker c.run_listed.result (IsFinished g.S.PageStore g.T.DeadRows c.args.jobs.now c.args.workers c.args.world) (λ done. length done.world.calls.slots.items ≡ length c.args.world.calls.slots.items)
+    IfOk-weaker c.run_listed.result (IsFinished g.S.PageStore g.T.DeadRows c.args.jobs.now c.args.workers c.args.world)
+    (λ done. length done.world.calls.slots.items ≡ length c.args.world.calls.slots.items)
     (λ done f. ∥∥₁_elim f.comes (ℕ_set (length done.world.calls.slots.items) (length c.args.world.calls.slots.items)) (λ k. k.sessions_are)) c.run_listed.ensures.done
 
 pub returns-clause-sets : goal.returns-clause-sets
 returns-clause-sets g c =
-    IfOk-weaker c.run_listed.result (IsFinished g.S.PageStore g.T.DeadRows c.args.jobs.now c.args.workers c.args.world) (λ done. ∥ map g.T.DeadRows.is_in done.world.sets.items ≡ map g.T.DeadRows.is_in c.args.world.sets.items ∥₁)
+    IfOk-weaker c.run_listed.result (IsFinished g.S.PageStore g.T.DeadRows c.args.jobs.now c.args.workers c.args.world)
+    (λ done. ∥ map g.T.DeadRows.is_in done.world.sets.items ≡ map g.T.DeadRows.is_in c.args.world.sets.items ∥₁)
     (λ done f. ∥∥₁_map f.comes (λ k. k.sets_are)) c.run_listed.ensures.done

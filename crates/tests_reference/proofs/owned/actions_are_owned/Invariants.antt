@@ -1,8 +1,8 @@
 use Rattle.std.proofs.Common.{ℕ, ◌<◌}
 use Rattle.index_model.specs.Order.{is_among}
-use Rattle.tests_reference.specs.Plain.{history_of, calls_of}
+use Rattle.tests_reference.specs.Plain.{history_of, meant_calls}
 use Rattle.tests_reference.specs.Named.{IsOwnedAt}
 use Rattle.tests_reference.proofs.owned.actions_are_owned.Given as goal
 
 abbrev pub invariant-loop-before : goal.invariant-loop-before
-invariant-loop-before l = (k : ℕ) → k < l.before → IsOwnedAt (is_among l.start) (history_of l.history) (calls_of l.calls) k
+invariant-loop-before l = (k : ℕ) → k < l.before → IsOwnedAt (is_among l.start) (history_of l.history) (meant_calls l.calls) k

@@ -1,7 +1,7 @@
 use Rattle.std.specs.Prelude.{ℕ, List, length, flat_map, OnOk}
 use Rattle.std.proofs.Common.{sym, subst}
 use Rattle.std.specs.Io.KnownBytes.{Appends}
-use Rattle.text_forms.specs.Dumping.{downlink_line, internal_line, lines_of}
+use Rattle.text_forms.specs.Dumping.{downlink_line, internal_line, page_lines}
 use Rattle.text_forms.proofs.Printed.{then_printed}
 use Rattle.page_codec.specs.declared.page.Downlink.{Downlink}
 use Rattle.page_codec.specs.declared.page.Items.{Items}
@@ -18,5 +18,5 @@ returns-in_ok-print_internal-in-Downlinks g c =
     subst (λ (n : ℕ). Appends old mid (internal_line page n)) c.len-in-Downlinks.ensures.value c.in_ok-print_internal-in-Downlinks.ensures in
     let second : OnOk c.print_downlinks.result (Appends mid new (flat_map downlink_line links)) =
     subst (λ (ls : List Downlink). OnOk c.print_downlinks.result (Appends mid new (flat_map downlink_line ls))) c.as_slice-in-Downlinks.ensures.value c.print_downlinks.ensures in
-    subst (λ (items : Items). OnOk c.print_downlinks.result (Appends old new (lines_of page items))) (sym c.in-Downlinks.is)
+    subst (λ (items : Items). OnOk c.print_downlinks.result (Appends old new (page_lines page items))) (sym c.in-Downlinks.is)
     (then_printed c.print_downlinks.result old mid new (internal_line page (length links)) (flat_map downlink_line links) first second)

@@ -28,7 +28,8 @@ module _ (c : After-end_at) where
   right_is : c.stand_right.new.half ≡ right_leaf (renewed c.args.page.now) c.args.new c.args.cycle back
   right_is =
       c.stand_right.ensures
-      ∙ ap (λ (h : Page). record c.part_entries.new.page { block = c.args.new; split = false; left = Some c.part_entries.new.page.block; cycle = c.args.cycle; items = h.items }) c.part_entries.ensures.behind
+      ∙ ap (λ (h : Page). record c.part_entries.new.page
+      { block = c.args.new; split = false; left = Some c.part_entries.new.page.block; cycle = c.args.cycle; items = h.items }) c.part_entries.ensures.behind
       ∙ ap (λ (p : Page). right_leaf p c.args.new c.args.cycle back) c.part_entries.ensures.kept
 
   back_seen : c.entries_on-2.result.now ≡ back
@@ -46,25 +47,29 @@ module _ (c : After-end_at) where
 pub returns-clause-left_page : goal.returns-clause-left_page
 returns-clause-left_page c =
     subst IsPage (sym (left_is c))
-    (left_page (renewed c.args.page.now) c.args.at c.args.entry c.seen.ensures (renewed_is_page c.args.page.now c.requires.page) (may_still c.args.page.now c.args.entry c.requires.may) c.requires.place c.requires.some (front c) (back c) refl refl
+    (left_page (renewed c.args.page.now) c.args.at c.args.entry c.seen.ensures (renewed_is_page c.args.page.now c.requires.page)
+    (may_still c.args.page.now c.args.entry c.requires.may) c.requires.place c.requires.some (front c) (back c) refl refl
     c.args.new c.args.cycle c.requires.block c.ranges.cycle.fits refl c.separator-cut.result (up c) (beyond c) c.separator-cut.ensures.bound)
 
 pub returns-clause-right_page : goal.returns-clause-right_page
 returns-clause-right_page c =
     subst IsPage (sym (right_is c))
-    (right_page (renewed c.args.page.now) c.args.at c.args.entry c.seen.ensures (renewed_is_page c.args.page.now c.requires.page) (may_still c.args.page.now c.args.entry c.requires.may) c.requires.place c.requires.some (front c) (back c) refl refl
+    (right_page (renewed c.args.page.now) c.args.at c.args.entry c.seen.ensures (renewed_is_page c.args.page.now c.requires.page)
+    (may_still c.args.page.now c.args.entry c.requires.may) c.requires.place c.requires.some (front c) (back c) refl refl
     c.args.new c.args.cycle c.requires.block c.ranges.cycle.fits refl c.separator-cut.result (up c) (beyond c) c.separator-cut.ensures.bound)
 
 pub returns-clause-halves : goal.returns-clause-halves
 returns-clause-halves c =
     rw (left_is c, right_is c)
-    (leaf_halves (renewed c.args.page.now) c.args.at c.args.entry c.seen.ensures (renewed_is_page c.args.page.now c.requires.page) (may_still c.args.page.now c.args.entry c.requires.may) c.requires.place c.requires.some (front c) (back c) refl refl
+    (leaf_halves (renewed c.args.page.now) c.args.at c.args.entry c.seen.ensures (renewed_is_page c.args.page.now c.requires.page)
+    (may_still c.args.page.now c.args.entry c.requires.may) c.requires.place c.requires.some (front c) (back c) refl refl
     c.args.new c.args.cycle c.requires.block c.ranges.cycle.fits refl c.separator-cut.result (up c) (beyond c) c.separator-cut.ensures.bound)
 
 pub returns-clause-moved : goal.returns-clause-moved
 returns-clause-moved c =
     rw (left_is c, right_is c)
-    (back_count (renewed c.args.page.now) c.args.at c.args.entry c.seen.ensures (renewed_is_page c.args.page.now c.requires.page) (may_still c.args.page.now c.args.entry c.requires.may) c.requires.place c.requires.some (front c) (back c) refl refl)
+    (back_count (renewed c.args.page.now) c.args.at c.args.entry c.seen.ensures (renewed_is_page c.args.page.now c.requires.page)
+    (may_still c.args.page.now c.args.entry c.requires.may) c.requires.place c.requires.some (front c) (back c) refl refl)
 
 module _ (c : After-entries_on-2) where
   halves_ascend : IsAscending (c.entries_on.result.now ++ c.entries_on-2.result.now)
@@ -74,7 +79,8 @@ module _ (c : After-entries_on-2) where
       let front_read : c.entries_on.result.now ≡ take (left_count (length es)) put = c.entries_on.ensures ∙ ap (λ (p : Page). entries_of p.items) c.part_entries.ensures.kept in
       let back_read : c.entries_on-2.result.now ≡ drop (left_count (length es)) put = c.entries_on-2.ensures ∙ ap (λ (p : Page). entries_of p.items) c.part_entries.ensures.behind in
       subst IsAscending (sym (ap₂ (λ l r. l ++ r) front_read back_read))
-      (ascends (renewed c.args.page.now) c.args.at c.args.entry c.seen.ensures (renewed_is_page c.args.page.now c.requires.page) (may_still c.args.page.now c.args.entry c.requires.may) c.requires.place c.requires.some (take (left_count (length es)) put) (drop (left_count (length es)) put) refl refl)
+      (ascends (renewed c.args.page.now) c.args.at c.args.entry c.seen.ensures (renewed_is_page c.args.page.now c.requires.page)
+      (may_still c.args.page.now c.args.entry c.requires.may) c.requires.place c.requires.some (take (left_count (length es)) put) (drop (left_count (length es)) put) refl refl)
 
 pub separator-cut-requires-clause-ascending : goal.separator-cut-requires-clause-ascending
 separator-cut-requires-clause-ascending c = halves_ascend c

@@ -49,22 +49,26 @@ module _ (c : After-end_at) where
 pub returns-clause-left_page : goal.returns-clause-left_page
 returns-clause-left_page c =
     subst IsPage (sym (left_is c))
-    (left_page (renewed c.args.page.now) c.args.at c.args.separator c.args.child (renewed_is_page c.args.page.now c.requires.page) c.requires.internal c.requires.some c.requires.place c.requires.fits c.requires.bound c.requires.child
+    (left_page (renewed c.args.page.now) c.args.at c.args.separator c.args.child (renewed_is_page c.args.page.now c.requires.page) c.requires.internal
+    c.requires.some c.requires.place c.requires.fits c.requires.bound c.requires.child
     c.args.new c.requires.block)
 
 pub returns-clause-right_page : goal.returns-clause-right_page
 returns-clause-right_page c =
     subst IsPage (sym (right_is c))
-    (right_page (renewed c.args.page.now) c.args.at c.args.separator c.args.child (renewed_is_page c.args.page.now c.requires.page) c.requires.internal c.requires.some c.requires.place c.requires.fits c.requires.bound c.requires.child
+    (right_page (renewed c.args.page.now) c.args.at c.args.separator c.args.child (renewed_is_page c.args.page.now c.requires.page)
+    c.requires.internal c.requires.some c.requires.place c.requires.fits c.requires.bound c.requires.child
     c.args.new c.requires.block)
 
 pub returns-clause-split : goal.returns-clause-split
 returns-clause-split c =
     rw (left_is c, right_is c)
-    (link_split (renewed c.args.page.now) c.args.at c.args.separator c.args.child (renewed_is_page c.args.page.now c.requires.page) c.requires.internal c.requires.some c.requires.place c.requires.fits c.requires.bound c.requires.child
+    (link_split (renewed c.args.page.now) c.args.at c.args.separator c.args.child (renewed_is_page c.args.page.now c.requires.page)
+    c.requires.internal c.requires.some c.requires.place c.requires.fits c.requires.bound c.requires.child
     c.args.new c.requires.block)
 
 pub returns-clause-moved : goal.returns-clause-moved
 returns-clause-moved c =
     rw (left_is c, right_is c)
-    (back_count (renewed c.args.page.now) c.args.at c.args.separator c.args.child (renewed_is_page c.args.page.now c.requires.page) c.requires.internal c.requires.some c.requires.place c.requires.fits c.requires.bound c.requires.child)
+    (back_count (renewed c.args.page.now) c.args.at c.args.separator c.args.child (renewed_is_page c.args.page.now c.requires.page)
+    c.requires.internal c.requires.some c.requires.place c.requires.fits c.requires.bound c.requires.child)

@@ -14,7 +14,8 @@ use Rattle.whole_calls.proofs.giving.advance.Goals as goal
 
 -- it was asked for its next entry
 asked : (g : Over) (c : After-next-answer g) → CallGoes g.S.PageStore c.args.session (ScanGoes g.S.PageStore c.args.session c.args.least_room c.next-answer.result) (Some c.next-answer.result)
-    (here_with c.args.store.now c.args.calls.now.slots.items (map g.T.DeadRows.is_in c.args.sets.now)) (here_with c.next-answer.new.store c.next-answer.new.calls.slots.items (map g.T.DeadRows.is_in c.args.sets.now))
+    (here_with c.args.store.now c.args.calls.now.slots.items (map g.T.DeadRows.is_in c.args.sets.now))
+    (here_with c.next-answer.new.store c.next-answer.new.calls.slots.items (map g.T.DeadRows.is_in c.args.sets.now))
 asked g c =
     let laws = g.met.S.PageStore.laws in
     let session = c.args.session in
@@ -23,7 +24,8 @@ asked g c =
     let sets = map g.T.DeadRows.is_in c.args.sets.now in
     let old = here_with c.args.store.now c.args.calls.now.slots.items sets in
     let new = here_with c.next-answer.new.store c.next-answer.new.calls.slots.items sets in
-    goes_once g.S.PageStore laws session (ScanGoes g.S.PageStore session least answer) (Next session) answer old new refl (makes_runs g.S.PageStore laws (Next session) answer old new c.next-answer.ensures.makes)
+    goes_once g.S.PageStore laws session (ScanGoes g.S.PageStore session least answer) (Next session) answer old new refl
+    (makes_runs g.S.PageStore laws (Next session) answer old new c.next-answer.ensures.makes)
     (λ start h hc k kc honest fits does. scan_nexts g.S.PageStore session least start answer (snapshot_of old h hc) (snapshot_of new k kc) fits
     (record { steps = c.next-answer.ensures.steps; others = c.next-answer.ensures.makes.always.others session refl }) does)
 
@@ -43,7 +45,8 @@ returns-in-Gave-None-clause-goes g c =
     let mid = here_with c.next-answer.new.store c.next-answer.new.calls.slots.items sets in
     let new = here_with c.step.new.store c.step.new.calls.slots.items sets in
     let none : c.next-answer.result ≡ Gave None = search rules in
-    joined g.S.PageStore g.met.S.PageStore.laws session (λ s. ScanGoes g.S.PageStore session least c.next-answer.result) (λ s. StepGoes g.S.PageStore session least answer) (λ s. ScanGoes g.S.PageStore session least answer)
+    joined g.S.PageStore g.met.S.PageStore.laws session (λ s. ScanGoes g.S.PageStore session least c.next-answer.result)
+    (λ s. StepGoes g.S.PageStore session least answer) (λ s. ScanGoes g.S.PageStore session least answer)
     (Some c.next-answer.result) (Some answer) (Some answer) old mid new c.next-answer.ensures.steps c.step.ensures.steps (to_second (Some c.next-answer.result) (Some answer))
     (λ start h hc k kc l lc fx fy fz one two. waits_behind g.S.PageStore session least answer (snapshot_of old h hc) (snapshot_of mid k kc) (snapshot_of new l lc)
     (waits_none g.S.PageStore session least c.next-answer.result (snapshot_of old h hc) (snapshot_of mid k kc) none one)
@@ -51,7 +54,8 @@ returns-in-Gave-None-clause-goes g c =
     (asked g ((goal.at.returns-in-Gave-None-clause-goes g c).After-next-answer)) c.step.ensures.goes
 
 asked_made : (g : Over) (c : After-next-answer g) → IsMadeOf g.S.PageStore c.args.session c.args.least_room (λ answers. IsAmong answers c.next-answer.result)
-    (here_with c.args.store.now c.args.calls.now.slots.items (map g.T.DeadRows.is_in c.args.sets.now)) (here_with c.next-answer.new.store c.next-answer.new.calls.slots.items (map g.T.DeadRows.is_in c.args.sets.now))
+    (here_with c.args.store.now c.args.calls.now.slots.items (map g.T.DeadRows.is_in c.args.sets.now))
+    (here_with c.next-answer.new.store c.next-answer.new.calls.slots.items (map g.T.DeadRows.is_in c.args.sets.now))
 asked_made g c =
     let sets = map g.T.DeadRows.is_in c.args.sets.now in
     made_once g.S.PageStore c.args.session c.args.least_room (λ answers. IsAmong answers c.next-answer.result) (Next c.args.session) (MovesCall c.args.session Takes) c.next-answer.result
@@ -68,5 +72,6 @@ returns-in-Gave-None-clause-made g c =
     let answer = c.step.result in
     let sets = map g.T.DeadRows.is_in c.args.sets.now in
     made_then g.S.PageStore c.args.session c.args.least_room (λ answers. IsAmong answers c.next-answer.result) (λ answers. IsAmong answers answer) (λ answers. IsAmong answers answer)
-    (here_with c.args.store.now c.args.calls.now.slots.items sets) (here_with c.next-answer.new.store c.next-answer.new.calls.slots.items sets) (here_with c.step.new.store c.step.new.calls.slots.items sets)
+    (here_with c.args.store.now c.args.calls.now.slots.items sets) (here_with c.next-answer.new.store c.next-answer.new.calls.slots.items sets)
+    (here_with c.step.new.store c.step.new.calls.slots.items sets)
     (λ xs ys none so. among_right xs ys answer so) (asked_made g ((goal.at.returns-in-Gave-None-clause-made g c).After-next-answer)) c.step.ensures.made

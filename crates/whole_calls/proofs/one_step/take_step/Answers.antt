@@ -6,7 +6,7 @@ use Rattle.whole_calls.specs.Going.{IsAmong, CameBy}
 use Rattle.whole_calls.specs.Made.{ComesTo}
 use Rattle.whole_calls.specs.OneStep.{OneStepGoes, OneStepComesTo, cut_short}
 use Rattle.whole_calls.specs.Stepping.{RoomTold}
-use Rattle.whole_calls.specs.Telling.{TellsEnd, room_came, RoomIsMade}
+use Rattle.whole_calls.specs.Telling.{TellsEnd, room_outcome, RoomIsMade}
 use Rattle.whole_calls.proofs.Blocks.{given_up_counted, given_up_numbers}
 use Rattle.whole_calls.proofs.Composing.{joined, goes_once, among_left, among_right}
 use Rattle.whole_calls.proofs.Made.{made_then, made_once}
@@ -26,10 +26,11 @@ returns-in-Ok-clause-goes g c =
     let first = laws.follows_later c.args.store.now c.make_room.new.store (c.make_room.ensures.steps _ (laws.follows_same _)) in
     let later = laws.follows_later c.make_room.new.store c.step.new.store (c.step.ensures.steps _ (laws.follows_same _)) in
     joined g.S.PageStore laws session (λ s. RoomTold g.S.PageStore) (λ s. StepsOnce g.S.PageStore session least answer) (λ s. OneStepGoes g.S.PageStore session least answer)
-    (room_came c.make_room.result) (Some answer) None old here there c.make_room.ensures.steps c.step.ensures.steps (λ xs ys one two. tt)
+    (room_outcome c.make_room.result) (Some answer) None old here there c.make_room.ensures.steps c.step.ensures.steps (λ xs ys one two. tt)
     (λ start h hc k kc l lc fx fy fz one two. steps_behind g.S.PageStore session least (snapshot_of old h hc) (snapshot_of here k kc) one answer (snapshot_of there l lc) first later two)
     (c.make_room.ensures.goes session c.args.calls.now.slots.items sets)
-    (goes_once g.S.PageStore laws session (StepsOnce g.S.PageStore session least answer) (Step session) answer here there refl (makes_runs g.S.PageStore laws (Step session) answer here there c.step.ensures.makes)
+    (goes_once g.S.PageStore laws session (StepsOnce g.S.PageStore session least answer) (Step session) answer here there refl
+    (makes_runs g.S.PageStore laws (Step session) answer here there c.step.ensures.makes)
     (λ start h hc k kc honest fits does. steps_once g.S.PageStore start session least answer (snapshot_of here h hc) (snapshot_of there k kc) fits does honest c.in-Ok.ensures.promise))
 
 pub returns-in-Err-clause-goes : goal.returns-in-Err-clause-goes
@@ -46,8 +47,9 @@ returns-in-Err-clause-goes g c =
     let there = here_with c.give_up.new.store c.give_up.new.calls.slots.items sets in
     rw c.cut_short.ensures
     (joined g.S.PageStore laws session (λ s. RoomTold g.S.PageStore) (λ s. TellsEnd session) (λ s. OneStepGoes g.S.PageStore session least (cut_short added fault))
-    (room_came c.make_room.result) None None old here there c.make_room.ensures.steps end.steps (λ xs ys one two. tt)
-    (λ start h hc k kc l lc fx fy fz one two. given_up_goes g.S.PageStore session least (snapshot_of old h hc) (snapshot_of here k kc) one start fault added (snapshot_of there l lc) fy c.in-Err.ensures.cause c.added-added.ensures
+    (room_outcome c.make_room.result) None None old here there c.make_room.ensures.steps end.steps (λ xs ys one two. tt)
+    (λ start h hc k kc l lc fx fy fz one two.
+    given_up_goes g.S.PageStore session least (snapshot_of old h hc) (snapshot_of here k kc) one start fault added (snapshot_of there l lc) fy c.in-Err.ensures.cause c.added-added.ensures
     (record {
       backing = end.backing;
       acts = end.acts;
@@ -68,7 +70,8 @@ returns-in-Ok-clause-made g c =
     let old = here_with c.args.store.now c.args.calls.now.slots.items sets in
     let here = here_with c.make_room.new.store c.args.calls.now.slots.items sets in
     let there = here_with c.step.new.store c.step.new.calls.slots.items sets in
-    made_then g.S.PageStore session least (λ answers. CameBy answers (room_came c.make_room.result)) (λ answers. IsAmong answers answer) (OneStepComesTo answer) old here there (λ xs ys none so. inl (among_right xs ys answer so))
+    made_then g.S.PageStore session least (λ answers. CameBy answers (room_outcome c.make_room.result)) (λ answers. IsAmong answers answer)
+    (OneStepComesTo answer) old here there (λ xs ys none so. inl (among_right xs ys answer so))
     (c.make_room.ensures.made session c.args.calls.now.slots.items sets)
     (made_once g.S.PageStore session least (λ answers. IsAmong answers answer) (Step session) (MovesCall session Steps) answer here there refl refl
     (subst (λ (st : State). RoomIsMade least st.limits (g.S.PageStore.backing c.make_room.new.store)) (sym c.make_room.ensures.state) c.in-Ok.ensures.room) c.step.ensures.makes (inl refl))

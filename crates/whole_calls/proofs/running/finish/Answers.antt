@@ -19,7 +19,8 @@ loop-left-init g c = record {
   sessions = refl;
   others = λ o ne. refl;
   limits = refl;
-  goes = goes_nowhere g.S.PageStore g.met.S.PageStore.laws c.args.session (HasGoneTo g.S.PageStore c.args.session) (here_with c.args.store.now c.args.calls.now.slots.items (map g.T.DeadRows.is_in c.args.sets.now))
+  goes = goes_nowhere g.S.PageStore g.met.S.PageStore.laws c.args.session (HasGoneTo g.S.PageStore c.args.session)
+      (here_with c.args.store.now c.args.calls.now.slots.items (map g.T.DeadRows.is_in c.args.sets.now))
       (λ x. record { lasts = lasts_here g.S.PageStore c.args.session x; sets_are = refl; limits_are = refl; far = far_nowhere c.args.session x; counted = λ what so. so; numbers = refl });
   runs_on = runs_on_same (slot_of c.args.calls.now.slots.items c.args.session);
   made = made_nowhere g.S.PageStore c.args.session c.args.least_room _ (here_with c.args.store.now c.args.calls.now.slots.items (map g.T.DeadRows.is_in c.args.sets.now)) (omega arith);
@@ -35,9 +36,11 @@ returns-in_default-clause-goes g c =
     let old = here_with c.args.store.now c.args.calls.now.slots.items sets in
     let mid = here_with c.loop-left.store c.loop-left.calls.slots.items sets in
     let new = here_with c.step.new.store c.step.new.calls.slots.items sets in
-    joined g.S.PageStore g.met.S.PageStore.laws session (λ s. HasGoneTo g.S.PageStore session) (λ s. StepGoes g.S.PageStore session least answer) (FinishGoes g.S.PageStore session least answer) None (Some answer) (Some answer) old mid new
+    joined g.S.PageStore g.met.S.PageStore.laws session (λ s. HasGoneTo g.S.PageStore session) (λ s. StepGoes g.S.PageStore session least answer)
+    (FinishGoes g.S.PageStore session least answer) None (Some answer) (Some answer) old mid new
     c.loop-left.invariant.steps c.step.ensures.steps (to_second None (Some answer))
-    (λ start h hc k kc l lc fx fy fz one two. record { last = snapshot_of mid k kc; fits = fy; gone = one; lasts = record { steps = c.step.ensures.steps; others = c.step.ensures.others.others }; step = two })
+    (λ start h hc k kc l lc fx fy fz one two.
+    record { last = snapshot_of mid k kc; fits = fy; gone = one; lasts = record { steps = c.step.ensures.steps; others = c.step.ensures.others.others }; step = two })
     c.loop-left.invariant.goes c.step.ensures.goes
 
 pub loop-left-preserved : goal.loop-left-preserved
@@ -56,13 +59,17 @@ loop-left-preserved g c =
       sessions = c.step.ensures.others.sessions ∙ c.loop-left.invariant.sessions;
       others = λ o ne. c.step.ensures.others.others o ne ∙ c.loop-left.invariant.others o ne;
       limits = c.step.ensures.limits ∙ c.loop-left.invariant.limits;
-      goes = joined g.S.PageStore laws session (λ s. HasGoneTo g.S.PageStore session) (λ s. StepGoes g.S.PageStore session least answer) (λ s. HasGoneTo g.S.PageStore session) None (Some answer) None old mid new
+      goes = joined g.S.PageStore laws session (λ s. HasGoneTo g.S.PageStore session) (λ s. StepGoes g.S.PageStore session least answer)
+          (λ s. HasGoneTo g.S.PageStore session) None (Some answer) None old mid new
           c.loop-left.invariant.steps c.step.ensures.steps (λ xs ys none so. tt)
           (λ start h hc k kc l lc fx fy fz one two. gone_on g.S.PageStore session least (snapshot_of old h hc) (snapshot_of mid k kc) (snapshot_of new l lc) one
-          (record { steps = c.step.ensures.steps; others = c.step.ensures.others.others }) refl c.step.ensures.limits (subst (λ (a : Answer). StepGoes g.S.PageStore session least a (snapshot_of mid k kc) (snapshot_of new l lc)) going two))
+          (record { steps = c.step.ensures.steps; others = c.step.ensures.others.others }) refl c.step.ensures.limits
+          (subst (λ (a : Answer). StepGoes g.S.PageStore session least a (snapshot_of mid k kc) (snapshot_of new l lc)) going two))
           c.loop-left.invariant.goes c.step.ensures.goes;
-      runs_on = runs_on_then (slot_of c.args.calls.now.slots.items session) (slot_of c.loop-left.calls.slots.items session) (slot_of c.step.new.calls.slots.items session) c.loop-left.invariant.runs_on c.step.ensures.runs_on;
-      made = made_then g.S.PageStore session least _ (λ answers. IsAmong answers answer) _ old mid new (λ xs ys many so. (let some = among_some ys answer so in let both = length-append xs ys in omega (arith, many, some, both)))
+      runs_on = runs_on_then (slot_of c.args.calls.now.slots.items session) (slot_of c.loop-left.calls.slots.items session)
+          (slot_of c.step.new.calls.slots.items session) c.loop-left.invariant.runs_on c.step.ensures.runs_on;
+      made = made_then g.S.PageStore session least _ (λ answers. IsAmong answers answer) _ old mid new
+          (λ xs ys many so. (let some = among_some ys answer so in let both = length-append xs ys in omega (arith, many, some, both)))
           c.loop-left.invariant.made c.step.ensures.made;
       budget = λ low honest start history calls fits. (
           let later = laws.follows_later c.loop-left.store c.step.new.store (c.step.ensures.steps _ (laws.follows_same _)) in
@@ -76,7 +83,8 @@ loop-left-preserved g c =
 pub returns-clause-goes : goal.returns-clause-goes
 returns-clause-goes g c honest start history calls fits =
     let low = c.limits-limits.ensures.allowed.pages_to in
-    let few = steps_few g.S.PageStore g.met.S.PageStore.laws start (snapshot_of (here_with c.args.store.now c.args.calls.now.slots.items (map g.T.DeadRows.is_in c.args.sets.now)) history calls) c.args.session fits low in
+    let few = steps_few g.S.PageStore g.met.S.PageStore.laws start
+    (snapshot_of (here_with c.args.store.now c.args.calls.now.slots.items (map g.T.DeadRows.is_in c.args.sets.now)) history calls) c.args.session fits low in
     let most = c.loop-left.invariant.budget low honest start history calls fits in
     let out = c.loop-left-test.false in
     absurd (omega (arith, few, most, out))
@@ -86,7 +94,8 @@ returns-in_default-clause-made g c =
     let session = c.args.session in
     let answer = c.step.result in
     let sets = map g.T.DeadRows.is_in c.args.sets.now in
-    made_then g.S.PageStore session c.args.least_room _ (λ answers. IsAmong answers answer) (Answered answer) (here_with c.args.store.now c.args.calls.now.slots.items sets) (here_with c.loop-left.store c.loop-left.calls.slots.items sets)
+    made_then g.S.PageStore session c.args.least_room _ (λ answers. IsAmong answers answer) (Answered answer)
+    (here_with c.args.store.now c.args.calls.now.slots.items sets) (here_with c.loop-left.store c.loop-left.calls.slots.items sets)
     (here_with c.step.new.store c.step.new.calls.slots.items sets) (λ xs ys many so. inl (among_right xs ys answer so)) c.loop-left.invariant.made c.step.ensures.made
 
 pub returns-clause-made : goal.returns-clause-made

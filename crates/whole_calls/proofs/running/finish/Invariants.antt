@@ -1,5 +1,5 @@
 use Rattle.std.proofs.Common.{◌≡◌, ◌+◌, ◌≤◌, None, length}
-use Rattle.whole_calls.proofs.Words.{Continues, RunsOn, slot_of, OthersStay, Carries}
+use Rattle.whole_calls.proofs.Words.{Continues, RunsOn, slot_of, OthersStay, ForEachHistory}
 use Rattle.schedule.specs.Sessions.{here}
 use Rattle.whole_calls.specs.Going.{CallGoes}
 use Rattle.whole_calls.specs.Made.{IsMadeOf}
@@ -15,10 +15,12 @@ invariant-loop-left g l = record {
   limits : (g.S.PageStore.state l.store).limits ≡ (g.S.PageStore.state l.fn.store).limits;
   goes : CallGoes g.S.PageStore l.session (HasGoneTo g.S.PageStore l.session) None (here g.T.DeadRows l.fn.store l.fn.calls l.sets) (here g.T.DeadRows l.store l.calls l.sets);
   runs_on : RunsOn (slot_of l.fn.calls.slots.items l.session) (slot_of l.calls.slots.items l.session);
-  made : IsMadeOf g.S.PageStore l.session l.least_room (λ answers. 18446744073709551615 ≤ l.left + length answers) (here g.T.DeadRows l.fn.store l.fn.calls l.sets) (here g.T.DeadRows l.store l.calls l.sets);
+  made : IsMadeOf g.S.PageStore l.session l.least_room (λ answers. 18446744073709551615 ≤ l.left + length answers)
+      (here g.T.DeadRows l.fn.store l.fn.calls l.sets) (here g.T.DeadRows l.store l.calls l.sets);
   budget : (g.S.PageStore.state l.fn.store).limits.pages ≤ 65536
-      → Carries g.S.PageStore (here g.T.DeadRows l.fn.store l.fn.calls l.sets) (here g.T.DeadRows l.store l.calls l.sets) (λ start history calls.
-      18446744073709551615 + steps_left (g.S.PageStore.state l.store) (slot_of l.calls.slots.items l.session) ≤ l.left + steps_left (g.S.PageStore.state l.fn.store) (slot_of l.fn.calls.slots.items l.session));
+      → ForEachHistory g.S.PageStore (here g.T.DeadRows l.fn.store l.fn.calls l.sets) (here g.T.DeadRows l.store l.calls l.sets) (λ start history calls.
+      18446744073709551615 + steps_left (g.S.PageStore.state l.store) (slot_of l.calls.slots.items l.session) ≤ l.left + steps_left
+      (g.S.PageStore.state l.fn.store) (slot_of l.fn.calls.slots.items l.session));
 }
 
 abbrev pub decreases-loop-left : goal.decreases-loop-left

@@ -17,7 +17,8 @@ returns-clause-goes g c =
     let old = here_with c.args.store.now c.args.calls.now.slots.items sets in
     let new = here_with c.one-answer.new.store c.one-answer.new.calls.slots.items sets in
     goes_told g.S.PageStore session (λ s. TellsEnd session) (λ s. TellsEnd session) (Some answer) None old new (λ start h hc k kc answers fits came told. (tt, told))
-    (goes_once g.S.PageStore g.met.S.PageStore.laws session (TellsEnd session) (End session) answer old new refl (makes_runs g.S.PageStore g.met.S.PageStore.laws (End session) answer old new c.one-answer.ensures.makes)
+    (goes_once g.S.PageStore g.met.S.PageStore.laws session (TellsEnd session) (End session) answer old new refl
+    (makes_runs g.S.PageStore g.met.S.PageStore.laws (End session) answer old new c.one-answer.ensures.makes)
     (λ start h hc k kc honest fits does. ends_tells g.S.PageStore start (snapshot_of old h hc) (snapshot_of new k kc) session answer fits does))
 
 pub returns-clause-made : goal.returns-clause-made

@@ -9,7 +9,9 @@ pub returns-clause-goes : goal.returns-clause-goes
 returns-clause-goes g c =
     let sets = map g.T.DeadRows.is_in c.args.sets.now in
     let came = c.run_call.result in
-    rw c.outcome.ensures (insert_goes g.S.PageStore c.args.session c.args.least_room c.args.entry (here_with c.args.store.now c.args.calls.now.slots.items sets) (here_with c.run_call.new.store c.run_call.new.calls.slots.items sets)
+    rw c.outcome.ensures
+    (insert_goes g.S.PageStore c.args.session c.args.least_room c.args.entry (here_with c.args.store.now c.args.calls.now.slots.items sets)
+    (here_with c.run_call.new.store c.run_call.new.calls.slots.items sets)
     came.answer came.added c.run_call.ensures.ended c.run_call.ensures.goes)
 
 pub returns-clause-cause : goal.returns-clause-cause
@@ -24,5 +26,7 @@ pub returns-clause-made : goal.returns-clause-made
 returns-clause-made g c =
     let sets = map g.T.DeadRows.is_in c.args.sets.now in
     let came = c.run_call.result in
-    rw c.outcome.ensures (made_told g.S.PageStore c.args.session c.args.least_room (Answered came.answer) _ (here_with c.args.store.now c.args.calls.now.slots.items sets) (here_with c.run_call.new.store c.run_call.new.calls.slots.items sets)
+    rw c.outcome.ensures
+    (made_told g.S.PageStore c.args.session c.args.least_room (Answered came.answer) _
+    (here_with c.args.store.now c.args.calls.now.slots.items sets) (here_with c.run_call.new.store c.run_call.new.calls.slots.items sets)
     (λ xs so. insert_comes c.args.entry came.answer came.added xs c.run_call.ensures.ended c.run_call.ensures.kind so) c.run_call.ensures.made)

@@ -30,7 +30,8 @@ kept g c session slots sets =
     let laws = g.met.S.PageStore.laws in
     let old = here_with c.args.store.now slots sets in
     let new = here_with c.checkpoint.new.store slots sets in
-    goes_once g.S.PageStore laws session (RoomTold g.S.PageStore) Checkpoint c.checkpoint.result old new tt (makes_runs g.S.PageStore laws Checkpoint c.checkpoint.result old new (c.checkpoint.ensures.makes slots sets))
+    goes_once g.S.PageStore laws session (RoomTold g.S.PageStore) Checkpoint c.checkpoint.result old new tt
+    (makes_runs g.S.PageStore laws Checkpoint c.checkpoint.result old new (c.checkpoint.ensures.makes slots sets))
     (λ start h hc k kc honest fits does. record {
       silent = keeps_silent g.S.PageStore start Checkpoints c.checkpoint.result (snapshot_of old h hc) (snapshot_of new k kc) does;
       state_is = c.checkpoint.ensures.kept.state_is;
@@ -42,7 +43,8 @@ pub returns-in-Refused-clause-goes : goal.returns-in-Refused-clause-goes
 returns-in-Refused-clause-goes g c session slots sets =
     goes_told g.S.PageStore session (λ s. RoomTold g.S.PageStore) (λ s. RoomTold g.S.PageStore) (Some c.checkpoint.result) (Some (Refused c.in-Refused.fault))
     (here_with c.args.store.now slots sets) (here_with c.checkpoint.new.store slots sets)
-    (λ start h hc k kc answers fits came told. (subst (λ (a : Answer). CameBy answers (Some a)) c.in-Refused.is came, told)) (kept g ((goal.at.returns-in-Refused-clause-goes g c).After-checkpoint) session slots sets)
+    (λ start h hc k kc answers fits came told. (subst (λ (a : Answer). CameBy answers (Some a)) c.in-Refused.is came, told))
+    (kept g ((goal.at.returns-in-Refused-clause-goes g c).After-checkpoint) session slots sets)
 
 pub returns-in_default-clause-goes : goal.returns-in_default-clause-goes
 returns-in_default-clause-goes g c session slots sets =

@@ -20,7 +20,8 @@ returns-clause-entries g c honest start history calls fits =
     let came = c.run_call.result in
     let r = c.run_call.ensures.goes honest start history calls fits in
     rw c.swept.ensures (sweep_counts g.S.PageStore c.args.session c.args.least_room (ToBulk c.args.set) refl came.answer came.added c.run_call.ensures.ended of_sweep start
-    (snapshot_of (here_with c.args.store.now c.args.calls.now.slots.items sets) history calls) (snapshot_of (here_with c.run_call.new.store c.run_call.new.calls.slots.items sets) r.then_history r.then_calls) tt r.tells)
+    (snapshot_of (here_with c.args.store.now c.args.calls.now.slots.items sets) history calls)
+    (snapshot_of (here_with c.run_call.new.store c.run_call.new.calls.slots.items sets) r.then_history r.then_calls) tt r.tells)
 
 pub returns-clause-cause : goal.returns-clause-cause
 returns-clause-cause g c honest start history calls fits =
@@ -28,13 +29,15 @@ returns-clause-cause g c honest start history calls fits =
     let came = c.run_call.result in
     let r = c.run_call.ensures.goes honest start history calls fits in
     rw c.swept.ensures (sweep_caused g.S.PageStore c.args.session c.args.least_room (ToBulk c.args.set) refl came.answer came.added c.run_call.ensures.ended start
-    (snapshot_of (here_with c.args.store.now c.args.calls.now.slots.items sets) history calls) (snapshot_of (here_with c.run_call.new.store c.run_call.new.calls.slots.items sets) r.then_history r.then_calls) r.tells)
+    (snapshot_of (here_with c.args.store.now c.args.calls.now.slots.items sets) history calls)
+    (snapshot_of (here_with c.run_call.new.store c.run_call.new.calls.slots.items sets) r.then_history r.then_calls) r.tells)
 
 pub returns-clause-made : goal.returns-clause-made
 returns-clause-made g c =
     let sets = map g.T.DeadRows.is_in c.args.sets.now in
     let came = c.run_call.result in
-    rw c.swept.ensures (made_told g.S.PageStore c.args.session c.args.least_room (Answered came.answer) _ (here_with c.args.store.now c.args.calls.now.slots.items sets) (here_with c.run_call.new.store c.run_call.new.calls.slots.items sets)
+    rw c.swept.ensures (made_told g.S.PageStore c.args.session c.args.least_room (Answered came.answer) _
+    (here_with c.args.store.now c.args.calls.now.slots.items sets) (here_with c.run_call.new.store c.run_call.new.calls.slots.items sets)
     (λ xs so. sweep_comes sets (ToBulk c.args.set) refl came.answer xs c.run_call.ensures.ended c.run_call.ensures.kind so) c.run_call.ensures.made)
 
 pub returns-clause-stats : goal.returns-clause-stats
@@ -43,4 +46,5 @@ returns-clause-stats g c honest start history calls fits =
     let came = c.run_call.result in
     let r = c.run_call.ensures.goes honest start history calls fits in
     rw c.swept.ensures (sweep_tells g.S.PageStore c.args.session c.args.least_room (ToBulk c.args.set) refl came.answer came.added c.run_call.ensures.ended start
-    (snapshot_of (here_with c.args.store.now c.args.calls.now.slots.items sets) history calls) (snapshot_of (here_with c.run_call.new.store c.run_call.new.calls.slots.items sets) r.then_history r.then_calls) r.tells)
+    (snapshot_of (here_with c.args.store.now c.args.calls.now.slots.items sets) history calls)
+    (snapshot_of (here_with c.run_call.new.store c.run_call.new.calls.slots.items sets) r.then_history r.then_calls) r.tells)

@@ -35,5 +35,6 @@ loop-ticket-preserved g c =
       (queue.0 ∙ i.0.0, queue.2 ∙ i.0.1),
       pushed ∙ ap (λ (v : QueueView). queue_view v.parts (v.pushed + 1) v.popped) i.1 ∙ ap (λ n. queue_view 1024 n []) (sym more),
       omega (arith, more, i.2, c.in-Some.ensures.steps.1),
-      (λ k. subst (λ l. IfSome (slice_get l k) (λ t. g.T.Ticket.job t ≡ k)) (sym (append_assoc yielded (t ∷ []) after)) (subst (λ l. IfSome (slice_get (yielded ++ l) k) (λ t. g.T.Ticket.job t ≡ k)) rest (i.3 k))),
+      (λ k. subst (λ l. IfSome (slice_get l k) (λ t. g.T.Ticket.job t ≡ k)) (sym (append_assoc yielded (t ∷ []) after))
+          (subst (λ l. IfSome (slice_get (yielded ++ l) k) (λ t. g.T.Ticket.job t ≡ k)) rest (i.3 k))),
     )

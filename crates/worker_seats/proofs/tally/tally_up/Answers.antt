@@ -27,14 +27,16 @@ loop-seat-preserved g c =
     let rest = c.in-Some.ensures.steps.0 in
     let fewer = c.in-Some.ensures.steps.1 in
     let ranked : (k : ℕ) → IfSome (slice_get (yielded ++ s ∷ after) k) (λ s. s.worker ≡ k) = λ k. subst (λ l. IfSome (slice_get (yielded ++ l) k) (λ s. s.worker ≡ k)) rest (i.2 k) in
-    let rests : (k : ℕ) → IfSome (slice_get (yielded ++ s ∷ after) k) (λ s. (known_by s.pass).job ≡ None) = λ k. subst (λ l. IfSome (slice_get (yielded ++ l) k) (λ s. (known_by s.pass).job ≡ None)) rest (i.3 k) in
+    let rests : (k : ℕ) → IfSome (slice_get (yielded ++ s ∷ after) k) (λ s. (known_by s.pass).job ≡ None) = λ k.
+    subst (λ l. IfSome (slice_get (yielded ++ l) k) (λ s. (known_by s.pass).job ≡ None)) rest (i.3 k) in
     let here : s.worker ≡ length yielded = some_middle (λ n s. s.worker ≡ n) yielded s after ranked in
     let none : (known_by s.pass).job ≡ None = some_middle (λ n s. (known_by s.pass).job ≡ None) yielded s after rests in
     let more : length (yielded ++ s ∷ []) ≡ length yielded + 1 = length-append yielded (s ∷ []) in
     let log = (known_by c.args.keeper.now).log in
     let f : ℕ → ℕ = λ w. length (notes_by w log) in
     let share = c.check-seat.result.share in
-    let notes : (known_by s.pass).notes ≡ notes_by (length yielded) log = c.check-seat.ensures.notes ∙ same_notes (known_by c.loop-seat.keeper) (known_by c.args.keeper.now) s.worker (length yielded) i.1 here in
+    let notes : (known_by s.pass).notes ≡ notes_by (length yielded) log = c.check-seat.ensures.notes
+    ∙ same_notes (known_by c.loop-seat.keeper) (known_by c.args.keeper.now) s.worker (length yielded) i.1 here in
     let has : share.amount ≡ f (length yielded) = c.check-seat.result.counted ∙ ap (λ (v : SeatView). length v.notes) c.check-seat.ensures.view ∙ ap length notes in
     let one = c.check-seat.result.part in (
       c.check-seat.ensures.of,
@@ -50,7 +52,13 @@ loop-seat-preserved g c =
           (last_of k (length yielded) (length (yielded ++ s ∷ [])) more l)),
       (λ h.
           let own : weigh h (jobs_in (known_by s.pass).notes) ≡ weigh h (jobs_in (notes_by (length yielded) log)) = ap (λ (l : List (ℕ × ℕ)). weigh h (jobs_in l)) notes in
-          omega (arith, own, i.8 h, sum_over_snoc (λ s. weigh h (jobs_in (known_by s.pass).notes)) yielded s, sum_more (length yielded) (length (yielded ++ s ∷ [])) (λ w. weigh h (jobs_in (notes_by w log))) more)),
+          omega (
+            arith,
+            own,
+            i.8 h,
+            sum_over_snoc (λ s. weigh h (jobs_in (known_by s.pass).notes)) yielded s,
+            sum_more (length yielded) (length (yielded ++ s ∷ [])) (λ w. weigh h (jobs_in (notes_by w log))) more,
+          )),
       append_assoc yielded (s ∷ []) after ∙ ap (λ l. yielded ++ l) (sym rest) ∙ i.9,
     )
 

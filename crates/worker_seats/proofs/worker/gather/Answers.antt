@@ -29,7 +29,8 @@ loop-worker-preserved g c =
           ap (λ (v : QueueView). weigh h v.popped) rule ∙ weigh-append h (view c.loop-worker.pass).popped (view w.pass).popped in
           let own : weigh h (view w.pass).popped ≡ weigh h (jobs_in (known_by w.seat.pass).notes) = ap (weigh h) w.popped in
           omega (arith, both, own, i.4 h, sum_over_snoc (λ w. weigh h (jobs_in (known_by w.seat.pass).notes)) yielded w)),
-      c.push_reserved.ensures.items ∙ ap (λ l. l ++ w.seat ∷ []) i.5 ∙ append_assoc c.args.seats.now.items _ (w.seat ∷ []) ∙ ap (λ l. c.args.seats.now.items ++ l) (sym (map_snoc (λ w. w.seat) yielded w)),
+      c.push_reserved.ensures.items ∙ ap (λ l. l ++ w.seat ∷ []) i.5 ∙ append_assoc c.args.seats.now.items _ (w.seat ∷ [])
+          ∙ ap (λ l. c.args.seats.now.items ++ l) (sym (map_snoc (λ w. w.seat) yielded w)),
       omega (arith, c.push_reserved.ensures.len, i.6, fewer),
       c.push_reserved.ensures.capacity ∙ i.7,
     )

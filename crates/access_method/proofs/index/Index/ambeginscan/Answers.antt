@@ -7,8 +7,10 @@ use Rattle.access_method.proofs.index.Index.ambeginscan.Goals as goal
 pub invariant_of-self-2 : goal.invariant_of-self-2
 invariant_of-self-2 g c = record {
   sessions = c.open.ensures.others.sessions ∙ c.args.self.now.sessions;
-  agree = agree_taken c.args.self.now.calls.slots.items c.open.new.calls.slots.items c.args.self.now.seats c.in-Some.at c.args.self.now.agree (search rules) c.open.ensures.others.others (record { number = c.args.self.now.given; is_refused = false }) c.in-Some.ensures.low;
-  none_vacuums = calm_still c.args.self.now.calls.slots.items c.open.new.calls.slots.items c.in-Some.at c.args.self.now.none_vacuums c.open.ensures.others.others (ap slot_vacuums (rw c.in_ok-open.was at c.open.ensures.begins));
+  agree = agree_taken c.args.self.now.calls.slots.items c.open.new.calls.slots.items c.args.self.now.seats c.in-Some.at c.args.self.now.agree
+      (search rules) c.open.ensures.others.others (record { number = c.args.self.now.given; is_refused = false }) c.in-Some.ensures.low;
+  none_vacuums = calm_still c.args.self.now.calls.slots.items c.open.new.calls.slots.items c.in-Some.at c.args.self.now.none_vacuums
+      c.open.ensures.others.others (ap slot_vacuums (rw c.in_ok-open.was at c.open.ensures.begins));
 }
 
 -- a free seat's session has no call, so that nothing hinders a scan there
@@ -16,4 +18,5 @@ pub returns-in_err-open : goal.returns-in_err-open
 returns-in_err-open g c =
     let self = c.args.self.now in
     absurd (may_begin g.S.PageStore self.store self.store self.calls.slots.items c.in-Some.at c.in_err-open.field-0.0 (is_at_end self.given)
-    (sym c.is_at_end.ensures.value ∙ c.if-is_at_end.false) refl refl (search rules) (self.agree.free c.in-Some.at c.in-Some.ensures.free) (one_vacuums self.calls.slots.items) [] c.args.range c.in_err-open.ensures.cause)
+    (sym c.is_at_end.ensures.value ∙ c.if-is_at_end.false) refl refl (search rules) (self.agree.free c.in-Some.at c.in-Some.ensures.free)
+    (one_vacuums self.calls.slots.items) [] c.args.range c.in_err-open.ensures.cause)

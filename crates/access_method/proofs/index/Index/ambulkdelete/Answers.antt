@@ -1,6 +1,6 @@
 use Rattle.access_method.proofs.Refusals.{swept_cause, calm_slots, finishes, frames_stay}
-use Rattle.access_method.specs.Refusals.{where_run}
-use Rattle.whole_calls.specs.Refusing.{where_called, where_gone}
+use Rattle.access_method.specs.Refusals.{causes_of_run}
+use Rattle.whole_calls.specs.Refusing.{causes_of_called, causes_of_gone}
 use Rattle.session_calls.specs.declared.request.Request.TheVariants.{Bulk as ToBulk}
 use Rattle.index_model.specs.Faults.{HasCause}
 use Rattle.std.specs.Prelude.{[], IfOk, IfErr}
@@ -11,12 +11,12 @@ use Rattle.index_model.specs.Row.{Row}
 use Rattle.index_model.specs.declared.entry.Entry.{Entry}
 use Rattle.schedule.specs.TheoremMoments.{snapshot_of}
 use Rattle.schedule.specs.TheoremRuns.{Fits}
-use Rattle.schedule.specs.Snapshots.{here_with}
-use Rattle.schedule.specs.TheoremRuns.{Carries}
+use Rattle.schedule.specs.MomentInvariants.{here_with}
+use Rattle.schedule.specs.TheoremRuns.{ForEachHistory}
 use Rattle.schedule.proofs.Unused.{fits_with, no_set_runs}
 use Rattle.whole_calls.specs.Going.{CallGoes}
 use Rattle.whole_calls.specs.Made.{IsMadeOf, ComesTo}
-use Rattle.whole_calls.specs.Sweeping.{SweepTold, swept_came, TellsEntries, TellsPages}
+use Rattle.whole_calls.specs.Sweeping.{SweepTold, sweep_outcome, TellsEntries, TellsPages}
 use Rattle.session_calls.specs.declared.request.Request.TheVariants.{Bulk as ToBulk}
 use Rattle.access_method.specs.Indexes.{slots_within, slots_with, IndexFits}
 use Rattle.access_method.proofs.Sweeps.{swept_or_less, none_sweeps, safe_within}
@@ -26,27 +26,38 @@ use Rattle.access_method.proofs.index.Index.ambulkdelete.Goals as goal
 
 -- the run over the one set
 goes : (g : Over) (c : After-bulk_delete g)
-    → CallGoes g.S.PageStore 63 (SweepTold 63 (ToBulk 0) c.bulk_delete.result) (swept_came c.bulk_delete.result) (slots_with (g.T.DeadRows.is_in c.args.dead.now) c.args.self.now) (here_with c.bulk_delete.new.store c.bulk_delete.new.calls.slots.items (g.T.DeadRows.is_in c.args.dead.now ∷ []))
-goes g c = subst (λ (l : List (Row → Bool)). CallGoes g.S.PageStore 63 (SweepTold 63 (ToBulk 0) c.bulk_delete.result) (swept_came c.bulk_delete.result) (here_with c.args.self.now.store c.args.self.now.calls.slots.items l) (here_with c.bulk_delete.new.store c.bulk_delete.new.calls.slots.items l))
+    → CallGoes g.S.PageStore 63 (SweepTold 63 (ToBulk 0) c.bulk_delete.result) (sweep_outcome c.bulk_delete.result)
+    (slots_with (g.T.DeadRows.is_in c.args.dead.now) c.args.self.now) (here_with c.bulk_delete.new.store c.bulk_delete.new.calls.slots.items (g.T.DeadRows.is_in c.args.dead.now ∷ []))
+goes g c = subst (λ (l : List (Row → Bool)).
+    CallGoes g.S.PageStore 63 (SweepTold 63 (ToBulk 0) c.bulk_delete.result) (sweep_outcome c.bulk_delete.result)
+    (here_with c.args.self.now.store c.args.self.now.calls.slots.items l) (here_with c.bulk_delete.new.store c.bulk_delete.new.calls.slots.items l))
     refl c.bulk_delete.ensures.goes
 
 counted : (g : Over) (c : After-bulk_delete g)
-    → Carries g.S.PageStore (slots_with (g.T.DeadRows.is_in c.args.dead.now) c.args.self.now) (here_with c.bulk_delete.new.store c.bulk_delete.new.calls.slots.items (g.T.DeadRows.is_in c.args.dead.now ∷ [])) (λ start history calls.
+    → ForEachHistory g.S.PageStore (slots_with (g.T.DeadRows.is_in c.args.dead.now) c.args.self.now)
+    (here_with c.bulk_delete.new.store c.bulk_delete.new.calls.slots.items (g.T.DeadRows.is_in c.args.dead.now ∷ [])) (λ start history calls.
     TellsEntries (g.S.PageStore.state c.bulk_delete.new.store) c.bulk_delete.result)
-counted g c = subst (λ (l : List (Row → Bool)). Carries g.S.PageStore (here_with c.args.self.now.store c.args.self.now.calls.slots.items l) (here_with c.bulk_delete.new.store c.bulk_delete.new.calls.slots.items l) (λ start history calls.
+counted g c = subst (λ (l : List (Row → Bool)).
+    ForEachHistory g.S.PageStore (here_with c.args.self.now.store c.args.self.now.calls.slots.items l) (here_with c.bulk_delete.new.store c.bulk_delete.new.calls.slots.items l) (λ start history calls.
     TellsEntries (g.S.PageStore.state c.bulk_delete.new.store) c.bulk_delete.result))
     refl c.bulk_delete.ensures.entries
 
 pages_told : (g : Over) (c : After-bulk_delete g)
-    → Carries g.S.PageStore (slots_with (g.T.DeadRows.is_in c.args.dead.now) c.args.self.now) (here_with c.bulk_delete.new.store c.bulk_delete.new.calls.slots.items (g.T.DeadRows.is_in c.args.dead.now ∷ [])) (λ start history calls.
+    → ForEachHistory g.S.PageStore (slots_with (g.T.DeadRows.is_in c.args.dead.now) c.args.self.now)
+    (here_with c.bulk_delete.new.store c.bulk_delete.new.calls.slots.items (g.T.DeadRows.is_in c.args.dead.now ∷ [])) (λ start history calls.
     IfOk c.bulk_delete.result (λ stats. TellsPages (g.S.PageStore.state c.bulk_delete.new.store) stats × (stats.pages_newly_deleted ≡ 0)))
-pages_told g c = subst (λ (l : List (Row → Bool)). Carries g.S.PageStore (here_with c.args.self.now.store c.args.self.now.calls.slots.items l) (here_with c.bulk_delete.new.store c.bulk_delete.new.calls.slots.items l) (λ start history calls.
+pages_told g c = subst
+    (λ (l : List (Row → Bool)).
+    ForEachHistory g.S.PageStore (here_with c.args.self.now.store c.args.self.now.calls.slots.items l)
+    (here_with c.bulk_delete.new.store c.bulk_delete.new.calls.slots.items l) (λ start history calls.
     IfOk c.bulk_delete.result (λ stats. TellsPages (g.S.PageStore.state c.bulk_delete.new.store) stats × (stats.pages_newly_deleted ≡ 0))))
     refl c.bulk_delete.ensures.stats
 
 pub returns-clause-made : goal.returns-clause-made
 returns-clause-made g c =
-    subst (λ (l : List (Row → Bool)). IsMadeOf g.S.PageStore 63 5 (ComesTo (swept_came c.bulk_delete.result)) (here_with c.args.self.now.store c.args.self.now.calls.slots.items l) (here_with c.bulk_delete.new.store c.bulk_delete.new.calls.slots.items l))
+    subst (λ (l : List (Row → Bool)).
+    IsMadeOf g.S.PageStore 63 5 (ComesTo (sweep_outcome c.bulk_delete.result))
+    (here_with c.args.self.now.store c.args.self.now.calls.slots.items l) (here_with c.bulk_delete.new.store c.bulk_delete.new.calls.slots.items l))
     refl c.bulk_delete.ensures.made
 
 -- what fitted fits with the set
@@ -65,7 +76,8 @@ returns-clause-sweeps g c honest start history calls fits =
     let behind = snapshot_of (here_with c.bulk_delete.new.store c.bulk_delete.new.calls.slots.items (dead ∷ [])) r.then_history r.then_calls in
     record {
       sweeps = r;
-      fits = fits_with g.S.PageStore start behind [] (none_sweeps c.args.self.now.calls.slots.items c.bulk_delete.new.calls.slots.items c.bulk_delete.ensures.others.others (c.bulk_delete.ensures.over c.args.self.now.agree.inserts)
+      fits = fits_with g.S.PageStore start behind []
+          (none_sweeps c.args.self.now.calls.slots.items c.bulk_delete.new.calls.slots.items c.bulk_delete.ensures.others.others (c.bulk_delete.ensures.over c.args.self.now.agree.inserts)
           (no_set_runs g.S.PageStore start now refl fits)) r.ran.fits;
       safe = λ keeps. safe_within g.S.PageStore start now behind (dead ∷ []) [] r.ran.crash keeps;
     }
@@ -76,18 +88,26 @@ returns-clause-deletes g c honest start history calls fits =
     let dead = g.T.DeadRows.is_in c.args.dead.now in
     let then_fits = fits_then g after start history calls fits in
     let r = goes g after honest start history calls then_fits in
-    swept_or_less g.S.PageStore dead (slots_with dead c.args.self.now) (here_with c.bulk_delete.new.store c.bulk_delete.new.calls.slots.items (dead ∷ [])) refl start history calls then_fits c.bulk_delete.result r (counted g after honest start history calls then_fits)
+    swept_or_less g.S.PageStore dead (slots_with dead c.args.self.now)
+    (here_with c.bulk_delete.new.store c.bulk_delete.new.calls.slots.items (dead ∷ [])) refl start history calls then_fits c.bulk_delete.result r
+    (counted g after honest start history calls then_fits)
     (pages_told g after honest start history calls then_fits)
 
 -- why it is refused
 caused : (g : Over) (c : After-bulk_delete g) → length c.args.self.now.calls.slots.items ≡ 64
-    → Carries g.S.PageStore (slots_within c.args.self.now) (here_with c.bulk_delete.new.store c.bulk_delete.new.calls.slots.items []) (λ start history calls. IfErr c.bulk_delete.result (HasCause (where_run g.S.PageStore 63 c.args.self.now c.bulk_delete.new.store)))
+    → ForEachHistory g.S.PageStore (slots_within c.args.self.now) (here_with c.bulk_delete.new.store c.bulk_delete.new.calls.slots.items [])
+    (λ start history calls. IfErr c.bulk_delete.result (HasCause (causes_of_run g.S.PageStore 63 c.args.self.now c.bulk_delete.new.store)))
 caused g c slots honest start history calls fits =
     let dead = g.T.DeadRows.is_in c.args.dead.now in
-    let why = subst (λ (l : List (Row → Bool)). Carries g.S.PageStore (here_with c.args.self.now.store c.args.self.now.calls.slots.items l) (here_with c.bulk_delete.new.store c.bulk_delete.new.calls.slots.items l) (λ start history calls.
-    IfErr c.bulk_delete.result (HasCause (where_called g.S.PageStore 63 (ToBulk 0) (here_with c.args.self.now.store c.args.self.now.calls.slots.items l) (where_gone g.S.PageStore 63 5 false (here_with c.args.self.now.store c.args.self.now.calls.slots.items l) c.bulk_delete.new.store)))))
+    let why = subst (λ (l : List (Row → Bool)).
+    ForEachHistory g.S.PageStore (here_with c.args.self.now.store c.args.self.now.calls.slots.items l)
+    (here_with c.bulk_delete.new.store c.bulk_delete.new.calls.slots.items l) (λ start history calls.
+    IfErr c.bulk_delete.result
+    (HasCause (causes_of_called g.S.PageStore 63 (ToBulk 0) (here_with c.args.self.now.store c.args.self.now.calls.slots.items l)
+    (causes_of_gone g.S.PageStore 63 5 false (here_with c.args.self.now.store c.args.self.now.calls.slots.items l) c.bulk_delete.new.store)))))
     refl c.bulk_delete.ensures.cause in
-    swept_cause g.S.PageStore dead c.args.self.now c.bulk_delete.new.store c.args.self.now.agree.inserts slots (calm_slots c.args.self.now.calls.slots.items c.args.self.now.none_vacuums) c.bulk_delete.result
+    swept_cause g.S.PageStore dead c.args.self.now c.bulk_delete.new.store c.args.self.now.agree.inserts slots
+    (calm_slots c.args.self.now.calls.slots.items c.args.self.now.none_vacuums) c.bulk_delete.result
     (why honest start history calls (fits_then g c start history calls fits))
 
 pub returns-clause-cause : goal.returns-clause-cause
@@ -97,5 +117,8 @@ pub returns-clause-finishes : goal.returns-clause-finishes
 returns-clause-finishes g c honest start history calls fits un =
     let after = (goal.at.returns-clause-finishes g c).After-bulk_delete in
     let dead = g.T.DeadRows.is_in c.args.dead.now in
-    let same = frames_stay g.S.PageStore 63 _ _ (slots_with dead c.args.self.now) (here_with c.bulk_delete.new.store c.bulk_delete.new.calls.slots.items (dead ∷ [])) start history calls (goes g after honest start history calls (fits_then g after start history calls fits)) in
-    finishes g.S.PageStore 63 c.args.self.now c.bulk_delete.new.store c.bulk_delete.result un same (caused g ((goal.at.returns-clause-finishes g c).After-bulk_delete) (search rules) honest start history calls fits)
+    let same = frames_stay g.S.PageStore 63 _ _ (slots_with dead c.args.self.now)
+    (here_with c.bulk_delete.new.store c.bulk_delete.new.calls.slots.items (dead ∷ [])) start history calls
+    (goes g after honest start history calls (fits_then g after start history calls fits)) in
+    finishes g.S.PageStore 63 c.args.self.now c.bulk_delete.new.store c.bulk_delete.result un same
+    (caused g ((goal.at.returns-clause-finishes g c).After-bulk_delete) (search rules) honest start history calls fits)

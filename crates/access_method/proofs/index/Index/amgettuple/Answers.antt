@@ -2,7 +2,7 @@ use Rattle.access_method.proofs.Refusals.{give_cause, run_unhindered, frames_sta
 use Rattle.std.specs.Prelude.{[]}
 use Rattle.std.proofs.Common.{true, false, Ok, Some, sym, ◌∙◌}
 use Rattle.schedule.specs.TheoremMoments.{snapshot_of}
-use Rattle.schedule.specs.Snapshots.{here_with}
+use Rattle.schedule.specs.MomentInvariants.{here_with}
 use Rattle.whole_calls.proofs.Tellings.{runs_has_call, true_false}
 use Rattle.access_method.specs.Indexes.{slots_within}
 use Rattle.access_method.proofs.Results.{gives_right}
@@ -56,7 +56,8 @@ returns-then-seat-clause-tokens g c is_open = absurd (not_refused c.find.result 
 pub returns-then-not-is_running-clause-answers : goal.returns-then-not-is_running-clause-answers
 returns-then-not-is_running-clause-answers g c honest start history calls fits number call range is ask =
     let session = c.args.token.session in
-    absurd (true_false (sym (runs_has_call g.S.PageStore start (snapshot_of (slots_within c.args.self.now) history calls) fits session number call is) ∙ sym c.is_running.ensures.value ∙ c.if-not-is_running.true))
+    absurd (true_false (sym (runs_has_call g.S.PageStore start (snapshot_of (slots_within c.args.self.now) history calls) fits session number call is)
+    ∙ sym c.is_running.ensures.value ∙ c.if-not-is_running.true))
 
 pub returns-in-Ok-clause-runs : goal.returns-in-Ok-clause-runs
 returns-in-Ok-clause-runs g c is_open busy = c.in-Ok.ensures.goes
@@ -80,6 +81,7 @@ returns-in-Err-clause-cause g c seat honest start history calls fits number call
 
 pub returns-in-Err-clause-gives : goal.returns-in-Err-clause-gives
 returns-in-Err-clause-gives g c seat honest start history calls fits number call range is ask un =
-    let same = frames_stay g.S.PageStore c.args.token.session _ _ (slots_within c.args.self.now) (here_with c.give.new.store c.give.new.calls.slots.items []) start history calls (c.in-Err.ensures.goes honest start history calls fits) in
+    let same = frames_stay g.S.PageStore c.args.token.session _ _ (slots_within c.args.self.now)
+    (here_with c.give.new.store c.give.new.calls.slots.items []) start history calls (c.in-Err.ensures.goes honest start history calls fits) in
     absurd (run_unhindered g.S.PageStore c.args.token.session c.args.self.now c.give.new.store un same c.in-Err.fault
     (give_cause g.S.PageStore c.args.token.session c.args.self.now c.give.new.store c.in-Err.fault (c.in-Err.ensures.cause honest start history calls fits number call range is ask)))

@@ -1,5 +1,5 @@
 use Rattle.std.specs.Prelude.{[]}
-use Rattle.schedule.specs.Snapshots.{here_with}
+use Rattle.schedule.specs.MomentInvariants.{here_with}
 use Rattle.access_method.specs.Indexes.{slots_within}
 use Rattle.std.proofs.Common.{rules}
 use Rattle.access_method.proofs.Results.{inserts_or_keeps}
@@ -12,14 +12,21 @@ returns-clause-inserts g c =
 
 pub returns-clause-cause : goal.returns-clause-cause
 returns-clause-cause g c honest start history calls fits =
-    let told = inserts_or_keeps g.S.PageStore c.args.entry c.insert.result (slots_within c.args.self.now) (here_with c.insert.new.store c.insert.new.calls.slots.items []) c.insert.ensures.goes honest start history calls fits in
-    let limits = insert_limits g.S.PageStore c.args.entry c.insert.result (slots_within c.args.self.now) (here_with c.insert.new.store c.insert.new.calls.slots.items []) c.insert.ensures.goes honest start history calls fits in
-    insert_cause g.S.PageStore c.args.self.now c.insert.new.store c.args.self.now.agree.inserts (search rules) c.args.entry limits c.insert.result told (c.insert.ensures.cause honest start history calls fits)
+    let told = inserts_or_keeps g.S.PageStore c.args.entry c.insert.result (slots_within c.args.self.now)
+    (here_with c.insert.new.store c.insert.new.calls.slots.items []) c.insert.ensures.goes honest start history calls fits in
+    let limits = insert_limits g.S.PageStore c.args.entry c.insert.result (slots_within c.args.self.now)
+    (here_with c.insert.new.store c.insert.new.calls.slots.items []) c.insert.ensures.goes honest start history calls fits in
+    insert_cause g.S.PageStore c.args.self.now c.insert.new.store c.args.self.now.agree.inserts (search rules) c.args.entry limits c.insert.result
+    told (c.insert.ensures.cause honest start history calls fits)
 
 pub returns-clause-alone : goal.returns-clause-alone
 returns-clause-alone g c honest start history calls fits un =
-    let told = inserts_or_keeps g.S.PageStore c.args.entry c.insert.result (slots_within c.args.self.now) (here_with c.insert.new.store c.insert.new.calls.slots.items []) c.insert.ensures.goes honest start history calls fits in
-    let limits = insert_limits g.S.PageStore c.args.entry c.insert.result (slots_within c.args.self.now) (here_with c.insert.new.store c.insert.new.calls.slots.items []) c.insert.ensures.goes honest start history calls fits in
-    let same = insert_frames g.S.PageStore c.args.entry c.insert.result (slots_within c.args.self.now) (here_with c.insert.new.store c.insert.new.calls.slots.items []) c.insert.ensures.goes honest start history calls fits in
+    let told = inserts_or_keeps g.S.PageStore c.args.entry c.insert.result (slots_within c.args.self.now)
+    (here_with c.insert.new.store c.insert.new.calls.slots.items []) c.insert.ensures.goes honest start history calls fits in
+    let limits = insert_limits g.S.PageStore c.args.entry c.insert.result (slots_within c.args.self.now)
+    (here_with c.insert.new.store c.insert.new.calls.slots.items []) c.insert.ensures.goes honest start history calls fits in
+    let same = insert_frames g.S.PageStore c.args.entry c.insert.result (slots_within c.args.self.now)
+    (here_with c.insert.new.store c.insert.new.calls.slots.items []) c.insert.ensures.goes honest start history calls fits in
     insert_unhindered g.S.PageStore c.args.entry c.args.self.now c.insert.new.store un same c.insert.result
-    (insert_cause g.S.PageStore c.args.self.now c.insert.new.store c.args.self.now.agree.inserts (search rules) c.args.entry limits c.insert.result told (c.insert.ensures.cause honest start history calls fits))
+    (insert_cause g.S.PageStore c.args.self.now c.insert.new.store c.args.self.now.agree.inserts (search rules) c.args.entry limits c.insert.result
+    told (c.insert.ensures.cause honest start history calls fits))

@@ -2,7 +2,7 @@ use Rattle.std.specs.Prelude.{[]}
 use Rattle.std.proofs.Common.{None, Some, Ok, sym, ◌∙◌, rules}
 use Rattle.page_action.specs.Causes.{is_at_end}
 use Rattle.session_calls.specs.Slots.{one_vacuums}
-use Rattle.schedule.specs.Snapshots.{here_with}
+use Rattle.schedule.specs.MomentInvariants.{here_with}
 use Rattle.session_calls.specs.declared.answer.Answer.TheVariants.{Begun}
 use Rattle.session_calls.specs.declared.request.Request.TheVariants.{Scan as ToScan}
 use Rattle.whole_calls.specs.Telling.{TellsEnd, BeginTold}
@@ -24,4 +24,5 @@ pub returns-in_err-open : goal.returns-in_err-open
 returns-in_err-open g c =
     let self = c.args.self.now in
     absurd (may_begin g.S.PageStore self.store c.give_up.new.store c.give_up.new.calls.slots.items c.args.token.session c.in_err-open.field-0.0 (is_at_end self.given)
-    (sym c.is_at_end.ensures.value ∙ c.if-is_at_end.false) c.give_up.ensures.backing c.give_up.ensures.begun (rw c.give_up.ensures.others.sessions (search rules)) c.give_up.ensures.over (one_vacuums c.give_up.new.calls.slots.items) [] c.args.range c.in_err-open.ensures.cause)
+    (sym c.is_at_end.ensures.value ∙ c.if-is_at_end.false) c.give_up.ensures.backing c.give_up.ensures.begun
+    (rw c.give_up.ensures.others.sessions (search rules)) c.give_up.ensures.over (one_vacuums c.give_up.new.calls.slots.items) [] c.args.range c.in_err-open.ensures.cause)

@@ -1,7 +1,7 @@
 use Rattle.std.specs.Prelude.{[]}
 use Rattle.std.proofs.Common.{rules}
 use Rattle.schedule.specs.TheoremMoments.{snapshot_of}
-use Rattle.schedule.specs.Snapshots.{here_with}
+use Rattle.schedule.specs.MomentInvariants.{here_with}
 use Rattle.access_method.specs.Indexes.{slots_within}
 use Rattle.access_method.proofs.Cleanups.{cleaned_up}
 use Rattle.access_method.proofs.Refusals.{all_alone, calm_slots, cleaned_cause, finishes, frames_stay}
@@ -10,7 +10,8 @@ use Rattle.access_method.proofs.index.Index.amvacuumcleanup.Goals as goal
 pub returns-clause-cleans : goal.returns-clause-cleans
 returns-clause-cleans g c honest start history calls fits =
     let r = c.clean_up.ensures.goes honest start history calls fits in
-    cleaned_up g.S.PageStore (slots_within c.args.self.now) (here_with c.clean_up.new.store c.clean_up.new.calls.slots.items []) start history calls fits c.clean_up.result r (c.clean_up.ensures.entries honest start history calls fits)
+    cleaned_up g.S.PageStore (slots_within c.args.self.now) (here_with c.clean_up.new.store c.clean_up.new.calls.slots.items []) start history calls
+    fits c.clean_up.result r (c.clean_up.ensures.entries honest start history calls fits)
     (c.clean_up.ensures.deleted honest start history calls fits) (c.clean_up.ensures.stats honest start history calls fits)
 
 pub returns-clause-spares : goal.returns-clause-spares
@@ -23,11 +24,14 @@ returns-clause-spares g c honest start history calls fits calm =
 pub returns-clause-cause : goal.returns-clause-cause
 returns-clause-cause g c honest start history calls fits =
     let index = c.args.self.now in
-    cleaned_cause g.S.PageStore index c.clean_up.new.store index.agree.inserts (search rules) (calm_slots index.calls.slots.items index.none_vacuums) c.clean_up.result (c.clean_up.ensures.cause honest start history calls fits)
+    cleaned_cause g.S.PageStore index c.clean_up.new.store index.agree.inserts (search rules) (calm_slots index.calls.slots.items index.none_vacuums)
+    c.clean_up.result (c.clean_up.ensures.cause honest start history calls fits)
 
 pub returns-clause-finishes : goal.returns-clause-finishes
 returns-clause-finishes g c honest start history calls fits un =
     let index = c.args.self.now in
-    let same = frames_stay g.S.PageStore 63 _ _ (slots_within index) (here_with c.clean_up.new.store c.clean_up.new.calls.slots.items []) start history calls (c.clean_up.ensures.goes honest start history calls fits) in
+    let same = frames_stay g.S.PageStore 63 _ _ (slots_within index) (here_with c.clean_up.new.store c.clean_up.new.calls.slots.items []) start
+    history calls (c.clean_up.ensures.goes honest start history calls fits) in
     finishes g.S.PageStore 63 index c.clean_up.new.store c.clean_up.result un same
-    (cleaned_cause g.S.PageStore index c.clean_up.new.store index.agree.inserts (search rules) (calm_slots index.calls.slots.items index.none_vacuums) c.clean_up.result (c.clean_up.ensures.cause honest start history calls fits))
+    (cleaned_cause g.S.PageStore index c.clean_up.new.store index.agree.inserts (search rules) (calm_slots index.calls.slots.items index.none_vacuums)
+    c.clean_up.result (c.clean_up.ensures.cause honest start history calls fits))

@@ -20,5 +20,6 @@ returns-clause-met c =
       room = omega (arith, old.room, c.push_reserved.ensures.capacity);
       distinct = subst AreDistinct (sym items) (distinct_more xs c.args.block old.distinct c.requires.unmet);
       in_use = λ b i. inside_more (λ n. (0 < n) × (n < c.args.used)) xs c.args.block old.in_use (c.requires.after_meta, c.requires.in_use) b (subst (IsIn b) items i);
-      marked = λ b. subst (λ (l : List ℕ). (get_or (slice_set c.args.self.now.marks.items c.args.block true) b false ≡ true) ↔ IsIn b l) (sym items) (marked_more c.args.self.now.marks.items xs c.args.block (omega (arith, c.requires.in_use, old.size)) old.marked b);
+      marked = λ b. subst (λ (l : List ℕ). (get_or (slice_set c.args.self.now.marks.items c.args.block true) b false ≡ true) ↔ IsIn b l) (sym items)
+          (marked_more c.args.self.now.marks.items xs c.args.block (omega (arith, c.requires.in_use, old.size)) old.marked b);
     }

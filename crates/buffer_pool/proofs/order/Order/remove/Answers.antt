@@ -34,7 +34,8 @@ invariant_of-self-clause-whole c = λ block.
 pub returns-clause-waiting : goal.returns-clause-waiting
 unfolding waiting_in
 returns-clause-waiting c =
-    removed c.args.self.now.blocks.keys c.args.self.now.first c.args.self.now.count c.args.place c.args.self.now.within (less (goal.at.returns-clause-waiting c).Start) c.move_index.new.self.keys c.move_index.ensures.keys
+    removed c.args.self.now.blocks.keys c.args.self.now.first c.args.self.now.count c.args.place c.args.self.now.within
+    (less (goal.at.returns-clause-waiting c).Start) c.move_index.new.self.keys c.move_index.ensures.keys
 
 pub returns-clause-width : goal.returns-clause-width
 unfolding width_of

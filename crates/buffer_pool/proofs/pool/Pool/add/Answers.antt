@@ -2,7 +2,7 @@ use Rattle.std.proofs.Common.{◌+◌, ◌++◌, ◌∷◌, ◌∙◌, ap, [], �
 use Rattle.page_codec.specs.declared.page.Page.{Page}
 use Rattle.buffer_pool.specs.Orders.{waiting_in}
 use Rattle.buffer_pool.specs.Frames.{blocks_in, ArePlaces, AreChanged}
-use Rattle.buffer_pool.specs.Pools.{count_of, reach_of}
+use Rattle.buffer_pool.specs.Pools.{pool_count, reach_of}
 use Rattle.buffer_pool.proofs.Putting.{pushed_placed, pushed_changed, pushed_put}
 use Rattle.buffer_pool.proofs.pool.Pool.add.Goals as goal
 
@@ -25,7 +25,7 @@ invariant_of-self-clause-ordered c =
     (pushed_changed pool c.args.page.now (c.len.result + 1) (omega arith) c.requires.absent c.requires.reach))
 
 pub returns : goal.returns
-unfolding count_of reach_of
+unfolding pool_count reach_of
 returns c =
     pushed_put c.args.self.now c.args.page.now (c.len.result + 1) (omega arith) c.requires.absent c.requires.reach
     _ refl (c.push_reserved.ensures.items ∙ ap (λ (p : Page). c.args.self.now.pages.items ++ p ∷ []) c.copy.ensures) c.push_reserved-2.ensures.items refl refl

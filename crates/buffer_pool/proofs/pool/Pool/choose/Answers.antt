@@ -1,12 +1,12 @@
 use Rattle.std.proofs.Common.{◌∙◌, refl, sym, arith}
-use Rattle.buffer_pool.specs.Pools.{most_of, count_of}
+use Rattle.buffer_pool.specs.Pools.{most_of, pool_count}
 use Rattle.buffer_pool.proofs.Putting.{same_changes}
 use Rattle.buffer_pool.proofs.Noting.{same_pages, pages_both, changes_both}
 use Rattle.buffer_pool.proofs.Sound.{unused_free, free_stays, oldest_at, oldest_is, none_free}
 use Rattle.buffer_pool.proofs.pool.Pool.choose.Goals as goal
 
 pub returns-then-held-self-clause-choice : goal.returns-then-held-self-clause-choice
-unfolding count_of
+unfolding pool_count
 returns-then-held-self-clause-choice c = record {
   free = unused_free c.args.self.now c.args.pinned.now c.len-held.result (omega arith) c.if-held-self.true;
   unused = λ some. omega arith;
@@ -17,7 +17,7 @@ unfolding most_of
 overflow_add-self c = omega (arith, c.in-Some.ensures.found.taken.within)
 
 pub returns-in-Some-clause-choice : goal.returns-in-Some-clause-choice
-unfolding most_of count_of
+unfolding most_of pool_count
 returns-in-Some-clause-choice c = record {
   free = free_stays c.free_frame.new.self _ c.args.pinned.now c.in-Some.at
       (same_pages c.free_frame.new.self _ refl refl refl) (same_changes c.free_frame.new.self _ refl (λ b. refl)) c.in-Some.ensures.found;
@@ -37,14 +37,14 @@ act-requires c = record {
 }
 
 pub returns-in-Some-unpinned_place-clause-choice : goal.returns-in-Some-unpinned_place-clause-choice
-unfolding most_of count_of
+unfolding most_of pool_count
 returns-in-Some-unpinned_place-clause-choice c =
     oldest_is c.free_frame.new.self c.args.pinned.now c.as_slice.result.now c.in-Some-unpinned_place.place c.block_at-block.result c.act.result
     c.as_slice.ensures (sym c.unpinned_place.ensures ∙ c.in-Some-unpinned_place.is) c.block_at-block.ensures c.act.ensures.act
     (omega (arith, c.free_frame.ensures.pages.most, c.free_frame.ensures.pages.count)) c.in_default.ensures.none
 
 pub returns-in-None-clause-choice : goal.returns-in-None-clause-choice
-unfolding most_of count_of
+unfolding most_of pool_count
 returns-in-None-clause-choice c =
     none_free c.free_frame.new.self c.args.pinned.now c.as_slice.result.now c.as_slice.ensures (sym c.unpinned_place.ensures ∙ c.in-None.is)
     (omega (arith, c.free_frame.ensures.pages.most, c.free_frame.ensures.pages.count)) c.in_default.ensures.none

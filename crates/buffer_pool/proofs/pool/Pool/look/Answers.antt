@@ -1,11 +1,11 @@
 use Rattle.std.proofs.Common.{refl, arith}
-use Rattle.buffer_pool.specs.Pools.{count_of}
+use Rattle.buffer_pool.specs.Pools.{pool_count}
 use Rattle.buffer_pool.proofs.Putting.{same_changes}
 use Rattle.buffer_pool.proofs.Noting.{same_pages}
 use Rattle.buffer_pool.proofs.pool.Pool.look.Goals as goal
 
 pub index_mut-requires : goal.index_mut-requires
-unfolding count_of
+unfolding pool_count
 index_mut-requires c = omega (arith, c.in-Some.ensures.within, c.args.self.now.many_looked)
 
 pub returns-in-Some-clause-pages : goal.returns-in-Some-clause-pages

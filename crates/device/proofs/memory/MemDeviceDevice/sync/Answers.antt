@@ -15,7 +15,8 @@ pub invariant_of-self-2 : goal.invariant_of-self-2
 invariant_of-self-2 c =
     let m = c.args.self.now in
     subst (λ (p : Past). AreDone p.start p.calls c.settle.new.firm.items m.bytes.items (writes_of c.settle.new.since.items)) (sym c.sync.ensures)
-    (synced_done m.past.start m.past.calls m.firm.items m.bytes.items c.settle.new.firm.items (writes_of m.since.items) (writes_of c.settle.new.since.items) c.settle.ensures.firm (ap writes_of c.settle.ensures.since)
+    (synced_done m.past.start m.past.calls m.firm.items m.bytes.items c.settle.new.firm.items (writes_of m.since.items)
+    (writes_of c.settle.new.since.items) c.settle.ensures.firm (ap writes_of c.settle.ensures.since)
     (record { replayed = m.replayed; inside = m.inside; sized = m.sized; small = m.small; firm_is = m.firm_is; since_is = m.since_is }))
 
 pub returns-clause-trace : goal.returns-clause-trace

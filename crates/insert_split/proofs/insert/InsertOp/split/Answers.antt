@@ -11,7 +11,7 @@ use Rattle.tree_shape.specs.Edits.{LeafHalves}
 use Rattle.tree_shape.specs.Nodes.{Node, node_of}
 use Rattle.insert_split.specs.declared.insert.InsertAt.TheVariants.{Finishing}
 use Rattle.insert_split.specs.declared.insert.InsertOp.{InsertOp}
-use Rattle.descent.specs.Shared.{fresh_block, where_acting, where_working}
+use Rattle.descent.specs.Shared.{fresh_block, causes_of_acting, causes_of_working}
 use Rattle.descent.specs.Splitting.{if_read, mended_to}
 use Rattle.descent.proofs.Working.{working_later, act_cause, fresh_is}
 use Rattle.insert_split.specs.Inserts.{blocks_halved}
@@ -35,7 +35,7 @@ returns-in-Err-take_block-clause-cause g c honest room fits pinned =
     let beside : List ℕ = blocks_halved st c.args.page.now.right in
     let images : List ℕ = c.args.page.now.block ∷ beside in
     working_later st first second third session images (length beside) true false c.in-Err-take_block.fault later.failures c.in-Ok.ensures.alive c.read_right.ensures.room.promised
-    (subst (λ (s : State). HasCause (where_working s second third session images (length beside) true false) c.in-Err-take_block.fault) same
+    (subst (λ (s : State). HasCause (causes_of_working s second third session images (length beside) true false) c.in-Err-take_block.fault) same
     (c.in-Err-take_block.ensures.cause (subst (λ (s : State). HasRoom s.table session) (sym same) room) images (length beside) false))
 
 pub returns-in-Ok-act_on_halves-clause-splits : goal.returns-in-Ok-act_on_halves-clause-splits
@@ -55,7 +55,8 @@ returns-in-Ok-act_on_halves-clause-splits g c =
     let found = rw parted.pages_are at c.in-Some.ensures.target in
     let block : c.in-Some.target.block ≡ c.args.page.now.block = found.0 ∙ left_block in
     let later : IsLater (g.S.PageStore.backing c.read_right.new.store) (g.S.PageStore.backing c.unpin.new.self) =
-    g.met.S.PageStore.laws.follows_later _ _ (c.unpin.ensures.steps _ (c.release.ensures.steps _ (c.act_on_halves.ensures.steps _ (c.take_block.ensures.steps _ (g.met.S.PageStore.laws.follows_same _))))) in
+    g.met.S.PageStore.laws.follows_later _ _
+    (c.unpin.ensures.steps _ (c.release.ensures.steps _ (c.act_on_halves.ensures.steps _ (c.take_block.ensures.steps _ (g.met.S.PageStore.laws.follows_same _))))) in
     record {
       left = left;
       half = half;
@@ -73,7 +74,8 @@ returns-in-Ok-act_on_halves-clause-splits g c =
       may = subst (λ (s : State). AreActable s.limits (length s.pages) changed) same (c.in-Ok-act_on_halves.ensures.may left half c.read_right.new.page parted.pages_are);
       state = c.unpin.ensures.state
           ∙ ap (λ (s : State). with_table s (unpinned s.table session c.in-Some.target.block)) (c.release.ensures.state
-          ∙ ap (λ (s : State). with_table s (released s.table session c.in-Some.target.block)) (c.in-Ok-act_on_halves.ensures.done left half c.read_right.new.page parted.pages_are ∙ ap (after_act changed) same))
+          ∙ ap (λ (s : State). with_table s (released s.table session c.in-Some.target.block))
+          (c.in-Ok-act_on_halves.ensures.done left half c.read_right.new.page parted.pages_are ∙ ap (after_act changed) same))
           ∙ ap (λ (b : ℕ). with_table (after_act changed st) (unpinned (released st.table session b) session b)) block;
       target = c.in-Some.target;
       block_is = block;
@@ -114,15 +116,16 @@ returns-in-Err-act_on_halves-clause-cause g c honest room fits pinned =
     parted.left_layout parted.half_layout parted.left_page parted.half_page parted.left_leaf parted.half_leaf
     parted.kept
     parted.moved left_block fresh block c.in-Ok.ensures.stored in
-    let why : HasCause (where_acting st second third changed) c.in-Err-act_on_halves.fault =
-    subst (λ (b : Backing). HasCause (where_acting st b third changed) c.in-Err-act_on_halves.fault) c.take_block.ensures.backing
-    (subst (λ (s : State). HasCause (where_acting s (g.S.PageStore.backing c.take_block.new.store) third changed) c.in-Err-act_on_halves.fault) same
+    let why : HasCause (causes_of_acting st second third changed) c.in-Err-act_on_halves.fault =
+    subst (λ (b : Backing). HasCause (causes_of_acting st b third changed) c.in-Err-act_on_halves.fault) c.take_block.ensures.backing
+    (subst (λ (s : State). HasCause (causes_of_acting s (g.S.PageStore.backing c.take_block.new.store) third changed) c.in-Err-act_on_halves.fault) same
     (c.in-Err-act_on_halves.ensures.cause left half c.read_right.new.page parted.pages_are (subst (λ (s : State). AreActable s.limits (length s.pages) changed) (sym same) may))) in
     let later : IsLater first second = g.met.S.PageStore.laws.follows_later _ _ (c.read_right.ensures.steps _ (g.met.S.PageStore.laws.follows_same _)) in
     let beside : List ℕ = blocks_halved st c.args.page.now.right in
     let are : map (λ (page : Page). page.block) changed ≡ c.args.page.now.block ∷ beside = halved_are st session c.args.page.now.block (fresh_block st) left half c.args.page.now.right right left_block
     (sym (fresh_is st half.block fresh)) c.in-Ok.ensures.stored in
-    act_cause st first second third session (c.args.page.now.block ∷ beside) (length beside) true false changed c.in-Err-act_on_halves.fault later.failures c.in-Ok.ensures.alive c.read_right.ensures.room.promised
+    act_cause st first second third session (c.args.page.now.block ∷ beside) (length beside) true false changed c.in-Err-act_on_halves.fault
+    later.failures c.in-Ok.ensures.alive c.read_right.ensures.room.promised
     are (frames_beside st c.args.page.now.block beside (map (λ (page : Page). page.block) changed) are pinned) why
 
 pub returns-in-None-clause-cause : goal.returns-in-None-clause-cause

@@ -35,7 +35,8 @@ stored : (g : Over) (c : After-view-page g) → IsStored (g.S.PageStore.state c.
 stored g c = subst (λ (st : State). IsStored st.limits c.args.way.block c.view-page.result.now) c.look.ensures.state c.view-page.ensures.stored
 
 -- ... and the one in use, where the device kept its model
-found : (g : Over) (c : After-view-page g) → (g.S.PageStore.backing c.look.new.store).honest ≡ true → slice_get (g.S.PageStore.state c.args.store.now).pages c.args.way.block ≡ Some c.view-page.result.now
+found : (g : Over) (c : After-view-page g) → (g.S.PageStore.backing c.look.new.store).honest ≡ true
+    → slice_get (g.S.PageStore.state c.args.store.now).pages c.args.way.block ≡ Some c.view-page.result.now
 found g c honest = subst (λ (st : State). slice_get st.pages c.args.way.block ≡ Some c.view-page.result.now) c.look.ensures.state (c.view-page.ensures.page honest)
 
 pub returns-in-Err-clause-all : goal.returns-in-Err-clause-all
@@ -50,8 +51,11 @@ returns-in-Err-clause-all g c =
 
 pub returns-then-is_unfinished-clause-all : goal.returns-then-is_unfinished-clause-all
 returns-then-is_unfinished-clause-all g c =
-    meets g.S.PageStore c.args.self.now c.meet.new.self c.args.store.now c.look.new.store c.view-page.result.now c.args.way c.meet.result c.look.ensures.steps c.look.ensures.state c.requires.alive c.requires.at
-    c.meet.ensures.meets (c.if-is_unfinished.ensures.live refl) (c.if-is_unfinished.ensures.flagged refl) (stored g (goal.at.returns-then-is_unfinished-clause-all g c).After-view-page).storable.admitted (stored g (goal.at.returns-then-is_unfinished-clause-all g c).After-view-page).block_is (found g (goal.at.returns-then-is_unfinished-clause-all g c).After-view-page)
+    meets g.S.PageStore c.args.self.now c.meet.new.self c.args.store.now c.look.new.store c.view-page.result.now c.args.way c.meet.result
+    c.look.ensures.steps c.look.ensures.state c.requires.alive c.requires.at
+    c.meet.ensures.meets (c.if-is_unfinished.ensures.live refl) (c.if-is_unfinished.ensures.flagged refl)
+    (stored g (goal.at.returns-then-is_unfinished-clause-all g c).After-view-page).storable.admitted
+    (stored g (goal.at.returns-then-is_unfinished-clause-all g c).After-view-page).block_is (found g (goal.at.returns-then-is_unfinished-clause-all g c).After-view-page)
 
 pub returns-in-Some-Going-clause-all : goal.returns-in-Some-Going-clause-all
 returns-in-Some-Going-clause-all g c =
@@ -62,11 +66,16 @@ returns-in-Some-Going-clause-all g c =
     let most : c.limits.result.pages ≡ st.limits.pages = ap (λ (l : Limits). l.pages) c.limits.ensures.value ∙ ap (λ (s : State). s.limits.pages) c.look.ensures.state in
     let shorter : IsShorter 0 c.limits.result.pages c.args.way on = subst (LeavesLess 0 c.limits.result.pages c.args.way) result c.lead.ensures.less in
     let less : way_left st.limits.pages on < way_left st.limits.pages c.args.way = way_shortens 0 st.limits.pages c.args.way on (subst (λ (n : ℕ). IsShorter 0 n c.args.way on) most shorter) in
-    rw c.come_to.ensures (subst (λ (w : Way). InsertSteps g.S.PageStore op (record { session = op.session; entry = op.entry; at = Coming (At w); added = op.added }) c.args.store.now c.look.new.store (Ok InsertGoing)) (sym c.in-Some-Going.on-is)
-    (goes_on g.S.PageStore op (record { session = op.session; entry = op.entry; at = Coming (At on); added = op.added }) c.args.store.now c.look.new.store c.look.ensures.steps c.look.ensures.state refl refl c.requires.alive
+    rw c.come_to.ensures
+    (subst (λ (w : Way).
+    InsertSteps g.S.PageStore op (record { session = op.session; entry = op.entry; at = Coming (At w); added = op.added }) c.args.store.now
+    c.look.new.store (Ok InsertGoing)) (sym c.in-Some-Going.on-is)
+    (goes_on g.S.PageStore op (record { session = op.session; entry = op.entry; at = Coming (At on); added = op.added }) c.args.store.now
+    c.look.new.store c.look.ensures.steps c.look.ensures.state refl refl c.requires.alive
     (λ honest. subst (λ (a : InsertAt). insert_left st.limits.pages st.pages (Coming (At on)) < insert_left st.limits.pages st.pages a) (sym c.requires.at) (omega (arith, less)))
     (λ honest order fits.
-    let led_on = led st op c.args.way c.view-page.result.now c.bound.result c.limits.result.pages c.lead.result c.requires.at order fits (found g (goal.at.returns-in-Some-Going-clause-all g c).After-view-page honest) (stored g (goal.at.returns-in-Some-Going-clause-all g c).After-view-page).storable.admitted
+    let led_on = led st op c.args.way c.view-page.result.now c.bound.result c.limits.result.pages c.lead.result c.requires.at order fits
+    (found g (goal.at.returns-in-Some-Going-clause-all g c).After-view-page honest) (stored g (goal.at.returns-in-Some-Going-clause-all g c).After-view-page).storable.admitted
     (c.if-is_unfinished.ensures.whole refl) c.bound.ensures (subst (λ (n : ℕ). length st.pages ≤ n) (sym most) c.in-Ok.ensures.inside) c.lead.ensures.goes in
     let stands = on_way st op c.args.way c.requires.at fits in
     record {
@@ -84,7 +93,8 @@ returns-in-Some-Going-clause-all g c =
     let covers : HasCover st c.args.way.level (bound_aim c.bound.result) c.args.way.block =
     subst (λ (b : Bound). HasCover st c.args.way.level (bound_aim b) c.args.way.block) (sym c.bound.ensures) (subst (IsStraight st op.entry) c.requires.at on_way_there) in
     let led_straight : LeadsStraight st (bound_aim c.bound.result) 0 c.args.way (Some (Going on)) =
-    subst (LeadsStraight st (bound_aim c.bound.result) 0 c.args.way) result (c.lead.ensures.straight st order.tree whole (found g (goal.at.returns-in-Some-Going-clause-all g c).After-view-page honest) covers) in (
+    subst (LeadsStraight st (bound_aim c.bound.result) 0 c.args.way) result
+    (c.lead.ensures.straight st order.tree whole (found g (goal.at.returns-in-Some-Going-clause-all g c).After-view-page honest) covers) in (
       subst (λ (b : Bound). HasCover st on.level (bound_aim b) on.block) c.bound.ensures led_straight.1,
       subst (λ (a : InsertAt). suc (on.level + 2) ≡ straight_steps st.pages a) (sym c.requires.at) (let z = led_straight.0 in omega (arith, z)),
     ))))
@@ -96,21 +106,26 @@ returns-else-not-may_hold-clause-all g c =
     let result : c.lead.result ≡ Some Here = c.in-Some-Here.is ∙ ap Some c.in-Some-Here.field-0-is in
     let arrived = c.lead.ensures.here result in
     let most : c.limits.result.pages ≡ st.limits.pages = ap (λ (l : Limits). l.pages) c.limits.ensures.value ∙ ap (λ (s : State). s.limits.pages) c.look.ensures.state in
-    let later : IsLater (g.S.PageStore.backing c.look.new.store) (g.S.PageStore.backing c.take.new.store) = g.met.S.PageStore.laws.follows_later _ _ (c.take.ensures.steps _ (g.met.S.PageStore.laws.follows_same _)) in
+    let later : IsLater (g.S.PageStore.backing c.look.new.store) (g.S.PageStore.backing c.take.new.store) =
+    g.met.S.PageStore.laws.follows_later _ _ (c.take.ensures.steps _ (g.met.S.PageStore.laws.follows_same _)) in
     let block_is : c.view-page.result.now.block ≡ c.args.way.block = (stored g (goal.at.returns-else-not-may_hold-clause-all g c).After-view-page).block_is in
     takes g.S.PageStore op c.take.new.self c.args.store.now c.look.new.store c.take.new.store c.view-page.result.now c.args.way c.take.result
     (λ first h. c.take.ensures.steps first (c.look.ensures.steps first h)) c.look.ensures.state c.take.ensures.backing c.requires.alive c.requires.at
     (λ fits. subst (λ (b : ℕ). Takes b op c.take.new.self (g.S.PageStore.state c.look.new.store) (g.S.PageStore.state c.take.new.store) c.take.result) (sym block_is)
     (c.take.ensures.takes (subst (λ (s : State). HasRoom s.table op.session) (sym c.look.ensures.state) (room_free st op.session (on_way st op c.args.way c.requires.at fits).0))))
-    (λ going. subst (λ (b : ℕ). (g.S.PageStore.state c.take.new.store ≡ with_table (g.S.PageStore.state c.look.new.store) (pinned (latched (g.S.PageStore.state c.look.new.store).table op.session b Exclusive) op.session b))
+    (λ going. subst (λ (b : ℕ).
+    (g.S.PageStore.state c.take.new.store ≡ with_table (g.S.PageStore.state c.look.new.store) (pinned (latched (g.S.PageStore.state c.look.new.store).table op.session b Exclusive) op.session b))
     × (c.take.new.self ≡ record { session = op.session; entry = op.entry; at = Coming (Holds b); added = op.added })) (sym block_is) (on_ok c.take.result InsertGoing _ c.take.ensures.taken going))
     (λ fault failed. (on_err c.take.result fault _ c.take.ensures.state failed, on_err c.take.result fault _ c.take.ensures.op failed))
     (λ action unfinished added. only_going c.take.result action unfinished c.take.ensures.going added)
-    (stored g (goal.at.returns-else-not-may_hold-clause-all g c).After-view-page).block_is (stored g (goal.at.returns-else-not-may_hold-clause-all g c).After-view-page).storable.admitted arrived.alive (c.if-is_unfinished.ensures.whole refl arrived.alive)
+    (stored g (goal.at.returns-else-not-may_hold-clause-all g c).After-view-page).block_is
+    (stored g (goal.at.returns-else-not-may_hold-clause-all g c).After-view-page).storable.admitted arrived.alive (c.if-is_unfinished.ensures.whole refl arrived.alive)
     (subst (λ (b : Bound). is_within (bound_aim b) c.view-page.result.now.high ≡ true) c.bound.ensures arrived.within)
     (λ honest. found g (goal.at.returns-else-not-may_hold-clause-all g c).After-view-page (later.honest honest))
     (λ honest order fits.
-    let led_on = led st op c.args.way c.view-page.result.now c.bound.result c.limits.result.pages c.lead.result c.requires.at order fits (found g (goal.at.returns-else-not-may_hold-clause-all g c).After-view-page (later.honest honest)) (stored g (goal.at.returns-else-not-may_hold-clause-all g c).After-view-page).storable.admitted
+    let led_on = led st op c.args.way c.view-page.result.now c.bound.result c.limits.result.pages c.lead.result c.requires.at order fits
+    (found g (goal.at.returns-else-not-may_hold-clause-all g c).After-view-page (later.honest honest))
+    (stored g (goal.at.returns-else-not-may_hold-clause-all g c).After-view-page).storable.admitted
     (c.if-is_unfinished.ensures.whole refl) c.bound.ensures (subst (λ (n : ℕ). length st.pages ≤ n) (sym most) c.in-Ok.ensures.inside) c.lead.ensures.goes in
     (subst (LeadsOnward st fits.start (entry_aim op.entry) true 0 c.args.way) result led_on).0)
 
@@ -127,7 +142,9 @@ returns-then-not-may_hold-clause-all g c =
     let admitted = (stored g (goal.at.returns-then-not-may_hold-clause-all g c).After-view-page).storable.admitted in
     let led_on = led st op c.args.way c.view-page.result.now c.bound.result c.limits.result.pages c.lead.result c.requires.at order fits there admitted
     (c.if-is_unfinished.ensures.whole refl) c.bound.ensures (subst (λ (n : ℕ). length st.pages ≤ n) (sym most) c.in-Ok.ensures.inside) c.lead.ensures.goes in
-    let may : MayHold c.view-page.result.now op.entry = may_be_held st op c.view-page.result.now c.args.way c.requires.at order fits (stored g (goal.at.returns-then-not-may_hold-clause-all g c).After-view-page).block_is admitted arrived.alive (c.if-is_unfinished.ensures.whole refl arrived.alive)
+    let may : MayHold c.view-page.result.now op.entry =
+    may_be_held st op c.view-page.result.now c.args.way c.requires.at order fits
+    (stored g (goal.at.returns-then-not-may_hold-clause-all g c).After-view-page).block_is admitted arrived.alive (c.if-is_unfinished.ensures.whole refl arrived.alive)
     (subst (λ (b : Bound). is_within (bound_aim b) c.view-page.result.now.high ≡ true) c.bound.ensures arrived.within) there
     (subst (LeadsOnward st fits.start (entry_aim op.entry) true 0 c.args.way) result led_on).0 in
     let k : false ≡ true = c.if-not-may_hold.ensures.1 may in absurd cc)
@@ -139,6 +156,7 @@ returns-in-None-clause-all g c =
     let most : c.limits.result.pages ≡ st.limits.pages = ap (λ (l : Limits). l.pages) c.limits.ensures.value ∙ ap (λ (s : State). s.limits.pages) c.look.ensures.state in
     refuses g.S.PageStore op c.args.store.now c.look.new.store _ c.look.ensures.steps c.look.ensures.state c.requires.alive
     (λ honest order fits.
-    let led_on = led st op c.args.way c.view-page.result.now c.bound.result c.limits.result.pages c.lead.result c.requires.at order fits (found g (goal.at.returns-in-None-clause-all g c).After-view-page honest) (stored g (goal.at.returns-in-None-clause-all g c).After-view-page).storable.admitted
+    let led_on = led st op c.args.way c.view-page.result.now c.bound.result c.limits.result.pages c.lead.result c.requires.at order fits
+    (found g (goal.at.returns-in-None-clause-all g c).After-view-page honest) (stored g (goal.at.returns-in-None-clause-all g c).After-view-page).storable.admitted
     (c.if-is_unfinished.ensures.whole refl) c.bound.ensures (subst (λ (n : ℕ). length st.pages ≤ n) (sym most) c.in-Ok.ensures.inside) c.lead.ensures.goes in
     absurd (subst (LeadsOnward st fits.start (entry_aim op.entry) true 0 c.args.way) c.in-None.is led_on))

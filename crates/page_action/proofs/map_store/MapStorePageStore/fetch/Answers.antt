@@ -1,6 +1,6 @@
 use Rattle.std.proofs.Common.{inl, inr, ap, sym, ◌∙◌, arith}
 use Rattle.std.proofs.lemmas.Option.{slice_get_cases}
-use Rattle.page_action.specs.Frames.{is_among, blocks_of}
+use Rattle.page_action.specs.Frames.{is_block_among, blocks_of}
 use Rattle.page_action.proofs.StoredPages.{stored_page}
 use Rattle.page_action.proofs.Framing.{among_own}
 use Rattle.page_action.proofs.map_store.MapStorePageStore.fetch.Goals as goal
@@ -10,7 +10,7 @@ returns-clause-in_memory c =
     let store = c.args.self.now in
     elim (slice_get_cases store.pages.items c.args.block).1 [
       | inl there ↦
-          ap (is_among (blocks_of store.pages.items)) (sym (stored_page store.limits c.args.block store.pages.items there.0 store.stored there.2).block_is)
+          ap (is_block_among (blocks_of store.pages.items)) (sym (stored_page store.limits c.args.block store.pages.items there.0 store.stored there.2).block_is)
           ∙ among_own store.pages.items c.args.block there.0 there.2
       | inr past ↦ absurd (omega (arith, past.0))
     ]

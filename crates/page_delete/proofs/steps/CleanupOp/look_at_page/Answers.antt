@@ -7,6 +7,7 @@ use Rattle.page_delete.proofs.steps.CleanupOp.look_at_page.Goals as goal
 pub returns-clause-all : goal.returns-clause-all
 returns-clause-all g c =
     let old = g.S.PageStore.state c.args.store.now in
-    looks g.S.PageStore c.args.self.now c.turn_at.new.self c.args.store.now c.look.new.store c.view.result.now c.requires.at c.requires.alive c.look.ensures.steps c.look.ensures.state c.requires.inside
+    looks g.S.PageStore c.args.self.now c.turn_at.new.self c.args.store.now c.look.new.store c.view.result.now c.requires.at c.requires.alive
+    c.look.ensures.steps c.look.ensures.state c.requires.inside
     (subst (λ (st : State). IsStored st.limits c.args.self.now.cursor c.view.result.now) c.look.ensures.state c.view.ensures.stored)
     (λ honest. subst (λ (st : State). slice_get st.pages c.args.self.now.cursor ≡ Some c.view.result.now) c.look.ensures.state (c.view.ensures.page honest)) c.turn_at.ensures

@@ -3,8 +3,8 @@ use Rattle.index_model.specs.declared.limits.Limits.{Limits}
 use Rattle.page_action.specs.States.{State}
 use Rattle.descent.specs.Onward.{LeavesLess}
 use Rattle.index_model.specs.Faults.{HasCause}
-use Rattle.page_delete.specs.Cleanups.{IsUnderway}
-use Rattle.page_delete.specs.Needs.{blocks_written, where_trying}
+use Rattle.page_delete.specs.Cleanups.{CleanupIsUnderway}
+use Rattle.page_delete.specs.Needs.{blocks_written, causes_of_trying}
 use Rattle.page_delete.specs.declared.steps.CleanupAt.{CleanupAt}
 use Rattle.page_delete.proofs.Siblings.{trail_in_use}
 use Rattle.page_delete.proofs.Stepping.{descends, refuses, working_cause, has_room}
@@ -15,11 +15,12 @@ returns-in-Err-clause-all g c =
     let old = g.S.PageStore.state c.args.store.now in
     refuses g.S.PageStore c.args.self.now c.args.store.now c.look.new.store c.in-Err.fault c.look.ensures.steps c.look.ensures.state (λ h. absurd (clash (sym c.requires.alive ∙ h)))
     (λ honest order fits.
-    let u = subst (IsUnderway old fits.start c.args.self.now.cursor) c.requires.at fits.at in
+    let u = subst (CleanupIsUnderway old fits.start c.args.self.now.cursor) c.requires.at fits.at in
     working_cause old (g.S.PageStore.backing c.args.store.now) (g.S.PageStore.backing c.look.new.store) c.args.self.now c.in-Err.fault
     (let none : [] ≡ blocks_written c.args.self.now.at c.args.self.now.cursor old = ap (λ (a : CleanupAt). blocks_written a c.args.self.now.cursor old) (sym c.requires.at) in
-    subst (λ (n : List ℕ). HasCause (where_trying old (g.S.PageStore.backing c.args.store.now) (g.S.PageStore.backing c.look.new.store) c.args.self.now.session n) c.in-Err.fault) none
-    (c.in-Err.ensures.works honest (has_room old c.args.self.now fits) (trail_in_use old fits.start c.args.way.level c.args.way.block c.args.way.moves order.tree u.1.trail) [] 1 false false (omega arith))))
+    subst (λ (n : List ℕ). HasCause (causes_of_trying old (g.S.PageStore.backing c.args.store.now) (g.S.PageStore.backing c.look.new.store) c.args.self.now.session n) c.in-Err.fault) none
+    (c.in-Err.ensures.works honest (has_room old c.args.self.now fits)
+    (trail_in_use old fits.start c.args.way.level c.args.way.block c.args.way.moves order.tree u.1.trail) [] 1 false false (omega arith))))
   where
     clash : false ≡ true → ⊥
     clash e = cc
@@ -28,7 +29,8 @@ pub returns-clause-all : goal.returns-clause-all
 returns-clause-all g c =
     let old = g.S.PageStore.state c.args.store.now in
     let most : c.limits-most.result.pages ≡ old.limits.pages = ap (λ (l : Limits). l.pages) c.limits-most.ensures.value ∙ ap (λ (s : State). s.limits.pages) c.look.ensures.state in
-    descends g.S.PageStore c.args.self.now c.turn_from_page.new.self c.args.high c.args.way c.args.store.now c.look.new.store c.lead-onward.result c.turn_from_page.result c.requires.at c.requires.alive
+    descends g.S.PageStore c.args.self.now c.turn_from_page.new.self c.args.high c.args.way c.args.store.now c.look.new.store c.lead-onward.result
+    c.turn_from_page.result c.requires.at c.requires.alive
     c.look.ensures.steps c.look.ensures.state c.if-way-eq0.false
     (subst (λ (n : ℕ). LeavesLess 1 n c.args.way c.lead-onward.result) most c.lead-onward.ensures.less)
     (λ honest start order way. c.lead-onward.ensures.goes old start false order.tree

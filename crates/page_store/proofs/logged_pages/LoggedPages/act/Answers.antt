@@ -51,7 +51,8 @@ stored : (g : Over) (c : After-note g) → AreStored c.args.self.now.limits 0 (w
     × (length (with_pages (pages_now c.args.self.now.history) c.args.pages.now) ≤ c.args.self.now.limits.pages)
 stored g c =
     let held = c.args.self.now in
-    stored-with_pages held.limits (length (pages_now held.history)) (pages_now held.history) c.args.pages.now c.requires.actable (omega arith) held.stored (subst (λ (n : ℕ). n ≤ held.limits.pages) held.used_is held.few)
+    stored-with_pages held.limits (length (pages_now held.history)) (pages_now held.history) c.args.pages.now c.requires.actable (omega arith)
+    held.stored (subst (λ (n : ℕ). n ≤ held.limits.pages) held.used_is held.few)
 
 used : (g : Over) (c : After-note g) → c.used_after-self.result ≡ length (with_pages (pages_now c.args.self.now.history) c.args.pages.now)
 used g c =

@@ -53,11 +53,13 @@ returns-clause-rest g c = close_rest g (goal.at.returns-clause-rest g c).After-c
 -- what waits in the log
 home_waits : (g : Over) (c : After-write_all g) → WaitsOn c.args.self.now.acts (backing_of (held_of g.D.Device c.args.self.now)) (backing_of (held_of g.D.Device c.write_all.new.self))
 home_waits g c =
-    waits_same c.args.self.now.acts (backing_of (held_of g.D.Device c.args.self.now)) (backing_of (held_of g.D.Device c.force.new.self)) (backing_of (held_of g.D.Device c.write_all.new.self)) c.force.ensures.waits (ap waiting_blocks c.write_all.ensures.log) c.write_all.ensures.durable
+    waits_same c.args.self.now.acts (backing_of (held_of g.D.Device c.args.self.now)) (backing_of (held_of g.D.Device c.force.new.self))
+    (backing_of (held_of g.D.Device c.write_all.new.self)) c.force.ensures.waits (ap waiting_blocks c.write_all.ensures.log) c.write_all.ensures.durable
 
 close_waits : (g : Over) (c : After-close g) → WaitsOn c.args.self.now.acts (backing_of (held_of g.D.Device c.args.self.now)) (backing_of (held_of g.D.Device c.close.new.self))
 close_waits g c =
-    waits_same c.args.self.now.acts (backing_of (held_of g.D.Device c.args.self.now)) (backing_of (held_of g.D.Device c.write_all.new.self)) (backing_of (held_of g.D.Device c.close.new.self)) (home_waits g (goal.at.After-close g c).After-write_all) c.close.ensures.waiting c.close.ensures.durable
+    waits_same c.args.self.now.acts (backing_of (held_of g.D.Device c.args.self.now)) (backing_of (held_of g.D.Device c.write_all.new.self))
+    (backing_of (held_of g.D.Device c.close.new.self)) (home_waits g (goal.at.After-close g c).After-write_all) c.close.ensures.waiting c.close.ensures.durable
 
 pub returns-in_err-write_all-clause-waits : goal.returns-in_err-write_all-clause-waits
 returns-in_err-write_all-clause-waits g c = home_waits g (goal.at.returns-in_err-write_all-clause-waits g c).After-write_all

@@ -51,7 +51,8 @@ invariant_of-self g c =
       used_is = held.used_is;
       few = held.few;
       reach = held.reach;
-      holds = holds_logged held.limits (pages_now held.history) held.acts held.pool _ (g.D.Device.trace held.device).now (g.D.Device.trace c.reset.new.device).now held.holds _ c.reset.ensures.honest (only g (goal.at.invariant_of-self g c).After-reset);
+      holds = holds_logged held.limits (pages_now held.history) held.acts held.pool _ (g.D.Device.trace held.device).now
+          (g.D.Device.trace c.reset.new.device).now held.holds _ c.reset.ensures.honest (only g (goal.at.invariant_of-self g c).After-reset);
       counted = search rules;
       not_ahead = held.not_ahead;
       forced = search rules;
@@ -74,7 +75,8 @@ invariant_of-self-2-clause-log_limits g c = c.reset.ensures.same.limits ∙ c.ar
 pub invariant_of-self-2-clause-holds : goal.invariant_of-self-2-clause-holds
 invariant_of-self-2-clause-holds g c =
     let held = c.args.self.now in
-    holds_logged held.limits (pages_now held.history) held.acts held.pool _ (g.D.Device.trace held.device).now (g.D.Device.trace c.reset.new.device).now held.holds _ c.reset.ensures.honest (only g (goal.at.invariant_of-self-2-clause-holds g c).After-reset)
+    holds_logged held.limits (pages_now held.history) held.acts held.pool _ (g.D.Device.trace held.device).now
+    (g.D.Device.trace c.reset.new.device).now held.holds _ c.reset.ensures.honest (only g (goal.at.invariant_of-self-2-clause-holds g c).After-reset)
 
 pub returns-clause-steps : goal.returns-clause-steps
 returns-clause-steps g c =
@@ -89,6 +91,7 @@ returns-clause-room g c =
     let limits = c.reset.ensures.same.limits ∙ own.log_limits in
     let bytes : 6 ≤ (limits_of c.reset.new.self).log_bytes = subst (λ (l : Format). 6 ≤ l.log_bytes) (sym limits) (omega (arith, own.allowed.log_from)) in
     let whole : c.room-self.result ≡ whole_room own.limits =
-    whole_left c.reset.new.self c.room-self.result (λ n. omega (arith, c.in_ok-reset.ensures.room n, own.forced c.requires.alive c.requires.all)) c.room-self.ensures.fit c.room-self.ensures.no_more bytes
+    whole_left c.reset.new.self c.room-self.result (λ n. omega (arith, c.in_ok-reset.ensures.room n, own.forced c.requires.alive c.requires.all))
+    c.room-self.ensures.fit c.room-self.ensures.no_more bytes
     ∙ ap whole_room limits in
     record { room = whole; promised = whole }

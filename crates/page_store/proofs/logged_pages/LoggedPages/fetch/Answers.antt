@@ -1,5 +1,5 @@
 use Rattle.std.proofs.Common.{◌≡◌, ℕ, None, subst, ap, ◌∙◌}
-use Rattle.buffer_pool.specs.Pools.{IsPut, frame_of, blocks_of}
+use Rattle.buffer_pool.specs.Pools.{IsPut, frame_of, pool_blocks}
 use Rattle.buffer_pool.specs.declared.pool.Pool.{Pool}
 use Rattle.page_store.specs.Quiet.{IsQuiet}
 use Rattle.page_store.specs.Taking.{CostsFrame, GetsFrame}
@@ -34,7 +34,7 @@ pub returns-in_err-read-clause-frame : goal.returns-in_err-read-clause-frame
 returns-in_err-read-clause-frame g c =
     let here = (goal.at.returns-in_err-read-clause-frame g c).After-read in
     gets_none g.D.Device c.args.pinned.now c.args.block c.args.self.now c.read.new.self c.law.ensures (none g here) (cost_read g here)
-    (ap blocks_of c.read.ensures.pool ∙ c.free_frame.ensures.same.blocks)
+    (ap pool_blocks c.read.ensures.pool ∙ c.free_frame.ensures.same.blocks)
 
 pub returns-clause-quiet : goal.returns-clause-quiet
 returns-clause-quiet g c =

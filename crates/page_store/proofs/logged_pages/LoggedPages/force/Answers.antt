@@ -35,7 +35,8 @@ invariant_of-self g c =
       used_is = held.used_is;
       few = held.few;
       reach = held.reach;
-      holds = holds_logged held.limits _ held.acts held.pool _ (g.D.Device.trace held.device).now (g.D.Device.trace c.force.new.device).now held.holds _ c.force.ensures.honest (only g (goal.at.invariant_of-self g c).After-force);
+      holds = holds_logged held.limits _ held.acts held.pool _ (g.D.Device.trace held.device).now (g.D.Device.trace c.force.new.device).now held.holds
+          _ c.force.ensures.honest (only g (goal.at.invariant_of-self g c).After-force);
       counted = search rules;
       not_ahead = held.not_ahead;
       forced = search rules;
@@ -48,7 +49,8 @@ invariant_of-self g c =
 pub invariant_of-self-then-self-clause-holds : goal.invariant_of-self-then-self-clause-holds
 invariant_of-self-then-self-clause-holds g c =
     let held = c.args.self.now in
-    holds_logged held.limits _ held.acts held.pool _ (g.D.Device.trace held.device).now (g.D.Device.trace c.force.new.device).now held.holds _ c.force.ensures.honest (only g (goal.at.invariant_of-self-then-self-clause-holds g c).After-force)
+    holds_logged held.limits _ held.acts held.pool _ (g.D.Device.trace held.device).now (g.D.Device.trace c.force.new.device).now held.holds _
+    c.force.ensures.honest (only g (goal.at.invariant_of-self-then-self-clause-holds g c).After-force)
 
 pub returns-in_err-force-clause-steps : goal.returns-in_err-force-clause-steps
 returns-in_err-force-clause-steps g c =
@@ -65,7 +67,8 @@ invariant_of-self-then-self-clause-kept_promise g c =
     let held = c.args.self.now in
     let left = c.room.result in
     let most = promise_left held.log c.force.new.self held.limits.log_bytes held.room left (held.fits (sym c.is_stopped.ensures ∙ c.if-is_stopped.false)) (c.in_ok-force.ensures.room (left + 1))
-    (subst (λ (l : Format). l.log_bytes < end_with c.force.new.self (left + 1)) (c.force.ensures.same.limits ∙ held.log_limits) (misfit c.force.new.self (left + 1) (c.room.ensures.no_more (left + 1) (omega arith)))) in
+    (subst (λ (l : Format). l.log_bytes < end_with c.force.new.self (left + 1)) (c.force.ensures.same.limits ∙ held.log_limits)
+    (misfit c.force.new.self (left + 1) (c.room.ensures.no_more (left + 1) (omega arith)))) in
     omega (arith, most, held.new_promise c.if-self.true, c.min-self.ensures)
 
 pub returns-clause-steps : goal.returns-clause-steps

@@ -30,12 +30,14 @@ ahead g c =
     c.write_ahead.ensures.quiet
 
 -- where the act of the first one is durable, the log isn't forced for it
-stays_first : (g : Over) (c : After-write_over g) → c.in-Oldest.act ≤ c.args.self.now.durable → LogStays (backing_of (held_of g.D.Device c.args.self.now)) (backing_of (held_of g.D.Device c.write_over.new.self))
+stays_first : (g : Over) (c : After-write_over g) → c.in-Oldest.act ≤ c.args.self.now.durable
+    → LogStays (backing_of (held_of g.D.Device c.args.self.now)) (backing_of (held_of g.D.Device c.write_over.new.self))
 stays_first g c early =
     let chosen = c.choose-choice in
     stays_both g.D.Device c.args.self.now chosen.new.self c.write_over.new.self
     (stays g.D.Device c.args.self.now chosen.new.self (record { log = chosen.ensures.log; durable = chosen.ensures.durable; room = chosen.ensures.room }) chosen.ensures.quiet.promised)
-    (stays g.D.Device chosen.new.self c.write_over.new.self (c.write_over.ensures.forced (subst (λ (n : ℕ). c.in-Oldest.act ≤ n) (sym chosen.ensures.durable) early)) c.write_over.ensures.quiet.promised)
+    (stays g.D.Device chosen.new.self c.write_over.new.self
+    (c.write_over.ensures.forced (subst (λ (n : ℕ). c.in-Oldest.act ≤ n) (sym chosen.ensures.durable) early)) c.write_over.ensures.quiet.promised)
 
 over : (g : Over) (c : After-write_ahead g) → CostsFrame g.D.Device c.args.pinned.now c.args.self.now c.write_ahead.new.self
 over g c =

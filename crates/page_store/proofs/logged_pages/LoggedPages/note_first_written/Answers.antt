@@ -17,9 +17,11 @@ pub returns-clause-steps : goal.returns-clause-steps
 returns-clause-steps g c =
     let held = c.args.self.now in
     follows_noted (held_of g.D.Device held) _ _ held.limits held.log_limits
-    (first_noted held.limits (pages_now held.history) held.acts held.pool (g.D.Device.is_honest held.device) (g.D.Device.trace held.device).now held.holds c.law.ensures c.note_first_written.new.self c.args.count c.requires.home c.note_first_written.ensures)
+    (first_noted held.limits (pages_now held.history) held.acts held.pool (g.D.Device.is_honest held.device) (g.D.Device.trace held.device).now
+    held.holds c.law.ensures c.note_first_written.new.self c.args.count c.requires.home c.note_first_written.ensures)
 
 pub returns-clause-clean : goal.returns-clause-clean
 returns-clause-clean g c all =
     let held = c.args.self.now in
-    all_clean held.limits (pages_now held.history) held.acts held.pool (g.D.Device.is_honest held.device) (g.D.Device.trace held.device).now held.holds c.law.ensures c.note_first_written.new.self c.args.count c.note_first_written.ensures all
+    all_clean held.limits (pages_now held.history) held.acts held.pool (g.D.Device.is_honest held.device) (g.D.Device.trace held.device).now
+    held.holds c.law.ensures c.note_first_written.new.self c.args.count c.note_first_written.ensures all

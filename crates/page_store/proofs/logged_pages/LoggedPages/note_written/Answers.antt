@@ -25,6 +25,8 @@ returns-clause-quiet g c =
     let pages = pages_now held.history in
     let m = (g.D.Device.trace held.device).now in
     let honest = g.D.Device.is_honest held.device in
-    let noted = written_noted held.limits pages held.acts held.pool honest m held.holds c.law.ensures c.note_written.new.self c.args.place c.args.block c.requires.at c.requires.home c.note_written.ensures in
-    quiet_noted g.D.Device held _ refl refl refl refl refl refl refl (subst (λ xs. IsPartOf xs (changed_of held.pool)) (sym c.note_written.ensures.order) (part_remove (changed_of held.pool) c.args.place))
+    let noted = written_noted held.limits pages held.acts held.pool honest m held.holds c.law.ensures c.note_written.new.self c.args.place
+    c.args.block c.requires.at c.requires.home c.note_written.ensures in
+    quiet_noted g.D.Device held _ refl refl refl refl refl refl refl
+    (subst (λ xs. IsPartOf xs (changed_of held.pool)) (sym c.note_written.ensures.order) (part_remove (changed_of held.pool) c.args.place))
     (follows_noted (held_of g.D.Device held) _ _ held.limits held.log_limits noted)

@@ -34,7 +34,8 @@ returns-clause-quiet g c =
 pub returns-clause-right : goal.returns-clause-right
 returns-clause-right g c =
     let here = (goal.at.returns-clause-right g c).After-read_page in
-    given_right (pages_now c.args.self.now.history) c.args.block (the_page g here).0 c.read_page.new.page (g.D.Device.is_honest c.read_page.new.device) c.read_page.result (the_page g here).1 (gives g here)
+    given_right (pages_now c.args.self.now.history) c.args.block (the_page g here).0 c.read_page.new.page
+    (g.D.Device.is_honest c.read_page.new.device) c.read_page.result (the_page g here).1 (gives g here)
 
 pub returns-clause-honest : goal.returns-clause-honest
 returns-clause-honest g c honest =

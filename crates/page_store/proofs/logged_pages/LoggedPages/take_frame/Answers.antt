@@ -1,5 +1,5 @@
 use Rattle.std.proofs.Common.{◌≡◌, ℕ, None, subst, ap, ◌∙◌}
-use Rattle.buffer_pool.specs.Pools.{IsPut, frame_of, blocks_of}
+use Rattle.buffer_pool.specs.Pools.{IsPut, frame_of, pool_blocks}
 use Rattle.buffer_pool.specs.declared.pool.Pool.{Pool}
 use Rattle.page_store.specs.Quiet.{IsQuiet}
 use Rattle.page_store.specs.Taking.{CostsFrame, GetsFrame}
@@ -21,7 +21,8 @@ none g c = none_of (frame_of c.args.self.now.pool c.args.page.now.block) c.holds
 cost_read : (g : Over) (c : After-read_or_copy g) → CostsFrame g.D.Device c.args.pinned.now c.args.self.now c.read_or_copy.new.self
 cost_read g c =
     let r = c.read_or_copy.ensures in
-    costs_on g.D.Device c.args.pinned.now c.args.self.now c.free_frame.new.self c.read_or_copy.new.self c.free_frame.ensures.cost (changes_same c.free_frame.new.self.pool c.read_or_copy.new.self.pool r.pool)
+    costs_on g.D.Device c.args.pinned.now c.args.self.now c.free_frame.new.self c.read_or_copy.new.self c.free_frame.ensures.cost
+    (changes_same c.free_frame.new.self.pool c.read_or_copy.new.self.pool r.pool)
     (record { log = r.log; durable = r.durable; room = r.room }) r.quiet.promised
 
 put_there : (g : Over) (c : After-put g) → IsPut c.free_frame.new.self.pool c.put.new.self.pool c.in_ok-at.at c.read_or_copy.new.self.decoded.value
@@ -34,7 +35,7 @@ pub returns-in_err-read_or_copy-clause-frame : goal.returns-in_err-read_or_copy-
 returns-in_err-read_or_copy-clause-frame g c =
     let here = (goal.at.returns-in_err-read_or_copy-clause-frame g c).After-read_or_copy in
     gets_none g.D.Device c.args.pinned.now c.args.page.now.block c.args.self.now c.read_or_copy.new.self c.law.ensures (none g here) (cost_read g here)
-    (ap blocks_of c.read_or_copy.ensures.pool ∙ c.free_frame.ensures.same.blocks)
+    (ap pool_blocks c.read_or_copy.ensures.pool ∙ c.free_frame.ensures.same.blocks)
 
 pub returns-clause-quiet : goal.returns-clause-quiet
 returns-clause-quiet g c =
@@ -42,7 +43,8 @@ returns-clause-quiet g c =
 
 pub returns-clause-kept : goal.returns-clause-kept
 returns-clause-kept g c =
-    kept_put c.args.self.now.pool c.free_frame.new.self.pool c.put.new.self.pool c.args.pinned.now c.in_ok-at.at c.read_or_copy.new.self.decoded.value c.free_frame.ensures.same c.in_ok-at.ensures.unpinned
+    kept_put c.args.self.now.pool c.free_frame.new.self.pool c.put.new.self.pool c.args.pinned.now c.in_ok-at.at c.read_or_copy.new.self.decoded.value
+    c.free_frame.ensures.same c.in_ok-at.ensures.unpinned
     (put_there g (goal.at.returns-clause-kept g c).After-put)
 
 pub returns-then-holds-clause-quiet : goal.returns-then-holds-clause-quiet
@@ -57,5 +59,6 @@ returns-clause-frame g c =
     let cost = costs_on g.D.Device c.args.pinned.now c.args.self.now c.read_or_copy.new.self c.put.new.self (cost_read g here.After-read_or_copy) p.pool.changes
     (record { log = p.log; durable = p.durable; room = p.room }) p.quiet.promised in
     subst (λ (b : ℕ). GetsFrame g.D.Device c.args.pinned.now b c.args.self.now c.put.new.self) is
-    (gets_one g.D.Device c.args.pinned.now c.in_ok-at.at c.args.self.now c.free_frame.new.self c.put.new.self page c.law.ensures (ap (frame_of c.args.self.now.pool) is ∙ none g here.After-read_or_copy)
+    (gets_one g.D.Device c.args.pinned.now c.in_ok-at.at c.args.self.now c.free_frame.new.self c.put.new.self page c.law.ensures
+    (ap (frame_of c.args.self.now.pool) is ∙ none g here.After-read_or_copy)
     c.free_frame.ensures.same c.in_ok-at.ensures.free c.in_ok-at.ensures.unpinned c.in_ok-at.ensures.unused (put_there g here.After-put) cost)

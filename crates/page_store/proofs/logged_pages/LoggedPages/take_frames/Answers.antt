@@ -38,12 +38,14 @@ one_more g c =
 pub returns-in_err-take_frame-clause-frames : goal.returns-in_err-take_frame-clause-frames
 returns-in_err-take_frame-clause-frames g c =
     let here = goal.at.returns-in_err-take_frame-clause-frames g c in
-    subst (λ (bs : List ℕ). GetFrames g.D.Device c.args.pinned.now bs c.args.self.now c.take_frame.new.self) (sym (blocks_split c.args.pages.now c.loop-page.page-index c.page-item.result (at g here.After-page-item)))
+    subst (λ (bs : List ℕ). GetFrames g.D.Device c.args.pinned.now bs c.args.self.now c.take_frame.new.self)
+    (sym (blocks_split c.args.pages.now c.loop-page.page-index c.page-item.result (at g here.After-page-item)))
     (gets_rest g.D.Device c.args.pinned.now _ _ c.args.self.now c.take_frame.new.self (one_more g here.After-take_frame))
 
 pub returns-clause-frames : goal.returns-clause-frames
 returns-clause-frames g c =
-    subst (λ (ps : List Page). GetFrames g.D.Device c.args.pinned.now (map (λ p. p.block) ps) c.args.self.now c.loop-page.self) (take_all c.loop-page.page-index c.args.pages.now c.loop-page-test.false) c.loop-page.invariant.frames
+    subst (λ (ps : List Page). GetFrames g.D.Device c.args.pinned.now (map (λ p. p.block) ps) c.args.self.now c.loop-page.self)
+    (take_all c.loop-page.page-index c.args.pages.now c.loop-page-test.false) c.loop-page.invariant.frames
 
 pub take_frame-requires-clause-stored : goal.take_frame-requires-clause-stored
 take_frame-requires-clause-stored g c = (may g (goal.at.take_frame-requires-clause-stored g c).After-page-item).0
@@ -61,11 +63,13 @@ loop-page-preserved g c =
     let here = (goal.at.loop-page-preserved g c).After-page-item in
     record {
       quiet = quiet_both g.D.Device c.args.self.now c.loop-page.self c.take_frame.new.self i.quiet c.take_frame.ensures.quiet;
-      frames = subst (λ (bs : List ℕ). GetFrames g.D.Device c.args.pinned.now bs c.args.self.now c.take_frame.new.self) (sym (blocks_next c.args.pages.now c.loop-page.page-index c.page-item.result (at g here)))
+      frames = subst (λ (bs : List ℕ). GetFrames g.D.Device c.args.pinned.now bs c.args.self.now c.take_frame.new.self)
+          (sym (blocks_next c.args.pages.now c.loop-page.page-index c.page-item.result (at g here)))
           (one_more g (goal.at.loop-page-preserved g c).After-take_frame);
       most = c.take_frame.ensures.kept.most ∙ i.most;
       has = λ k page below found. elim (cases_lt k c.loop-page.page-index) [
-        | inl before ↦ c.take_frame.ensures.kept.kept page.block (all_at (λ (p : Page). has_block c.args.pinned.now p.block ≡ true) c.args.pages.now k page c.requires.pinned found) (i.has k page before found)
+        | inl before ↦ c.take_frame.ensures.kept.kept page.block
+            (all_at (λ (p : Page). has_block c.args.pinned.now p.block ≡ true) c.args.pages.now k page c.requires.pinned found) (i.has k page before found)
         | inr last ↦
             let same : k ≡ c.loop-page.page-index = omega arith in
             let both : Some page ≡ Some c.page-item.result = sym found ∙ (ap (slice_get c.args.pages.now) same ∙ at g here) in

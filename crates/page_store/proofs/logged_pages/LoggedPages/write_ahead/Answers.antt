@@ -57,7 +57,8 @@ pub loop-count-preserved : goal.loop-count-preserved
 loop-count-preserved g c =
     let here = (goal.at.loop-count-preserved g c).After-write_next in
     let i = c.loop-count.invariant in
-    let next = subst (λ (n : ℕ). IsWrittenNext c.args.pinned.now n c.args.place c.loop-count.self.pool c.write_next.new.self.pool) i.durable (c.in_ok-write_next.ensures.written c.if-not-branch.false) in
+    let next = subst (λ (n : ℕ). IsWrittenNext c.args.pinned.now n c.args.place c.loop-count.self.pool c.write_next.new.self.pool) i.durable
+    (c.in_ok-write_next.ensures.written c.if-not-branch.false) in
     record {
       quiet = tried g here;
       same = held g here;

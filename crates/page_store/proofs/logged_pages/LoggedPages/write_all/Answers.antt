@@ -24,4 +24,5 @@ pub returns-in_err-result-clause-rest : goal.returns-in_err-result-clause-rest
 returns-in_err-result-clause-rest g c = rest g (goal.at.returns-in_err-result-clause-rest g c).After-note_first_written
 
 pub returns-clause-rest : goal.returns-clause-rest
-returns-clause-rest g c = subst (λ (p : Pool). IsRestOf (changed_of p) (changed_of c.args.self.now.pool)) (sym c.sync.ensures.same.pool) (rest g (goal.at.returns-clause-rest g c).After-note_first_written)
+returns-clause-rest g c =
+    subst (λ (p : Pool). IsRestOf (changed_of p) (changed_of c.args.self.now.pool)) (sym c.sync.ensures.same.pool) (rest g (goal.at.returns-clause-rest g c).After-note_first_written)

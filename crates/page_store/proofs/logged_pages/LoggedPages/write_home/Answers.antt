@@ -3,7 +3,7 @@ use Rattle.device.specs.Moments.{Goes}
 use Rattle.device.specs.Places.{ChangesOnly}
 use Rattle.device.proofs.Going.{goes_now}
 use Rattle.device.proofs.Standing.{same_only}
-use Rattle.device_layout.specs.Layout.{place}
+use Rattle.page_codec.specs.Places.{place}
 use Rattle.index_model.specs.declared.format.Format.{Format}
 use Rattle.page_store.specs.Logged.{held_of}
 use Rattle.page_store.proofs.Acting.{counts_rise}
@@ -20,13 +20,18 @@ only g c = goes_now _ (g.D.Device.trace c.args.self.now.device) (g.D.Device.trac
 pub invariant_of-self-clause-holds : goal.invariant_of-self-clause-holds
 invariant_of-self-clause-holds g c =
     let held = c.args.self.now in
-    holds_written held.limits _ held.acts held.pool _ (g.D.Device.trace held.device).now (g.D.Device.trace c.write_page.new.device).now held.holds _ c.args.block c.write_page.ensures.honest held.stored c.requires.changed (only g (goal.at.invariant_of-self-clause-holds g c).After-write_page)
+    holds_written held.limits _ held.acts held.pool _ (g.D.Device.trace held.device).now (g.D.Device.trace c.write_page.new.device).now held.holds _
+    c.args.block c.write_page.ensures.honest held.stored c.requires.changed (only g (goal.at.invariant_of-self-clause-holds g c).After-write_page)
 
 pub returns-in-Some-clause-steps : goal.returns-in-Some-clause-steps
 returns-in-Some-clause-steps g c =
     let held = c.args.self.now in
-    follows_written (held_of g.D.Device held) c.args.block (g.D.Device.trace c.write_page.new.device) (g.D.Device.is_honest c.write_page.new.device) (g.D.Device.failures c.write_page.new.device) c.requires.alive c.requires.changed c.requires.durable
-    (subst (λ (l : Format). Goes (ChangesOnly (place l c.args.block) 4096 (g.D.Device.trace held.device).now) (g.D.Device.trace held.device) (g.D.Device.trace c.write_page.new.device)) (sym held.log_limits) c.write_page.ensures.moments) c.write_page.ensures.honest (counts_rise c.write_page.result _ _ c.write_page.ensures.failures)
+    follows_written (held_of g.D.Device held) c.args.block (g.D.Device.trace c.write_page.new.device) (g.D.Device.is_honest c.write_page.new.device)
+    (g.D.Device.failures c.write_page.new.device) c.requires.alive c.requires.changed c.requires.durable
+    (subst (λ (l : Format).
+    Goes (ChangesOnly (place l c.args.block) 4096 (g.D.Device.trace held.device).now) (g.D.Device.trace held.device)
+    (g.D.Device.trace c.write_page.new.device)) (sym held.log_limits) c.write_page.ensures.moments) c.write_page.ensures.honest
+    (counts_rise c.write_page.result _ _ c.write_page.ensures.failures)
 
 pub returns-in-Some-clause-only : goal.returns-in-Some-clause-only
 returns-in-Some-clause-only g c = only g (goal.at.returns-in-Some-clause-only g c).After-write_page

@@ -3,7 +3,7 @@ use Rattle.std.proofs.lemmas.Option.{slice_get-get_or}
 use Rattle.buffer_pool.specs.Frames.{has_block}
 use Rattle.buffer_pool.specs.Pools.{changed_of, IsPool}
 use Rattle.buffer_pool.specs.declared.pool.Pool.{Pool}
-use Rattle.device.specs.Disk.{Moment}
+use Rattle.device.specs.Disk.{DiskMoment}
 use Rattle.index_model.specs.declared.format.Format.{Format}
 use Rattle.page_store.specs.Following.{follows_same}
 use Rattle.page_store.specs.Histories.{pages_now}
@@ -23,7 +23,7 @@ law : (g : Over) (c : After-write_home g) → IsPool c.loop-written.self.pool
 law g c = subst IsPool (sym c.loop-written.invariant.same.pool) c.law.ensures
 
 -- the same under equal limits, of an equal pool
-moved : (l k : Format) (p q : Pool) (count : ℕ) (m : Moment) → l ≡ k → p ≡ q → AreWrittenUpTo l p count m → AreWrittenUpTo k q count m
+moved : (l k : Format) (p q : Pool) (count : ℕ) (m : DiskMoment) → l ≡ k → p ≡ q → AreWrittenUpTo l p count m → AreWrittenUpTo k q count m
 moved l k p q count m same_limits same_pool home =
     subst (λ (x : Pool). AreWrittenUpTo k x count m) same_pool (subst (λ (x : Format). AreWrittenUpTo x p count m) same_limits home)
 
@@ -60,7 +60,8 @@ returns-in_err-write_home-clause-home g c =
     let m = (g.D.Device.trace held.device).now in
     let n = (g.D.Device.trace c.write_home.new.self.device).now in
     moved _ _ _ _ c.loop-written.written n c.loop-written.invariant.same.pages.limits c.loop-written.invariant.same.pool
-    (up_to_same held.limits (pages_now held.history) held.acts held.pool (g.D.Device.is_honest held.device) m held.holds (law g here) n c.loop-written.written c.in-Some.block (at g here) (before g here) c.write_home.ensures.only)
+    (up_to_same held.limits (pages_now held.history) held.acts held.pool (g.D.Device.is_honest held.device) m held.holds (law g here) n
+    c.loop-written.written c.in-Some.block (at g here) (before g here) c.write_home.ensures.only)
 
 pub returns-in_err-write_home-clause-steps : goal.returns-in_err-write_home-clause-steps
 returns-in_err-write_home-clause-steps g c =
@@ -80,7 +81,13 @@ loop-written-preserved g c =
       same = record {
         log = s.log ∙ i.same.log;
         pool = s.pool ∙ i.same.pool;
-        pages = record { limits = s.pages.limits ∙ i.same.pages.limits; history = s.pages.history ∙ i.same.pages.history; used = s.pages.used ∙ i.same.pages.used; acts = s.pages.acts ∙ i.same.pages.acts };
+        pages = record {
+          limits = s.pages.limits ∙ i.same.pages.limits;
+          history = s.pages.history ∙ i.same.pages.history;
+          used = s.pages.used
+              ∙ i.same.pages.used;
+          acts = s.pages.acts ∙ i.same.pages.acts;
+        };
         durable = s.durable ∙ i.same.durable;
         room = record { room = s.room.room ∙ i.same.room.room; promised = s.room.promised ∙ i.same.room.promised };
         honest = s.honest ∙ i.same.honest;
@@ -88,7 +95,8 @@ loop-written-preserved g c =
       few = omega (arith, c.loop-written-test.true, c.changed-count.ensures);
       home = subst (λ (k : ℕ). AreWrittenUpTo c.args.self.now.limits c.args.self.now.pool k n) more
           (moved _ _ _ _ (suc c.loop-written.written) n i.same.pages.limits i.same.pool
-          (up_to_next held.limits (pages_now held.history) held.acts held.pool (g.D.Device.is_honest held.device) m held.holds (law g here) n c.loop-written.written c.in-Some.block (at g here) (before g here)
+          (up_to_next held.limits (pages_now held.history) held.acts held.pool (g.D.Device.is_honest held.device) m held.holds (law g here) n
+          c.loop-written.written c.in-Some.block (at g here) (before g here)
           (λ page found. c.in_ok-write_home.ensures.written page found) c.write_home.ensures.only));
       failures = c.in_ok-write_home.ensures.failures ∙ i.failures;
     }

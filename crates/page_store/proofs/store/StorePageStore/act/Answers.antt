@@ -38,8 +38,10 @@ pages_are : (g : Over) (c : After-note g) → pages_now c.act.new.self.history �
 pages_are g c = c.in_ok-number.ensures.pages ∙ ap (λ (ps : List Page). with_pages ps c.args.pages.now) (same_pages g (goal.at.After-note g c).After-take_frames)
 
 -- the calls after it
-calls_are : (g : Over) (c : After-note g) → c.note.new.self ≡ record c.args.self.now.calls { counted = with_counts c.args.self.now.calls.counted c.args.pages.now; waiting = with_all_waiting c.args.self.now.calls.waiting c.args.pages.now }
-calls_are g c = c.note.ensures ∙ ap (λ (t : TableOfCalls). record t { counted = with_counts t.counted c.args.pages.now; waiting = with_all_waiting t.waiting c.args.pages.now }) c.take_frames.ensures.calls
+calls_are : (g : Over) (c : After-note g)
+    → c.note.new.self ≡ record c.args.self.now.calls { counted = with_counts c.args.self.now.calls.counted c.args.pages.now; waiting = with_all_waiting c.args.self.now.calls.waiting c.args.pages.now }
+calls_are g c = c.note.ensures
+    ∙ ap (λ (t : TableOfCalls). record t { counted = with_counts t.counted c.args.pages.now; waiting = with_all_waiting t.waiting c.args.pages.now }) c.take_frames.ensures.calls
 
 limits_are : (g : Over) (c : After-note g) → c.act.new.self.limits ≡ c.args.self.now.held.limits
 limits_are g c = c.act.ensures.limits ∙ c.take_frames.ensures.quiet.pages.limits
@@ -79,7 +81,8 @@ returns-clause-steps g c = λ first before. follows_both _ (held_by g.D.Device c
 pub returns-clause-done : goal.returns-clause-done
 returns-clause-done g c =
     let here = (goal.at.returns-clause-done g c).After-note in
-    state_alike _ _ _ _ _ _ _ _ _ _ (limits_are g here) (c.in_ok-number.ensures.pool.most ∙ c.take_frames.ensures.most) (pages_are g here) (c.in_ok-number.ensures.acts ∙ ap suc c.take_frames.ensures.quiet.pages.acts) (calls_are g here)
+    state_alike _ _ _ _ _ _ _ _ _ _ (limits_are g here) (c.in_ok-number.ensures.pool.most ∙ c.take_frames.ensures.most) (pages_are g here)
+    (c.in_ok-number.ensures.acts ∙ ap suc c.take_frames.ensures.quiet.pages.acts) (calls_are g here)
 
 pub returns-in-Err-clause-steps : goal.returns-in-Err-clause-steps
 returns-in-Err-clause-steps g c = λ first before. follows_both _ (held_by g.D.Device c.args.self.now) _ before c.take_frames.ensures.quiet.follows
@@ -87,7 +90,8 @@ returns-in-Err-clause-steps g c = λ first before. follows_both _ (held_by g.D.D
 pub returns-in-Err-clause-cause : goal.returns-in-Err-clause-cause
 returns-in-Err-clause-cause g c =
     let store = c.args.self.now in
-    taking_cause (state_of g.D.Device store) (backing_of (held_by g.D.Device store)) (backing_of (held_by g.D.Device c.take_frames.new.self)) store.held.pool c.args.pages.now c.in-Err.fault refl c.in-Err.ensures.cause
+    taking_cause (state_of g.D.Device store) (backing_of (held_by g.D.Device store)) (backing_of (held_by g.D.Device c.take_frames.new.self))
+    store.held.pool c.args.pages.now c.in-Err.fault refl c.in-Err.ensures.cause
 
 pub returns-then-is_stopped-clause-written : goal.returns-then-is_stopped-clause-written
 returns-then-is_stopped-clause-written g c = part_same (changed_of c.args.self.now.held.pool)
@@ -118,9 +122,12 @@ returns-in_err-number-clause-taken g c =
     let err = c.in_err-number.ensures in
     let pool = err.frames in
     on_err c.from_residual.result _
-    (subst (λ (m : Memory). TakesFrames (most_of store.held.pool) (blocks ++ pinned_blocks store.calls.table) blocks (memory_in store.held.pool) m (backing_of (held_by g.D.Device store)) (backing_of (held_of g.D.Device c.act.new.self)))
+    (subst (λ (m : Memory).
+    TakesFrames (most_of store.held.pool) (blocks ++ pinned_blocks store.calls.table) blocks (memory_in store.held.pool) m
+    (backing_of (held_by g.D.Device store)) (backing_of (held_of g.D.Device c.act.new.self)))
     (sym (ap memory_in pool))
-    (subst (λ (b : Backing). TakesFrames (most_of store.held.pool) (blocks ++ pinned_blocks store.calls.table) blocks (memory_in store.held.pool) (memory_in taken.pool) (backing_of (held_by g.D.Device store)) b)
+    (subst (λ (b : Backing).
+    TakesFrames (most_of store.held.pool) (blocks ++ pinned_blocks store.calls.table) blocks (memory_in store.held.pool) (memory_in taken.pool) (backing_of (held_by g.D.Device store)) b)
     (sym (backing_same g.D.Device taken c.act.new.self (ap changed_of pool) err.log a.honest a.failures a.durable err.kept.room err.kept.promised)) c.take_frames.ensures.frames))
 
 pub returns-clause-frames : goal.returns-clause-frames

@@ -57,7 +57,8 @@ pub returns-clause-frame : goal.returns-clause-frame
 returns-clause-frame g c =
     let here = (goal.at.returns-clause-frame g c).After-look in
     subst (λ (bs : List ℕ). GetsFrame g.D.Device bs c.args.block c.args.self.now.held c.fetch.new.self) (c.as_slice.ensures.value ∙ c.pinned-pinned.ensures)
-    (gets_from g.D.Device c.as_slice.result.now c.args.block c.args.self.now.held c.look.new.self c.fetch.new.self c.look.ensures.same.most (memory_looked g here) (backing_looked g here) c.fetch.ensures.frame)
+    (gets_from g.D.Device c.as_slice.result.now c.args.block c.args.self.now.held c.look.new.self c.fetch.new.self c.look.ensures.same.most
+    (memory_looked g here) (backing_looked g here) c.fetch.ensures.frame)
 
 pub returns-clause-in_memory : goal.returns-clause-in_memory
 returns-clause-in_memory g c = c.fetch.ensures.there

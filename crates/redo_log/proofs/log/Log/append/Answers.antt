@@ -35,7 +35,8 @@ invariant_of-self-clause-sized c =
 pub invariant_of-self-clause-fits : goal.invariant_of-self-clause-fits
 invariant_of-self-clause-fits c =
     let s = c.args.self.now in
-    subst (λ (l : List ℕ). 0 < length l → s.at + (6 + 4096 * length l) ≤ s.limits.log_bytes) (sym c.lay_images.ensures.blocks) (fits_with s c.args.images.now (OnTrue_at c.if-not-fits.false c.fits.ensures.fit))
+    subst (λ (l : List ℕ). 0 < length l → s.at + (6 + 4096 * length l) ≤ s.limits.log_bytes) (sym c.lay_images.ensures.blocks)
+    (fits_with s c.args.images.now (OnTrue_at c.if-not-fits.false c.fits.ensures.fit))
 
 pub returns-clause-keeps : goal.returns-clause-keeps
 returns-clause-keeps c =

@@ -26,7 +26,8 @@ module _ (g : Over) (c : After-publish g) where
   outside =
       let s = c.args.self.now in
       let some : 0 < waiting_count s = omega arith in
-      publish_only s _ _ _ (length-take-le (5 + 4096 * c.count-count.result) c.deref.result.now (omega (arith, s.fits some)) ∙ ap (λ (n : ℕ). 5 + 4096 * n) c.count-count.ensures) some c.publish.ensures.moments
+      publish_only s _ _ _
+      (length-take-le (5 + 4096 * c.count-count.result) c.deref.result.now (omega (arith, s.fits some)) ∙ ap (λ (n : ℕ). 5 + 4096 * n) c.count-count.ensures) some c.publish.ensures.moments
 
 pub returns-in_err-publish-clause-moments : goal.returns-in_err-publish-clause-moments
 returns-in_err-publish-clause-moments g c = moments g (goal.at.returns-in_err-publish-clause-moments g c).After-publish
@@ -36,7 +37,8 @@ returns-in_err-publish-clause-outside g c = outside g (goal.at.returns-in_err-pu
 
 pub returns-clause-keeps : goal.returns-clause-keeps
 returns-clause-keeps g c = λ acts forced k.
-    forced_keeps c.args.self.now _ _ _ acts forced k (omega arith) (piece g (goal.at.returns-clause-keeps g c).After-publish acts forced k) c.publish.ensures.moments _ refl (omega arith) c.clear.ensures.blocks refl c.in_ok-publish.ensures.ok
+    forced_keeps c.args.self.now _ _ _ acts forced k (omega arith) (piece g (goal.at.returns-clause-keeps g c).After-publish acts forced k)
+    c.publish.ensures.moments _ refl (omega arith) c.clear.ensures.blocks refl c.in_ok-publish.ensures.ok
 
 pub returns-clause-moments : goal.returns-clause-moments
 returns-clause-moments g c = moments g (goal.at.returns-clause-moments g c).After-publish

@@ -10,7 +10,8 @@ use Rattle.redo_log.proofs.log.Log.replay.Goals as goal
 read : (g : Over) (c : After-note_groups g) → IsTrue (g.D.Device.is_honest c.read_at.new.self) → c.deref.result.now ≡ log_range c.args.limits (g.D.Device.trace c.args.device.now).now.seen
 read g c honest =
     let is = c.deref.ensures.value ∙ with_items_is c.in-Ok.buffer c.read_at.new.buf (c.read_at.auto.buf ∙ c.deref_mut.ensures.len) in
-    range_read (g.D.Device.trace c.args.device.now).now.seen c.read_at.new.buf c.deref.result.now (length c.deref_mut.result.now) c.args.limits.log_bytes is (c.in-Ok-read_at.ensures.read honest) (omega (arith, c.in-Ok.ensures.len))
+    range_read (g.D.Device.trace c.args.device.now).now.seen c.read_at.new.buf c.deref.result.now (length c.deref_mut.result.now)
+    c.args.limits.log_bytes is (c.in-Ok-read_at.ensures.read honest) (omega (arith, c.in-Ok.ensures.len))
 
 pub returns-in_default-note_groups-clause-damaged : goal.returns-in_default-note_groups-clause-damaged
 returns-in_default-note_groups-clause-damaged g c = λ damaged honest groups spells.

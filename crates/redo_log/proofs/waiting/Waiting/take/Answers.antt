@@ -9,7 +9,8 @@ pub invariant_of-self-clause-inside : goal.invariant_of-self-clause-inside
 invariant_of-self-clause-inside c =
     let s = c.args.self.now in
     subst (λ (l : List ℕ). (k : ℕ) → k < length l → get_or l k 0 < length (set s.places.items c.args.block c.len-place.result)) (sym c.push_reserved.ensures.items)
-    (inside-push s.blocks.items c.args.block _ (λ k lt. omega (arith, s.inside k lt, length-set s.places.items c.args.block c.len-place.result)) (omega (arith, length-set s.places.items c.args.block c.len-place.result)))
+    (inside-push s.blocks.items c.args.block _ (λ k lt. omega (arith, s.inside k lt, length-set s.places.items c.args.block c.len-place.result))
+    (omega (arith, length-set s.places.items c.args.block c.len-place.result)))
 
 pub invariant_of-self-clause-placed : goal.invariant_of-self-clause-placed
 invariant_of-self-clause-placed c =

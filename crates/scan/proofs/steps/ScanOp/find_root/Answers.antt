@@ -5,8 +5,8 @@ use Rattle.tree_shape.specs.Walks.{frontier_aim}
 use Rattle.descent.specs.Onward.{IsOnWay, way_from}
 use Rattle.descent.specs.declared.way.Way.{Way}
 use Rattle.scan.specs.declared.steps.ScanAt.{ScanAt}
-use Rattle.scan.specs.Scans.{without_leaf, ScanFits, ScanWaits, IsUnderway}
-use Rattle.scan.specs.Straight.{straight_steps, CountsDown}
+use Rattle.scan.specs.Scans.{without_leaf, ScanInvariant, ScanWaits, IsUnderway}
+use Rattle.scan.specs.Straight.{scan_straight_steps, ScanCountsDown}
 use Rattle.scan.specs.Work.{scan_left}
 use Rattle.scan.specs.declared.steps.ScanStep.TheVariants.{Going}
 use Rattle.tree_acts.specs.Trees.{HasCover}
@@ -43,14 +43,15 @@ returns-clause-all g c =
       less = λ honest. less;
       no_more = λ honest. omega arith;
       stepped = λ honest order fits.
-          let later : IsLater (g.S.PageStore.backing c.look.new.store) (g.S.PageStore.backing c.go_on.new.store) = g.met.S.PageStore.laws.follows_later _ _ (c.go_on.ensures.steps _ (g.met.S.PageStore.laws.follows_same _)) in
+          let later : IsLater (g.S.PageStore.backing c.look.new.store) (g.S.PageStore.backing c.go_on.new.store) =
+          g.met.S.PageStore.laws.follows_later _ _ (c.go_on.ensures.steps _ (g.met.S.PageStore.laws.follows_same _)) in
           let found : slice_get old.pages 0 ≡ Some page = subst (λ (st : State). slice_get st.pages 0 ≡ Some page) c.look.ensures.state (c.view.ensures.page (later.honest honest)) in
           let root = root_way old fits.start (frontier_aim before.frontier) false page order.tree found in
           let named : Some way ≡ Some (way_from root.root page.level) = sym c.in-Some.is ∙ c.way_down.ensures.named root.root root.names in
           let same : way ≡ way_from root.root page.level = cc in
           record {
             does = going_does old new before order fits is;
-            fits = subst (ScanFits new) (sym c.go_on.ensures.op)
+            fits = subst (ScanInvariant new) (sym c.go_on.ensures.op)
                 (going_fits old new before order fits is way (subst (IsOnWay old fits.start (frontier_aim before.frontier) false 0) (sym same) root.on));
             none = c.requires.none;
             from = subst IsUnderway (sym c.requires.at) tt;
@@ -58,14 +59,15 @@ returns-clause-all g c =
             op = c.go_on.ensures.op;
           };
       straight = λ honest order whole none starts.
-          let later : IsLater (g.S.PageStore.backing c.look.new.store) (g.S.PageStore.backing c.go_on.new.store) = g.met.S.PageStore.laws.follows_later _ _ (c.go_on.ensures.steps _ (g.met.S.PageStore.laws.follows_same _)) in
+          let later : IsLater (g.S.PageStore.backing c.look.new.store) (g.S.PageStore.backing c.go_on.new.store) =
+          g.met.S.PageStore.laws.follows_later _ _ (c.go_on.ensures.steps _ (g.met.S.PageStore.laws.follows_same _)) in
           let found : slice_get old.pages 0 ≡ Some page = subst (λ (st : State). slice_get st.pages 0 ≡ Some page) c.look.ensures.state (c.view.ensures.page (later.honest honest)) in
           let root = straight_root old (frontier_aim before.frontier) page order.tree whole found in
           let named : Some way ≡ Some (way_from root.root page.level) = sym c.in-Some.is ∙ c.way_down.ensures.named root.root root.names in
           let same : way ≡ way_from root.root page.level = cc in
-          subst (λ (op : ScanOp). CountsDown old before op (Ok Going)) (sym c.go_on.ensures.op) (
+          subst (λ (op : ScanOp). ScanCountsDown old before op (Ok Going)) (sym c.go_on.ensures.op) (
             subst (λ (w : Way). HasCover old w.level (frontier_aim before.frontier) w.block) (sym same) root.covers,
-            subst (λ (a : ScanAt). suc (suc way.level) ≡ straight_steps old.pages a) (sym c.requires.at)
+            subst (λ (a : ScanAt). suc (suc way.level) ≡ scan_straight_steps old.pages a) (sym c.requires.at)
                 (let l : way.level ≡ page.level = ap (λ (w : Way). w.level) same in let m = root.level_is in omega arith),
           );
     }

@@ -21,8 +21,8 @@ use Rattle.descent.specs.Onward.{IsOnWay, LeadsOnward, LeadsStraight, LeavesLess
 use Rattle.descent.specs.declared.way.Way.{Way}
 use Rattle.descent.specs.declared.way.Onward.TheVariants.{Going, Here}
 use Rattle.scan.specs.declared.steps.ScanAt.{ScanAt}
-use Rattle.scan.specs.Scans.{waiting, behind, without_leaf, where_scanning, ScanStands, ScanFits, ScanWaits, IsUnderway, LeafIsRead}
-use Rattle.scan.specs.Straight.{straight_steps, IsStraight, CountsDown}
+use Rattle.scan.specs.Scans.{waiting, behind, without_leaf, causes_of_scanning, ScanStands, ScanInvariant, ScanWaits, IsUnderway, LeafIsRead}
+use Rattle.scan.specs.Straight.{scan_straight_steps, ScanIsStraight, ScanCountsDown}
 use Rattle.scan.specs.Work.{scan_left}
 use Rattle.scan.specs.declared.steps.ScanStep.TheVariants.{Going as Goes, Ready}
 use Rattle.scan.specs.declared.steps.ScanOp.{ScanOp}
@@ -41,7 +41,8 @@ stored_there : (g : Over) (c : After-view-page g) → IsStored (g.S.PageStore.st
 stored_there g c = subst (λ (st : State). IsStored st.limits c.args.way.block c.view-page.result.now) c.look.ensures.state c.view-page.ensures.stored
 
 -- ... and the one in use, where the device kept its model
-found_there : (g : Over) (c : After-view-page g) → (g.S.PageStore.backing c.look.new.store).honest ≡ true → slice_get (g.S.PageStore.state c.args.store.now).pages c.args.way.block ≡ Some c.view-page.result.now
+found_there : (g : Over) (c : After-view-page g) → (g.S.PageStore.backing c.look.new.store).honest ≡ true
+    → slice_get (g.S.PageStore.state c.args.store.now).pages c.args.way.block ≡ Some c.view-page.result.now
 found_there g c honest = subst (λ (st : State). slice_get st.pages c.args.way.block ≡ Some c.view-page.result.now) c.look.ensures.state (c.view-page.ensures.page honest)
 
 pub returns-in_err-look-clause-all : goal.returns-in_err-look-clause-all
@@ -63,7 +64,7 @@ returns-in_err-look-clause-all g c = record {
       let way : Way = c.args.way in
       let on_way : IsOnWay old fits.start (frontier_aim before.frontier) false 0 way = subst (ScanStands old fits.start before.leaf before.frontier) c.requires.at fits.stands in
       let used = place_inside old fits.start way.level (frontier_aim before.frontier) false way.block order.tree on_way.place in
-      let cause : IfErr c.look.result (HasCause (where_scanning old (g.S.PageStore.backing c.args.store.now) (g.S.PageStore.backing c.look.new.store) before.session)) =
+      let cause : IfErr c.look.result (HasCause (causes_of_scanning old (g.S.PageStore.backing c.args.store.now) (g.S.PageStore.backing c.look.new.store) before.session)) =
       if_err c.look.result _ _ (λ f h. scanning_cause old (g.S.PageStore.backing c.args.store.now) (g.S.PageStore.backing c.look.new.store) before.session way.block f honest used h)
       (c.look.ensures.cause (scan_has_room old before fits)) in
       search rules;
@@ -95,7 +96,8 @@ returns-in-None-clause-all g c =
     (λ h. (let k = sym c.in_ok-look.was ∙ c.look.ensures.stopped h in cc))
     (λ honest order fits.
     absurd (subst (LeadsOnward old fits.start (frontier_aim c.args.self.now.frontier) false 0 c.args.way) c.in-None.is
-    (scan_led old c.args.self.now c.args.way c.view-page.result.now c.limits-most.result c.lead.result c.requires.at order fits (found_there g (goal.at.returns-in-None-clause-all g c).After-view-page honest)
+    (scan_led old c.args.self.now c.args.way c.view-page.result.now c.limits-most.result c.lead.result c.requires.at order fits
+    (found_there g (goal.at.returns-in-None-clause-all g c).After-view-page honest)
     (c.limits-most.ensures.value ∙ ap (λ (st : State). sizes_of st.limits) c.look.ensures.state) c.in_ok-look.ensures.inside c.lead.ensures.goes)))
 
 pub returns-in-Some-Going-clause-all : goal.returns-in-Some-Going-clause-all
@@ -127,13 +129,15 @@ returns-in-Some-Going-clause-all g c =
       less = λ honest. less;
       no_more = λ honest. omega arith;
       stepped = λ honest order fits.
-          let later : IsLater (g.S.PageStore.backing c.look.new.store) (g.S.PageStore.backing c.go_on.new.store) = g.met.S.PageStore.laws.follows_later _ _ (c.go_on.ensures.steps _ (g.met.S.PageStore.laws.follows_same _)) in
+          let later : IsLater (g.S.PageStore.backing c.look.new.store) (g.S.PageStore.backing c.go_on.new.store) =
+          g.met.S.PageStore.laws.follows_later _ _ (c.go_on.ensures.steps _ (g.met.S.PageStore.laws.follows_same _)) in
           let way : Way = c.args.way in
-          let led = scan_led old before way c.view-page.result.now c.limits-most.result c.lead.result c.requires.at order fits (found_there g (goal.at.returns-in-Some-Going-clause-all g c).After-view-page (later.honest honest))
+          let led = scan_led old before way c.view-page.result.now c.limits-most.result c.lead.result c.requires.at order fits
+          (found_there g (goal.at.returns-in-Some-Going-clause-all g c).After-view-page (later.honest honest))
           (c.limits-most.ensures.value ∙ ap (λ (st : State). sizes_of st.limits) c.look.ensures.state) c.in_ok-look.ensures.inside c.lead.ensures.goes in
           record {
             does = going_does old new before order fits is;
-            fits = subst (ScanFits new) (sym c.go_on.ensures.op)
+            fits = subst (ScanInvariant new) (sym c.go_on.ensures.op)
                 (going_fits old new before order fits is on (subst (LeadsOnward old fits.start (frontier_aim before.frontier) false 0 way) answer led));
             none = c.requires.none;
             from = subst IsUnderway (sym c.requires.at) tt;
@@ -141,13 +145,14 @@ returns-in-Some-Going-clause-all g c =
             op = c.go_on.ensures.op;
           };
       straight = λ honest order whole none starts.
-          let later : IsLater (g.S.PageStore.backing c.look.new.store) (g.S.PageStore.backing c.go_on.new.store) = g.met.S.PageStore.laws.follows_later _ _ (c.go_on.ensures.steps _ (g.met.S.PageStore.laws.follows_same _)) in
+          let later : IsLater (g.S.PageStore.backing c.look.new.store) (g.S.PageStore.backing c.go_on.new.store) =
+          g.met.S.PageStore.laws.follows_later _ _ (c.go_on.ensures.steps _ (g.met.S.PageStore.laws.follows_same _)) in
           let found : slice_get old.pages c.args.way.block ≡ Some c.view-page.result.now = found_there g (goal.at.returns-in-Some-Going-clause-all g c).After-view-page (later.honest honest) in
-          let cover : HasCover old c.args.way.level (frontier_aim before.frontier) c.args.way.block = subst (IsStraight old before.frontier) c.requires.at starts in
+          let cover : HasCover old c.args.way.level (frontier_aim before.frontier) c.args.way.block = subst (ScanIsStraight old before.frontier) c.requires.at starts in
           let led : LeadsStraight old (frontier_aim before.frontier) 0 c.args.way (Some (Going on)) =
           subst (LeadsStraight old (frontier_aim before.frontier) 0 c.args.way) answer (c.lead.ensures.straight old order.tree whole found cover) in
-          subst (λ (op : ScanOp). CountsDown old before op (Ok Goes)) (sym c.go_on.ensures.op)
-          (led.1, subst (λ (a : ScanAt). suc (suc on.level) ≡ straight_steps old.pages a) (sym c.requires.at) (ap suc led.0));
+          subst (λ (op : ScanOp). ScanCountsDown old before op (Ok Goes)) (sym c.go_on.ensures.op)
+          (led.1, subst (λ (a : ScanAt). suc (suc on.level) ≡ scan_straight_steps old.pages a) (sym c.requires.at) (ap suc led.0));
     }
 
 pub returns-in-Entries-clause-all : goal.returns-in-Entries-clause-all
@@ -161,16 +166,20 @@ returns-in-Entries-clause-all g c =
     let es : List Entry = c.take.new.self.copied.items in
     let taken : c.take.new.self ≡ behind before page.high page.right es = c.take.ensures.op in
     let is : new ≡ with_table old (pinned (without_leaf old.table before.session before.leaf) before.session way.block) =
-    subst (λ (op : ScanOp). new ≡ with_table (g.S.PageStore.state c.look.new.store) (pinned (without_leaf (g.S.PageStore.state c.look.new.store).table op.session op.leaf) op.session way.block)) taken c.stand_on.ensures.state
+    subst (λ (op : ScanOp).
+    new ≡ with_table (g.S.PageStore.state c.look.new.store)
+    (pinned (without_leaf (g.S.PageStore.state c.look.new.store).table op.session op.leaf) op.session way.block)) taken c.stand_on.ensures.state
     ∙ ap (λ (st : State). with_table st (pinned (without_leaf st.table before.session before.leaf) before.session way.block)) c.look.ensures.state in
     let op_is : after ≡ behind (record before { leaf = Some way.block }) page.high page.right es =
     c.stand_on.ensures.op ∙ ap (λ (op : ScanOp). record op { leaf = Some way.block }) taken in
     let arrived : IsArrived page (frontier_aim before.frontier) = c.lead.ensures.here (c.in-Some-Here.is ∙ ap Some c.in-Some-Here.field-0-is) in
     let many : length es ≤ 50 = c.take.ensures.many in
-    let later : IsLater (g.S.PageStore.backing c.look.new.store) (g.S.PageStore.backing c.stand_on.new.store) = g.met.S.PageStore.laws.follows_later _ _ (c.stand_on.ensures.steps _ (g.met.S.PageStore.laws.follows_same _)) in
+    let later : IsLater (g.S.PageStore.backing c.look.new.store) (g.S.PageStore.backing c.stand_on.new.store) =
+    g.met.S.PageStore.laws.follows_later _ _ (c.stand_on.ensures.steps _ (g.met.S.PageStore.laws.follows_same _)) in
     let less : (g.S.PageStore.backing c.stand_on.new.store).honest ≡ true → scan_left old.limits.pages old.pages after < scan_left old.limits.pages old.pages before =
     λ honest. subst (λ (op : ScanOp). scan_left old.limits.pages old.pages op < scan_left old.limits.pages old.pages before) (sym op_is)
-    (reading_less old.limits.pages old.pages before (Some way.block) way way.block page es c.requires.at (found_there g (goal.at.returns-in-Entries-clause-all g c).After-view-page (later.honest honest)) arrived many) in
+    (reading_less old.limits.pages old.pages before (Some way.block) way way.block page es c.requires.at
+    (found_there g (goal.at.returns-in-Entries-clause-all g c).After-view-page (later.honest honest)) arrived many) in
     record {
       steps = search rules;
       session = ap (λ (op : ScanOp). op.session) op_is;
@@ -206,7 +215,7 @@ returns-in-Entries-clause-all g c =
           subst (λ (xs : List Entry). IsCopiedFrom xs before.frontier before.range.below es) entries copied_by in
           inr (record {
             does = reading_does old new before way.block order fits is;
-            fits = subst (ScanFits new) (sym op_is) (reading_fits old new before way.block order fits is page es there place (record { page = page; was = at }) many);
+            fits = subst (ScanInvariant new) (sym op_is) (reading_fits old new before way.block order fits is page es there place (record { page = page; was = at }) many);
             none = c.requires.none;
             way = way;
             from = c.requires.at;
@@ -220,8 +229,8 @@ returns-in-Entries-clause-all g c =
           });
       straight = λ honest order whole none starts.
           let found : slice_get old.pages way.block ≡ Some page = found_there g (goal.at.returns-in-Entries-clause-all g c).After-view-page (later.honest honest) in
-          let cover : HasCover old way.level (frontier_aim before.frontier) way.block = subst (IsStraight old before.frontier) c.requires.at starts in
+          let cover : HasCover old way.level (frontier_aim before.frontier) way.block = subst (ScanIsStraight old before.frontier) c.requires.at starts in
           let led : LeadsStraight old (frontier_aim before.frontier) 0 way (Some Here) =
           subst (LeadsStraight old (frontier_aim before.frontier) 0 way) (c.in-Some-Here.is ∙ ap Some c.in-Some-Here.field-0-is) (c.lead.ensures.straight old order.tree whole found cover) in
-          subst (λ (a : ScanAt). straight_steps old.pages a ≡ 1) (sym c.requires.at) (ap suc led);
+          subst (λ (a : ScanAt). scan_straight_steps old.pages a ≡ 1) (sym c.requires.at) (ap suc led);
     }

@@ -17,7 +17,8 @@ returns-in-Ok-clause-changes g c begins =
     let excluded : c.is_excluded-excluded.result ≡ (asks_vacuum request && one_vacuums slots) =
     c.is_excluded-excluded.ensures ∙ ap (λ (l : List (Option Op)). asks_vacuum request && one_vacuums l) c.deref-in-Ok.ensures.value in
     let By : ℕ → Bool → Type 0 = λ known alone.
-    BeginsBy (g.S.PageStore.state c.args.store.now) (g.S.PageStore.backing c.args.store.now) (g.S.PageStore.state c.begin.new.store) known request alone c.index_mut.result.now c.begin.new.slot c.begin.result in
+    BeginsBy (g.S.PageStore.state c.args.store.now) (g.S.PageStore.backing c.args.store.now) (g.S.PageStore.state c.begin.new.store) known request
+    alone c.index_mut.result.now c.begin.new.slot c.begin.result in
     record {
       before = c.index_mut.result.now;
       after = c.begin.new.slot;

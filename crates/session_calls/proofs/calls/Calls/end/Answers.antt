@@ -7,7 +7,8 @@ pub returns-clause-changes : goal.returns-clause-changes
 returns-clause-changes g c runs = record {
   before = c.index_mut.result.now;
   after = c.end.new.slot;
-  found = slice_get-get_or c.args.self.now.slots.items c.args.session c.index_mut.result.now (c.is_running.ensures.within (c.is_running.ensures.value ∙ runs)) ∙ ap (λ (o : Option Op). Some o) (sym c.index_mut.ensures.value);
+  found = slice_get-get_or c.args.self.now.slots.items c.args.session c.index_mut.result.now
+      (c.is_running.ensures.within (c.is_running.ensures.value ∙ runs)) ∙ ap (λ (o : Option Op). Some o) (sym c.index_mut.ensures.value);
   is = refl;
   how = record {
     kind = c.end.ensures.kind;

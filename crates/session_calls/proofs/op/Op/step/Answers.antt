@@ -1,7 +1,7 @@
 use Rattle.std.specs.Prelude.{map}
 use Rattle.std.proofs.Common.{subst, sym, Some, suc}
 use Rattle.session_calls.specs.Due.{IsDueIn}
-use Rattle.session_calls.specs.Ops.{OpFits}
+use Rattle.session_calls.specs.Ops.{OpInvariant}
 use Rattle.session_calls.specs.Sessions.{CallFits, OpSteps}
 use Rattle.session_calls.specs.declared.op.Op.{Op}
 use Rattle.session_calls.proofs.Counting.{insert_counts, scan_counts}
@@ -11,7 +11,7 @@ use Rattle.session_calls.proofs.Scanning.{moving_goes, ready_goes, done_goes, mo
 use Rattle.std.proofs.Common.{Bool}
 use Rattle.index_model.specs.Faults.{HasCause}
 use Rattle.index_model.specs.Row.{Row}
-use Rattle.vacuum.specs.BulkDeletes.{BulkDeleteGoesOn, IsDueOf, where_deleting}
+use Rattle.vacuum.specs.BulkDeletes.{BulkDeleteGoesOn, IsDueOf, causes_of_deleting}
 use Rattle.std.proofs.Common.{ap, refl}
 use Rattle.index_model.specs.Calls.{AskScan}
 use Rattle.scan.specs.declared.steps.ScanOp.{ScanOp}
@@ -69,7 +69,7 @@ returns-in-Ok-Done-clause-goes g c honest start history number call fits =
 pub returns-in-Ok-Going-clause-due : goal.returns-in-Ok-Going-clause-due
 returns-in-Ok-Going-clause-due g c honest order fits left due =
     let old = g.S.PageStore.state c.args.store.now in
-    let mine = subst (λ (op : Op). OpFits old op) c.in-Insert.is fits in
+    let mine = subst (λ (op : Op). OpInvariant old op) c.in-Insert.is fits in
     let mine_due = subst (λ (op : Op). IsDueIn old (Some op) (suc left)) c.in-Insert.is due in
     let all = c.in-Ok-Going.ensures.all in
     let counted = rw c.in-Ok-Going.field-0-is at (all.straight honest order mine mine_due.whole mine_due.way mine_due.room) in
@@ -79,7 +79,7 @@ returns-in-Ok-Going-clause-due g c honest order fits left due =
 pub returns-in-Err-clause-due : goal.returns-in-Err-clause-due
 returns-in-Err-clause-due g c honest order fits left due =
     let old = g.S.PageStore.state c.args.store.now in
-    let mine = subst (λ (op : Op). OpFits old op) c.in-Insert.is fits in
+    let mine = subst (λ (op : Op). OpInvariant old op) c.in-Insert.is fits in
     let mine_due = subst (λ (op : Op). IsDueIn old (Some op) (suc left)) c.in-Insert.is due in
     insert_hindered old (g.S.PageStore.state c.step.new.store) (g.S.PageStore.backing c.args.store.now) (g.S.PageStore.backing c.step.new.store) c.in-Insert.op c.step.new.self left c.in-Err.fault
     order mine mine_due c.in-Err.ensures.all.refused (c.in-Err.ensures.all.stepped honest order mine)
@@ -87,7 +87,7 @@ returns-in-Err-clause-due g c honest order fits left due =
 pub returns-in-Ok-Going-step-clause-due : goal.returns-in-Ok-Going-step-clause-due
 returns-in-Ok-Going-step-clause-due g c honest order fits left due =
     let old = g.S.PageStore.state c.args.store.now in
-    let mine = subst (λ (op : Op). OpFits old op) c.in-Scan.is fits in
+    let mine = subst (λ (op : Op). OpInvariant old op) c.in-Scan.is fits in
     let mine_due = subst (λ (op : Op). IsDueIn old (Some op) (suc left)) c.in-Scan.is due in
     let all = c.in-Ok-Going-step.ensures.all in
     let counted = rw c.in-Ok-Going-step.field-0-is at (all.straight honest order mine_due.whole mine_due.none mine_due.way) in
@@ -96,13 +96,13 @@ returns-in-Ok-Going-step-clause-due g c honest order fits left due =
 
 pub returns-in-Ok-Going-step-clause-stands : goal.returns-in-Ok-Going-step-clause-stands
 returns-in-Ok-Going-step-clause-stands g c honest order fits =
-    let mine = subst (λ (op : Op). OpFits (g.S.PageStore.state c.args.store.now) op) c.in-Scan.is fits in
+    let mine = subst (λ (op : Op). OpInvariant (g.S.PageStore.state c.args.store.now) op) c.in-Scan.is fits in
     rw c.in-Scan.is (moving_stands (g.S.PageStore.state c.args.store.now) (g.S.PageStore.state c.step-in-Scan.new.store) c.in-Scan.op c.step-in-Scan.new.self
     (rw c.in-Ok-Going-step.field-0-is at (c.in-Ok-Going-step.ensures.all.stepped honest order mine)))
 
 pub returns-in-Ok-Ready-clause-stands : goal.returns-in-Ok-Ready-clause-stands
 returns-in-Ok-Ready-clause-stands g c honest order fits =
-    let mine = subst (λ (op : Op). OpFits (g.S.PageStore.state c.args.store.now) op) c.in-Scan.is fits in
+    let mine = subst (λ (op : Op). OpInvariant (g.S.PageStore.state c.args.store.now) op) c.in-Scan.is fits in
     rw c.in-Scan.is (ready_stands (g.S.PageStore.state c.args.store.now) (g.S.PageStore.state c.step-in-Scan.new.store) c.in-Scan.op c.step-in-Scan.new.self c.in-Ok-Ready.count
     (rw c.in-Ok-Ready.field-0-is at (c.in-Ok-Ready.ensures.all.stepped honest order mine)))
 
@@ -115,7 +115,8 @@ returns-in-Ok-Going-step-2-clause-goes g c honest start history number call fits
     let dead_is = set_found g.T.DeadRows.is_in c.args.sets.now c.in-Bulk.set c.in-Some.dead.now c.in-Some.ensures.lookup.3.0 c.in-Some.ensures.lookup.1 in
     let step = rw c.in-Ok-Going-step-2.field-0-is at (c.in-Ok-Going-step-2.ensures.all.stepped honest mine.world.order mine.runs.fits) in
     let comes = c.in-Ok-Going-step-2.ensures.all.due honest in
-    rw c.in-Bulk.is (bulk_goes_on old new (g.S.PageStore.backing c.args.store.now) (g.S.PageStore.backing c.step-in-Some.new.store) start history number call c.in-Bulk.set c.in-Bulk.op c.step-in-Some.new.self mine
+    rw c.in-Bulk.is (bulk_goes_on old new (g.S.PageStore.backing c.args.store.now) (g.S.PageStore.backing c.step-in-Some.new.store) start history
+    number call c.in-Bulk.set c.in-Bulk.op c.step-in-Some.new.self mine
     c.step-in-Some.ensures.all.session (subst (λ (d : Row → Bool). BulkDeleteGoesOn d old new c.in-Bulk.op c.step-in-Some.new.self) dead_is step)
     (λ due are before. rw c.in-Ok-Going-step-2.field-0-is at (comes due (subst (λ (d : Row → Bool). IsDueOf d due) (sym dead_is) are) before)))
 
@@ -129,7 +130,8 @@ returns-in-Ok-Finished-clause-goes g c honest start history number call fits =
     let step = rw c.in-Ok-Finished.field-0-is at (c.in-Ok-Finished.ensures.all.stepped honest mine.world.order mine.runs.fits) in
     let told = rw c.in-Ok-Finished.field-0-is at c.in-Ok-Finished.ensures.all.stats in
     let comes = c.in-Ok-Finished.ensures.all.due honest in
-    rw c.in-Bulk.is (bulk_finishes old new (g.S.PageStore.backing c.args.store.now) (g.S.PageStore.backing c.step-in-Some.new.store) start history number call c.in-Bulk.set c.in-Bulk.op c.step-in-Some.new.self mine
+    rw c.in-Bulk.is (bulk_finishes old new (g.S.PageStore.backing c.args.store.now) (g.S.PageStore.backing c.step-in-Some.new.store) start history
+    number call c.in-Bulk.set c.in-Bulk.op c.step-in-Some.new.self mine
     c.step-in-Some.ensures.all.session c.in-Ok-Finished.stats step told
     (λ due are before. rw c.in-Ok-Finished.field-0-is at (comes due (subst (λ (d : Row → Bool). IsDueOf d due) (sym dead_is) are) before)))
 
@@ -139,7 +141,8 @@ returns-in-Err-step-clause-goes g c honest start history number call fits =
     let mine = subst (λ (op : Op). CallFits old (map g.T.DeadRows.is_in c.args.sets.now) start history number call op) c.in-Scan.is fits in
     rw c.in-Scan.is (step_is_refused _ old (g.S.PageStore.state c.step-in-Scan.new.store) start history number call (Scan c.in-Scan.op) (Scan c.step-in-Scan.new.self) mine
     c.step-in-Scan.ensures.all.session (ap AskScan c.step-in-Scan.ensures.all.range) c.in-Err-step.fault c.in-Err-step.ensures.all.refused.state
-    (ap (λ (op : ScanOp). Scan op) c.in-Err-step.ensures.all.refused.op) (c.in-Err-step.ensures.all.stepped honest mine.world.order mine.runs.fits) (λ ends. refl) (λ e asks there. absurd (scans_insert_none c.in-Scan.op.range e asks)) (λ e asks r there. absurd (scans_insert_none c.in-Scan.op.range e asks)))
+    (ap (λ (op : ScanOp). Scan op) c.in-Err-step.ensures.all.refused.op) (c.in-Err-step.ensures.all.stepped honest mine.world.order mine.runs.fits)
+    (λ ends. refl) (λ e asks there. absurd (scans_insert_none c.in-Scan.op.range e asks)) (λ e asks r there. absurd (scans_insert_none c.in-Scan.op.range e asks)))
 
 pub returns-in-Ok-Going-step-2-clause-pins : goal.returns-in-Ok-Going-step-2-clause-pins
 returns-in-Ok-Going-step-2-clause-pins g c honest =
@@ -159,7 +162,8 @@ returns-in-Ok-Going-step-2-clause-entries g c honest =
     let dead_is = set_found g.T.DeadRows.is_in c.args.sets.now c.in-Bulk.set c.in-Some.dead.now c.in-Some.ensures.lookup.3.0 c.in-Some.ensures.lookup.1 in
     let counts = c.in-Ok-Going-step-2.ensures.all.counts honest in
     rw c.in-Bulk.is (λ counted. (
-      counted_on sets c.in-Bulk.set (g.T.DeadRows.is_in c.in-Some.dead.now) new c.step-in-Some.new.self dead_is (rw c.in-Ok-Going-step-2.field-0-is at (counts (subst (λ (d : Row → Bool). IsCounted d old c.in-Bulk.op) (sym dead_is) counted))),
+      counted_on sets c.in-Bulk.set (g.T.DeadRows.is_in c.in-Some.dead.now) new c.step-in-Some.new.self dead_is
+          (rw c.in-Ok-Going-step-2.field-0-is at (counts (subst (λ (d : Row → Bool). IsCounted d old c.in-Bulk.op) (sym dead_is) counted))),
       tt,
     ))
 
@@ -175,15 +179,18 @@ returns-in-Ok-Going-step-3-clause-goes g c honest start history number call fits
     let old = g.S.PageStore.state c.args.store.now in
     let new = g.S.PageStore.state c.step-in-Cleanup.new.store in
     let mine = subst (λ (op : Op). CallFits old (map g.T.DeadRows.is_in c.args.sets.now) start history number call op) c.in-Cleanup.is fits in
-    rw c.in-Cleanup.is (cleanup_goes_on old new (g.S.PageStore.backing c.args.store.now) (g.S.PageStore.backing c.step-in-Cleanup.new.store) start history number call c.in-Cleanup.op c.step-in-Cleanup.new.self mine
-    c.step-in-Cleanup.ensures.all.session (rw c.in-Ok-Going-step-3.field-0-is at (c.in-Ok-Going-step-3.ensures.all.stepped honest mine.world.order mine.world.starts mine.runs.fits)) (c.step-in-Cleanup.ensures.all.pins honest))
+    rw c.in-Cleanup.is (cleanup_goes_on old new (g.S.PageStore.backing c.args.store.now) (g.S.PageStore.backing c.step-in-Cleanup.new.store) start
+    history number call c.in-Cleanup.op c.step-in-Cleanup.new.self mine
+    c.step-in-Cleanup.ensures.all.session
+    (rw c.in-Ok-Going-step-3.field-0-is at (c.in-Ok-Going-step-3.ensures.all.stepped honest mine.world.order mine.world.starts mine.runs.fits)) (c.step-in-Cleanup.ensures.all.pins honest))
 
 pub returns-in-Ok-Finished-step-clause-goes : goal.returns-in-Ok-Finished-step-clause-goes
 returns-in-Ok-Finished-step-clause-goes g c honest start history number call fits =
     let old = g.S.PageStore.state c.args.store.now in
     let new = g.S.PageStore.state c.step-in-Cleanup.new.store in
     let mine = subst (λ (op : Op). CallFits old (map g.T.DeadRows.is_in c.args.sets.now) start history number call op) c.in-Cleanup.is fits in
-    rw c.in-Cleanup.is (cleanup_finishes old new (g.S.PageStore.backing c.args.store.now) (g.S.PageStore.backing c.step-in-Cleanup.new.store) start history number call c.in-Cleanup.op c.step-in-Cleanup.new.self mine
+    rw c.in-Cleanup.is (cleanup_finishes old new (g.S.PageStore.backing c.args.store.now) (g.S.PageStore.backing c.step-in-Cleanup.new.store) start
+    history number call c.in-Cleanup.op c.step-in-Cleanup.new.self mine
     c.step-in-Cleanup.ensures.all.session c.in-Ok-Finished-step.stats
     (rw c.in-Ok-Finished-step.field-0-is at (c.in-Ok-Finished-step.ensures.all.stepped honest mine.world.order mine.world.starts mine.runs.fits)))
 
@@ -192,7 +199,8 @@ returns-in-Err-step-3-clause-goes g c honest start history number call fits =
     let old = g.S.PageStore.state c.args.store.now in
     let new = g.S.PageStore.state c.step-in-Cleanup.new.store in
     let mine = subst (λ (op : Op). CallFits old (map g.T.DeadRows.is_in c.args.sets.now) start history number call op) c.in-Cleanup.is fits in
-    rw c.in-Cleanup.is (cleanup_is_refused old new (g.S.PageStore.backing c.args.store.now) (g.S.PageStore.backing c.step-in-Cleanup.new.store) start history number call c.in-Cleanup.op c.step-in-Cleanup.new.self mine
+    rw c.in-Cleanup.is (cleanup_is_refused old new (g.S.PageStore.backing c.args.store.now) (g.S.PageStore.backing c.step-in-Cleanup.new.store) start
+    history number call c.in-Cleanup.op c.step-in-Cleanup.new.self mine
     c.step-in-Cleanup.ensures.all.session c.in-Err-step-3.fault c.in-Err-step-3.ensures.all.refused
     (c.in-Err-step-3.ensures.all.stepped honest mine.world.order mine.world.starts mine.runs.fits))
 
@@ -236,14 +244,16 @@ returns-in-Err-step-2-clause-goes g c honest start history number call fits =
     rw c.in-Bulk.is (bulk_is_refused old (g.S.PageStore.state c.step-in-Some.new.store) (g.S.PageStore.backing c.args.store.now) (g.S.PageStore.backing c.step-in-Some.new.store)
     start history number call c.in-Bulk.set c.in-Bulk.op c.step-in-Some.new.self mine
     c.step-in-Some.ensures.all.session c.in-Err-step-2.fault c.in-Err-step-2.ensures.all.refused
-    (subst (λ (d : Row → Bool). HasCause (where_deleting d old first second c.in-Bulk.op) c.in-Err-step-2.fault) dead_is (c.in-Err-step-2.ensures.all.stepped honest mine.world.order mine.runs.fits)))
+    (subst (λ (d : Row → Bool). HasCause (causes_of_deleting d old first second c.in-Bulk.op) c.in-Err-step-2.fault) dead_is
+    (c.in-Err-step-2.ensures.all.stepped honest mine.world.order mine.runs.fits)))
 
 pub returns-in-Err-clause-all : goal.returns-in-Err-clause-all
 returns-in-Err-clause-all g c =
     let before = c.in-Insert.op in
     let told = c.in-Err.ensures.all in
     subst (λ (op : Op). OpSteps g.S.PageStore op (Insert c.step.new.self) c.args.store.now c.step.new.store (Refused c.in-Err.fault)) (sym c.in-Insert.is)
-    (refused_steps g.S.PageStore (Insert before) (Insert c.step.new.self) c.args.store.now c.step.new.store c.in-Err.fault told.steps told.kept told.refused.state (ap (λ (op : InsertOp). Insert op) told.refused.op)
+    (refused_steps g.S.PageStore (Insert before) (Insert c.step.new.self) c.args.store.now c.step.new.store c.in-Err.fault told.steps told.kept
+    told.refused.state (ap (λ (op : InsertOp). Insert op) told.refused.op)
     (λ is_stopped. insert_told_stopped before.added c.in-Err.fault (told.stopped is_stopped)) (λ alive some. absurd (some refl))
     c.in-Err.ensures.faults (insert_told_logged before.added c.in-Err.fault c.in-Err.ensures.logged))
 
@@ -252,7 +262,8 @@ returns-in-Err-step-clause-all g c =
     let before = c.in-Scan.op in
     let told = c.in-Err-step.ensures.all in
     subst (λ (op : Op). OpSteps g.S.PageStore op (Scan c.step-in-Scan.new.self) c.args.store.now c.step-in-Scan.new.store (Refused c.in-Err-step.fault)) (sym c.in-Scan.is)
-    (refused_steps g.S.PageStore (Scan before) (Scan c.step-in-Scan.new.self) c.args.store.now c.step-in-Scan.new.store c.in-Err-step.fault told.steps told.kept told.refused.state (ap (λ (op : ScanOp). Scan op) told.refused.op)
+    (refused_steps g.S.PageStore (Scan before) (Scan c.step-in-Scan.new.self) c.args.store.now c.step-in-Scan.new.store c.in-Err-step.fault told.steps
+    told.kept told.refused.state (ap (λ (op : ScanOp). Scan op) told.refused.op)
     (λ is_stopped. told_stopped c.in-Err-step.fault (told.stopped is_stopped))
     (scan_told_waiting _ _ _ before c.step-in-Scan.new.self c.in-Err-step.fault told.waits) c.in-Err-step.ensures.faults tt)
 
@@ -261,7 +272,8 @@ returns-in-Err-step-2-clause-all g c =
     let before = c.in-Bulk.op in
     let told = c.in-Err-step-2.ensures.all in
     subst (λ (op : Op). OpSteps g.S.PageStore op (Bulk c.in-Bulk.set c.step-in-Some.new.self) c.args.store.now c.step-in-Some.new.store (Refused c.in-Err-step-2.fault)) (sym c.in-Bulk.is)
-    (refused_steps g.S.PageStore (Bulk c.in-Bulk.set before) (Bulk c.in-Bulk.set c.step-in-Some.new.self) c.args.store.now c.step-in-Some.new.store c.in-Err-step-2.fault told.steps told.kept told.refused.state (ap (λ (op : BulkDeleteOp). Bulk c.in-Bulk.set op) told.refused.op)
+    (refused_steps g.S.PageStore (Bulk c.in-Bulk.set before) (Bulk c.in-Bulk.set c.step-in-Some.new.self) c.args.store.now c.step-in-Some.new.store
+    c.in-Err-step-2.fault told.steps told.kept told.refused.state (ap (λ (op : BulkDeleteOp). Bulk c.in-Bulk.set op) told.refused.op)
     (λ is_stopped. told_stopped c.in-Err-step-2.fault (told.stopped is_stopped)) (λ alive some. absurd (some refl))
     (bulk_cause c.in-Err-step-2.fault c.in-Err-step-2.ensures.faults) tt)
 
@@ -270,7 +282,8 @@ returns-in-Err-step-3-clause-all g c =
     let before = c.in-Cleanup.op in
     let told = c.in-Err-step-3.ensures.all in
     subst (λ (op : Op). OpSteps g.S.PageStore op (Cleanup c.step-in-Cleanup.new.self) c.args.store.now c.step-in-Cleanup.new.store (Refused c.in-Err-step-3.fault)) (sym c.in-Cleanup.is)
-    (refused_steps g.S.PageStore (Cleanup before) (Cleanup c.step-in-Cleanup.new.self) c.args.store.now c.step-in-Cleanup.new.store c.in-Err-step-3.fault told.steps told.kept told.refused.state (ap (λ (op : CleanupOp). Cleanup op) told.refused.op)
+    (refused_steps g.S.PageStore (Cleanup before) (Cleanup c.step-in-Cleanup.new.self) c.args.store.now c.step-in-Cleanup.new.store
+    c.in-Err-step-3.fault told.steps told.kept told.refused.state (ap (λ (op : CleanupOp). Cleanup op) told.refused.op)
     (λ is_stopped. told_stopped c.in-Err-step-3.fault (told.stopped is_stopped)) (λ alive some. absurd (some refl))
     c.in-Err-step-3.ensures.faults tt)
 

@@ -10,7 +10,7 @@ use Rattle.world.specs.Worlds.{inside}
 use Rattle.sessions.specs.declared.record.Pending.{Pending}
 use Rattle.sessions.specs.declared.record.Record.{Record}
 use Rattle.sessions.specs.Acted.{HasActed}
-use Rattle.sessions.specs.Doing.{IsDone}
+use Rattle.sessions.specs.Doing.{IsEventDone}
 use Rattle.sessions.specs.Kept.{KeepsAll, record_of}
 use Rattle.sessions.specs.Notes.{notes_of, jobs_of}
 use Rattle.sessions.proofs.Handing.{comes_on}
@@ -38,18 +38,27 @@ invariant_of-self g c =
     let seen = c.len-seen.ensures ∙ self.history.ok.0 in
     let told = begun_is answer (sym c.is_begun.ensures ∙ c.if-is_begun.true) in
     let v = c.check-seat.ensures.keeper ∙ self.knows in
-    let runs = begin_runs g.S.PageStore laws g.J.Jobs.jobs g.J.Jobs.stood g.J.Jobs.kept_then old new one.steps sets self.start self.pending.items self.history.items w p idle c.args.asked c.requires.job c.beginning.result (ap kind_of c.beginning.ensures) answer one.goes always c.actions-from.ensures seen c.requires.given c.requires.holds told in
+    let runs = begin_runs g.S.PageStore laws g.J.Jobs.jobs g.J.Jobs.stood g.J.Jobs.kept_then old new one.steps sets self.start self.pending.items
+    self.history.items w p idle c.args.asked c.requires.job c.beginning.result (ap kind_of c.beginning.ensures) answer one.goes always
+    c.actions-from.ensures seen c.requires.given c.requires.holds told in
     record {
-      kept = ∥∥₁_map self.kept (λ all. begin_keeps_begun g.S.PageStore laws g.J.Jobs.jobs g.J.Jobs.stood g.J.Jobs.kept_then old new one.steps sets self.start self.pending.items self.history.items w p idle c.args.asked c.requires.job c.beginning.result (ap kind_of c.beginning.ensures) answer one.goes always c.actions-from.ensures seen c.requires.given c.requires.holds told all);
-      acted = ∥∥₁_map self.acted (λ a. acts_begun g.S.PageStore g.J.Jobs.handed g.J.Jobs.jobs old new self.pending.items self.history.items a w p c.args.asked idle c.requires.job c.requires.holds c.actions-from.ensures seen c.requires.given
-          (subst (λ (x : Event × Answer). Makes g.S.PageStore (kind_of x.0) x.1 old new) (λ i. (c.beginning.ensures i, told i)) (makes_of g.S.PageStore c.beginning.result answer old new one.same.sessions one.goes one.always)));
+      kept = ∥∥₁_map self.kept
+          (λ all. begin_keeps_begun g.S.PageStore laws g.J.Jobs.jobs g.J.Jobs.stood g.J.Jobs.kept_then old new one.steps sets self.start
+          self.pending.items self.history.items w p idle c.args.asked c.requires.job c.beginning.result (ap kind_of c.beginning.ensures) answer
+          one.goes always c.actions-from.ensures seen c.requires.given c.requires.holds told all);
+      acted = ∥∥₁_map self.acted
+          (λ a. acts_begun g.S.PageStore g.J.Jobs.handed g.J.Jobs.jobs old new self.pending.items self.history.items a w p c.args.asked idle
+          c.requires.job c.requires.holds c.actions-from.ensures seen c.requires.given
+          (subst (λ (x : Event × Answer). Makes g.S.PageStore (kind_of x.0) x.1 old new) (λ i. (c.beginning.ensures i, told i))
+          (makes_of g.S.PageStore c.beginning.result answer old new one.same.sessions one.goes one.always)));
       matches = ∥∥₁_map self.matches (λ m. matches_runs old.slots new.slots self.pending.items w p (within self.pending.items w None known) runs.0 runs.1 m);
       seats = omega (arith, self.seats, one.same.sessions);
       workers = self.workers;
       handed = ∥∥₁_map self.handed (λ h. comes_on g.S.PageStore g.met.S.PageStore.laws g.J.Jobs.handed self.start old new one.steps one.same.sessions sets h);
       counted = self.counted;
       room = c.start-seat.ensures.of;
-      knows = c.start-seat.ensures.keeper ∙ (λ i. keeper_of (v i).log (slice_set (v i).running (c.check-seat.ensures.worker i) (Some c.args.job))) ∙ ap (λ l. keeper_of (notes_of self.history.items) l) (sym (jobs_of_set self.pending.items w (Some p)));
+      knows = c.start-seat.ensures.keeper ∙ (λ i. keeper_of (v i).log (slice_set (v i).running (c.check-seat.ensures.worker i) (Some c.args.job)))
+          ∙ ap (λ l. keeper_of (notes_of self.history.items) l) (sym (jobs_of_set self.pending.items w (Some p)));
     }
 
 pub invariant_of-self-2 : goal.invariant_of-self-2
@@ -74,14 +83,22 @@ invariant_of-self-2 g c =
     let v = c.check-seat.ensures.keeper ∙ self.knows in
     let r = record_of w p answer c.actions-from.result in
     let items = c.push_reserved.ensures.items ∙ ap (λ (x : Record). self.history.items ++ x ∷ []) c.record.ensures in
-    let same = done_runs g.S.PageStore laws g.J.Jobs.jobs g.J.Jobs.stood g.J.Jobs.kept_then old new one.steps sets self.start self.pending.items self.history.items w p idle c.args.asked c.requires.job c.beginning.result (ap kind_of c.beginning.ensures) answer one.goes always c.actions-from.ensures seen c.requires.given c.requires.holds never in
+    let same = done_runs g.S.PageStore laws g.J.Jobs.jobs g.J.Jobs.stood g.J.Jobs.kept_then old new one.steps sets self.start self.pending.items
+    self.history.items w p idle c.args.asked c.requires.job c.beginning.result (ap kind_of c.beginning.ensures) answer one.goes always
+    c.actions-from.ensures seen c.requires.given c.requires.holds never in
     record {
       kept = ∥∥₁_map self.kept (λ all. subst (λ (h : List Record). KeepsAll g.S.PageStore g.J.Jobs.stood g.J.Jobs.kept_then g.J.Jobs.jobs new self.start self.pending.items h) (sym items)
-          (begin_keeps_done g.S.PageStore laws g.J.Jobs.jobs g.J.Jobs.stood g.J.Jobs.kept_then old new one.steps sets self.start self.pending.items self.history.items w p idle c.args.asked c.requires.job c.beginning.result (ap kind_of c.beginning.ensures) answer one.goes always c.actions-from.ensures seen c.requires.given c.requires.holds c.refused_calls_fit.ensures never sits all));
+          (begin_keeps_done g.S.PageStore laws g.J.Jobs.jobs g.J.Jobs.stood g.J.Jobs.kept_then old new one.steps sets self.start self.pending.items
+          self.history.items w p idle c.args.asked c.requires.job c.beginning.result (ap kind_of c.beginning.ensures) answer one.goes always
+          c.actions-from.ensures seen c.requires.given c.requires.holds c.refused_calls_fit.ensures never sits all));
       acted = ∥∥₁_map self.acted (λ a. subst (λ (h : List Record). HasActed g.S.PageStore g.J.Jobs.handed g.J.Jobs.jobs new self.pending.items h) (sym items)
-          (acts_at_once g.S.PageStore g.J.Jobs.handed g.J.Jobs.jobs old new self.pending.items self.history.items a w p c.args.asked answer c.requires.job c.actions-from.ensures seen c.requires.given never
-          (begin_acts g.S.PageStore laws g.J.Jobs.jobs g.J.Jobs.stood g.J.Jobs.kept_then old new one.steps sets self.start self.pending.items self.history.items w p idle c.args.asked c.requires.job c.beginning.result (ap kind_of c.beginning.ensures) answer one.goes always c.actions-from.ensures seen c.requires.given c.requires.holds ∙ sym c.actions-from.ensures)
-          (subst (λ (e : Event). Makes g.S.PageStore (kind_of e) answer old new) c.beginning.ensures (makes_of g.S.PageStore c.beginning.result answer old new one.same.sessions one.goes one.always))));
+          (acts_at_once g.S.PageStore g.J.Jobs.handed g.J.Jobs.jobs old new self.pending.items self.history.items a w p c.args.asked answer
+          c.requires.job c.actions-from.ensures seen c.requires.given never
+          (begin_acts g.S.PageStore laws g.J.Jobs.jobs g.J.Jobs.stood g.J.Jobs.kept_then old new one.steps sets self.start self.pending.items
+          self.history.items w p idle c.args.asked c.requires.job c.beginning.result (ap kind_of c.beginning.ensures) answer one.goes always
+          c.actions-from.ensures seen c.requires.given c.requires.holds ∙ sym c.actions-from.ensures)
+          (subst (λ (e : Event). Makes g.S.PageStore (kind_of e) answer old new) c.beginning.ensures
+          (makes_of g.S.PageStore c.beginning.result answer old new one.same.sessions one.goes one.always))));
       matches = ∥∥₁_map self.matches (λ m. matches_stays old.slots new.slots self.pending.items same m);
       seats = omega (arith, self.seats, one.same.sessions);
       workers = self.workers;
@@ -100,7 +117,11 @@ returns-clause-told g c =
     let seen = c.len-seen.ensures ∙ self.history.ok.0 in
     let p : Pending = record { job = c.args.job; given = c.args.given; from = c.actions-from.result; seen = c.len-seen.result } in
     rw (c.told-2.ensures.answer, c.told-2.ensures.place) (record {
-      history = (seen, c.push_reserved.ensures.items ∙ ap (λ (x : Record). self.history.items ++ x ∷ []) (c.record.ensures ∙ (λ i. record_of w (record p { from = from i; seen = seen i }) c.one-answer.result (from i))));
+      history = (
+        seen,
+        c.push_reserved.ensures.items
+            ∙ ap (λ (x : Record). self.history.items ++ x ∷ []) (c.record.ensures ∙ (λ i. record_of w (record p { from = from i; seen = seen i }) c.one-answer.result (from i))),
+      );
       pending = refl;
     })
 
@@ -109,4 +130,4 @@ returns-clause-event g c =
     let one = c.one-answer.ensures in
     let old = inside g.T.DeadRows c.args.self.now.world in
     let new = inside g.T.DeadRows c.one-answer.new.self in
-    rw c.told-2.ensures.answer (subst (λ (e : Event). IsDone g.S.PageStore e c.one-answer.result old new) c.beginning.ensures (record { goes = one.goes; always = one.always }))
+    rw c.told-2.ensures.answer (subst (λ (e : Event). IsEventDone g.S.PageStore e c.one-answer.result old new) c.beginning.ensures (record { goes = one.goes; always = one.always }))

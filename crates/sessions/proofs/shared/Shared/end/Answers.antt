@@ -11,8 +11,8 @@ use Rattle.world.specs.Worlds.{inside}
 use Rattle.sessions.specs.declared.record.Pending.{Pending}
 use Rattle.sessions.specs.declared.record.Record.{Record}
 use Rattle.sessions.specs.Acted.{HasActed}
-use Rattle.sessions.specs.Doing.{IsDone, IsFullScan}
-use Rattle.sessions.specs.Kept.{KeepsAll, Matches, record_of}
+use Rattle.sessions.specs.Doing.{IsEventDone, IsFullScan}
+use Rattle.sessions.specs.Kept.{KeepsAll, MatchesPending, record_of}
 use Rattle.sessions.specs.Notes.{notes_of, jobs_of, job_of}
 use Rattle.sessions.proofs.Handing.{comes_on}
 use Rattle.sessions.proofs.Noting.{some_there, within, jobs_of_set, notes_of_snoc, length_notes, runs_there, same_there, seat_runs, matches_ends}
@@ -61,34 +61,47 @@ invariant_of-self g c =
     let at = some_there self.pending.items w c.args.job known in
     let inside_it = within self.pending.items w (Some c.args.job) known in
     let p = c.in-Some.done in
-    let is : slice_get self.pending.items w ≡ Some (Some p) = slice_get_read self.pending.items self.pending.len w c.index_mut.result.now self.pending.ok.0 (omega (arith, inside_it, self.pending.ok.0)) c.index_mut.ensures.value ∙ ap Some (sym c.take.ensures.value ∙ c.in-Some.is) in
-    let seen : slice_get self.pending.items w ≡ Some c.index.result.now = slice_get_read self.pending.items self.pending.len w c.index.result.now self.pending.ok.0 (omega (arith, inside_it, self.pending.ok.0)) c.index.ensures in
-    let waits : IsFullScan c.args.asked c.index.result.now (ready_count (slot_of self.world.calls.slots.items w)) = subst (IsFullScan c.args.asked c.index.result.now) c.ready-ready.ensures (c.is_full.ensures.yes c.if-is_full.true) in
+    let is : slice_get self.pending.items w ≡ Some (Some p) =
+    slice_get_read self.pending.items self.pending.len w c.index_mut.result.now self.pending.ok.0 (omega (arith, inside_it, self.pending.ok.0))
+    c.index_mut.ensures.value ∙ ap Some (sym c.take.ensures.value ∙ c.in-Some.is) in
+    let seen : slice_get self.pending.items w ≡ Some c.index.result.now =
+    slice_get_read self.pending.items self.pending.len w c.index.result.now self.pending.ok.0 (omega (arith, inside_it, self.pending.ok.0)) c.index.ensures in
+    let waits : IsFullScan c.args.asked c.index.result.now (ready_count (slot_of self.world.calls.slots.items w)) =
+    subst (IsFullScan c.args.asked c.index.result.now) c.ready-ready.ensures (c.is_full.ensures.yes c.if-is_full.true) in
     let full = subst (λ (o : Option Pending). IsFullScan c.args.asked o (ready_count (slot_of self.world.calls.slots.items w))) (some_same (sym seen ∙ is)) waits in
     let job : p.job ≡ c.args.job = ap (λ (x : Pending). x.job) (same_there self.pending.items w p at.0 is at.1) ∙ at.2 in
     let asked = ap (slice_get g.J.Jobs.jobs) job ∙ c.requires.job in
     let was = runs_there self.world.calls.slots.items self.pending.items w p self.matches is in
-    let did : IsDone g.S.PageStore (End w) answer old new = record { goes = one.goes; always = one.always } in
-    let runs = end_runs g.S.PageStore g.met.S.PageStore.laws c.one_call_runs.ensures g.J.Jobs.jobs g.J.Jobs.stood g.J.Jobs.kept_then old new one.steps sets self.start self.pending.items self.history.items w p is was answer did in
+    let did : IsEventDone g.S.PageStore (End w) answer old new = record { goes = one.goes; always = one.always } in
+    let runs = end_runs g.S.PageStore g.met.S.PageStore.laws c.one_call_runs.ensures g.J.Jobs.jobs g.J.Jobs.stood g.J.Jobs.kept_then old new one.steps
+    sets self.start self.pending.items self.history.items w p is was answer did in
     let r = record_of w p answer c.actions-until.result in
     let items = c.push_reserved.ensures.items ∙ ap (λ (x : Record). self.history.items ++ x ∷ []) c.record.ensures in
     let none = c.take.ensures.after in
     let v = c.check-seat.ensures.keeper ∙ self.knows in
     record {
-      kept = ∥∥₁_map self.kept (λ all. subst (λ (h : List Record × Option Pending). KeepsAll g.S.PageStore g.J.Jobs.stood g.J.Jobs.kept_then g.J.Jobs.jobs new self.start (slice_set self.pending.items w h.1) h.0) (λ i. (sym items i, sym none i))
-          (end_keeps g.S.PageStore g.met.S.PageStore.laws c.one_call_runs.ensures g.J.Jobs.jobs g.J.Jobs.stood g.J.Jobs.kept_then old new one.steps sets self.start self.pending.items self.history.items w p is was c.ready_entries_may_come_next.ensures answer did c.args.asked asked full c.actions-until.result c.actions-until.ensures all));
-      acted = ∥∥₁_map self.acted (λ a. subst (λ (h : List Record × Option Pending). HasActed g.S.PageStore g.J.Jobs.handed g.J.Jobs.jobs new (slice_set self.pending.items w h.1) h.0) (λ i. (sym items i, sym none i))
-          (end_acts g.S.PageStore g.J.Jobs.handed g.J.Jobs.jobs old new self.pending.items self.history.items w p is answer (makes_of g.S.PageStore (End w) answer old new one.same.sessions one.goes one.always)
-          (end_answers g.S.PageStore g.met.S.PageStore.laws c.one_call_runs.ensures g.J.Jobs.jobs g.J.Jobs.stood g.J.Jobs.kept_then old new one.steps sets self.start self.pending.items self.history.items w p is was answer did)
+      kept = ∥∥₁_map self.kept
+          (λ all. subst (λ (h : List Record × Option Pending).
+          KeepsAll g.S.PageStore g.J.Jobs.stood g.J.Jobs.kept_then g.J.Jobs.jobs new self.start (slice_set self.pending.items w h.1) h.0) (λ i. (sym items i, sym none i))
+          (end_keeps g.S.PageStore g.met.S.PageStore.laws c.one_call_runs.ensures g.J.Jobs.jobs g.J.Jobs.stood g.J.Jobs.kept_then old new one.steps
+          sets self.start self.pending.items self.history.items w p is was c.ready_entries_may_come_next.ensures answer did c.args.asked asked
+          full c.actions-until.result c.actions-until.ensures all));
+      acted = ∥∥₁_map self.acted
+          (λ a. subst (λ (h : List Record × Option Pending). HasActed g.S.PageStore g.J.Jobs.handed g.J.Jobs.jobs new (slice_set self.pending.items w h.1) h.0) (λ i. (sym items i, sym none i))
+          (end_acts g.S.PageStore g.J.Jobs.handed g.J.Jobs.jobs old new self.pending.items self.history.items w p is answer
+          (makes_of g.S.PageStore (End w) answer old new one.same.sessions one.goes one.always)
+          (end_answers g.S.PageStore g.met.S.PageStore.laws c.one_call_runs.ensures g.J.Jobs.jobs g.J.Jobs.stood g.J.Jobs.kept_then old new one.steps
+          sets self.start self.pending.items self.history.items w p is was answer did)
           c.args.asked asked full c.actions-until.result c.actions-until.ensures a));
-      matches = ∥∥₁_map self.matches (λ m. subst (λ o. Matches new.slots (slice_set self.pending.items w o)) (sym none) (matches_ends old.slots new.slots self.pending.items w runs.0 runs.1 m));
+      matches = ∥∥₁_map self.matches (λ m. subst (λ o. MatchesPending new.slots (slice_set self.pending.items w o)) (sym none) (matches_ends old.slots new.slots self.pending.items w runs.0 runs.1 m));
       seats = omega (arith, self.seats, one.same.sessions);
       workers = self.workers;
       handed = ∥∥₁_map self.handed (λ h. comes_on g.S.PageStore g.met.S.PageStore.laws g.J.Jobs.handed self.start old new one.steps one.same.sessions sets h);
       counted = c.end-seat.ensures.book ∙ ap (λ n. n + 1) self.counted ∙ sym c.push_reserved.ensures.len;
       room = c.end-seat.ensures.of;
       knows = c.end-seat.ensures.keeper ∙ (λ i. keeper_of ((v i).log ++ (c.check-seat.ensures.worker i, p.job) ∷ []) (slice_set (v i).running (c.check-seat.ensures.worker i) None))
-          ∙ (λ i. keeper_of (sym (ap notes_of items ∙ notes_of_snoc self.history.items r) i) ((ap (λ o. slice_set (jobs_of self.pending.items) w (job_of o)) (sym none) ∙ sym (jobs_of_set self.pending.items w c.take.new.self)) i));
+          ∙ (λ i. keeper_of (sym (ap notes_of items ∙ notes_of_snoc self.history.items r) i)
+          ((ap (λ o. slice_set (jobs_of self.pending.items) w (job_of o)) (sym none) ∙ sym (jobs_of_set self.pending.items w c.take.new.self)) i));
     }
 
 pub returns-then-is_full-clause-event : goal.returns-then-is_full-clause-event
@@ -104,9 +117,10 @@ returns-then-is_full-clause-event g c =
     let known = seat_runs (known_by self.keeper) w (notes_of self.history.items) self.pending.items _ _ self.knows c.check-seat.ensures.job c.requires.runs in
     let at = some_there self.pending.items w c.args.job known in
     let was = runs_there self.world.calls.slots.items self.pending.items w at.0 self.matches at.1 in
-    let did : IsDone g.S.PageStore (End w) answer old new = record { goes = one.goes; always = one.always } in
-    let ended = end_answers g.S.PageStore g.met.S.PageStore.laws c.one_call_runs.ensures g.J.Jobs.jobs g.J.Jobs.stood g.J.Jobs.kept_then old new one.steps sets self.start self.pending.items self.history.items w at.0 at.1 was answer did in
-    subst (λ (a : Answer). IsDone g.S.PageStore (End w) a old new) ended did
+    let did : IsEventDone g.S.PageStore (End w) answer old new = record { goes = one.goes; always = one.always } in
+    let ended = end_answers g.S.PageStore g.met.S.PageStore.laws c.one_call_runs.ensures g.J.Jobs.jobs g.J.Jobs.stood g.J.Jobs.kept_then old new
+    one.steps sets self.start self.pending.items self.history.items w at.0 at.1 was answer did in
+    subst (λ (a : Answer). IsEventDone g.S.PageStore (End w) a old new) ended did
 
 pub returns-then-is_full-clause-told : goal.returns-then-is_full-clause-told
 returns-then-is_full-clause-told g c =
@@ -121,17 +135,24 @@ returns-then-is_full-clause-told g c =
     let known = seat_runs (known_by self.keeper) w (notes_of self.history.items) self.pending.items _ _ self.knows c.check-seat.ensures.job c.requires.runs in
     let at = some_there self.pending.items w c.args.job known in
     let was = runs_there self.world.calls.slots.items self.pending.items w at.0 self.matches at.1 in
-    let did : IsDone g.S.PageStore (End w) answer old new = record { goes = one.goes; always = one.always } in
-    let ended = end_answers g.S.PageStore g.met.S.PageStore.laws c.one_call_runs.ensures g.J.Jobs.jobs g.J.Jobs.stood g.J.Jobs.kept_then old new one.steps sets self.start self.pending.items self.history.items w at.0 at.1 was answer did in
+    let did : IsEventDone g.S.PageStore (End w) answer old new = record { goes = one.goes; always = one.always } in
+    let ended = end_answers g.S.PageStore g.met.S.PageStore.laws c.one_call_runs.ensures g.J.Jobs.jobs g.J.Jobs.stood g.J.Jobs.kept_then old new
+    one.steps sets self.start self.pending.items self.history.items w at.0 at.1 was answer did in
     let inside_it = within self.pending.items w (Some c.args.job) known in
     let p = c.in-Some.done in
-    let is : slice_get self.pending.items w ≡ Some (Some p) = slice_get_read self.pending.items self.pending.len w c.index_mut.result.now self.pending.ok.0 (omega (arith, inside_it, self.pending.ok.0)) c.index_mut.ensures.value ∙ ap Some (sym c.take.ensures.value ∙ c.in-Some.is) in
+    let is : slice_get self.pending.items w ≡ Some (Some p) =
+    slice_get_read self.pending.items self.pending.len w c.index_mut.result.now self.pending.ok.0 (omega (arith, inside_it, self.pending.ok.0))
+    c.index_mut.ensures.value ∙ ap Some (sym c.take.ensures.value ∙ c.in-Some.is) in
     let job : p.job ≡ c.args.job = ap (λ (x : Pending). x.job) (same_there self.pending.items w p at.0 is at.1) ∙ at.2 in
     record {
       running = p;
       found = is;
       job_is = job;
-      history = (c.len-place.ensures ∙ self.history.ok.0, c.push_reserved.ensures.items ∙ ap (λ (x : Record). self.history.items ++ x ∷ []) (c.record.ensures ∙ (λ i. record_of w p (ended i) (c.actions-until.ensures i))));
+      history = (
+        c.len-place.ensures ∙ self.history.ok.0,
+        c.push_reserved.ensures.items
+            ∙ ap (λ (x : Record). self.history.items ++ x ∷ []) (c.record.ensures ∙ (λ i. record_of w p (ended i) (c.actions-until.ensures i))),
+      );
       pending = ap (slice_set self.pending.items w) c.take.ensures.after;
     }
 
@@ -143,10 +164,13 @@ returns-then-is_full-clause-seat g c =
     let at = some_there self.pending.items w c.args.job known in
     let inside_it = within self.pending.items w (Some c.args.job) known in
     let p = c.in-Some.done in
-    let is : slice_get self.pending.items w ≡ Some (Some p) = slice_get_read self.pending.items self.pending.len w c.index_mut.result.now self.pending.ok.0 (omega (arith, inside_it, self.pending.ok.0)) c.index_mut.ensures.value ∙ ap Some (sym c.take.ensures.value ∙ c.in-Some.is) in
+    let is : slice_get self.pending.items w ≡ Some (Some p) =
+    slice_get_read self.pending.items self.pending.len w c.index_mut.result.now self.pending.ok.0 (omega (arith, inside_it, self.pending.ok.0))
+    c.index_mut.ensures.value ∙ ap Some (sym c.take.ensures.value ∙ c.in-Some.is) in
     let job : p.job ≡ c.args.job = ap (λ (x : Pending). x.job) (same_there self.pending.items w p at.0 is at.1) ∙ at.2 in
     let v = c.check-seat.ensures.keeper ∙ self.knows in
-    let place : length (known_by c.check-seat.new.keeper).log ≡ c.len-place.result = ap (λ (x : SeatView). length x.log) v ∙ length_notes self.history.items ∙ sym (c.len-place.ensures ∙ self.history.ok.0) in
+    let place : length (known_by c.check-seat.new.keeper).log ≡ c.len-place.result = ap (λ (x : SeatView). length x.log) v
+    ∙ length_notes self.history.items ∙ sym (c.len-place.ensures ∙ self.history.ok.0) in
     record {
       rests = c.end-seat.ensures.job;
       notes = c.end-seat.ensures.notes ∙ (λ i. (c.check-seat.ensures.view i).notes ++ (place i, job i) ∷ []);

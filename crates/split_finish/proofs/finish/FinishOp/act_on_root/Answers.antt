@@ -3,7 +3,7 @@ use Rattle.page_codec.specs.declared.page.Page.{Page}
 use Rattle.page_action.specs.States.{State, IsLater}
 use Rattle.descent.specs.Shared.{fresh_block}
 use Rattle.descent.proofs.Working.{fresh_is}
-use Rattle.split_finish.specs.Finishes.{images_of}
+use Rattle.split_finish.specs.Finishes.{finish_blocks}
 use Rattle.split_finish.proofs.Needs.{root_takes, three_are}
 use Rattle.split_finish.proofs.Doing.{acts_done, act_refused, popped_session}
 use Rattle.split_finish.proofs.Growing.{grows, may_grow_all}
@@ -36,9 +36,10 @@ returns-in-Err-clause-all g c =
     ap (map (λ (page : Page). page.block)) are.pages_are
     ∙ three_are are.root.block are.meta_after.block are.page_after.block (fresh_block st) 0 op.target.block (are.root_block ∙ sym (fresh_is st c.args.fresh c.requires.fresh))
     (are.meta_block ∙ meets.read_meta.stored.block_is) (are.clear.block_is ∙ meets.read.stored.block_is)
-    ∙ sym (ap (images_of st op.target) meets.at
+    ∙ sym (ap (finish_blocks st op.target) meets.at
     ∙ root_takes st op c.args.meta c.args.page (meets.read_meta.found (later.honest honest)) (meets.read.found (later.honest honest)) meets.ready))
-    (λ honest order fits. c.in-Err.ensures.cause (may_grow_all st op (g.S.PageStore.backing c.args.store.now).honest c.args.meta c.args.page c.args.new c.args.fresh c.grown-pages.result order fits (later.honest honest)
+    (λ honest order fits.
+    c.in-Err.ensures.cause (may_grow_all st op (g.S.PageStore.backing c.args.store.now).honest c.args.meta c.args.page c.args.new c.args.fresh c.grown-pages.result order fits (later.honest honest)
     c.requires.meets.read_meta c.requires.meets.read c.requires.meets.ready c.requires.right c.requires.fresh c.requires.block c.requires.free
     (g.met.S.PageStore.laws.few c.args.store.now)
     (subst (λ (l : _). 2 ≤ l.items) c.limits-least.ensures.value c.if-prove.false)

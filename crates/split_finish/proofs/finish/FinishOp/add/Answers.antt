@@ -1,7 +1,7 @@
 use Rattle.std.proofs.Common.{List, map, take, slice_set, sym, ap, ◌∙◌}
 use Rattle.page_codec.specs.declared.page.Page.{Page}
 use Rattle.page_action.specs.States.{State, IsLater}
-use Rattle.split_finish.specs.Finishes.{images_of}
+use Rattle.split_finish.specs.Finishes.{finish_blocks}
 use Rattle.descent.proofs.Working.{two_are}
 use Rattle.split_finish.proofs.Doing.{acts_done, act_refused, popped_session}
 use Rattle.split_finish.proofs.InPlace.{linked_there}
@@ -20,7 +20,8 @@ returns-in-Ok-clause-all g c =
     let clear = c.clear_split.ensures in
     let later : IsLater (g.S.PageStore.backing c.args.store.now) (g.S.PageStore.backing c.act_on.new.store) =
     g.met.S.PageStore.laws.follows_later _ _ (c.act_on.ensures.steps _ (g.met.S.PageStore.laws.follows_same _)) in
-    let linked = linked_there c.args.pages.now ready.parent ready.page ready.rest c.index-pages-0.result c.index-pages-1.result c.add_link.new.page c.clear_split.new.page op.target.separator c.args.at c.args.new
+    let linked = linked_there c.args.pages.now ready.parent ready.page ready.rest c.index-pages-0.result c.index-pages-1.result c.add_link.new.page
+    c.clear_split.new.page op.target.separator c.args.at c.args.new
     ready.pages_are have.place
     (record { added = put.added; node_is = put.node; layout_is = ap (λ (p : Page). p.layout) put.only; block_is = put.block; count = put.count; internal = put.still_internal; admitted = put.page })
     (record { only = clear.only; after_is = clear.node; block_is = ap (λ (p : Page). p.block) clear.only }) clear.page in
@@ -42,7 +43,8 @@ returns-in-Err-clause-all g c =
     let clear = c.clear_split.ensures in
     let later : IsLater (g.S.PageStore.backing c.args.store.now) (g.S.PageStore.backing c.act_on.new.store) =
     g.met.S.PageStore.laws.follows_later _ _ (c.act_on.ensures.steps _ (g.met.S.PageStore.laws.follows_same _)) in
-    let are = linked_there c.args.pages.now ready.parent ready.page ready.rest c.index-pages-0.result c.index-pages-1.result c.add_link.new.page c.clear_split.new.page op.target.separator c.args.at c.args.new
+    let are = linked_there c.args.pages.now ready.parent ready.page ready.rest c.index-pages-0.result c.index-pages-1.result c.add_link.new.page
+    c.clear_split.new.page op.target.separator c.args.at c.args.new
     ready.pages_are have.place
     (record { added = put.added; node_is = put.node; layout_is = ap (λ (p : Page). p.layout) put.only; block_is = put.block; count = put.count; internal = put.still_internal; admitted = put.page })
     (record { only = clear.only; after_is = clear.node; block_is = ap (λ (p : Page). p.block) clear.only }) clear.page in
@@ -51,7 +53,8 @@ returns-in-Err-clause-all g c =
     (λ honest.
     ap (map (λ (page : Page). page.block)) are.pages_are
     ∙ two_are are.parent_after.block are.page_after.block meets.way.block op.target.block (are.block_is ∙ meets.read_parent.stored.block_is) (are.clear.block_is ∙ meets.read.stored.block_is)
-    ∙ sym (ap (images_of st op.target) meets.at
+    ∙ sym (ap (finish_blocks st op.target) meets.at
     ∙ roomy_link st op meets.way ready.page ready.parent (meets.read.found (later.honest honest)) (meets.read_parent.found (later.honest honest)) meets.ready have.room))
-    (λ honest order fits. c.in-Err.ensures.cause (may_link_all st op (g.S.PageStore.backing c.args.store.now).honest meets.way ready.page ready.parent c.args.new changed order fits (later.honest honest)
+    (λ honest order fits.
+    c.in-Err.ensures.cause (may_link_all st op (g.S.PageStore.backing c.args.store.now).honest meets.way ready.page ready.parent c.args.new changed order fits (later.honest honest)
     meets.at meets.read meets.read_parent meets.ready have.right (g.met.S.PageStore.laws.few c.args.store.now) have.room are))

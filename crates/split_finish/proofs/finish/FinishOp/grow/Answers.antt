@@ -1,7 +1,7 @@
 use Rattle.std.proofs.Common.{true, sym, ◌∙◌}
 use Rattle.page_action.specs.States.{IsLater}
 use Rattle.tree_acts.proofs.Telling.{place_inside}
-use Rattle.split_finish.specs.Finishes.{images_of, frames_of, takes_block_of}
+use Rattle.split_finish.specs.Finishes.{finish_blocks, frames_of, takes_block_of}
 use Rattle.split_finish.specs.Turns.{splits_root_of}
 use Rattle.split_finish.proofs.Needs.{needs_frame}
 use Rattle.split_finish.proofs.Standing.{meta_inside, has_room}
@@ -32,4 +32,4 @@ returns-in-Err-clause-all g c =
     (λ honest order fits.
     c.in-Err.ensures.cause honest (has_room st op fits) (meta_inside st order.tree)
     (place_inside st fits.start op.target.level _ true op.target.block order.tree fits.newest.place)
-    (images_of st op.target op.at) (frames_of st op.target op.at) (takes_block_of st op.target op.at) (splits_root_of st op.target op.at) (needs_frame st op.target op.at))
+    (finish_blocks st op.target op.at) (frames_of st op.target op.at) (takes_block_of st op.target op.at) (splits_root_of st op.target op.at) (needs_frame st op.target op.at))

@@ -3,9 +3,9 @@ use Rattle.page_codec.specs.declared.page.Page.{Page}
 use Rattle.page_action.specs.States.{State, IsLater}
 use Rattle.tree_acts.proofs.Telling.{place_inside}
 use Rattle.split_finish.specs.Targets.{FinishStands}
-use Rattle.split_finish.specs.Finishes.{images_of, frames_of, takes_block_of}
+use Rattle.split_finish.specs.Finishes.{finish_blocks, frames_of, takes_block_of}
 use Rattle.split_finish.specs.Turns.{splits_root_of}
-use Rattle.split_finish.specs.Acting.{IsRead}
+use Rattle.split_finish.specs.Acting.{IsReadToChange}
 use Rattle.split_finish.proofs.InPlace.{two_put}
 use Rattle.split_finish.proofs.Needs.{needs_frame}
 use Rattle.split_finish.proofs.Standing.{has_room}
@@ -27,12 +27,12 @@ link_to-requires-clause-read g c =
       page = page;
       rest = both.0;
       pages_are = both.1;
-      read = subst (λ (s : State). IsRead s (g.S.PageStore.backing c.look_at_both.new.store).honest op.session op.target.block page) (sym c.look_at_both.ensures.state) (record {
+      read = subst (λ (s : State). IsReadToChange s (g.S.PageStore.backing c.look_at_both.new.store).honest op.session op.target.block page) (sym c.look_at_both.ensures.state) (record {
         found = λ honest. (c.in-Ok.ensures.pages honest).0;
         stored = c.in-Ok.ensures.stored.0;
         free = c.in-Ok.ensures.free.0;
       });
-      read_parent = subst (λ (s : State). IsRead s (g.S.PageStore.backing c.look_at_both.new.store).honest op.session c.args.way.block parent) (sym c.look_at_both.ensures.state) (record {
+      read_parent = subst (λ (s : State). IsReadToChange s (g.S.PageStore.backing c.look_at_both.new.store).honest op.session c.args.way.block parent) (sym c.look_at_both.ensures.state) (record {
         found = λ honest. (c.in-Ok.ensures.pages honest).1;
         stored = c.in-Ok.ensures.stored.1;
         free = c.in-Ok.ensures.free.1;
@@ -64,4 +64,4 @@ returns-in-Err-clause-all g c =
     let stands = subst (FinishStands st fits.start op.target) c.requires fits.stands in
     c.in-Err.ensures.cause honest (has_room st op fits) (place_inside st fits.start op.target.level _ true op.target.block order.tree fits.newest.place)
     (place_inside st fits.start c.args.way.level _ true c.args.way.block order.tree stands.1.place)
-    (images_of st op.target op.at) (frames_of st op.target op.at) (takes_block_of st op.target op.at) (splits_root_of st op.target op.at) (needs_frame st op.target op.at))
+    (finish_blocks st op.target op.at) (frames_of st op.target op.at) (takes_block_of st op.target op.at) (splits_root_of st op.target op.at) (needs_frame st op.target op.at))

@@ -1,8 +1,8 @@
 use Rattle.std.proofs.Common.{◌≡◌, Bool, true, sym, ap, subst, ◌∙◌}
 use Rattle.index_model.specs.Faults.{HasCause}
 use Rattle.page_action.specs.States.{Backing}
-use Rattle.descent.specs.Shared.{where_working}
-use Rattle.split_finish.specs.Finishes.{images_of, frames_of, takes_block_of}
+use Rattle.descent.specs.Shared.{causes_of_working}
+use Rattle.split_finish.specs.Finishes.{finish_blocks, frames_of, takes_block_of}
 use Rattle.split_finish.specs.Turns.{splits_root_of}
 use Rattle.split_finish.proofs.Needs.{to_grow}
 use Rattle.split_finish.proofs.Standing.{has_room}
@@ -20,5 +20,6 @@ returns-in-Err-clause-all g c =
     let sound = subst (λ (b : Backing). b.honest ≡ true) c.take_block.ensures.backing honest in
     let grows = to_grow st op c.args.meta c.args.page (c.requires.meets.read_meta.found sound) (c.requires.meets.read.found sound) c.requires.meets.ready in
     let takes : takes_block_of st op.target op.at ≡ true = ap (takes_block_of st op.target) c.requires.meets.at ∙ grows in
-    subst (λ (b : Bool). HasCause (where_working st first third op.session (images_of st op.target op.at) (frames_of st op.target op.at) b (splits_root_of st op.target op.at)) c.in-Err.fault) (sym takes)
-    (c.in-Err.ensures.cause (has_room st op fits) (images_of st op.target op.at) (frames_of st op.target op.at) (splits_root_of st op.target op.at)))
+    subst (λ (b : Bool).
+    HasCause (causes_of_working st first third op.session (finish_blocks st op.target op.at) (frames_of st op.target op.at) b (splits_root_of st op.target op.at)) c.in-Err.fault) (sym takes)
+    (c.in-Err.ensures.cause (has_room st op fits) (finish_blocks st op.target op.at) (frames_of st op.target op.at) (splits_root_of st op.target op.at)))

@@ -3,7 +3,7 @@ use Rattle.index_model.specs.Faults.{HasCause}
 use Rattle.page_action.specs.States.{State}
 use Rattle.tree_acts.proofs.Telling.{place_inside}
 use Rattle.split_finish.specs.Targets.{FinishStands}
-use Rattle.split_finish.specs.Finishes.{where_finishing}
+use Rattle.split_finish.specs.Finishes.{causes_of_finishing}
 use Rattle.split_finish.specs.declared.finish.FinishAt.{FinishAt}
 use Rattle.split_finish.proofs.Standing.{has_room}
 use Rattle.split_finish.proofs.Stepping.{refuses, turns}
@@ -28,5 +28,5 @@ returns-in-Err-clause-all g c =
     (λ h. (let k = sym c.in-Err.is ∙ c.look.ensures.stopped h in cc))
     (λ honest order fits.
     let on = subst (FinishStands st fits.start op.target) c.requires fits.stands in
-    subst (λ (a : FinishAt). HasCause (where_finishing st (g.S.PageStore.backing c.args.store.now) (g.S.PageStore.backing c.look.new.store) op.session op.target a) c.in-Err.fault) (sym c.requires)
+    subst (λ (a : FinishAt). HasCause (causes_of_finishing st (g.S.PageStore.backing c.args.store.now) (g.S.PageStore.backing c.look.new.store) op.session op.target a) c.in-Err.fault) (sym c.requires)
     (c.in-Err.ensures.works honest (has_room st op fits) (place_inside st fits.start c.args.way.level _ true c.args.way.block order.tree on.place) [] 1 false false (omega arith)))

@@ -2,7 +2,7 @@ use Rattle.std.proofs.Common.{sym, subst}
 use Rattle.page_codec.specs.declared.page.Page.{Page}
 use Rattle.page_action.specs.States.{State, IsLater}
 use Rattle.split_finish.specs.Acting.{MeetsParent}
-use Rattle.split_finish.specs.Finishes.{images_of, frames_of, takes_block_of}
+use Rattle.split_finish.specs.Finishes.{finish_blocks, frames_of, takes_block_of}
 use Rattle.split_finish.specs.Turns.{splits_root_of}
 use Rattle.split_finish.proofs.Needs.{needs_frame}
 use Rattle.split_finish.proofs.Parting.{beside_parent}
@@ -12,15 +12,19 @@ use Rattle.split_finish.proofs.finish.FinishOp.split_parent.Goals as goal
 
 pub split_beside-requires-clause-meets : goal.split_beside-requires-clause-meets
 split_beside-requires-clause-meets g c =
-    let later : IsLater (g.S.PageStore.backing c.args.store.now) (g.S.PageStore.backing c.read_right.new.store) = g.met.S.PageStore.laws.follows_later _ _ (c.read_right.ensures.steps _ (g.met.S.PageStore.laws.follows_same _)) in
-    subst (λ (page : Page). MeetsParent (g.S.PageStore.state c.read_right.new.store) (g.S.PageStore.backing c.read_right.new.store).honest c.args.self.now page c.copy-in-Ok.result) (sym c.copy.ensures)
-    (subst (λ (parent : Page). MeetsParent (g.S.PageStore.state c.read_right.new.store) (g.S.PageStore.backing c.read_right.new.store).honest c.args.self.now c.args.page.now parent) (sym c.copy-in-Ok.ensures)
+    let later : IsLater (g.S.PageStore.backing c.args.store.now) (g.S.PageStore.backing c.read_right.new.store) =
+    g.met.S.PageStore.laws.follows_later _ _ (c.read_right.ensures.steps _ (g.met.S.PageStore.laws.follows_same _)) in
+    subst (λ (page : Page).
+    MeetsParent (g.S.PageStore.state c.read_right.new.store) (g.S.PageStore.backing c.read_right.new.store).honest c.args.self.now page c.copy-in-Ok.result) (sym c.copy.ensures)
+    (subst (λ (parent : Page).
+    MeetsParent (g.S.PageStore.state c.read_right.new.store) (g.S.PageStore.backing c.read_right.new.store).honest c.args.self.now c.args.page.now parent) (sym c.copy-in-Ok.ensures)
     (still_meets (g.S.PageStore.state c.args.store.now) (g.S.PageStore.state c.read_right.new.store) (g.S.PageStore.backing c.args.store.now) (g.S.PageStore.backing c.read_right.new.store)
     c.args.self.now c.args.page.now c.args.parent.now c.read_right.ensures.state later.honest c.requires.meets))
 
 pub returns-after-is_there-clause-all : goal.returns-after-is_there-clause-all
 returns-after-is_there-clause-all g c =
-    let later : IsLater (g.S.PageStore.backing c.args.store.now) (g.S.PageStore.backing c.read_right.new.store) = g.met.S.PageStore.laws.follows_later _ _ (c.read_right.ensures.steps _ (g.met.S.PageStore.laws.follows_same _)) in
+    let later : IsLater (g.S.PageStore.backing c.args.store.now) (g.S.PageStore.backing c.read_right.new.store) =
+    g.met.S.PageStore.laws.follows_later _ _ (c.read_right.ensures.steps _ (g.met.S.PageStore.laws.follows_same _)) in
     behind_more g.S.PageStore c.args.self.now c.split_beside.new.self c.args.store.now c.read_right.new.store c.split_beside.new.store c.split_beside.result
     (record {
       steps = c.read_right.ensures.steps;
@@ -35,9 +39,11 @@ pub returns-in-Err-clause-all : goal.returns-in-Err-clause-all
 returns-in-Err-clause-all g c =
     let op = c.args.self.now in
     let st : State = g.S.PageStore.state c.args.store.now in
-    let later : IsLater (g.S.PageStore.backing c.args.store.now) (g.S.PageStore.backing c.read_right.new.store) = g.met.S.PageStore.laws.follows_later _ _ (c.read_right.ensures.steps _ (g.met.S.PageStore.laws.follows_same _)) in
+    let later : IsLater (g.S.PageStore.backing c.args.store.now) (g.S.PageStore.backing c.read_right.new.store) =
+    g.met.S.PageStore.laws.follows_later _ _ (c.read_right.ensures.steps _ (g.met.S.PageStore.laws.follows_same _)) in
     acts_not g.S.PageStore op c.args.store.now c.read_right.new.store c.in-Err.fault c.read_right.ensures.steps c.read_right.ensures.state
     (λ honest order fits.
-    let beside = beside_parent st op.session (g.S.PageStore.backing c.args.store.now).honest op c.requires.meets.way c.args.page.now c.args.parent.now order fits c.requires.meets.at (later.honest honest) c.requires.meets.read c.requires.meets.read_parent c.requires.meets.ready in
+    let beside = beside_parent st op.session (g.S.PageStore.backing c.args.store.now).honest op c.requires.meets.way c.args.page.now c.args.parent.now
+    order fits c.requires.meets.at (later.honest honest) c.requires.meets.read c.requires.meets.read_parent c.requires.meets.ready in
     c.in-Err.ensures.cause honest (has_room st op fits) beside.mendable
-    (images_of st op.target op.at) (frames_of st op.target op.at) (takes_block_of st op.target op.at) (splits_root_of st op.target op.at) (needs_frame st op.target op.at))
+    (finish_blocks st op.target op.at) (frames_of st op.target op.at) (takes_block_of st op.target op.at) (splits_root_of st op.target op.at) (needs_frame st op.target op.at))

@@ -48,11 +48,13 @@ returns-then-ne-clause-turn c = λ st there found h fits.
       | then-ne-via-then-ne w ↦ absurd (
           let op = c.args.self.now in
           let u = to_finish st fits.start op.target.level (bound_aim op.target.separator) op.target.block c.args.page.now h fits.newest.place found c.if-not-page.false in
-          let on : IsUnfinished st fits.start c.args.meta.now.level u.separator c.args.page.now u.new = subst (λ (n : ℕ). IsUnfinished st fits.start n u.separator c.args.page.now u.new) (sym c.if-meta-self.false) u.is in
+          let on : IsUnfinished st fits.start c.args.meta.now.level u.separator c.args.page.now u.new =
+          subst (λ (n : ℕ). IsUnfinished st fits.start n u.separator c.args.page.now u.new) (sym c.if-meta-self.false) u.is in
           let root = root_tells st fits.start u.separator c.args.meta.now c.args.page.now u.new h there on in
           let here : c.args.page.now.block ≡ op.target.block = (stored_page st.limits op.target.block st.pages c.args.page.now h.stored found).block_is in
           not_same op.target.block (root ∙ ap Some here) (sym c.ne.ensures ∙ w.if-ne.true))
-      | then-ne-via-else-ne+then-page-self w ↦ absurd (w.if-page-self.true (live_level st fits.start c.args.self.now.target.level _ true c.args.self.now.target.block c.args.page.now h fits.newest.place found
+      | then-ne-via-else-ne+then-page-self w ↦
+          absurd (w.if-page-self.true (live_level st fits.start c.args.self.now.target.level _ true c.args.self.now.target.block c.args.page.now h fits.newest.place found
           (flagged_in st c.args.self.now.target.block c.args.page.now h found c.if-not-page.false).1))
     ]
 

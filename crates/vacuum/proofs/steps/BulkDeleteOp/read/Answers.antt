@@ -6,7 +6,7 @@ use Rattle.latch_table.specs.declared.mode.Mode.TheVariants.{Cleanup}
 use Rattle.page_codec.specs.declared.page.Page.{Page}
 use Rattle.page_action.specs.States.{State, IsLater}
 use Rattle.page_action.specs.Stored.{IsStored, AreActable}
-use Rattle.vacuum.specs.BulkDeletes.{block_if, has_dead, where_taking}
+use Rattle.vacuum.specs.BulkDeletes.{block_if, has_dead, causes_of_taking}
 use Rattle.vacuum.specs.Ops.{last_read, moves_of, next_block}
 use Rattle.vacuum.specs.Turns.{TurnsTo, TurnsNoMore, written}
 use Rattle.vacuum.proofs.Causes.{reading_cause, taking_later}
@@ -32,7 +32,8 @@ returns-in-Err-clause-all g c =
     (λ h. absurd (let k : false ≡ true = sym c.requires.alive ∙ h in cc))
     (λ honest order fits.
     reading_cause (g.T.DeadRows.is_in c.args.dead.now) old (g.S.PageStore.backing c.args.store.now) (g.S.PageStore.backing c.look.new.store) before c.in-Err.fault
-    (c.in-Err.ensures.works honest (has_room old before fits) (subst (λ (b : ℕ). b < length old.pages) c.requires.at (next_in_use old before order.tree fits c.requires.inside)) [] 1 false false (omega arith)))
+    (c.in-Err.ensures.works honest (has_room old before fits)
+    (subst (λ (b : ℕ). b < length old.pages) c.requires.at (next_in_use old before order.tree fits c.requires.inside)) [] 1 false false (omega arith)))
 
 pub returns-then-not-is_live_leaf-clause-all : goal.returns-then-not-is_live_leaf-clause-all
 returns-then-not-is_live_leaf-clause-all g c =
@@ -69,8 +70,10 @@ pub returns-in-Err-take-clause-all : goal.returns-in-Err-take-clause-all
 returns-in-Err-take-clause-all g c =
     let old = g.S.PageStore.state c.args.store.now in
     let before = c.args.self.now in
-    let later : IsLater (g.S.PageStore.backing c.args.store.now) (g.S.PageStore.backing c.look.new.store) = g.met.S.PageStore.laws.follows_later _ _ (c.look.ensures.steps _ (g.met.S.PageStore.laws.follows_same _)) in
-    let since : IsLater (g.S.PageStore.backing c.look.new.store) (g.S.PageStore.backing c.take.new.store) = g.met.S.PageStore.laws.follows_later _ _ (c.take.ensures.steps _ (g.met.S.PageStore.laws.follows_same _)) in
+    let later : IsLater (g.S.PageStore.backing c.args.store.now) (g.S.PageStore.backing c.look.new.store) =
+    g.met.S.PageStore.laws.follows_later _ _ (c.look.ensures.steps _ (g.met.S.PageStore.laws.follows_same _)) in
+    let since : IsLater (g.S.PageStore.backing c.look.new.store) (g.S.PageStore.backing c.take.new.store) =
+    g.met.S.PageStore.laws.follows_later _ _ (c.take.ensures.steps _ (g.met.S.PageStore.laws.follows_same _)) in
     let leaf = c.if-not-is_live_leaf.ensures.0 refl in
     refuses g.S.PageStore (g.T.DeadRows.is_in c.args.dead.now) before c.args.store.now c.take.new.store c.in-Err-take.fault
     (λ first h. c.take.ensures.steps first (c.look.ensures.steps first h)) (c.in-Err-take.ensures.refused ∙ c.look.ensures.state)
@@ -84,11 +87,11 @@ returns-in-Err-take-clause-all g c =
     let at_view = (goal.at.returns-in-Err-take-clause-all g c).After-view-page in
     let block : c.sweep-swept.result.after.block ≡ next_block before.cursor before.back =
     ap (λ (p : Page). p.block) c.sweep-swept.ensures.swept.after_is ∙ (stored g at_view).block_is ∙ sym c.requires.at in
-    subst (λ (b : ℕ). HasCause (where_taking (block_if (has_dead dead old before) b) old first third before) c.in-Err-take.fault) block
-    (subst (λ (writes : Bool). HasCause (where_taking (block_if writes c.sweep-swept.result.after.block) old first third before) c.in-Err-take.fault)
+    subst (λ (b : ℕ). HasCause (causes_of_taking (block_if (has_dead dead old before) b) old first third before) c.in-Err-take.fault) block
+    (subst (λ (writes : Bool). HasCause (causes_of_taking (block_if writes c.sweep-swept.result.after.block) old first third before) c.in-Err-take.fault)
     (writes_dead dead old before c.args.block c.view-page.result.now c.sweep-swept.result c.requires.at (found g at_view (since.honest honest)) leaf.0 leaf.1 c.sweep-swept.ensures.swept)
     (taking_later images old first second third before c.in-Err-take.fault later.failures c.in-Ok.ensures.alive c.look.ensures.room.promised
-    (subst (λ (st : State). HasCause (where_taking images st second third before) c.in-Err-take.fault) c.look.ensures.state
+    (subst (λ (st : State). HasCause (causes_of_taking images st second third before) c.in-Err-take.fault) c.look.ensures.state
     (c.in-Err-take.ensures.cause (subst (λ (st : State). HasRoom st.table before.session) (sym c.look.ensures.state) (has_room old before fits)))))))
 
 pub returns-clause-all : goal.returns-clause-all
@@ -97,7 +100,8 @@ returns-clause-all g c =
     let before = c.args.self.now in
     let leaf = c.if-not-is_live_leaf.ensures.0 refl in
     let at_view = (goal.at.returns-clause-all g c).After-view-page in
-    let later : IsLater (g.S.PageStore.backing c.look.new.store) (g.S.PageStore.backing c.take.new.store) = g.met.S.PageStore.laws.follows_later _ _ (c.take.ensures.steps _ (g.met.S.PageStore.laws.follows_same _)) in
+    let later : IsLater (g.S.PageStore.backing c.look.new.store) (g.S.PageStore.backing c.take.new.store) =
+    g.met.S.PageStore.laws.follows_later _ _ (c.take.ensures.steps _ (g.met.S.PageStore.laws.follows_same _)) in
     let most : c.limits.result.pages ≡ old.limits.pages = ap (λ (l : Limits). l.pages) c.limits.ensures.value ∙ ap (λ (s : State). s.limits.pages) c.look.ensures.state in
     let cycle : c.cycle.result ≡ old.cycle = c.cycle.ensures ∙ ap (λ (s : State). s.cycle) c.look.ensures.state in
     takes g.S.PageStore (g.T.DeadRows.is_in c.args.dead.now) before c.args.store.now c.take.new.store c.args.block c.view-page.result.now c.sweep-swept.result c.in-Ok-turn.back

@@ -5,7 +5,7 @@ use Rattle.page_store.specs.Restart.{LeavesPages}
 use Rattle.page_action.specs.States.{State}
 use Rattle.page_store.specs.Stores.{state_of, device_of}
 use Rattle.recovery.specs.Opening.{IsFreshlyOpened}
-use Rattle.schedule.specs.Snapshots.{IsUnused}
+use Rattle.schedule.specs.MomentInvariants.{IsUnused}
 use Rattle.world.proofs.Opened.{freshly_unused, tree_opened, same_start, same_kept}
 use Rattle.world.proofs.opening.World+Store+D+T.open.Goals as goal
 

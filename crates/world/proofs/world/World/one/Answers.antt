@@ -10,5 +10,6 @@ pub returns-clause-goes : goal.returns-clause-goes
 returns-clause-goes g c =
     let rows = g.T.DeadRows in
     makes_follow g.S.PageStore g.met.S.PageStore.laws c.args.event c.one.result (inside rows c.args.self.now) _
-    (subst (λ (ts : List g.row.T.Denot). Makes g.S.PageStore (kind_of c.args.event) c.one.result (here rows c.args.self.now.store c.args.self.now.calls ts) (here rows c.one.new.store c.one.new.calls ts))
+    (subst (λ (ts : List g.row.T.Denot).
+    Makes g.S.PageStore (kind_of c.args.event) c.one.result (here rows c.args.self.now.store c.args.self.now.calls ts) (here rows c.one.new.store c.one.new.calls ts))
     c.deref.ensures.value c.one.ensures.makes)

@@ -1,7 +1,7 @@
 use Rattle.std.proofs.Common.{ap}
 use Rattle.page_action.specs.States.{State}
 use Rattle.schedule.specs.TheoremMoments.{snapshot_of}
-use Rattle.schedule.specs.Snapshots.{here_with}
+use Rattle.schedule.specs.MomentInvariants.{here_with}
 use Rattle.schedule.proofs.Keeping.{no_growth, keeps_on, safe}
 use Rattle.schedule.proofs.Events.{fits_still}
 use Rattle.schedule.proofs.Fitting.{matches_of}

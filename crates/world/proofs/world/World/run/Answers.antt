@@ -2,7 +2,7 @@ use Rattle.std.specs.Prelude.{OnOk}
 use Rattle.std.proofs.Common.{List, subst}
 use Rattle.schedule.specs.Making.{EachAlways, answers_behind}
 use Rattle.schedule.specs.Sessions.{here}
-use Rattle.schedule.specs.TheoremRuns.{Carries, Runs}
+use Rattle.schedule.specs.TheoremRuns.{ForEachHistory, Runs}
 use Rattle.world.proofs.world.World.run.Goals as goal
 
 pub returns-clause-runs : goal.returns-clause-runs
@@ -10,7 +10,7 @@ returns-clause-runs g c =
     let rows = g.T.DeadRows in
     let old = c.args.self.now in
     let answers = answers_behind c.args.answers.now.items c.run.new.answers.items in
-    subst (λ (ts : List g.row.T.Denot). OnOk c.run.result (Carries g.S.PageStore (here rows old.store old.calls ts) (here rows c.run.new.store c.run.new.calls ts)
+    subst (λ (ts : List g.row.T.Denot). OnOk c.run.result (ForEachHistory g.S.PageStore (here rows old.store old.calls ts) (here rows c.run.new.store c.run.new.calls ts)
     (Runs g.S.PageStore (here rows old.store old.calls ts) (here rows c.run.new.store c.run.new.calls ts) c.args.events.now answers)))
     c.deref.ensures.value c.run.ensures.runs
 

@@ -1,0 +1,33 @@
+use Rattle.std.proofs.Common.{◌≡◌, ◌+◌, sym, subst, ap, ◌∙◌, ◌∷◌, ◌++◌, [], length, length-set, arith, List}
+use Rattle.page_codec.specs.declared.page.Page.{Page}
+use Rattle.page_action.specs.Stored.{AreStored}
+use Rattle.page_action.specs.Waiting.{Numbers, AreWaiting, waiting_number}
+use Rattle.page_action.proofs.Waiting.{add_waits}
+use Rattle.page_action.proofs.StoredPages.{stored-add, stored_at}
+use Rattle.page_store.specs.declared.history.History.{History}
+use Rattle.page_store.proofs.log_room.StoreRoom.add.Goals.{After-begin}
+use Rattle.page_store.proofs.log_room.StoreRoom.add.Goals as goal
+
+-- the pages with one more
+more : (c : After-begin) → c.begin.new.self.start ≡ c.args.self.now.history.start ++ c.args.page.now ∷ []
+more c = ap (λ (h : History). h.start) c.begin.ensures ∙ ap (λ (ps : List Page). c.args.self.now.history.start ++ ps) c.from_ref.ensures.value
+
+pub invariant_of-self-clause-stored : goal.invariant_of-self-clause-stored
+invariant_of-self-clause-stored c =
+    let room = c.args.self.now in
+    subst (λ (pages : List Page). AreStored room.limits 0 pages) (sym (more (goal.at.invariant_of-self-clause-stored c).After-begin))
+    (stored-add room.limits 0 room.history.start c.args.page.now room.stored
+    (stored_at room.limits (0 + length room.history.start) c.args.page.now (c.is_storable.ensures.0 c.if-not-is_storable.false) (omega arith)))
+
+pub invariant_of-self-clause-waiting : goal.invariant_of-self-clause-waiting
+invariant_of-self-clause-waiting c =
+    let room = c.args.self.now in
+    subst (λ (pages : List Page). AreWaiting c.add.new.self.waiting pages c.add.new.self.counted) (sym (more (goal.at.invariant_of-self-clause-waiting c).After-begin))
+    (subst (λ (numbers : Numbers). AreWaiting numbers.waiting (room.history.start ++ c.args.page.now ∷ []) numbers.counted) (sym c.add.ensures)
+    (add_waits room.numbers.waiting room.history.start room.numbers.counted c.args.page.now room.waiting room.many_counts (omega arith)))
+
+pub invariant_of-self-clause-count_room : goal.invariant_of-self-clause-count_room
+invariant_of-self-clause-count_room c =
+    let numbers = c.args.self.now.numbers in
+    let same = ap (λ (n : Numbers). length n.waiting) c.add.ensures in
+    omega (arith, same, length-set numbers.waiting (length numbers.counted) (waiting_number c.args.page.now.state 0))

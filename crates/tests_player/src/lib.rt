@@ -1,0 +1,65 @@
+//! Runs the program `btidx` on a script, for the crates of tests. No product stands on it.
+#![tactic(auto)]
+
+use command_line::execute;
+use device::Unknown;
+use std::alloc::{AllocError, Global};
+use std::fs::File;
+use std::rt::Files;
+use std::str;
+use std::sync::Wait;
+use std::thread::Threads;
+
+/// What the program printed, and the status that it ended with.
+#[derive(Drop)]
+pub struct Printed {
+    pub out: Vec<u8>,
+    pub err: Vec<u8>,
+    pub status: u8,
+}
+
+/// Runs the program on a script.
+pub fn played<R: AllocGlobal + Files<File = File> + Threads + Wait + Sync>(
+    rt: &R,
+    words: &[&str],
+    script: &str,
+) -> Printed {
+    let mut input = script.as_bytes();
+    let mut out = Vec::new(rt.alloc());
+    let mut err = Vec::new(rt.alloc());
+    let status = execute::<_, Unknown, _, _, _, _>(
+        rt,
+        rt.alloc(),
+        words,
+        &mut input,
+        &mut out,
+        &mut err,
+    ).status;
+    Printed { out, err, status }
+}
+
+/// The text of what was printed.
+pub fn text(bytes: &[u8]) -> &str {
+    str::from_utf8(bytes).unwrap_or("no text")
+}
+
+/// The script of these parts, one behind the other, and what it is to print. The script's lines stand behind `> `, or are
+/// comments; what a line prints stands below it.
+pub fn script_of(alloc: Global, parts: &[&str]) -> Result<(String, String), AllocError> {
+    let mut script = String::new(alloc);
+    let mut printed = String::new(alloc);
+    for part in parts {
+        for line in part.lines() {
+            let (text, to) = if line.starts_with("#") {
+                (line, &mut script)
+            } else if let Some(event) = line.strip_prefix("> ") {
+                (event, &mut script)
+            } else {
+                (line, &mut printed)
+            };
+            to.push_str(text)?;
+            to.push_str("\n")?;
+        }
+    }
+    Ok((script, printed))
+}

@@ -1,0 +1,52 @@
+//! What no clause says: what a script prints, and how it ends.
+
+mod crashes;
+mod deletes;
+mod examples;
+mod inserts;
+mod lines;
+mod rows;
+mod scans;
+mod upkeep;
+
+use std::fs::File;
+use std::process::Abort;
+use std::rt::Files;
+use std::sync::Wait;
+use std::test::*;
+use std::thread::Threads;
+use tests_player::{played, script_of, text};
+
+/// Runs the program on a script, and compares all that it prints.
+fn runs(
+    rt: &(impl Abort + AllocGlobal + Print + Eprint + Files<File = File> + Threads + Wait + Sync),
+    words: &[&str],
+    script: &str,
+    printed: &str,
+    said: &str,
+    status: u8,
+) -> Result<(), Fail> {
+    let played = played(rt, words, script);
+    assert_eq!(rt; text(&played.out), printed);
+    assert_eq!(rt; text(&played.err), said);
+    assert_eq!(rt; played.status, status);
+    Ok(())
+}
+
+/// Runs a script, and compares all that it prints.
+fn plays(
+    rt: &(impl Abort + AllocGlobal + Print + Eprint + Files<File = File> + Threads + Wait + Sync),
+    parts: &[&str],
+) -> Result<(), Fail> {
+    plays_with(rt, ["btidx", "play"].as_slice(), parts)
+}
+
+/// The same with these words.
+fn plays_with(
+    rt: &(impl Abort + AllocGlobal + Print + Eprint + Files<File = File> + Threads + Wait + Sync),
+    words: &[&str],
+    parts: &[&str],
+) -> Result<(), Fail> {
+    let (script, printed) = script_of(rt.alloc(), parts)?;
+    runs(rt, words, script.as_str(), printed.as_str(), "", 0)
+}

@@ -1,0 +1,6 @@
+//! What several crates of tests use: sets of dead rows, small indexes, and calls without their contracts. No product stands on it.
+#![tactic(auto)]
+
+pub mod dead;
+pub mod plain;
+pub mod small;

@@ -1,0 +1,323 @@
+//! Calls without their contracts. A test looks at the answers alone, and what a call promises would be carried, call by call, to
+//! the end of the test that makes it.
+
+use access_method::{Index, Inserted, ScanToken};
+use device::{CrashImage, Device, MemDevice};
+use index_model::{DeadRows, Entry, Fault, Limits, Range, VacuumStats};
+use page_action::{PageStore, find_misplaced};
+use page_codec::Page;
+use page_store::Store;
+use recovery::Refused;
+use schedule::Event;
+use session_calls::Answer;
+use std::alloc::Global;
+use world::{NotOpened, World};
+
+/// More steps than any call of a test makes.
+const LIMIT: u32 = 1_000_000;
+
+/// A device of so many zeros.
+pub fn device(alloc: Global, len: u64) -> Result<MemDevice, Fault> {
+    MemDevice::new(alloc, len)
+}
+
+/// What a crash leaves of a device.
+pub fn left(alloc: Global, device: &MemDevice, image: CrashImage) -> Result<MemDevice, Fault> {
+    device.crash(alloc, image)
+}
+
+/// Reads from there on; nothing where that is behind the end.
+pub fn read(device: &mut MemDevice, at: u64, bytes: &mut [u8]) -> Result<(), Fault> {
+    let len = bytes.len() as u64;
+    if device.len() < len || at > device.len() - len {
+        return Err(Fault::DeviceTooSmall);
+    }
+    device.read_at(at, bytes)
+}
+
+/// Writes there; nothing where that is behind the end.
+pub fn write(device: &mut MemDevice, at: u64, bytes: &[u8]) -> Result<(), Fault> {
+    let len = bytes.len() as u64;
+    if device.len() < len || at > device.len() - len {
+        return Err(Fault::DeviceTooSmall);
+    }
+    device.write_at(at, bytes)
+}
+
+pub fn create(device: &mut MemDevice, limits: &Limits) -> Result<(), Fault> {
+    recovery::create(device, limits)
+}
+
+pub fn open<D: Device>(alloc: Global, device: D, frames: u32) -> Result<Store<D>, Refused<D>> {
+    recovery::open(alloc, device, frames)
+}
+
+/// What a crash leaves of a store.
+pub fn left_of(
+    alloc: Global,
+    store: &Store<MemDevice>,
+    image: CrashImage,
+) -> Result<MemDevice, Fault> {
+    store.crash(alloc, image)
+}
+
+pub fn device_of<D: Device>(store: Store<D>) -> D {
+    store.into_device()
+}
+
+/// Changes these pages at once; `PageDamaged` where a store would not take them.
+pub fn act<S: PageStore>(store: &mut S, pages: &[Page]) -> Result<u64, Fault> {
+    if pages.is_empty()
+        || pages.len() > 4
+        || find_misplaced(pages, store.used(), store.format()).is_some()
+    {
+        return Err(Fault::PageDamaged(0));
+    }
+    store.act(pages)
+}
+
+pub fn page<S: PageStore>(store: &mut S, block: u32) -> Result<Page, Fault> {
+    store.page(block)
+}
+
+pub fn force<S: PageStore>(store: &mut S) -> Result<u64, Fault> {
+    store.force()
+}
+
+pub fn flush<S: PageStore>(store: &mut S) -> Result<Option<u32>, Fault> {
+    store.flush()
+}
+
+pub fn checkpoint<S: PageStore>(store: &mut S) -> Result<u64, Fault> {
+    store.checkpoint()
+}
+
+/// A world of so many sessions over a store.
+pub fn world<S: PageStore + Drop, T: DeadRows + Drop>(
+    alloc: Global,
+    store: S,
+    sessions: u32,
+    sets: Vec<T>,
+) -> Result<World<S, T>, Fault> {
+    match World::new(alloc, store, sessions, sets) {
+        Ok(world) => Ok(world),
+        Err(not_made) => Err(not_made.fault),
+    }
+}
+
+/// The world of the index that a device holds.
+pub fn open_world<D: Device, T: DeadRows + Drop>(
+    alloc: Global,
+    device: D,
+    frames: u32,
+    sessions: u32,
+    sets: Vec<T>,
+) -> Result<World<Store<D>, T>, NotOpened<D, T>> {
+    World::open(alloc, device, frames, sessions, sets)
+}
+
+pub fn one<S: PageStore, T: DeadRows + Drop>(world: &mut World<S, T>, event: Event) -> Answer {
+    world.one(event)
+}
+
+pub fn run<S: PageStore, T: DeadRows + Drop>(
+    world: &mut World<S, T>,
+    events: &[Event],
+    answers: &mut Vec<Answer>,
+) -> Result<(), Fault> {
+    world.run(events, answers)
+}
+
+/// Room for so many images: where there is less, a checkpoint.
+fn make_room<S: PageStore, T: DeadRows + Drop>(
+    world: &mut World<S, T>,
+    least_room: u32,
+) -> Result<(), Fault> {
+    if world.room() >= least_room {
+        return Ok(());
+    }
+    match world.one(Event::Checkpoint) {
+        Answer::Refused(fault) => Err(fault),
+        _ => Ok(()),
+    }
+}
+
+/// A step of a session's call, for which there is room.
+fn step<S: PageStore, T: DeadRows + Drop>(
+    world: &mut World<S, T>,
+    session: u32,
+    least_room: u32,
+) -> Result<Answer, Fault> {
+    make_room(world, least_room)?;
+    Ok(world.one(Event::Step(session)))
+}
+
+/// A step of a session's call, with the checkpoint that may go before it.
+pub fn take_step<S: PageStore, T: DeadRows + Drop>(
+    world: &mut World<S, T>,
+    session: u32,
+    least_room: u32,
+) -> Answer {
+    world.take_step(session, least_room)
+}
+
+/// Steps of a session's call until one doesn't answer `Going`, and that answer.
+pub fn finish<S: PageStore, T: DeadRows + Drop>(
+    world: &mut World<S, T>,
+    session: u32,
+    least_room: u32,
+) -> Result<Answer, Fault> {
+    for _ in 0..LIMIT {
+        match step(world, session, least_room)? {
+            Answer::Going => {}
+            answer => return Ok(answer),
+        }
+    }
+    Err(Fault::PageDamaged(0))
+}
+
+/// An insert, stepped until a step doesn't answer `Going`, and that answer.
+pub fn put<S: PageStore, T: DeadRows + Drop>(
+    world: &mut World<S, T>,
+    session: u32,
+    entry: Entry,
+    least_room: u32,
+) -> Result<Answer, Fault> {
+    match world.one(Event::Insert(session, entry)) {
+        Answer::Refused(fault) => Err(fault),
+        _ => finish(world, session, least_room),
+    }
+}
+
+/// The next entry that a session's scan has ready; where none is, a step of it.
+fn advance<S: PageStore, T: DeadRows + Drop>(
+    world: &mut World<S, T>,
+    session: u32,
+    least_room: u32,
+) -> Result<Answer, Fault> {
+    match world.one(Event::Next(session)) {
+        Answer::Gave(None) => step(world, session, least_room),
+        answer => Ok(answer),
+    }
+}
+
+/// The next entry of a session's scan, or None at its end.
+fn seek<S: PageStore, T: DeadRows + Drop>(
+    world: &mut World<S, T>,
+    session: u32,
+    least_room: u32,
+) -> Result<Option<Entry>, Fault> {
+    for _ in 0..LIMIT {
+        match advance(world, session, least_room)? {
+            Answer::Going | Answer::Ready(_) => {}
+            Answer::Gave(given) => return Ok(given),
+            Answer::Refused(fault) => return Err(fault),
+            _ => return Ok(None),
+        }
+    }
+    Err(Fault::PageDamaged(0))
+}
+
+/// The next entry of a session's scan, or None at its end. The scan is given up then, and where it is refused.
+pub fn give<S: PageStore, T: DeadRows + Drop>(
+    world: &mut World<S, T>,
+    session: u32,
+    least_room: u32,
+) -> Result<Option<Entry>, Fault> {
+    let given = seek(world, session, least_room);
+    if !matches!(given, Ok(Some(_))) {
+        world.abandon(session);
+    }
+    given
+}
+
+/// The page of a block of a world.
+pub fn page_in<S: PageStore, T: DeadRows + Drop>(
+    world: &mut World<S, T>,
+    block: u32,
+) -> Result<Page, Fault> {
+    world.page(block)
+}
+
+/// What a crash leaves of a world.
+pub fn left_by<T: DeadRows + Drop>(
+    alloc: Global,
+    world: &World<Store<MemDevice>, T>,
+    image: CrashImage,
+) -> Result<MemDevice, Fault> {
+    world.crash(alloc, image)
+}
+
+/// The `n`th device call from now on fails; none for 0.
+pub fn fail_at<T: DeadRows + Drop>(world: &mut World<Store<MemDevice>, T>, n: u64) {
+    world.fail_at(n);
+}
+
+/// From the `n`th device call from now on each fails; none for 0.
+pub fn stop_at<T: DeadRows + Drop>(world: &mut World<Store<MemDevice>, T>, n: u64) {
+    world.stop_at(n);
+}
+
+/// The index of one user that a device holds.
+pub fn open_index<D: Device + Drop>(
+    alloc: Global,
+    device: D,
+    frames: u32,
+) -> Result<Index<Store<D>>, Fault> {
+    match Index::open(alloc, device, frames) {
+        Ok(index) => Ok(index),
+        Err(refused) => Err(refused.fault),
+    }
+}
+
+/// An index over a store.
+pub fn index_over<S: PageStore + Drop>(alloc: Global, store: S) -> Result<Index<S>, Fault> {
+    match Index::new(alloc, store) {
+        Ok(index) => Ok(index),
+        Err(not_made) => Err(not_made.fault),
+    }
+}
+
+pub fn insert<S: PageStore>(index: &mut Index<S>, entry: Entry) -> Result<Inserted, Fault> {
+    index.aminsert(entry)
+}
+
+pub fn commit<S: PageStore>(index: &mut Index<S>) -> Result<u64, Fault> {
+    index.commit()
+}
+
+/// A checkpoint of an index.
+pub fn checkpoint_of<S: PageStore>(index: &mut Index<S>) -> Result<u64, Fault> {
+    index.checkpoint()
+}
+
+pub fn begin_scan<S: PageStore>(index: &mut Index<S>, range: Range) -> Result<ScanToken, Fault> {
+    index.ambeginscan(range)
+}
+
+pub fn rescan<S: PageStore>(
+    index: &mut Index<S>,
+    token: ScanToken,
+    range: Range,
+) -> Result<(), Fault> {
+    index.amrescan(token, range)
+}
+
+pub fn next<S: PageStore>(index: &mut Index<S>, token: ScanToken) -> Result<Option<Entry>, Fault> {
+    index.amgettuple(token)
+}
+
+pub fn end_scan<S: PageStore>(index: &mut Index<S>, token: ScanToken) -> Result<(), Fault> {
+    index.amendscan(token)
+}
+
+pub fn bulk_delete<S: PageStore, T: DeadRows>(
+    index: &mut Index<S>,
+    dead: &T,
+) -> Result<VacuumStats, Fault> {
+    index.ambulkdelete(dead)
+}
+
+pub fn clean_up<S: PageStore>(index: &mut Index<S>) -> Result<VacuumStats, Fault> {
+    index.amvacuumcleanup()
+}
