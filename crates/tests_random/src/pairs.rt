@@ -10,7 +10,7 @@ use crate::runs::{
 };
 use crate::tally::Tally;
 use device::{CrashImage, MemDevice};
-use index_model::Fault;
+use index_model::{Entry, Fault};
 use page_action::PageStore;
 use schedule::Event;
 use session_calls::Answer;
@@ -53,11 +53,19 @@ fn filled(run: Run, few: OverDevice, dice: &mut Dice, entries: u32) -> Result<Ov
     opened(run, FEW, left)
 }
 
+/// Puts an entry, whatever that answers.
+fn puts<S: PageStore>(few: &mut World<S, Blocks>, entry: Entry) -> Result<(), Fault> {
+    match put(few, 0, entry, 8) {
+        Ok(_answer) => Ok(()),
+        Err(fault) => Err(fault),
+    }
+}
+
 /// Puts some entries and makes a checkpoint: what a crash leaves then.
 fn fill(run: Run, few: &mut OverDevice, dice: &mut Dice, entries: u32) -> Result<MemDevice, Fault> {
     for _ in 0..entries {
         let entry = dice.entry(run.space);
-        put(few, 0, entry, 8)?;
+        puts(few, entry)?;
     }
     one(few, Event::Checkpoint);
     left_by(run.alloc, few, CrashImage::Drop)
