@@ -12,8 +12,8 @@ use Rattle.session_calls.specs.declared.request.Request.TheVariants.{Cleanup as 
 use Rattle.schedule.specs.TheoremMoments.{StoreAndSlots, snapshot_of}
 use Rattle.schedule.specs.TheoremRuns.{Fits}
 use Rattle.whole_calls.specs.Going.{CallRuns}
-use Rattle.whole_calls.specs.Sweeping.{SweepTold, sweep_outcome, TellsCleaned, TellsDeleted, TellsPages}
-use Rattle.whole_calls.specs.Telling.{acts_by, AreOwnEffects, first_call}
+use Rattle.whole_calls.specs.Vacuuming.{VacuumMeans, vacuum_outcome, StatsCountCleaned, StatsCountDeleted, StatsCountPages}
+use Rattle.whole_calls.specs.Meanings.{acts_by, AreOwnEffects, first_call}
 use Rattle.access_method.specs.Indexes.{IsCleanedUp}
 
 -- what a cleanup does says nothing of any entry
@@ -36,9 +36,9 @@ module _ {S : Type 0} (g : Ghosts S) (old new : StoreAndSlots S) (start : Entry 
       (says_nothing (length calls) (first_call 63 ToCleanup (snapshot_of old history calls)) (length history) effects e refl own)
 
   pub cleaned_up : (result : Result VacuumStats Fault)
-      → (r : CallRuns g 63 (SweepTold 63 ToCleanup result) (sweep_outcome result) old new start history calls)
-      → TellsCleaned (g.state new.store) result → TellsDeleted (deleted_in (g.state old.store)) (g.state new.store) result
-      → IfOk result (λ stats. TellsPages (g.state new.store) stats × (stats.tuples_removed ≡ 0))
+      → (r : CallRuns g 63 (VacuumMeans 63 ToCleanup result) (vacuum_outcome result) old new start history calls)
+      → StatsCountCleaned (g.state new.store) result → StatsCountDeleted (deleted_in (g.state old.store)) (g.state new.store) result
+      → IfOk result (λ stats. StatsCountPages (g.state new.store) stats × (stats.tuples_removed ≡ 0))
       → IsCleanedUp g result old.store new.store
   cleaned_up (Ok stats) r told deleted pages =
       let t = r.tells in

@@ -1,6 +1,6 @@
 pub mod Seats
 pub mod Results
-pub mod Sweeps
+pub mod BulkDeletions
 pub mod Cleanups
 pub mod Refusals
 pub mod Opened

@@ -1,5 +1,5 @@
 -- The causes of refusals of an index's calls, and what is left of them where nothing hinders a call.
-use Rattle.whole_calls.specs.Inserting.{InsertGoes}
+use Rattle.whole_calls.specs.Inserting.{InsertIsRun}
 use Rattle.whole_calls.specs.Going.{CallRuns}
 use Rattle.schedule.specs.declared.event.Event.{Event}
 use Rattle.schedule.specs.TheoremRuns.{IsRun, ForEachHistory, Fits}
@@ -34,7 +34,7 @@ use Rattle.schedule.proofs.Lists.{get_some}
 use Rattle.whole_calls.specs.Refusing.{another_runs, causes_of_inserted, causes_of_called, is_tall, InsertCallIsCaused, causes_of_gone}
 use Rattle.whole_calls.specs.declared.inserted.Inserted.{Inserted}
 use Rattle.access_method.specs.Indexes.{slots_within, has_entry, InsertsOrKeeps, slots_with}
-use Rattle.access_method.specs.Refusals.{causes_of_run, causes_of_aminsert, none_is_left, InsertHasCause, IsUnhindered, IsForWantOfSpace, IsOfSpace, InsertsUnhindered}
+use Rattle.access_method.specs.Refusals.{causes_of_run, causes_of_aminsert, none_is_left, InsertHasCause, NothingHinders, IsForWantOfSpace, IsOfSpace, InsertsUnhindered}
 use Rattle.access_method.specs.Tokens.{NoneVacuums}
 use Rattle.access_method.specs.declared.index.Index.{Index}
 use Rattle.schedule.proofs.Fitting.{beyond_of, running_of}
@@ -139,7 +139,7 @@ pub limits_stay : {S : Type 0} (g : Ghosts S) (session : ℕ) (Tells : Moment S 
 limits_stay g session Tells came old new start history calls r = run_limits g start [] r.events r.answers (snapshot_of old history calls) (snapshot_of new r.then_history r.then_calls) r.ran.run
 
 pub insert_limits : {S : Type 0} (g : Ghosts S) (entry : Entry) (result : Result Inserted Fault) (old new : StoreAndSlots S)
-    → InsertGoes g 63 entry result old new → ForEachHistory g old new (λ start history calls. (g.state new.store).limits ≡ (g.state old.store).limits)
+    → InsertIsRun g 63 entry result old new → ForEachHistory g old new (λ start history calls. (g.state new.store).limits ≡ (g.state old.store).limits)
 insert_limits g entry (Ok inserted) old new (inl goes) honest start history calls fits = limits_stay g 63 _ _ old new start history calls (goes honest start history calls fits)
 insert_limits g entry (Ok inserted) old new (inr cut) honest start history calls fits = limits_stay g 63 _ _ old new start history calls (cut.goes honest start history calls fits)
 insert_limits g entry (Err fault) old new goes honest start history calls fits = limits_stay g 63 _ _ old new start history calls (goes honest start history calls fits)
@@ -150,13 +150,13 @@ pub frames_stay : {S : Type 0} (g : Ghosts S) (session : ℕ) (Tells : Moment S 
 frames_stay g session Tells came old new start history calls r = run_frames g start [] r.events r.answers (snapshot_of old history calls) (snapshot_of new r.then_history r.then_calls) r.ran.run
 
 pub insert_frames : {S : Type 0} (g : Ghosts S) (entry : Entry) (result : Result Inserted Fault) (old new : StoreAndSlots S)
-    → InsertGoes g 63 entry result old new → ForEachHistory g old new (λ start history calls. (g.state new.store).frames ≡ (g.state old.store).frames)
+    → InsertIsRun g 63 entry result old new → ForEachHistory g old new (λ start history calls. (g.state new.store).frames ≡ (g.state old.store).frames)
 insert_frames g entry (Ok inserted) old new (inl goes) honest start history calls fits = frames_stay g 63 _ _ old new start history calls (goes honest start history calls fits)
 insert_frames g entry (Ok inserted) old new (inr cut) honest start history calls fits = frames_stay g 63 _ _ old new start history calls (cut.goes honest start history calls fits)
 insert_frames g entry (Err fault) old new goes honest start history calls fits = frames_stay g 63 _ _ old new start history calls (goes honest start history calls fits)
 
 -- what nothing hinders
-module _ {S : Type 0} (g : Ghosts S) (session : ℕ) (old : Index S) (new : S) (un : IsUnhindered g session old new) (same_frames : (g.state new).frames ≡ (g.state old.store).frames) where
+module _ {S : Type 0} (g : Ghosts S) (session : ℕ) (old : Index S) (new : S) (un : NothingHinders g session old new) (same_frames : (g.state new).frames ≡ (g.state old.store).frames) where
   none_failed : has_failed (g.backing old.store) (g.backing new) ≡ true → ⊥
   none_failed h =
       let k = ltb-true (g.backing old.store).failures (g.backing new).failures h in
@@ -208,7 +208,7 @@ module _ {S : Type 0} (g : Ghosts S) (session : ℕ) (old : Index S) (new : S) (
   run_unhindered (KeyExists row) h = true_false (sym h)
 
 -- ... of an insert
-module _ {S : Type 0} (g : Ghosts S) (entry : Entry) (old : Index S) (new : S) (un : IsUnhindered g 63 old new) (same_frames : (g.state new).frames ≡ (g.state old.store).frames) where
+module _ {S : Type 0} (g : Ghosts S) (entry : Entry) (old : Index S) (new : S) (un : NothingHinders g 63 old new) (same_frames : (g.state new).frames ≡ (g.state old.store).frames) where
   refused_unhindered : (fault : Fault)
       → HasCause (causes_of_aminsert g (has_entry g old.store entry) (other_row_is_there (g.state old.store) entry)
       (none_is_left (g.state old.store).begun (g.state new)) (is_tall (g.state new)) old new) fault
@@ -310,7 +310,7 @@ give_cause g session old new Stopped h = stopped_run g old new h
 give_cause g session old new fault h = h
 
 -- a call that nothing hinders, and that is refused for nothing of its own
-pub finishes : {S X : Type 0} (g : Ghosts S) (session : ℕ) (old : Index S) (new : S) (result : Result X Fault) → IsUnhindered g session old new
+pub finishes : {S X : Type 0} (g : Ghosts S) (session : ℕ) (old : Index S) (new : S) (result : Result X Fault) → NothingHinders g session old new
     → (g.state new).frames ≡ (g.state old.store).frames → IfErr result (HasCause (causes_of_run g session old new)) → IsOk result
 finishes g session old new (Ok x) un same h = refl
 finishes g session old new (Err fault) un same h = absurd (run_unhindered g session old new un same fault h)

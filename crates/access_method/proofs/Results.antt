@@ -4,14 +4,14 @@ use Rattle.index_model.specs.Faults.{HasCause}
 use Rattle.page_action.specs.Causes.{causes_of_forced, with_row}
 use Rattle.session_calls.specs.declared.answer.Answer.{Answer}
 use Rattle.session_calls.specs.declared.answer.Answer.TheVariants.{Begun, Going, Added, Ready, Done, Finished, Gave, Ended, Forced, Flushed, Checkpointed, Refused}
-use Rattle.schedule.specs.TheoremKinds.{Kind, KeepsStore, Upkeep, Forces, Flushes, Checkpoints, kind_of}
+use Rattle.schedule.specs.TheoremKinds.{Kind, MaintainsStore, Upkeep, Forces, Flushes, Checkpoints, kind_of}
 use Rattle.schedule.specs.Making.{EventDoes}
 use Rattle.schedule.specs.Events.{kept_answer, IsOfSession, AnswersUpkeep, StoreIsKept}
 use Rattle.schedule.specs.TheoremRuns.{ForEachHistory, Runs, Fits}
 use Rattle.schedule.specs.declared.event.Event.{Event}
 use Rattle.schedule.proofs.Keeping.{Laws}
-use Rattle.whole_calls.specs.Telling.{IsSilent}
-use Rattle.whole_calls.specs.Going.{CallGoes}
+use Rattle.whole_calls.specs.Meanings.{IsSameHistory}
+use Rattle.whole_calls.specs.Going.{CallIsRun}
 use Rattle.whole_calls.proofs.Composing.{goes_by}
 use Rattle.whole_calls.proofs.Tellings.{keeps_silent}
 use Rattle.access_method.specs.Counted.{counted, upkeep_outcome}
@@ -34,9 +34,9 @@ use Rattle.session_calls.specs.TheoremCalls.{begun_call}
 use Rattle.session_calls.specs.Sessions.{given_one, ended}
 use Rattle.schedule.specs.TheoremMoments.{StoreAndSlots, snapshot_of}
 use Rattle.schedule.proofs.Lists.{get_append_new, get_set_same, get_within, same_some}
-use Rattle.whole_calls.specs.Telling.{InsertTold, inserted_call, shapes}
-use Rattle.whole_calls.specs.Inserting.{InsertGoes}
-use Rattle.whole_calls.specs.Giving.{Becomes, TellsGiven, given_outcome}
+use Rattle.whole_calls.specs.Meanings.{InsertMeans, inserted_call, shapes}
+use Rattle.whole_calls.specs.Inserting.{InsertIsRun}
+use Rattle.whole_calls.specs.Giving.{Becomes, SessionGivenMeans, given_outcome}
 use Rattle.whole_calls.specs.Going.{CallRuns}
 use Rattle.whole_calls.proofs.Refusing.{or_left, or_right}
 use Rattle.access_method.specs.Indexes.{has_entry, InsertsOrKeeps, AnswersScan}
@@ -74,7 +74,7 @@ key_was_free was is entry grown absent differ row = by (was (with_row entry row)
 -- an insert's answer in words of the contents
 told_or_kept : {S : Type 0} (g : Ghosts S) (entry : Entry) (result : Result Inserted Fault) (came : Option Answer) (old new : StoreAndSlots S)
     (start : Entry → Bool) (history : List Action) (calls : List Call)
-    → Fits g start (snapshot_of old history calls) → CallRuns g 63 (InsertTold 63 entry result) came old new start history calls → InsertsOrKeeps g entry result old.store new.store
+    → Fits g start (snapshot_of old history calls) → CallRuns g 63 (InsertMeans 63 entry result) came old new start history calls → InsertsOrKeeps g entry result old.store new.store
 told_or_kept g entry (Ok inserted) came old new start history calls fits r =
     let t = r.tells in
     let call : Call = inserted_call 63 entry (length history) inserted.action t.ending (length r.then_history) in
@@ -102,7 +102,7 @@ told_or_kept g entry (Ok inserted) came old new start history calls fits r =
     record {
       was_absent = absent;
       key_was_absent = λ unique. key_was_free (has_entry g old.store) (has_entry g new.store) entry grown absent
-          (r.ran.fits.explains.keyed (ap (λ (f : Format). f.unique) (limits_stay g 63 (InsertTold 63 entry (Ok inserted)) came old new start history calls r) ∙ unique)).keys;
+          (r.ran.fits.explains.keyed (ap (λ (f : Format). f.unique) (limits_stay g 63 (InsertMeans 63 entry (Ok inserted)) came old new start history calls r) ∙ unique)).keys;
       contents = grown;
       since = (let a = t.action_is in let b : (g.state old.store).acts ≡ length history = fits.explains.count in omega (arith, a, b));
       until = (
@@ -144,7 +144,7 @@ told_or_kept g entry (Err fault) came old new start history calls fits r =
         ∙ ap (λ (l : List Action). contents_after start l e) (sym first) ∙ at.there
 
 pub inserts_or_keeps : {S : Type 0} (g : Ghosts S) (entry : Entry) (result : Result Inserted Fault) (old new : StoreAndSlots S)
-    → InsertGoes g 63 entry result old new → ForEachHistory g old new (λ start history calls. InsertsOrKeeps g entry result old.store new.store)
+    → InsertIsRun g 63 entry result old new → ForEachHistory g old new (λ start history calls. InsertsOrKeeps g entry result old.store new.store)
 inserts_or_keeps g entry (Ok inserted) old new (inl goes) honest start history calls fits =
     told_or_kept g entry (Ok inserted) (Some (Added inserted.action inserted.unfinished)) old new start history calls fits (goes honest start history calls fits)
 inserts_or_keeps g entry (Ok inserted) old new (inr short) honest start history calls fits =
@@ -162,7 +162,7 @@ so_far start history number began until ask range given added ending is_ask is_r
 
 -- ... as it gives
 pub gives_right : {S : Type 0} (g : Ghosts S) (session : ℕ) (result : Result (Option Entry) Fault) (old new : StoreAndSlots S) (start : Entry → Bool) (history : List Action) (calls : List Call)
-    → CallRuns g session (TellsGiven session result) (given_outcome result) old new start history calls → AnswersScan session result start history calls
+    → CallRuns g session (SessionGivenMeans session result) (given_outcome result) old new start history calls → AnswersScan session result start history calls
 gives_right g session (Ok (Some entry)) old new start history calls r number call range running ask =
     let told : Becomes number (given_one call entry) (snapshot_of old history calls) (snapshot_of new r.then_history r.then_calls) = r.tells number call range running ask in
     let found : slice_get r.then_calls number ≡ Some (given_one call entry) = ap (λ (l : List Call). slice_get l number) told.calls_is
@@ -224,10 +224,10 @@ came_of upkeep answer (refusal fault) = refl
 
 -- it is a run of one event, of which nothing is told
 goes_kept : {S : Type 0} (g : Ghosts S) (laws : Laws g) (upkeep : Upkeep) (event : Event) (answer : Answer) (a b : StoreAndSlots S)
-    → kind_of event ≡ KeepsStore upkeep → IsCounted upkeep answer
-    → ForEachHistory g a b (Runs g a b (event ∷ []) (answer ∷ [])) → CallGoes g 0 IsSilent (upkeep_outcome upkeep (counted answer)) a b
-goes_kept {S} g laws upkeep event answer a b kind answers runs = subst (λ (came : Option Answer). CallGoes g 0 IsSilent came a b) (sym (came_of upkeep answer answers))
-    (goes_by g laws 0 IsSilent event answer a b (subst (λ (k : Kind). IsOfSession 0 k) (sym kind) tt) runs
+    → kind_of event ≡ MaintainsStore upkeep → IsCounted upkeep answer
+    → ForEachHistory g a b (Runs g a b (event ∷ []) (answer ∷ [])) → CallIsRun g 0 IsSameHistory (upkeep_outcome upkeep (counted answer)) a b
+goes_kept {S} g laws upkeep event answer a b kind answers runs = subst (λ (came : Option Answer). CallIsRun g 0 IsSameHistory came a b) (sym (came_of upkeep answer answers))
+    (goes_by g laws 0 IsSameHistory event answer a b (subst (λ (k : Kind). IsOfSession 0 k) (sym kind) tt) runs
     (λ start x y from to fits does. keeps_silent g start upkeep answer x y (subst (λ (k : Kind). EventDoes g start k answer x y) kind does)))
 
 -- what was done for the store, as a result tells it: the number of actions, that they are durable, and why it was refused
@@ -265,7 +265,7 @@ room_told Room answer result is kind h = subst (λ (r : Result ℕ Fault). OnOk 
     of a (refusal fault) room = tt
 
 pub goes_told_kept : {S : Type 0} (g : Ghosts S) (laws : Laws g) (upkeep : Upkeep) (event : Event) (answer : Answer) (a b : StoreAndSlots S)
-    (result : Result ℕ Fault) → result ≡ counted answer → kind_of event ≡ KeepsStore upkeep
-    → Counts upkeep → AnswersUpkeep upkeep answer → ForEachHistory g a b (Runs g a b (event ∷ []) (answer ∷ [])) → CallGoes g 0 IsSilent (upkeep_outcome upkeep result) a b
+    (result : Result ℕ Fault) → result ≡ counted answer → kind_of event ≡ MaintainsStore upkeep
+    → Counts upkeep → AnswersUpkeep upkeep answer → ForEachHistory g a b (Runs g a b (event ∷ []) (answer ∷ [])) → CallIsRun g 0 IsSameHistory (upkeep_outcome upkeep result) a b
 goes_told_kept g laws upkeep event answer a b result is kind counts answers runs =
-    subst (λ (r : Result ℕ Fault). CallGoes g 0 IsSilent (upkeep_outcome upkeep r) a b) (sym is) (goes_kept g laws upkeep event answer a b kind (is_counted upkeep answer counts answers) runs)
+    subst (λ (r : Result ℕ Fault). CallIsRun g 0 IsSameHistory (upkeep_outcome upkeep r) a b) (sym is) (goes_kept g laws upkeep event answer a b kind (is_counted upkeep answer counts answers) runs)

@@ -23,11 +23,11 @@ use Rattle.session_calls.specs.Slots.{slot_of, slot_vacuums}
 use Rattle.schedule.specs.Events.{OthersStay, causes_of_begun_at}
 use Rattle.schedule.proofs.Unused.{in_replicate}
 use Rattle.schedule.proofs.Lists.{get_set_same, get_set_other, get_some}
-use Rattle.whole_calls.specs.Telling.{TellsEnd, BeginTold}
+use Rattle.whole_calls.specs.Meanings.{EndMeans, BeginMeans}
 use Rattle.whole_calls.proofs.Tellings.{true_false}
 use Rattle.page_codec.specs.declared.page.Page.{Page}
 use Rattle.access_method.specs.declared.index.Index.{Index}
-use Rattle.access_method.specs.Indexes.{IndexFits, IndexKeeps, RescanTold}
+use Rattle.access_method.specs.Indexes.{IndexFits, IndexKeeps, RescanMeans}
 use Rattle.access_method.specs.Tokens.{SeatsAgree, NoneVacuums, seat_for}
 use Rattle.access_method.specs.declared.token.Seat.{Seat}
 
@@ -70,7 +70,7 @@ runs_calm before None on none = refl
 runs_calm None (Some op) on none = absurd on
 runs_calm (Some before) (Some op) on none = stays_vacuum before op on ∙ none
 
--- no session vacuums behind a change of one session's slot, which doesn't
+-- no session vacuums after a change of one session's slot, which doesn't
 module _ (old new : List (Option Op)) (session : ℕ) (none : NoneVacuums old) (stay : OthersStay session old new) where
   pub calm_still : slot_vacuums (slot_of new session) ≡ false → NoneVacuums new
   calm_still here other = elim (cases_eq other session) [
@@ -112,8 +112,8 @@ module _ (old new : List (Option Op)) (seats : List (Option Seat)) (session : �
   }
 
 -- an end, and then a beginning
-pub rescan_told : {S : Type 0} (session : ℕ) (range : Range) (u : Unit {0}) (x y z : Moment S) → TellsEnd session x y
-    → BeginTold session (ToScan range) (Ok u) y z → RescanTold session range x z
+pub rescan_told : {S : Type 0} (session : ℕ) (range : Range) (u : Unit {0}) (x y z : Moment S) → EndMeans session x y
+    → BeginMeans session (ToScan range) (Ok u) y z → RescanMeans session range x z
 rescan_told session range u x y z end began = record {
   history_is = began.history_is ∙ end.history_is;
   given_up = y.calls;

@@ -27,11 +27,11 @@ use Rattle.schedule.specs.TheoremCrashes.{KeepsHistory, IsCrashSafe}
 use Rattle.schedule.specs.TheoremRuns.{ForEachHistory, Fits}
 use Rattle.schedule.specs.TheoremMoments.{StoreAndSlots, Moment, snapshot_of, IsRunningCall}
 use Rattle.vacuum.specs.Counts.{entries_below}
-use Rattle.whole_calls.specs.Going.{CallRuns, CallGoes}
-use Rattle.whole_calls.specs.Inserting.{InsertGoes}
+use Rattle.whole_calls.specs.Going.{CallRuns, CallIsRun}
+use Rattle.whole_calls.specs.Inserting.{InsertIsRun}
 use Rattle.whole_calls.specs.Made.{IsMadeOf}
-use Rattle.whole_calls.specs.Sweeping.{SweepTold, sweep_outcome, TellsCleaned, TellsDeleted, TellsPages}
-use Rattle.whole_calls.specs.Telling.{HasNone}
+use Rattle.whole_calls.specs.Vacuuming.{VacuumMeans, vacuum_outcome, StatsCountCleaned, StatsCountDeleted, StatsCountPages}
+use Rattle.whole_calls.specs.Meanings.{HasNone}
 use Rattle.whole_calls.specs.declared.inserted.Inserted.{Inserted}
 use Rattle.access_method.specs.Tokens.{seat_of, AreTaken}
 use Rattle.access_method.specs.declared.index.Index.{Index}
@@ -46,23 +46,23 @@ slots_within index = record { store = index.store; slots = index.calls.slots.ite
 abbrev pub IndexFits : {S : Type 0} → Ghosts S → Index S → (Entry → Bool) → List Action → List Call → Type 0
 IndexFits g index start history calls = Fits g start (snapshot_of (slots_within index) history calls)
 
--- ... and each crash leaves a first part of the history
+-- ... and each crash leaves a prefix of the history
 abbrev pub IndexKeeps : {S : Type 0} → Ghosts S → Index S → (Entry → Bool) → List Action → List Call → Type 0
 IndexKeeps g index start history calls = KeepsHistory g start (snapshot_of (slots_within index) history calls)
 
 -- for whatever fitted the index before there is a run of events of this session, of which one answered what the call came
 -- to, and this is told
-abbrev pub IndexGoes : {S : Type 0} → Ghosts S → ℕ → (Moment S → Moment S → Type 0) → Option Answer → Index S → Index S → Type 0
-IndexGoes g session Tells came old new = CallGoes g session Tells came (slots_within old) (slots_within new)
+abbrev pub IndexIsRun : {S : Type 0} → Ghosts S → ℕ → (Moment S → Moment S → Type 0) → Option Answer → Index S → Index S → Type 0
+IndexIsRun g session Tells came old new = CallIsRun g session Tells came (slots_within old) (slots_within new)
 
 -- ... of an insert that is run to its end
 abbrev pub IndexInserts : {S : Type 0} → Ghosts S → ℕ → Entry → Result Inserted Fault → Index S → Index S → Type 0
-IndexInserts g session entry result old new = InsertGoes g session entry result (slots_within old) (slots_within new)
+IndexInserts g session entry result old new = InsertIsRun g session entry result (slots_within old) (slots_within new)
 
 -- whatever the pages are, the call is made of events of this session and of checkpoints: a checkpoint only where the log has room for fewer
 -- than five images, a step only where it has room for five, or its whole room; what it came to, it came to by their answers
 abbrev pub IndexMakes : {S : Type 0} → Ghosts S → ℕ → (List Answer → Type 0) → Index S → Index S → Type 0
-IndexMakes g session Came old new = IsMadeOf g session 5 Came (slots_within old) (slots_within new)
+IndexMakes g session CallOutcome old new = IsMadeOf g session 5 CallOutcome (slots_within old) (slots_within new)
 
 -- where the device has kept its model up to now, this holds of whatever fitted the index before
 abbrev pub ForEachIndexHistory : {S : Type 0} → Ghosts S → Index S → Index S → ((Entry → Bool) → List Action → List Call → Type 0) → Type 0
@@ -73,16 +73,16 @@ abbrev pub slots_with : {S : Type 0} → (Row → Bool) → Index S → StoreAnd
 slots_with dead index = record { store = index.store; slots = index.calls.slots.items; sets = dead ∷ [] }
 
 -- A bulk delete of this set goes, run to its end: there is a run of events over the index with this set, of which one answered
--- what the call came to. The index is fitted by what comes behind it; where the history was kept, it is so still, and a crash in
--- between leaves a first part of it.
-pub record SweepRuns {S : Type 0} (g : Ghosts S) (dead : Row → Bool) (result : Result VacuumStats Fault) (old new : Index S) (start : Entry → Bool)
+-- what the call came to. The index is fitted by what comes after it; where the history was kept, it is so still, and a crash in
+-- between leaves a prefix of it.
+pub record BulkDeleteRuns {S : Type 0} (g : Ghosts S) (dead : Row → Bool) (result : Result VacuumStats Fault) (old new : Index S) (start : Entry → Bool)
     (history : List Action) (calls : List Call) : Type 0 where
-  pub sweeps : CallRuns g 63 (SweepTold 63 (ToBulk 0) result) (sweep_outcome result) (slots_with dead old) (slots_with dead new) start history calls
-  pub fits : IndexFits g new start sweeps.then_history sweeps.then_calls
-  pub safe : IndexKeeps g old start history calls → IsCrashSafe g start (snapshot_of (slots_within old) history calls) (snapshot_of (slots_within new) sweeps.then_history sweeps.then_calls)
+  pub deletions : CallRuns g 63 (VacuumMeans 63 (ToBulk 0) result) (vacuum_outcome result) (slots_with dead old) (slots_with dead new) start history calls
+  pub fits : IndexFits g new start deletions.then_history deletions.then_calls
+  pub safe : IndexKeeps g old start history calls → IsCrashSafe g start (snapshot_of (slots_within old) history calls) (snapshot_of (slots_within new) deletions.then_history deletions.then_calls)
 
 -- tokens are as they were
-pub record KeepsTokens {S : Type 0} (old new : Index S) : Type 0 where
+pub record SameTokens {S : Type 0} (old new : Index S) : Type 0 where
   pub seats_is : new.seats ≡ old.seats
   pub given_is : new.given ≡ old.given
 
@@ -119,7 +119,7 @@ NotRescannedFor g index token NoSession = seat_of index.seats token ≡ None
 NotRescannedFor g index token fault = ⊥
 
 -- the old call is given up, if it still ran, and a scan of the range is begun; no action is appended
-pub record RescanTold {S : Type 0} (session : ℕ) (range : Range) (old new : Moment S) : Type 0 where
+pub record RescanMeans {S : Type 0} (session : ℕ) (range : Range) (old new : Moment S) : Type 0 where
   pub history_is : new.history ≡ old.history
   pub given_up : List Call
   pub kept : HasNone session old → given_up ≡ old.calls
@@ -127,7 +127,7 @@ pub record RescanTold {S : Type 0} (session : ℕ) (range : Range) (old new : Mo
 
 -- the tokens after an entry was asked for: a fault is kept
 abbrev pub TokenAfter : {S : Type 0} → ScanToken → Result (Option Entry) Fault → Index S → Index S → Type 0
-TokenAfter token (Ok given) old new = KeepsTokens old new
+TokenAfter token (Ok given) old new = SameTokens old new
 TokenAfter token (Err fault) old new = SeatBecomes token (seat_with token true) old new
 
 -- whether an entry stands on the store's pages
@@ -144,7 +144,7 @@ pub record IsInserted {S : Type 0} (g : Ghosts S) (entry : Entry) (inserted : In
 
 -- the contents are those before; and where an insert was refused because the entry was there, it was; where because its key was
 -- there with a row, that was another row, and its entry was there
-pub record KeepsContents {S : Type 0} (g : Ghosts S) (entry : Entry) (fault : Fault) (old new : S) : Type 0 where
+pub record SameContents {S : Type 0} (g : Ghosts S) (entry : Entry) (fault : Fault) (old new : S) : Type 0 where
   pub contents : (e : Entry) → has_entry g new e ≡ has_entry g old e
   pub was_there : fault ≡ Exists → has_entry g old entry ≡ true
   pub key_was_there : (row : Row) → fault ≡ KeyExists row → (row ≢ entry.row) × (has_entry g old (with_row entry row) ≡ true)
@@ -152,7 +152,7 @@ pub record KeepsContents {S : Type 0} (g : Ghosts S) (entry : Entry) (fault : Fa
 -- the entry is inserted; or the contents are those before
 abbrev pub InsertsOrKeeps : {S : Type 0} → Ghosts S → Entry → Result Inserted Fault → S → S → Type 0
 InsertsOrKeeps g entry (Ok inserted) old new = IsInserted g entry inserted old new
-InsertsOrKeeps g entry (Err fault) old new = KeepsContents g entry fault old new
+InsertsOrKeeps g entry (Err fault) old new = SameContents g entry fault old new
 
 -- so many entries are such: they stand in a list, each once
 pub record AreSoMany (is_such : Entry → Bool) (count : ℕ) : Type 0 where
@@ -167,7 +167,7 @@ pub record IsBulkDeleted {S : Type 0} (g : Ghosts S) (dead : Row → Bool) (stat
   pub contents : (e : Entry) → has_entry g new e ≡ (has_entry g old e && not (dead e.row))
   pub removed : AreSoMany (λ e. has_entry g old e && dead e.row) stats.tuples_removed
   pub left : stats.num_index_tuples ≡ entries_below (g.state new).pages (length (g.state new).pages)
-  pub pages : TellsPages (g.state new) stats
+  pub pages : StatsCountPages (g.state new) stats
   pub newly_deleted : stats.pages_newly_deleted ≡ 0
 
 -- no entry has come, and none is gone but of a dead row
@@ -176,17 +176,17 @@ pub record LosesDeadRows {S : Type 0} (g : Ghosts S) (dead : Row → Bool) (old 
   pub came : (e : Entry) → has_entry g new e ≡ true → has_entry g old e ≡ true
 
 -- the entries of dead rows are gone; or some of them, where it was refused
-abbrev pub IsSweptOrLess : {S : Type 0} → Ghosts S → (Row → Bool) → Result VacuumStats Fault → S → S → Type 0
-IsSweptOrLess g dead (Ok stats) old new = IsBulkDeleted g dead stats old new
-IsSweptOrLess g dead (Err fault) old new = LosesDeadRows g dead old new
+abbrev pub IsBulkDeletedOrLess : {S : Type 0} → Ghosts S → (Row → Bool) → Result VacuumStats Fault → S → S → Type 0
+IsBulkDeletedOrLess g dead (Ok stats) old new = IsBulkDeleted g dead stats old new
+IsBulkDeletedOrLess g dead (Err fault) old new = LosesDeadRows g dead old new
 
 -- the contents are those before a cleanup; where it answers, it tells how many entries there are, and no half-dead page is left; and how many
 -- pages are in use, how many of them are deleted, how many of these were not before, and that it has removed no entry
 pub record IsCleanedUp {S : Type 0} (g : Ghosts S) (result : Result VacuumStats Fault) (old new : S) : Type 0 where
   pub contents : (e : Entry) → has_entry g new e ≡ has_entry g old e
-  pub told : TellsCleaned (g.state new) result
-  pub deleted : TellsDeleted (deleted_in (g.state old)) (g.state new) result
-  pub stats : IfOk result (λ stats. TellsPages (g.state new) stats × (stats.tuples_removed ≡ 0))
+  pub told : StatsCountCleaned (g.state new) result
+  pub deleted : StatsCountDeleted (deleted_in (g.state old)) (g.state new) result
+  pub stats : IfOk result (λ stats. StatsCountPages (g.state new) stats × (stats.tuples_removed ≡ 0))
 
 -- what a scan has given with this entry is right so far; or all that it gave is the right answer since it was begun
 abbrev pub GivesRight : (Entry → Bool) → List Action → Range → Call → Result (Option Entry) Fault → Type 0

@@ -58,7 +58,7 @@ InsertHasCause g entry (Err fault) old new =
 
 -- Nothing hinders a call of this session between these moments: no other open scan's call runs, the log hasn't failed before and no
 -- device call meanwhile, no counter is at its end, and there are 16 frames.
-pub record IsUnhindered {S : Type 0} (g : Ghosts S) (session : ℕ) (old : Index S) (new : S) : Type 0 where
+pub record NothingHinders {S : Type 0} (g : Ghosts S) (session : ℕ) (old : Index S) (new : S) : Type 0 where
   pub alone : another_runs old.calls.slots.items session ≡ false
   pub alive : (g.backing old.store).stopped ≡ false
   pub failures : (g.backing new).failures ≡ (g.backing old.store).failures
@@ -67,7 +67,7 @@ pub record IsUnhindered {S : Type 0} (g : Ghosts S) (session : ℕ) (old : Index
   pub frames : 16 ≤ (g.state old.store).frames
 
 -- no open scan's call runs, and no page is half-dead
-pub record IsCalm {S : Type 0} (g : Ghosts S) (index : Index S) : Type 0 where
+pub record NothingIsOpen {S : Type 0} (g : Ghosts S) (index : Index S) : Type 0 where
   pub alone : another_runs index.calls.slots.items 63 ≡ false
   pub none_dead : (block : ℕ) → state_in (g.state index.store) block ≢ HalfDead
 
@@ -100,4 +100,4 @@ GiveHasCause g session result old new start history calls =
 -- ... where nothing hinders it, it gives one, or None
 abbrev pub GivesUnhindered : {S : Type 0} → Ghosts S → ℕ → Result (Option Entry) Fault → Index S → S → (Entry → Bool) → List Action → List Call → Type 0
 GivesUnhindered g session result old new start history calls =
-    (number : ℕ) (call : Call) (range : Range) → IsRunningCall calls session number call → call.ask ≡ AskScan range → IsUnhindered g session old new → IsOk result
+    (number : ℕ) (call : Call) (range : Range) → IsRunningCall calls session number call → call.ask ≡ AskScan range → NothingHinders g session old new → IsOk result

@@ -2,7 +2,7 @@
 
 ghost use Rattle.std.specs.Prelude.{◌≡◌, ◌++◌, codes, true, IfOk, IfErr};
 ghost use Rattle.device.specs.Disk.{first};
-ghost use Rattle.device.specs.Event.{behind_calls, failed_in, are_right};
+ghost use Rattle.device.specs.Event.{after_calls, failed_in, are_right};
 
 use arrayvec::ArrayString;
 use device::{FileDevice, Start, sync_folder};
@@ -12,7 +12,7 @@ use std::io::ErrorKind;
 use std::os::unix::fs::MetadataExt;
 use std::rt::Files;
 
-/// A path with `.nardsill-draft` behind it: the name that a file has there before it is whole. Refused with `Io` where that has
+/// A path with `.nardsill-draft` after it: the name that a file has there before it is whole. Refused with `Io` where that has
 /// more than 4,096 bytes.
 pub(crate) fn draft_of(path: &str) -> Result<ArrayString<4_096>, Fault>
     ensures name { IfOk result (λ draft. draft.bytes ≡ path.now ++ codes ".nardsill-draft") }
@@ -111,7 +111,7 @@ pub(crate) fn make_draft<R: Files<File = File>, S: Start>(
     len: u64,
     filled: u64,
 ) -> Result<FileDevice<S>, Fault>
-    ensures held { IfOk result (λ d. behind_calls (S.Start.bytes d.len) d.events.list
+    ensures held { IfOk result (λ d. after_calls (S.Start.bytes d.len) d.events.list
         ≡ first (S.Start.bytes len)) }
     ensures honest { IfOk result (λ d. are_right (S.Start.bytes d.len) d.events.list ≡ true) }
     ensures fault { IfErr result (λ e. e ≡ Fault.Io) }
@@ -129,7 +129,7 @@ pub(crate) fn make_draft<R: Files<File = File>, S: Start>(
     made
 }
 
-/// Gives a draft that is whole its own name, and takes the draft's from it, so that it is so behind a crash too. Refused with
+/// Gives a draft that is whole its own name, and takes the draft's from it, so that it is so after a crash too. Refused with
 /// `Io` where that name is there, the file system has no links, or a call fails: the file has neither name then, if the system
 /// lets them be removed.
 pub(crate) fn place_draft<R: Files<File = File>>(

@@ -3,26 +3,27 @@
 ghost use Rattle.std.specs.Prelude.{◌≡◌, ◌⊎◌, IsTrue, List, length, IfOk, IfErr, OnOk};
 ghost use Rattle.access_method.specs.Files.{bytes_before, IsOpenFault, StaysOnDevice, IsLastOver};
 ghost use Rattle.access_method.specs.Indexes.{IndexBegins};
-ghost use Rattle.device.specs.Event.{behind_calls};
+ghost use Rattle.device.specs.Event.{after_calls};
 ghost use Rattle.page_codec.specs.Places.{needed_length};
 ghost use Rattle.index_model.specs.Faults.{HasCause};
 ghost use Rattle.index_model.specs.Formats.{made};
 ghost use Rattle.index_model.specs.Limits.{AreLimits};
 ghost use Rattle.index_model.specs.declared.format.Format.{Format};
 ghost use Rattle.page_action.specs.Causes.{causes_of_forced};
-ghost use Rattle.page_action.specs.Room.{HasWholeRoom};
+ghost use Rattle.page_action.specs.Room.{LogIsClosed};
 ghost use Rattle.page_codec.specs.declared.page.Page.{Page};
 ghost use Rattle.page_store.specs.Stores.{state_of, device_of};
 ghost use Rattle.page_store.specs.declared.store.Store.{Store as StoreOver};
-ghost use Rattle.recovery.specs.Fresh.{IsEmptyIndex, LeavesEmpty};
+ghost use Rattle.recovery.specs.Fresh.{IsEmptyIndex, CrashesToEmpty};
 ghost use Rattle.recovery.specs.Index.{HasIndex};
 ghost use Rattle.recovery.specs.Opening.{AreFrames, IsFreshlyOpened, IsSameIndex, StandsOnDevice};
 ghost use Rattle.tree_acts.specs.TheoremKeys.{IsTreeFor};
 
 use crate::draft::{draft_of, make_draft, place_draft, want_free};
 use crate::index::Index;
+use crate::watched::Watched;
 use device::{Device, FileDevice, Start};
-use index_model::{Fault, Format, Limits};
+use index_model::{Fault, Format, Limits, Progress};
 use page_action::PageStore;
 use page_codec::{needed_len, page_place};
 use page_store::Store;
@@ -35,23 +36,24 @@ pub type InFile<S> = Index<Store<FileDevice<S>>>;
 
 /// Makes an empty index of these limits in a new file of exactly its length, all of it written and synced. The file is at the
 /// path only once it is whole: a crash at any moment leaves it there, or nothing at this path. Until then it stands beside
-/// it, under the same name with `.nardsill-draft` behind, where nothing else is to stand: what a stopped making left there is
-/// written over.
+/// it, under the same name with `.nardsill-draft` after, where nothing else is to stand: what a stopped making left there is
+/// written over. `progress` is told of each page that is written.
 ///
 /// Refused with `BadLimits` (18) for limits out of their ranges, before anything is done. Refused with `Io` (2) where the path
 /// is there, before anything is done; where a name has more bytes than the system allows, with those 15; where another makes
 /// an index at this path, or a call of the file fails, as where the disk has no room: what was made is removed then.
-pub fn create<R: Files<File = File>, S: Start>(
+pub fn create<R: Files<File = File>, S: Start, P: Progress>(
     rt: &R,
     path: &str,
     limits: &Limits,
+    progress: &P,
 ) -> Result<FileDevice<S>, Fault>
     ensures allowed { OnOk result (AreLimits (made limits.now)) }
     ensures made { IfOk result (λ device.
         IsEmptyIndex (made limits.now) (⟦<FileDevice<S> as Device>⟧.trace device).now) }
     // So it can be opened, also after a crash.
     ensures own { IfOk result (λ device.
-        LeavesEmpty (made limits.now) (⟦<FileDevice<S> as Device>⟧.trace device).now) }
+        CrashesToEmpty (made limits.now) (⟦<FileDevice<S> as Device>⟧.trace device).now) }
     ensures exact { IfOk result (λ device.
         length (⟦<FileDevice<S> as Device>⟧.trace device).now.seen ≡ needed_length (made limits.now)) }
     ensures cause { IfErr result (λ fault.
@@ -65,8 +67,10 @@ pub fn create<R: Files<File = File>, S: Start>(
     want_free(rt, path)?;
     // All but the log is written by what makes the index.
     let filled = page_place(&Format::new(limits), 0);
-    let mut device = make_draft(rt, draft.as_str(), needed_len(limits), filled)?;
-    match recovery::create(&mut device, limits) {
+    let device = make_draft(rt, draft.as_str(), needed_len(limits), filled)?;
+    // Each page is written once, and the superblock twice.
+    let mut watched = Watched::new(device, progress, u64::from(limits.pages) + 2);
+    match recovery::create(&mut watched, limits) {
         Ok(()) => {}
         Err(fault) => {
             let _ = fs::remove_file(rt, draft.as_str());
@@ -74,7 +78,7 @@ pub fn create<R: Files<File = File>, S: Start>(
         }
     }
     place_draft(rt, draft.as_str(), path)?;
-    Ok(device)
+    Ok(watched.device)
 }
 
 /// Opens the pages of the index in a file, after any crash, for so many pages in memory at once (16 to 1,024). Refused with `Io`
@@ -157,7 +161,7 @@ pub fn close<D: Device>(index: Index<Store<D>>) -> Closed<D>
         StaysOnDevice D.Device ⟦<Store<D> as PageStore>⟧ n index result.device) }
     // None of them waits in the log.
     ensures empties { OnOk result.written (IsLastOver D.Device result.device (λ last.
-        HasWholeRoom (state_of D.Device index.store).limits (⟦<Store<D> as PageStore>⟧.backing last))) }
+        LogIsClosed (state_of D.Device index.store).limits (⟦<Store<D> as PageStore>⟧.backing last))) }
     ensures cause { IfErr result.written (λ fault. IsLastOver D.Device result.device (λ last.
         HasCause (causes_of_forced (⟦<Store<D> as PageStore>⟧.backing index.store)
         (⟦<Store<D> as PageStore>⟧.backing last)) fault)) }

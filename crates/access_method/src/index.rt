@@ -96,7 +96,7 @@ impl<S: PageStore> Index<S> {
     ghost use Rattle.std.specs.Prelude.{◌≡◌, ◌≢◌, [], true, false, None, Some, Ok, Err, IfOk, IfErr, IsOk, OnOk, OnErr, OnSome, ◌<◌};
     ghost use Rattle.access_method.specs.declared.token.ScanToken.{ScanToken};
     ghost use Rattle.page_action.specs.Contents.{entry_on_live_leaf};
-    ghost use Rattle.page_action.specs.Room.{HasWholeRoom};
+    ghost use Rattle.page_action.specs.Room.{LogIsClosed};
     ghost use Rattle.index_model.specs.Faults.{HasCause};
     ghost use Rattle.page_action.specs.Causes.{causes_of_forced};
     ghost use Rattle.page_action.specs.States.{Continues};
@@ -107,13 +107,13 @@ impl<S: PageStore> Index<S> {
     ghost use Rattle.schedule.specs.Sessions.{op_of};
     ghost use Rattle.schedule.specs.MomentInvariants.{IsUnused};
     ghost use Rattle.whole_calls.specs.Made.{IsMadeOf, ComesTo, InsertComesTo};
-    ghost use Rattle.whole_calls.specs.Telling.{IsSilent, HasBegun, TellsEnd};
-    ghost use Rattle.whole_calls.specs.Sweeping.{SweepTold, sweep_outcome, LeavesOnlyNeeded};
-    ghost use Rattle.whole_calls.specs.Giving.{TellsGiven, EndsUnlessGiven, given_outcome};
+    ghost use Rattle.whole_calls.specs.Meanings.{IsSameHistory, HasBegun, EndMeans};
+    ghost use Rattle.whole_calls.specs.Vacuuming.{VacuumMeans, vacuum_outcome, ResultLeavesNeeded};
+    ghost use Rattle.whole_calls.specs.Giving.{SessionGivenMeans, EndsUnlessGiven, given_outcome};
     ghost use Rattle.access_method.specs.Tokens.{seat_of};
-    ghost use Rattle.access_method.specs.Indexes.{IndexFits, IndexKeeps, IndexGoes, IndexInserts, IndexMakes, slots_with, ForEachIndexHistory, SweepRuns, KeepsTokens, IsNewToken, SeatBecomes, seat_with, RescanTold, TokenAfter, InsertsOrKeeps, IsSweptOrLess, IsCleanedUp, AnswersScan, NotOpenedFor, NotRescannedFor, cannot_begin};
+    ghost use Rattle.access_method.specs.Indexes.{IndexFits, IndexKeeps, IndexIsRun, IndexInserts, IndexMakes, slots_with, ForEachIndexHistory, BulkDeleteRuns, SameTokens, IsNewToken, SeatBecomes, seat_with, RescanMeans, TokenAfter, InsertsOrKeeps, IsBulkDeletedOrLess, IsCleanedUp, AnswersScan, NotOpenedFor, NotRescannedFor, cannot_begin};
     ghost use Rattle.access_method.specs.Counted.{upkeep_outcome};
-    ghost use Rattle.access_method.specs.Refusals.{causes_of_run, InsertHasCause, IsUnhindered, IsCalm, InsertsUnhindered, GiveHasCause, GivesUnhindered};
+    ghost use Rattle.access_method.specs.Refusals.{causes_of_run, InsertHasCause, NothingHinders, NothingIsOpen, InsertsUnhindered, GiveHasCause, GivesUnhindered};
 
     /// An index over the store, with no call and no open scan. Where the store's pages are in order and it has made no
     /// act, the index is fitted by the contents of its pages, no actions and no calls; over an own device it keeps them
@@ -158,9 +158,9 @@ impl<S: PageStore> Index<S> {
         ensures cause { ForEachIndexHistory S.PageStore self.old self.new
             (λ start history calls. InsertHasCause S.PageStore entry result self.old self.new.store) }
         ensures alone { ForEachIndexHistory S.PageStore self.old self.new
-            (λ start history calls. IsUnhindered S.PageStore 63 self.old self.new.store
+            (λ start history calls. NothingHinders S.PageStore 63 self.old self.new.store
             → InsertsUnhindered S.PageStore entry result self.old.store self.new.store) }
-        ensures tokens { KeepsTokens self.old self.new }
+        ensures tokens { SameTokens self.old self.new }
     {
         insert(
             &mut self.store,
@@ -178,20 +178,20 @@ impl<S: PageStore> Index<S> {
     /// `PageDamaged` (17) on pages that are no tree: what it has removed stays removed, and no other entry is gone.
     pub fn ambulkdelete<T: DeadRows>(&mut self, dead: &T) -> Result<VacuumStats, Fault>
         ensures steps { Continues S.follows self.old.store self.new.store }
-        ensures sweeps { ForEachIndexHistory S.PageStore self.old self.new
-            (SweepRuns S.PageStore (T.is_in dead.now) result self.old self.new) }
+        ensures deletions { ForEachIndexHistory S.PageStore self.old self.new
+            (BulkDeleteRuns S.PageStore (T.is_in dead.now) result self.old self.new) }
         // Whatever the pages are.
-        ensures made { IsMadeOf S.PageStore 63 5 (ComesTo (sweep_outcome result))
+        ensures made { IsMadeOf S.PageStore 63 5 (ComesTo (vacuum_outcome result))
             (slots_with (T.is_in dead.now) self.old) (slots_with (T.is_in dead.now) self.new) }
         ensures deletes { ForEachIndexHistory S.PageStore self.old self.new
-            (λ start history calls. IsSweptOrLess S.PageStore (T.is_in dead.now) result
+            (λ start history calls. IsBulkDeletedOrLess S.PageStore (T.is_in dead.now) result
             self.old.store self.new.store) }
         // It never answers `LogFull`, `NoSession`, `SessionBusy` nor `VacuumRunning`.
         ensures cause { ForEachIndexHistory S.PageStore self.old self.new (λ start history calls.
             IfErr result (HasCause (causes_of_run S.PageStore 63 self.old self.new.store))) }
         ensures finishes { ForEachIndexHistory S.PageStore self.old self.new (λ start history calls.
-            IsUnhindered S.PageStore 63 self.old self.new.store → IsOk result) }
-        ensures tokens { KeepsTokens self.old self.new }
+            NothingHinders S.PageStore 63 self.old self.new.store → IsOk result) }
+        ensures tokens { SameTokens self.old self.new }
     {
         bulk_delete(
             &mut self.store,
@@ -210,24 +210,24 @@ impl<S: PageStore> Index<S> {
     /// or `NoFrame` (10) where open scans hold what it needs, and with `PageDamaged` (17) on pages that are no tree.
     pub fn amvacuumcleanup(&mut self) -> Result<VacuumStats, Fault>
         ensures steps { Continues S.follows self.old.store self.new.store }
-        ensures runs { IndexGoes S.PageStore 63 (SweepTold 63 ToCleanup result)
-            (sweep_outcome result) self.old self.new }
+        ensures runs { IndexIsRun S.PageStore 63 (VacuumMeans 63 ToCleanup result)
+            (vacuum_outcome result) self.old self.new }
         // Whatever the pages are.
-        ensures made { IndexMakes S.PageStore 63 (ComesTo (sweep_outcome result)) self.old self.new }
+        ensures made { IndexMakes S.PageStore 63 (ComesTo (vacuum_outcome result)) self.old self.new }
         ensures cleans { ForEachIndexHistory S.PageStore self.old self.new
             (λ start history calls. IsCleanedUp S.PageStore result self.old.store
             self.new.store) }
-        // The empty leaves that are left then are the rightmost one, flagged ones, those right behind a flagged one, and last
-        // children of their parents.
+        // The empty leaves that are left then are the rightmost one, those with an incomplete split, those right after one with an
+        // incomplete split, and last children of their parents.
         ensures spares { ForEachIndexHistory S.PageStore self.old self.new
-            (λ start history calls. IsCalm S.PageStore self.old
-            → LeavesOnlyNeeded (S.state self.new.store) result) }
+            (λ start history calls. NothingIsOpen S.PageStore self.old
+            → ResultLeavesNeeded (S.state self.new.store) result) }
         // It never answers `LogFull`, `NoSession`, `SessionBusy` nor `VacuumRunning`.
         ensures cause { ForEachIndexHistory S.PageStore self.old self.new (λ start history calls.
             IfErr result (HasCause (causes_of_run S.PageStore 63 self.old self.new.store))) }
         ensures finishes { ForEachIndexHistory S.PageStore self.old self.new (λ start history calls.
-            IsUnhindered S.PageStore 63 self.old self.new.store → IsOk result) }
-        ensures tokens { KeepsTokens self.old self.new }
+            NothingHinders S.PageStore 63 self.old self.new.store → IsOk result) }
+        ensures tokens { SameTokens self.old self.new }
     {
         clean_up(&mut self.store, &mut self.calls, &NO_SETS, 63, LEAST_ROOM)
     }
@@ -235,14 +235,14 @@ impl<S: PageStore> Index<S> {
     /// Makes all actions durable and answers their number. Refused with `Stopped` (3) and `Io` (2).
     pub fn commit(&mut self) -> Result<u64, Fault>
         ensures steps { Continues S.follows self.old.store self.new.store }
-        ensures runs { IndexGoes S.PageStore 0 IsSilent
+        ensures runs { IndexIsRun S.PageStore 0 IsSameHistory
             (upkeep_outcome Forces result) self.old self.new }
         ensures number { IfOk result (λ n. n ≡ (S.state self.old.store).acts) }
         ensures durable { OnOk result ((S.backing self.new.store).durable
             ≡ (S.state self.old.store).acts) }
         ensures cause { IfErr result
             (HasCause (causes_of_forced (S.backing self.old.store) (S.backing self.new.store))) }
-        ensures tokens { KeepsTokens self.old self.new }
+        ensures tokens { SameTokens self.old self.new }
     {
         count(force(&mut self.store))
     }
@@ -251,16 +251,16 @@ impl<S: PageStore> Index<S> {
     /// actions. Refused with `Stopped` (3) and `Io` (2).
     pub fn checkpoint(&mut self) -> Result<u64, Fault>
         ensures steps { Continues S.follows self.old.store self.new.store }
-        ensures runs { IndexGoes S.PageStore 0 IsSilent
+        ensures runs { IndexIsRun S.PageStore 0 IsSameHistory
             (upkeep_outcome Checkpoints result) self.old self.new }
         ensures number { IfOk result (λ n. n ≡ (S.state self.old.store).acts) }
         ensures durable { OnOk result ((S.backing self.new.store).durable
             ≡ (S.state self.old.store).acts) }
         ensures room { OnOk result
-            (HasWholeRoom (S.state self.old.store).limits (S.backing self.new.store)) }
+            (LogIsClosed (S.state self.old.store).limits (S.backing self.new.store)) }
         ensures cause { IfErr result
             (HasCause (causes_of_forced (S.backing self.old.store) (S.backing self.new.store))) }
-        ensures tokens { KeepsTokens self.old self.new }
+        ensures tokens { SameTokens self.old self.new }
     {
         count(checkpoint(&mut self.store))
     }
@@ -288,9 +288,9 @@ impl<S: PageStore> Index<S> {
         ensures steps { Continues S.follows self.old.store self.new.store }
         ensures runs { seat_of self.old.seats token ≡ seat_with token false
             → op_of self.old.calls token.session ≢ None
-            → IndexGoes S.PageStore token.session (TellsGiven token.session result)
+            → IndexIsRun S.PageStore token.session (SessionGivenMeans token.session result)
             (given_outcome result) self.old self.new }
-        // Whatever the pages are: so it answers None only behind a step that answered `Done`.
+        // Whatever the pages are: so it answers None only after a step that answered `Done`.
         ensures made { seat_of self.old.seats token ≡ seat_with token false
             → op_of self.old.calls token.session ≢ None
             → IndexMakes S.PageStore token.session (ComesTo (given_outcome result)) self.old self.new }
@@ -346,8 +346,8 @@ impl<S: PageStore> Index<S> {
     /// token is not open.
     pub fn amendscan(&mut self, token: ScanToken) -> Result<(), Fault>
         ensures steps { Continues S.follows self.old.store self.new.store }
-        ensures runs { OnOk result (IndexGoes S.PageStore token.session
-            (TellsEnd token.session) None self.old self.new) }
+        ensures runs { OnOk result (IndexIsRun S.PageStore token.session
+            (EndMeans token.session) None self.old self.new) }
         ensures closed { seat_of self.old.seats token ≡ None
             → (result ≡ Err Fault.NoSession) × (self.new ≡ self.old) }
         ensures refused { IfErr result (λ fault. fault ≡ Fault.NoSession) }
@@ -375,7 +375,7 @@ impl<S: PageStore> Index<S> {
     pub fn ambeginscan(&mut self, range: Range) -> Result<ScanToken, Fault>
         ensures steps { Continues S.follows self.old.store self.new.store }
         ensures runs { IfOk result (λ token.
-            IndexGoes S.PageStore token.session (HasBegun token.session (ToScan range)) (Some Begun) self.old self.new) }
+            IndexIsRun S.PageStore token.session (HasBegun token.session (ToScan range)) (Some Begun) self.old self.new) }
         // Whatever the pages are, its session runs the scan then.
         ensures begins { IfOk result (λ token.
             op_of self.new.calls token.session ≡ Some (op_before token.session (ToScan range))) }
@@ -407,7 +407,7 @@ impl<S: PageStore> Index<S> {
     pub fn amrescan(&mut self, token: ScanToken, range: Range) -> Result<(), Fault>
         ensures steps { Continues S.follows self.old.store self.new.store }
         ensures runs { OnOk result
-            (IndexGoes S.PageStore token.session (RescanTold token.session range)
+            (IndexIsRun S.PageStore token.session (RescanMeans token.session range)
             (Some Begun) self.old self.new) }
         // Whatever the pages are, its session runs the scan then.
         ensures begins { OnOk result (op_of self.new.calls token.session
@@ -445,27 +445,28 @@ impl<S: PageStore> Index<S> {
 
 impl<D: Device> Index<Store<D>> {
     ghost use Rattle.std.specs.Prelude.{◌≡◌, ℕ, Bool, List, length, IsTrue, IfOk, IfErr, OnOk, MatchResult};
-    ghost use Rattle.device.specs.Moments.{Goes, MayHaveLeft};
+    ghost use Rattle.device.specs.Moments.{AtEachMoment, MayHaveCrashedTo};
     ghost use Rattle.index_model.specs.Actions.{Action};
     ghost use Rattle.index_model.specs.Calls.{Call};
     ghost use Rattle.index_model.specs.declared.entry.Entry.{Entry};
     ghost use Rattle.index_model.specs.declared.format.Format.{Format};
     ghost use Rattle.page_codec.specs.declared.page.Page.{Page};
     ghost use Rattle.page_store.specs.Logged.{backing_of};
-    ghost use Rattle.page_store.specs.Restart.{LeavesPages};
+    ghost use Rattle.page_store.specs.Restart.{CrashesToPages};
     ghost use Rattle.page_store.specs.Stores.{state_of, held_by, device_of, IsOwnStore};
     ghost use Rattle.page_store.specs.declared.store.Store.{Store};
     ghost use Rattle.recovery.specs.Calls.{IsIoOr};
     ghost use Rattle.recovery.specs.Index.{HasIndex};
     ghost use Rattle.recovery.specs.Opening.{AreFrames, IsNoMemoryOrIo, IsRefusal};
     ghost use Rattle.tree_acts.specs.TheoremKeys.{IsTreeFor};
-    ghost use Rattle.world.specs.Reopening.{IsIndexAfterFirstPart};
+    ghost use Rattle.world.specs.Reopening.{IsIndexAfterPrefix};
     ghost use Rattle.access_method.specs.Indexes.{IndexFits, IndexKeeps, IndexBegins, index_device};
 
     /// Opens the index on the device, after any crash, for so many pages in memory at once (16 to 1,024). Refused as `open` of
     /// `recovery` is, with the device given back. It may be called again after any refusal, and after a crash at any moment.
     pub fn open(alloc: Global, device: D, frames: u32) -> Result<Index<Store<D>>, Refused<D>>
-        // An index whose pages are a B-link tree, of a unique one keyed, is opened with them, or refused for want of memory or of the device.
+        // An index whose pages are a B-link tree, of a unique one keyed, is opened with them, or refused for want of memory or of
+        // the device.
         ensures begins { IsTrue (D.is_honest (index_device D.Device result)) → AreFrames frames
             → (limits : Format) (pages : List Page)
             → HasIndex limits pages (D.trace device).now.seen → IsTreeFor limits pages
@@ -478,7 +479,7 @@ impl<D: Device> Index<Store<D>> {
         ensures moments { IsTrue (D.is_honest (index_device D.Device result))
             → (limits : Format) (pages : List Page)
             → HasIndex limits pages (D.trace device).now.seen
-            → Goes (LeavesPages limits pages) (D.trace device)
+            → AtEachMoment (CrashesToPages limits pages) (D.trace device)
             (D.trace (index_device D.Device result)) }
         ensures len { length (D.trace (index_device D.Device result)).now.seen
             ≡ length (D.trace device).now.seen }
@@ -499,16 +500,16 @@ impl<D: Device> Index<Store<D>> {
     }
 
     /// Does nothing: what every crash leaves, at any moment between an earlier store of the index and now. It is an index that
-    /// can be opened, with the contents after a first part of the history, and all that was durable at that earlier moment.
+    /// can be opened, with the contents after a prefix of the history, and all that was durable at that earlier moment.
     pub fn crash_law(&self)
         ensures { (first : Store D D.Device)
             → IsOwnStore D.Device first → ⟦<Store<D> as PageStore>⟧.follows first self.now.store
             → (start : Entry → Bool) (history : List Action) (calls : List Call)
             → IndexFits ⟦<Store<D> as PageStore>⟧ self.now start history calls
             → IndexKeeps ⟦<Store<D> as PageStore>⟧ self.now start history calls
-            → (image : List ℕ) → MayHaveLeft (held_by D.Device first).trace
+            → (image : List ℕ) → MayHaveCrashedTo (held_by D.Device first).trace
             (held_by D.Device self.now.store).trace image
-            → IsIndexAfterFirstPart (state_of D.Device self.now.store).limits start history
+            → IsIndexAfterPrefix (state_of D.Device self.now.store).limits start history
             (backing_of (held_by D.Device first)).durable image }
     {}
 

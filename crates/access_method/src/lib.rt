@@ -5,11 +5,14 @@ mod draft;
 pub mod in_file;
 mod index;
 mod token;
+mod watched;
 
 // What a caller names beside them.
 pub use device::{FileDevice, Start, Unknown};
 pub use index::{Index, NotMade};
-pub use index_model::{DeadRows, Entry, Fault, Key, Limits, Range, RowAddr, VacuumStats};
+pub use index_model::{
+    DeadRows, Entry, Fault, Key, Limits, NoProgress, Progress, Range, RowAddr, VacuumStats,
+};
 pub use page_action::PageStore;
 pub use token::ScanToken;
 pub use whole_calls::Inserted;

@@ -13,7 +13,7 @@ use Rattle.page_codec.specs.declared.page.Page.{Page}
 use Rattle.page_codec.specs.declared.page.PageState.{PageState}
 use Rattle.page_codec.specs.declared.page.PageState.TheVariants.{Live, HalfDead, Deleted}
 use Rattle.tree_shape.specs.Nodes.{links_of, node_of}
-use Rattle.tree_shape.specs.Chains.{Spot, Rises, IsBeyond, LinksWithin}
+use Rattle.tree_shape.specs.Chains.{LeftContext, Rises, IsBeyond, LinksWithin}
 use Rattle.damages.specs.Damages.{HasNotBeyond}
 use Rattle.damages.proofs.Decided.{no_link, bool_so}
 use Rattle.damages.specs.Lows.{IsFirstBeyond, IsSecondBeyond, IsBoundBeyond}
@@ -134,7 +134,7 @@ not_both true e f = cc
 not_both false e f = cc
 
 -- what is wrong as the sketch tells is wrong, and the other way round
-module _ (keys : Bool) (page : Page) (sketch : Sketch) (root : Option ℕ) (s : Spot) (block : ℕ) (admitted : IsPage page) (is : IsSketch (node_of page) sketch) where
+module _ (keys : Bool) (page : Page) (sketch : Sketch) (root : Option ℕ) (s : LeftContext) (block : ℕ) (admitted : IsPage page) (is : IsSketch (node_of page) sketch) where
   pub wrong_to : (n : ℕ) → IsWrongSketch keys sketch root s block n → IsWrong keys (node_of page) root s block n
   wrong_to n (inl a) = inl (a.0, λ e. a.1 (is.left ∙ e))
   wrong_to n (inr (inl a)) = inr (inl (a.0, sym is.state ∙ a.1))
@@ -157,7 +157,7 @@ module _ (keys : Bool) (page : Page) (sketch : Sketch) (root : Option ℕ) (s : 
   least_told None least = λ n w. least n (wrong_from n w)
   least_told (Some n) least = (wrong_to n least.0, λ m lt w. least.1 m lt (wrong_from m w))
 
-pub least_six : (keys : Bool) (sketch : Sketch) (root : Option ℕ) (s : Spot) (block : ℕ) → ((sketch.left ≢ s.left) → ⊥) → (sketch.state ≡ Deleted → ⊥)
+pub least_six : (keys : Bool) (sketch : Sketch) (root : Option ℕ) (s : LeftContext) (block : ℕ) → ((sketch.left ≢ s.left) → ⊥) → (sketch.state ≡ Deleted → ⊥)
     → ((sketch.state ≡ Live) × (Rises s.low sketch.high → ⊥) → ⊥)
     → (IsNoneOrBeyond s.low sketch.least → ⊥) → IsLeastNumber (IsWrongSketch keys sketch root s block) (Some 6)
 least_six keys sketch root s block linked stands rises wrong = (inr (inr (inr (inl (refl, wrong)))), less)

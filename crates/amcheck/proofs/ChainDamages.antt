@@ -3,10 +3,10 @@ use Rattle.std.proofs.Common.{◌≡◌, ◌⊎◌, ℕ, zero, suc, ◌<◌, ◌
 use Rattle.page_codec.specs.declared.page.Page.{Page}
 use Rattle.tree_shape.specs.Chains.{IsIn}
 use Rattle.tree_shape.proofs.Members.{in_append_cases}
-use Rattle.damages.specs.Damages.{Index, index_of, Site, IsOnLevel, IsOfWay, IsDamage, IsSound, IsFirstDamage, ComesBefore, rank}
+use Rattle.damages.specs.Damages.{Index, index_of, Site, IsOnLevel, IsOfPath, IsDamage, IsSound, IsFirstDamage, ComesBefore, rank}
 use Rattle.damages.specs.Damages.Site.{on_way, on_chain, at_child, at_page, nowhere}
 use Rattle.amcheck.specs.Chains.{IsFirstOfChain}
-use Rattle.amcheck.specs.Ways.{IsClearWay, IsFirstOfWay}
+use Rattle.amcheck.specs.Ways.{IsClearPath, IsFirstOfPath}
 use Rattle.amcheck.specs.LevelDamages.{IsClearLevel, IsFirstOfLevel, IsOfUpper, AreOfUpper}
 use Rattle.amcheck.specs.Marks.{IsMet}
 use Rattle.amcheck.specs.Stops.{stop_blocks, AreStops}
@@ -14,10 +14,6 @@ use Rattle.amcheck.specs.declared.marks.Met.{Met}
 use Rattle.amcheck.specs.declared.stops.Stop.{Stop}
 use Rattle.tree_shape.proofs.Few.{few_blocks}
 use Rattle.amcheck.proofs.Walked.{stop_of, blocks_length}
-
--- a block is of one level
-pub of_no_upper : (ix : Index) (depth block : ℕ) → IsOfUpper ix depth block → IsOnLevel ix depth block → ⊥
-of_no_upper ix depth block u on = (let a = u.above in let k = u.on.level_is in let l = on.level_is in omega arith)
 
 pub upper_on : (ix : Index) (depth block : ℕ) → IsOnLevel ix depth block → IsOfUpper ix (suc depth) block
 upper_on ix depth block on = record { upper = depth; above = omega arith; on = on }
@@ -71,12 +67,12 @@ module _ (keys : Bool) (pages : List Page) (depth number block : ℕ) (deep : de
   ix = index_of pages
 
   -- what comes before a damage of the way is one of an earlier step, or of a lesser number, or of a level above
-  way_first : (f : IsFirstOfWay ix depth number block) (other : Site ix) (n : ℕ) → IsDamage false keys other n → ComesBefore (rank other n) (0 ∷ depth ∷ 0 ∷ f.step ∷ number ∷ []) → ⊥
+  way_first : (f : IsFirstOfPath ix depth number block) (other : Site ix) (n : ℕ) → IsDamage false keys other n → ComesBefore (rank other n) (0 ∷ depth ∷ 0 ∷ f.step ∷ number ∷ []) → ⊥
   way_first f (on_way d s e) n damage (inl lt) = omega (arith, lt)
   way_first f (on_way d s e) n damage (inr (same, inl lt)) = (above d lt).way s n damage
   way_first f (on_way d s e) n damage (inr (same, inr (is, inl lt))) = omega (arith, lt)
-  way_first f (on_way d s e) n damage (inr (same, inr (is, inr (zero_is, inl lt)))) = f.first s n (subst (λ (k : ℕ). IsOfWay ix k s n) is damage) (inl lt)
-  way_first f (on_way d s e) n damage (inr (same, inr (is, inr (zero_is, inr (step, inl lt))))) = f.first s n (subst (λ (k : ℕ). IsOfWay ix k s n) is damage) (inr (step, lt))
+  way_first f (on_way d s e) n damage (inr (same, inr (is, inr (zero_is, inl lt)))) = f.first s n (subst (λ (k : ℕ). IsOfPath ix k s n) is damage) (inl lt)
+  way_first f (on_way d s e) n damage (inr (same, inr (is, inr (zero_is, inr (step, inl lt))))) = f.first s n (subst (λ (k : ℕ). IsOfPath ix k s n) is damage) (inr (step, lt))
   way_first f (on_way d s e) n damage (inr (same, inr (is, inr (zero_is, inr (step, inr (number_is, end)))))) = end
   way_first f (on_chain h) n damage (inl lt) = omega (arith, lt)
   way_first f (on_chain h) n damage (inr (same, inl lt)) = (above h.depth lt).chain h n refl damage
@@ -87,11 +83,11 @@ module _ (keys : Bool) (pages : List Page) (depth number block : ℕ) (deep : de
   way_first f (nowhere b) n damage before = not_so damage.0
 
   -- ... and before one of the chain, where the way is clear
-  chain_first : (way : IsClearWay ix depth) (f : IsFirstOfChain ix keys depth number block) (other : Site ix) (n : ℕ) → IsDamage false keys other n
+  chain_first : (way : IsClearPath ix depth) (f : IsFirstOfChain ix keys depth number block) (other : Site ix) (n : ℕ) → IsDamage false keys other n
       → ComesBefore (rank other n) (rank (on_chain f.here) number) → ⊥
   chain_first way f (on_way d s e) n damage (inl lt) = omega (arith, lt)
   chain_first way f (on_way d s e) n damage (inr (same, inl lt)) = (above d (let k = f.deep in omega (arith, lt))).way s n damage
-  chain_first way f (on_way d s e) n damage (inr (same, inr (is, more))) = way s n (subst (λ (k : ℕ). IsOfWay ix k s n) (is ∙ f.deep) damage)
+  chain_first way f (on_way d s e) n damage (inr (same, inr (is, more))) = way s n (subst (λ (k : ℕ). IsOfPath ix k s n) (is ∙ f.deep) damage)
   chain_first way f (on_chain h) n damage (inl lt) = omega (arith, lt)
   chain_first way f (on_chain h) n damage (inr (same, inl lt)) = (above h.depth (let k = f.deep in omega (arith, lt))).chain h n refl damage
   chain_first way f (on_chain h) n damage (inr (same, inr (is, inl lt))) = omega (arith, lt)
@@ -106,7 +102,7 @@ module _ (keys : Bool) (pages : List Page) (depth number block : ℕ) (deep : de
   pub first_level : IsFirstOfLevel ix keys depth number block → IsFirstDamage false keys pages number block
   first_level f = by f.is
     where
-      by : IsFirstOfWay ix depth number block ⊎ (IsClearWay ix depth × IsFirstOfChain ix keys depth number block) → IsFirstDamage false keys pages number block
+      by : IsFirstOfPath ix depth number block ⊎ (IsClearPath ix depth × IsFirstOfChain ix keys depth number block) → IsFirstDamage false keys pages number block
       by (inl w) = record { site = on_way depth w.step deep; is = w.is; block_is = w.block_is; first = λ other n damage before. way_first w other n damage before }
       by (inr c) = record { site = on_chain c.1.here; is = c.1.is; block_is = c.1.block_is; first = λ other n damage before. chain_first c.0 c.1 other n damage before }
 

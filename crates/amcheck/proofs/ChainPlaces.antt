@@ -1,5 +1,5 @@
 -- The places of the stops are noted one after the other.
-use Rattle.std.proofs.Common.{◌≡◌, ◌≢◌, ℕ, zero, suc, ◌<◌, ◌≤◌, inl, inr, Option, Some, None, List, length, replicate, slice_get, slice_set, get_or, refl, sym, ap, subst, ◌∙◌, arith}
+use Rattle.std.proofs.Common.{◌≡◌, ◌≢◌, ℕ, suc, ◌<◌, ◌≤◌, inl, inr, Option, Some, None, List, length, slice_get, slice_set, get_or, sym, ap, subst, ◌∙◌, arith}
 use Rattle.std.proofs.lemmas.Bool.{cases_eq}
 use Rattle.std.proofs.lemmas.List.{get_or-set_same, get_or-set_other}
 use Rattle.damages.proofs.Decided.{no_link, some_is}
@@ -55,8 +55,3 @@ module _ (stops : List Stop) (places : List (Option ℕ)) (n : ℕ) (s : Stop) (
 
   pub places_more : (m : ℕ) → m ≡ suc n → ArePlacesTo m stops (slice_set places s.block (Some n))
   places_more m is = subst (λ (j : ℕ). ArePlacesTo j stops (slice_set places s.block (Some n))) (sym is) (record { there = there_more; none = none_more })
-
-pub none_of_replicate : (n b : ℕ) → get_or (replicate n (let o : Option ℕ = None in o)) b None ≡ None
-none_of_replicate zero b = refl
-none_of_replicate (suc n) zero = refl
-none_of_replicate (suc n) (suc b) = none_of_replicate n b

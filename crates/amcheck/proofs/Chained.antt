@@ -2,9 +2,9 @@
 use Rattle.std.proofs.Common.{◌≡◌, ◌≢◌, ◌⊎◌, ℕ, ◌<◌, ◌≤◌, inl, inr, Bool, Option, Some, None, List, length, slice_get, get_or, refl, sym, ap, subst, ◌∙◌, arith}
 use Rattle.std.proofs.lemmas.Bool.{cases_lt}
 use Rattle.std.proofs.lemmas.Option.{slice_get-get_or}
-use Rattle.tree_shape.specs.Chains.{Spot, Rises}
+use Rattle.tree_shape.specs.Chains.{LeftContext, Rises}
 use Rattle.tree_shape.specs.KeyPages.{IsUniqueNode}
-use Rattle.damages.specs.Damages.{Index, Place, place_at, Here, node, spot, IsOnLevel, IsMetBefore, HasNotBeyond, IsBehindRoot, IsOfChain}
+use Rattle.damages.specs.Damages.{Index, Place, place_at, Here, node, spot, IsOnLevel, IsMetBefore, HasNotBeyond, IsAfterRoot, IsOfChain}
 use Rattle.damages.proofs.Decided.{no_link, some_is}
 use Rattle.damages.proofs.Walks.{has_before}
 use Rattle.amcheck.specs.Chains.{IsClearChain, IsFirstOfChain}
@@ -39,19 +39,19 @@ number_cases keys h n (inr (inr (inr (inr (inr (inr (inr (inl a)))))))) = inr (i
 number_cases keys h n (inr (inr (inr (inr (inr (inr (inr (inr a)))))))) = inr (inr (let k = a.0 in omega arith))
 
 -- what the root's level asks
-too_much : (ix : Index) (depth : ℕ) (root : Option ℕ) (s : Spot) (block : ℕ) → IsRootAt ix depth root → depth ≡ 0 → block ≢ ix.root → (IsBehindRoot ix.root s → ⊥) → IsTooMuch root s block
+too_much : (ix : Index) (depth : ℕ) (root : Option ℕ) (s : LeftContext) (block : ℕ) → IsRootAt ix depth root → depth ≡ 0 → block ≢ ix.root → (IsAfterRoot ix.root s → ⊥) → IsTooMuch root s block
 too_much ix depth None s block is top not_root not_behind = absurd (omega (arith, is, top))
 too_much ix depth (Some r) s block is top not_root not_behind = (
   λ same. not_root (same ∙ is.1),
-  λ behind. not_behind (subst (λ (b : ℕ). IsBehindRoot b s) is.1 behind),
+  λ behind. not_behind (subst (λ (b : ℕ). IsAfterRoot b s) is.1 behind),
 )
 
-too_many : (ix : Index) (depth : ℕ) (root : Option ℕ) (s : Spot) (block : ℕ) → IsRootAt ix depth root → IsTooMuch root s block → (depth ≡ 0) × (block ≢ ix.root) × (IsBehindRoot ix.root s → ⊥)
+too_many : (ix : Index) (depth : ℕ) (root : Option ℕ) (s : LeftContext) (block : ℕ) → IsRootAt ix depth root → IsTooMuch root s block → (depth ≡ 0) × (block ≢ ix.root) × (IsAfterRoot ix.root s → ⊥)
 too_many ix depth None s block is much = absurd much
-too_many ix depth (Some r) s block is much = (is.0, λ same. much.0 (same ∙ sym is.1), λ behind. much.1 (subst (λ (b : ℕ). IsBehindRoot b s) (sym is.1) behind))
+too_many ix depth (Some r) s block is much = (is.0, λ same. much.0 (same ∙ sym is.1), λ behind. much.1 (subst (λ (b : ℕ). IsAfterRoot b s) (sym is.1) behind))
 
 -- a page at this place of the chain
-place_same : {ix : Index} (h : Here ix) (depth place : ℕ) (s : Spot) (b : ℕ) → h.depth ≡ depth → h.place ≡ place
+place_same : {ix : Index} (h : Here ix) (depth place : ℕ) (s : LeftContext) (b : ℕ) → h.depth ≡ depth → h.place ≡ place
     → place_at ix depth place ≡ record { spot = s; block = Some b } → (h.block ≡ b) × (spot h ≡ s)
 place_same {ix} h depth place s b deep there is =
     let whole : place_at ix h.depth h.place ≡ record { spot = s; block = Some b } = (λ i. place_at ix (deep i) (there i)) ∙ is in
@@ -77,26 +77,26 @@ module _ (ix : Index) (keys : Bool) (depth : ℕ) (root : Option ℕ) (stops : L
 
       by : IsOfChain keys h n → IsWrong keys (ix.at s.block) root (spot_at ix.at s) s.block n
       by (inl a) = absurd (a.1 (subst (λ (d : ℕ). IsOnLevel ix d h.block) (sym same) (subst (IsOnLevel ix depth) (sym told.0) (are.on_level h.place s there))))
-      by (inr (inl a)) = inl (a.0, subst (λ (b : ℕ). (ix.at b).left ≢ s.left) told.0 (subst (λ (t : Spot). (node h).left ≢ t.left) told.1 a.1))
+      by (inr (inl a)) = inl (a.0, subst (λ (b : ℕ). (ix.at b).left ≢ s.left) told.0 (subst (λ (t : LeftContext). (node h).left ≢ t.left) told.1 a.1))
       by (inr (inr (inl a))) = absurd (met a.1)
       by (inr (inr (inr (inl a)))) = inr (inl (a.0, ap (λ (b : ℕ). (ix.at b).state) (sym told.0) ∙ a.1))
       by (inr (inr (inr (inr (inl a))))) = inr (inr (inl (
         a.0,
         ap (λ (b : ℕ). (ix.at b).state) (sym told.0) ∙ a.1,
-        subst (λ (b : ℕ). Rises (spot_at ix.at s).low (ix.at b).high → ⊥) told.0 (subst (λ (t : Spot). Rises t.low (node h).high → ⊥) told.1 a.2),
+        subst (λ (b : ℕ). Rises (spot_at ix.at s).low (ix.at b).high → ⊥) told.0 (subst (λ (t : LeftContext). Rises t.low (node h).high → ⊥) told.1 a.2),
       )))
       by (inr (inr (inr (inr (inr (inl a)))))) = inr (inr (inr (inl (
         a.0,
-        record { is = subst (λ (b : ℕ). HasNotBeyond (spot_at ix.at s).low (ix.at b)) told.0 (subst (λ (t : Spot). HasNotBeyond t.low (node h)) told.1 a.1) },
+        record { is = subst (λ (b : ℕ). HasNotBeyond (spot_at ix.at s).low (ix.at b)) told.0 (subst (λ (t : LeftContext). HasNotBeyond t.low (node h)) told.1 a.1) },
       ))))
       by (inr (inr (inr (inr (inr (inr (inl a))))))) = inr (inr (inr (inr (inl (
         a.0,
-        subst (λ (b : ℕ). IsTooMuch root (spot_at ix.at s) b) told.0 (subst (λ (t : Spot). IsTooMuch root t h.block) told.1 (too_much ix depth root (spot h) h.block root_is (sym same ∙ a.1) a.2 a.3)),
+        subst (λ (b : ℕ). IsTooMuch root (spot_at ix.at s) b) told.0 (subst (λ (t : LeftContext). IsTooMuch root t h.block) told.1 (too_much ix depth root (spot h) h.block root_is (sym same ∙ a.1) a.2 a.3)),
       )))))
       by (inr (inr (inr (inr (inr (inr (inr (inl a)))))))) = inr (inr (inr (inr (inr (inl (
         a.0,
         ap (λ (b : ℕ). (ix.at b).state) (sym told.0) ∙ a.1,
-        ap (λ (t : Spot). t.behind) (sym told.1) ∙ a.2,
+        ap (λ (t : LeftContext). t.behind) (sym told.1) ∙ a.2,
       ))))))
       by (inr (inr (inr (inr (inr (inr (inr (inr a)))))))) = inr (inr (inr (inr (inr (inr (
         a.0,
@@ -194,7 +194,7 @@ module _ (ix : Index) (keys : Bool) (depth : ℕ) (root : Option ℕ) (stops : L
             | inl one ↦ on_it other same here.0 one.1
             | inr (inl two) ↦
                 let told = place_same other depth (length stops) (spot_at ix.at s) s.block same here.0 placed in
-                two.1 (ap (λ (b : ℕ). (ix.at b).left) told.0 ∙ left ∙ ap (λ (t : Spot). t.left) (sym told.1))
+                two.1 (ap (λ (b : ℕ). (ix.at b).left) told.0 ∙ left ∙ ap (λ (t : LeftContext). t.left) (sym told.1))
             | inr (inr more) ↦ let lt = here.1 in absurd (omega arith)
           ]
         ];

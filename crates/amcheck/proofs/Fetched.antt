@@ -56,7 +56,7 @@ rest_twice pinned (x ∷ xs) (suc k) j = elim (bool_cases (is_block_among pinned
       (suc early.0, ap (without_first pinned j) (without_gone pinned k x xs not) ∙ (early.1 ∙ sym (without_gone pinned early.0 x xs not)))
 ]
 
--- behind pinned ones, one that isn't and some more
+-- after pinned ones, one that isn't and some more
 all_tail : (P : ℕ → Type 0) (x : ℕ) (xs : List ℕ) → All P (x ∷ xs) → All P xs
 all_tail P x xs all = λ k d less. all (suc k) d (omega (arith, less))
 

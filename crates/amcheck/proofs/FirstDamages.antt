@@ -112,10 +112,6 @@ never_rootless pages stand some none =
     by None is some = not_so some
     by (Some b) is some = cc
 
--- the two words of a tree say the same
-pub tree_there : (pages : List Page) → IsTree pages → levels.LevelsHaveTree pages
-tree_there pages t = record { meta = t.meta; meta_at = t.meta_at; root = t.root; names_root = t.names_root; chain = t.chain; is = t.is }
-
 pub tree_back : (pages : List Page) → levels.LevelsHaveTree pages → IsTree pages
 tree_back pages t = record { meta = t.meta; meta_at = t.meta_at; root = t.root; names_root = t.names_root; chain = t.chain; is = t.is }
 

@@ -21,10 +21,10 @@ pub low_first : (low : Option Bound) (links : List Downlink) (link : Downlink) �
 low_first low [] link e = absurd (no_link e)
 low_first low (i ∷ is) link e = ap (λ (d : Downlink). Some (record { bound = low; child = d.child })) (some_is i link e)
 
-pub low_behind : (low : Option Bound) (links : List Downlink) (at : ℕ) → 0 < at → slice_get (from_low low links) at ≡ slice_get links at
-low_behind low [] at pos = refl
-low_behind low (i ∷ is) zero pos = absurd (omega arith)
-low_behind low (i ∷ is) (suc at) pos = refl
+pub low_after : (low : Option Bound) (links : List Downlink) (at : ℕ) → 0 < at → slice_get (from_low low links) at ≡ slice_get links at
+low_after low [] at pos = refl
+low_after low (i ∷ is) zero pos = absurd (omega arith)
+low_after low (i ∷ is) (suc at) pos = refl
 
 pub link_inside : (links : List Downlink) (item : ℕ) (link : Downlink) → slice_get links item ≡ Some link → item < length links
 link_inside [] item link e = absurd (no_link e)
@@ -187,14 +187,6 @@ noted_all at stops links n m before after le is to = record {
 module _ (at : ℕ → Node) (stops : List Stop) (linked : List Bool) (links : List Downlink) (top : ℕ) (node : Node) (stop : Stop) where
   abbrev Wrong : ℕ → Type 0
   Wrong = IsWrongAmong at stops linked links top node stop
-
-  pub least_seven : HasWrongBound at stops links → IsLeastNumber Wrong (Some 7)
-  least_seven wrong = (record { is = inl (refl, wrong) }, λ m lt w. less m lt w.is)
-    where
-      less : (m : ℕ) → m < 7 → ((m ≡ 7) × HasWrongBound at stops links) ⊎ ((m ≡ 8) × LacksLink top node stop.behind (get_or linked stop.block false)) ⊎ ((m ≡ 9) × HasExtra at stops linked links) → ⊥
-      less m lt (inl a) = (let k = a.0 in omega (arith, k, lt))
-      less m lt (inr (inl a)) = (let k = a.0 in omega (arith, k, lt))
-      less m lt (inr (inr a)) = (let k = a.0 in omega (arith, k, lt))
 
   module _ (right : HasWrongBound at stops links → ⊥) where
     pub least_eight : LacksLink top node stop.behind (get_or linked stop.block false) → IsLeastNumber Wrong (Some 8)

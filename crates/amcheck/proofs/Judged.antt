@@ -1,5 +1,5 @@
 -- What is known of the pages that are judged.
-use Rattle.std.proofs.Common.{◌≡◌, ℕ, suc, ◌≤◌, inl, inr, List, length, ap, ◌∙◌, arith}
+use Rattle.std.proofs.Common.{◌≤◌, inl, inr, List, length, arith}
 use Rattle.std.proofs.lemmas.Bool.{cases_lt}
 use Rattle.index_model.specs.declared.format.Format.{Format}
 use Rattle.page_codec.specs.declared.page.Page.{Page}
@@ -7,10 +7,7 @@ use Rattle.page_action.specs.Stored.{AreStored}
 use Rattle.page_action.proofs.StoredPages.{stored_page}
 use Rattle.tree_acts.proofs.Sizes.{block_low}
 use Rattle.damages.proofs.Fitting.{page_there}
-use Rattle.amcheck.specs.Levels.{NamesRoot}
 use Rattle.amcheck.specs.Places.{StandAtTheirBlocks}
-use Rattle.amcheck.specs.Reports.{IsReport, report_of}
-use Rattle.amcheck.specs.declared.report.Report.{Report}
 
 -- pages as the format demands stand at their blocks
 pub they_stand : (limits : Format) (pages : List Page) → AreStored limits 0 pages → StandAtTheirBlocks pages
@@ -26,6 +23,3 @@ they_are_few pages stand = elim (cases_lt 65536 (length pages)) [
       absurd (omega (arith, low, own.1))
   | inr ge ↦ ge
 ]
-
-pub report_holds : (pages : List Page) (root top : ℕ) (report : Report) → NamesRoot pages root top → report ≡ report_of (suc top) pages → IsReport pages report
-report_holds pages root top report names is = record { meta = names.meta; meta_at = names.meta_at; is = is ∙ ap (λ (n : ℕ). report_of (suc n) pages) names.top_is }

@@ -11,8 +11,8 @@ use Rattle.tree_shape.specs.LinkPlaces.{HasLinks}
 use Rattle.tree_shape.specs.Nodes.{Node, node_of, node_from, nodes_of, no_node, links_of}
 use Rattle.damages.proofs.Decided.{no_link, some_is}
 use Rattle.damages.proofs.Fitting.{page_there}
-use Rattle.amcheck.specs.Reports.{sum_of_all, count_entries_on, one_if_half_dead, one_if_deleted, one_if_flagged}
-use Rattle.amcheck.specs.Sketches.{IsSketch, KeepsSketch, AreKept, links_at, HasGrown}
+use Rattle.amcheck.specs.Reports.{sum_of_all, count_entries_on, one_if_half_dead, one_if_deleted, one_if_incomplete}
+use Rattle.amcheck.specs.Sketches.{IsSketch, HoldsSketch, AreKept, links_at, HasGrown}
 use Rattle.amcheck.specs.declared.sketches.Sketch.{Sketch}
 
 get_left : {A : Type 0} (xs ys : List A) (k : ℕ) → k < length xs → slice_get (xs ++ ys) k ≡ slice_get xs k
@@ -38,7 +38,7 @@ links_left : (whole more : List Page) (o : Option ℕ) → ((k : ℕ) → o ≡ 
 links_left whole more None inside = refl
 links_left whole more (Some k) inside = ap (λ (p : Option Page). (node_from p).links) (get_left whole more k (inside k refl))
 
-keeps_left : (whole more : List Page) (page : Page) (sketch : Sketch) → KeepsSketch whole page sketch → KeepsSketch (whole ++ more) page sketch
+keeps_left : (whole more : List Page) (page : Page) (sketch : Sketch) → HoldsSketch whole page sketch → HoldsSketch (whole ++ more) page sketch
 keeps_left whole more page sketch k = record {
   is = k.is;
   entries = k.entries;
@@ -48,13 +48,13 @@ keeps_left whole more page sketch k = record {
 }
 
 module _ (pages whole more : List Page) (sketches : List Sketch) (page : Page) (sketch : Sketch) (kept : AreKept pages whole sketches)
-    (one : length more ≤ 1) (new : KeepsSketch (whole ++ more) page sketch) where
-  each : (block : ℕ) (p : Page) (s : Sketch) → slice_get (pages ++ page ∷ []) block ≡ Some p → slice_get (sketches ++ sketch ∷ []) block ≡ Some s → KeepsSketch (whole ++ more) p s
+    (one : length more ≤ 1) (new : HoldsSketch (whole ++ more) page sketch) where
+  each : (block : ℕ) (p : Page) (s : Sketch) → slice_get (pages ++ page ∷ []) block ≡ Some p → slice_get (sketches ++ sketch ∷ []) block ≡ Some s → HoldsSketch (whole ++ more) p s
   each block p s at_p at_s = by (more_cases pages page p block at_p) (more_cases sketches sketch s block at_s)
     where
-      by : (slice_get pages block ≡ Some p) ⊎ ((block ≡ length pages) × (page ≡ p)) → (slice_get sketches block ≡ Some s) ⊎ ((block ≡ length sketches) × (sketch ≡ s)) → KeepsSketch (whole ++ more) p s
+      by : (slice_get pages block ≡ Some p) ⊎ ((block ≡ length pages) × (page ≡ p)) → (slice_get sketches block ≡ Some s) ⊎ ((block ≡ length sketches) × (sketch ≡ s)) → HoldsSketch (whole ++ more) p s
       by (inl a) (inl b) = keeps_left whole more p s (kept.each block p s a b)
-      by (inr a) (inr b) = subst (λ (q : Page). KeepsSketch (whole ++ more) q s) a.1 (subst (KeepsSketch (whole ++ more) page) b.1 new)
+      by (inr a) (inr b) = subst (λ (q : Page). HoldsSketch (whole ++ more) q s) a.1 (subst (HoldsSketch (whole ++ more) page) b.1 new)
       by (inl a) (inr b) = absurd (let lt = slice_get_within pages block p a in omega (arith, lt, b.0, kept.count))
       by (inr a) (inl b) = absurd (let lt = slice_get_within sketches block s b in omega (arith, lt, a.0, kept.count))
 
@@ -68,19 +68,12 @@ module _ (pages whole more : List Page) (sketches : List Sketch) (page : Page) (
 -- one page more is kept
 pub kept_more : (pages whole : List Page) (sketches : List Sketch) (page : Page) (sketch : Sketch) (after whole' : List Page)
     (sketches' : List Sketch) → AreKept pages whole sketches → HasGrown whole whole'
-    → KeepsSketch whole' page sketch → after ≡ pages ++ page ∷ [] → sketches' ≡ sketches ++ sketch ∷ [] → AreKept after whole' sketches'
+    → HoldsSketch whole' page sketch → after ≡ pages ++ page ∷ [] → sketches' ≡ sketches ++ sketch ∷ [] → AreKept after whole' sketches'
 kept_more pages whole sketches page sketch after whole' sketches' kept grown new after_is sketches_is =
     subst (λ (ps : List Page). AreKept ps whole' sketches') (sym after_is)
     (subst (λ (ws : List Page). AreKept (pages ++ page ∷ []) ws sketches') (sym grown.is)
     (subst (AreKept (pages ++ page ∷ []) (whole ++ grown.more)) (sym sketches_is)
-    (all pages whole grown.more sketches page sketch kept grown.few (subst (λ (ws : List Page). KeepsSketch ws page sketch) grown.is new))))
-
-pub none_kept : (pages whole : List Page) (sketches : List Sketch) → pages ≡ [] → whole ≡ [] → sketches ≡ [] → AreKept pages whole sketches
-none_kept pages whole sketches a b c = record {
-  count = ap length c ∙ sym (ap length a);
-  fewer = omega (arith, ap length a, ap length b);
-  each = λ block p s at_p at_s. absurd (no_link (sym (ap (λ (ps : List Page). slice_get ps block) a) ∙ at_p));
-}
+    (all pages whole grown.more sketches page sketch kept grown.few (subst (λ (ws : List Page). HoldsSketch ws page sketch) grown.is new))))
 
 -- a page without downlinks isn't kept whole
 pub no_links : (page : Page) → (HasLinks page.items → ⊥) → links_of page.items ≡ []
@@ -99,7 +92,7 @@ module _ (pages whole : List Page) (sketches : List Sketch) (kept : AreKept page
   node_is : nodes_of pages block ≡ node_of there.0
   node_is = ap node_from there.1
 
-  keeps : KeepsSketch whole there.0 sketch
+  keeps : HoldsSketch whole there.0 sketch
   keeps = kept.each block there.0 sketch there.1 found
 
   pub sketch_is : IsSketch (nodes_of pages block) sketch
@@ -120,7 +113,7 @@ module _ (pages whole : List Page) (sketches : List Sketch) (kept : AreKept page
   pub links_are : links_at whole sketch.place ≡ (nodes_of pages block).links
   links_are = keeps.links ∙ ap (λ (n : Node). n.links) (sym node_is)
 
--- and behind them there is none
+-- and after them there is none
 pub none_behind : (pages whole : List Page) (sketches : List Sketch) (block : ℕ) → AreKept pages whole sketches → length sketches ≤ block → nodes_of pages block ≡ no_node
 none_behind pages whole sketches block kept le = ap node_from (slice_get_past pages block (omega (arith, le, kept.count)))
 
@@ -128,7 +121,7 @@ pub inside_of : (whole : List Page) (o : Option ℕ) → IfSome o (λ place. pla
 inside_of whole None inside place is = absurd (no_link is)
 inside_of whole (Some k) inside place is = subst (λ (n : ℕ). n < length whole) (some_is k place is) inside
 
--- a sum from a page on is that page's number, and the sum behind it
+-- a sum from a page on is that page's number, and the sum after it
 pub total_drop : (number : Page → ℕ) (pages : List Page) (k : ℕ) (page : Page) → slice_get pages k ≡ Some page → sum_of_all number (drop k pages) ≡ number page + sum_of_all number (drop (k + 1) pages)
 total_drop number pages k page is = by pages k is ∙ ap (λ (n : ℕ). number page + sum_of_all number (drop n pages)) (let e : suc k ≡ k + 1 = omega arith in e)
   where
@@ -147,6 +140,6 @@ one_deleted Live = omega arith
 one_deleted HalfDead = omega arith
 one_deleted Deleted = omega arith
 
-pub one_flagged : (split : Bool) → one_if_flagged split ≤ 1
-one_flagged true = omega arith
-one_flagged false = omega arith
+pub one_incomplete : (split : Bool) → one_if_incomplete split ≤ 1
+one_incomplete true = omega arith
+one_incomplete false = omega arith

@@ -6,7 +6,7 @@ use Rattle.page_action.specs.Stored.{AreStored}
 use Rattle.tree_shape.specs.KeyPages.{AreUnique}
 use Rattle.tree_acts.specs.TheoremKeys.{IsTreeFor}
 use Rattle.tree_acts.specs.TheoremTree.{IsTree}
-use Rattle.tree_acts.proofs.Keyed.{keyed_tells}
+use Rattle.tree_acts.proofs.Keyed.{keyed_shows}
 use Rattle.damages.specs.Levels.{HasLevels, HasUniqueLevels}
 use Rattle.damages.specs.Damages.{index_of, Site, IsDamage, IsSound, IsFirstDamage, ComesBefore, rank}
 use Rattle.damages.specs.Damages.Site.{on_way, on_chain, at_child, at_page, nowhere}
@@ -51,10 +51,10 @@ module _ (st : State) (pages : List Page) (keys : Bool) (keys_are : keys ≡ st.
   levels_pages levels unique = (levels, λ seen. unique (keys_are ∙ seen))
 
   tree_pages : IsTree pages → (keys ≡ true → AreUnique pages) → IsTreeFor st.limits pages
-  tree_pages tree unique = (tree, λ seen. (keyed_tells st.limits pages tree stored).0 (unique (keys_are ∙ seen)))
+  tree_pages tree unique = (tree, λ seen. (keyed_shows st.limits pages tree stored).0 (unique (keys_are ∙ seen)))
 
   sound_pages : IsTreeFor st.limits pages → IsSoundTree keys pages
-  sound_pages tree = record { tree = tree.0; unique = λ seen. (keyed_tells st.limits pages tree.0 stored).1 (tree.1 (sym keys_are ∙ seen)) }
+  sound_pages tree = record { tree = tree.0; unique = λ seen. (keyed_shows st.limits pages tree.0 stored).1 (tree.1 (sym keys_are ∙ seen)) }
 
   module _ (same : pages ≡ st.pages) (judged : Result Report Damage) (result : Answered) (ok : IfOk judged (λ report. result ≡ Ok report))
       (err : IfErr judged (λ d. result ≡ Err (Damaged d.number d.block))) where

@@ -1,11 +1,11 @@
 -- The damages of parents and children, and what is wrong at the stops of all chains.
-use Rattle.std.proofs.Common.{◌≡◌, ◌≢◌, ◌⊎◌, ℕ, zero, suc, ◌+◌, ◌<◌, ◌≤◌, inl, inr, Bool, true, false, Some, None, List, [], ◌∷◌, length, replicate, slice_get, get_or, refl, sym, ap, subst, ◌∙◌, arith}
+use Rattle.std.proofs.Common.{◌≡◌, ◌≢◌, ◌⊎◌, ℕ, zero, suc, ◌+◌, ◌<◌, ◌≤◌, inl, inr, Bool, true, false, Some, None, List, [], ◌∷◌, length, slice_get, get_or, refl, sym, ap, subst, ◌∙◌, arith}
 use Rattle.std.proofs.lemmas.Bool.{cases_eq, cases_lt}
 use Rattle.page_codec.specs.declared.page.Downlink.{Downlink}
 use Rattle.page_codec.specs.declared.page.Page.{Page}
 use Rattle.page_codec.specs.declared.page.PageState.TheVariants.{HalfDead}
 use Rattle.tree_shape.specs.Nodes.{Node, nodes_of}
-use Rattle.tree_shape.specs.Chains.{Spot, from_low, IsIn}
+use Rattle.tree_shape.specs.Chains.{LeftContext, from_low, IsIn}
 use Rattle.damages.specs.Damages as damages
 use Rattle.damages.specs.Damages.{Index, index_of, Place, place_at, Here, Item, Site, node, spot, IsOnLevel, IsOnChain, IsUnlinked, IsSecond, IsOfParents, IsDamage, IsSound, IsFirstDamage, ComesBefore, rank}
 use Rattle.damages.specs.Damages.Site.{on_way, on_chain, at_child, at_page, nowhere}
@@ -236,13 +236,13 @@ module _ (pages : List Page) (stops : List Stop) (all : AreAllStops (index_of pa
     item_get : (h : Here ix) → IsAt stops k h → (i : Item h) → slice_get links i.item ≡ Some i.link
     item_get h a i =
         subst (λ (b : ℕ). slice_get (from_low (high_at at s.low_at) (at b).links) i.item ≡ Some i.link) (block_is h a)
-        (subst (λ (t : Spot). slice_get (from_low t.low (node h).links) i.item ≡ Some i.link) (spot_is h a) i.is)
+        (subst (λ (t : LeftContext). slice_get (from_low t.low (node h).links) i.item ≡ Some i.link) (spot_is h a) i.is)
 
     abbrev item_make : (h : Here ix) → IsAt stops k h → (n : ℕ) (link : Downlink) → slice_get links n ≡ Some link → Item h
     item_make h a n link found = record {
       item = n;
       link = link;
-      is = subst (λ (t : Spot). slice_get (from_low t.low (node h).links) n ≡ Some link) (sym (spot_is h a))
+      is = subst (λ (t : LeftContext). slice_get (from_low t.low (node h).links) n ≡ Some link) (sym (spot_is h a))
           (subst (λ (b : ℕ). slice_get (from_low (high_at at s.low_at) (at b).links) n ≡ Some link) (sym (block_is h a)) found);
     }
 
@@ -294,20 +294,20 @@ module _ (pages : List Page) (stops : List Stop) (all : AreAllStops (index_of pa
       wrong = record {
         stop = (index child).stop;
         is = stop_for child i.link.child leads;
-        differs = λ same. differs (same ∙ sym (ap (λ (t : Spot). t.low) (spot_for child)));
+        differs = λ same. differs (same ∙ sym (ap (λ (t : LeftContext). t.low) (spot_for child)));
       };
     }
 
     unlinked_skipped : (h : Here ix) → IsAt stops k h → IsUnlinked h → IsSkipped (at s.block) s.behind
     unlinked_skipped h a (inl dead) = record { is = inl (ap (λ (b : ℕ). (at b).state) (sym (block_is h a)) ∙ dead) }
-    unlinked_skipped h a (inr behind) = record { is = inr (ap (λ (t : Spot). t.behind) (sym (spot_is h a)) ∙ behind) }
+    unlinked_skipped h a (inr behind) = record { is = inr (ap (λ (t : LeftContext). t.behind) (sym (spot_is h a)) ∙ behind) }
 
     skipped_unlinked : (h : Here ix) → IsAt stops k h → IsSkipped (at s.block) s.behind → IsUnlinked h
     skipped_unlinked h a w = by w.is
       where
         by : ((at s.block).state ≡ HalfDead) ⊎ (s.behind ≡ true) → IsUnlinked h
         by (inl dead) = inl (ap (λ (b : ℕ). (at b).state) (block_is h a) ∙ dead)
-        by (inr behind) = inr (ap (λ (t : Spot). t.behind) (spot_is h a) ∙ behind)
+        by (inr behind) = inr (ap (λ (t : LeftContext). t.behind) (spot_is h a) ∙ behind)
 
     module _ (linked : List Bool) (marks : AreMarked ix stops k linked) (clear : (j : ℕ) → j < k → IsClearAt ix stops j) where
       -- a page that lacks its downlink
@@ -350,7 +350,7 @@ module _ (pages : List Page) (stops : List Stop) (all : AreAllStops (index_of pa
           told (inr (inl sk)) =
               let child = here_at sk.is.place sk.stop sk.is.there in
               let spot_there : spot child ≡ spot_at at sk.stop = ap (λ (p : Place). p.spot) (idx.is sk.is.place sk.stop sk.is.there) in
-              inr (inl (child, sym sk.is.is, elim sk.skipped.is [ inl dead ↦ inl dead | inr behind ↦ inr (ap (λ (t : Spot). t.behind) spot_there ∙ behind) ]))
+              inr (inl (child, sym sk.is.is, elim sk.skipped.is [ inl dead ↦ inl dead | inr behind ↦ inr (ap (λ (t : LeftContext). t.behind) spot_there ∙ behind) ]))
           told (inr (inr marked)) =
               let led = marks.from w.link.child marked in
               inr (inr (seconds (led.page, earlier led.page h led.index k led.at a led.before, led.item, led.leads)))
@@ -382,7 +382,7 @@ module _ (pages : List Page) (stops : List Stop) (all : AreAllStops (index_of pa
             where
               skipped : (child : Here ix) → IsUnlinked child → IsSkipped (at (index child).stop.block) (index child).stop.behind
               skipped child (inl dead) = record { is = inl (ap (λ (b : ℕ). (at b).state) (sym (block_at child (index child).index (at_of child))) ∙ dead) }
-              skipped child (inr behind) = record { is = inr (ap (λ (t : Spot). t.behind) (sym (spot_for child)) ∙ behind) }
+              skipped child (inr behind) = record { is = inr (ap (λ (t : LeftContext). t.behind) (sym (spot_for child)) ∙ behind) }
           by (inr (inr q)) = second q.page q.first q.earlier q.same
 
       -- what is wrong at the stop is a damage there, and the other way round
@@ -418,7 +418,7 @@ module _ (pages : List Page) (stops : List Stop) (all : AreAllStops (index_of pa
       pub page_clear : AreChildrenBelow ix stops k → IsLeastNumber Wrong None → IsClearAt ix stops k
       page_clear children least = record { children = children; page = λ h n a damage. least n (wrong_is h n a damage) }
 
-      -- the marks behind this stop
+      -- the marks after this stop
       pub marked_more : (after : List Bool) (count : ℕ) → count ≡ length (at s.block).links → DownlinksAreNoted links count linked after → AreMarked ix stops (suc k) after
       marked_more after count is noted = record {
         from = λ b e. elim (noted.from b e) [
@@ -448,9 +448,6 @@ module _ (pages : List Page) (stops : List Stop) (all : AreAllStops (index_of pa
               noted.kept b (marks.all b (record { page = led.page; item = led.item; index = led.index; before = omega (arith, lt, differs); at = led.at; leads = led.leads }))
         ];
       }
-
-  pub nothing_marked : (linked : List Bool) → ((b : ℕ) → get_or linked b false ≡ false) → AreMarked ix stops 0 linked
-  nothing_marked linked none = record { from = λ b e. absurd (differ (sym e ∙ none b)); all = λ b led. (let lt = led.before in absurd (omega (arith, lt))) }
 
   -- the first damage of the first stop that isn't clear is the first of all
   module _ (k number block : ℕ) (clear : (j : ℕ) → j < k → IsClearAt ix stops j) where
@@ -554,8 +551,3 @@ module _ (pages : List Page) (stops : List Stop) (all : AreAllStops (index_of pa
           by c w (inl lt) = omega (arith, lt)
           by c w (inr (same, inl lt)) = least c lt (stray_there c w)
           by c w (inr (same, inr (e, end))) = end
-
-pub none_marked : (n b : ℕ) → get_or (replicate n false) b false ≡ false
-none_marked zero b = refl
-none_marked (suc n) zero = refl
-none_marked (suc n) (suc b) = none_marked n b

@@ -1,10 +1,10 @@
 -- A walk along a chain, as far as it has come.
-use Rattle.std.proofs.Common.{◌≡◌, ◌⊎◌, ℕ, zero, suc, ◌<◌, inl, inr, false, Some, None, List, [], ◌∷◌, ◌++◌, length, length-append, append_assoc, append-nil, slice_get, refl, sym, ap, subst, ◌∙◌, arith}
+use Rattle.std.proofs.Common.{◌≡◌, ◌⊎◌, ℕ, zero, suc, ◌<◌, inl, inr, Some, None, List, [], ◌∷◌, ◌++◌, length, length-append, append_assoc, slice_get, refl, sym, ap, subst, ◌∙◌, arith}
 use Rattle.page_codec.specs.declared.page.Page.{Page}
 use Rattle.tree_shape.specs.Nodes.{nodes_of}
 use Rattle.tree_shape.specs.Chains.{past, IsIn, AreDistinct}
 use Rattle.tree_shape.proofs.Members.{in_append_cases, apart_back}
-use Rattle.damages.specs.Damages.{Index, index_of, head, Place, next_place, place_at, IsOnLevel}
+use Rattle.damages.specs.Damages.{Index, index_of, Place, next_place, place_at, IsOnLevel}
 use Rattle.damages.proofs.Decided.{no_link, some_is}
 use Rattle.damages.proofs.Places.{one_place}
 use Rattle.amcheck.specs.Marks.{IsMet}
@@ -56,7 +56,7 @@ more_cases (x ∷ ss) t (suc k) s e = elim (more_cases ss t k s e) [
   | inr r ↦ inr (let l = r.0 in omega arith, r.1)
 ]
 
--- how far a walk has come: the blocks of its stops were met behind those that were before, and this stop is next
+-- how far a walk has come: the blocks of its stops were met after those that were before, and this stop is next
 pub record HasWalked (pages : List Page) (depth : ℕ) (before : List ℕ) (met : Met) (stops : List Stop) (stop : Stop) (step : ℕ) : Type 0 where
   pub met_is : IsMet met (length pages)
   pub added : met.blocks.items ≡ before ++ stop_blocks stops
@@ -64,18 +64,6 @@ pub record HasWalked (pages : List Page) (depth : ℕ) (before : List ℕ) (met 
   pub on_level : (k : ℕ) (s : Stop) → slice_get stops k ≡ Some s → IsOnLevel (index_of pages) depth s.block
   pub count : length stops ≡ step
   pub here : IsStop (index_of pages) depth step stop
-
-pub walk_begins : (pages : List Page) (depth : ℕ) (met : Met) (stops : List Stop) (stop : Stop) → IsMet met (length pages) → stops ≡ []
-    → stop ≡ record { block = head (index_of pages) depth; low_at = None; left = None; behind = false }
-    → HasWalked pages depth met.blocks.items met stops stop 0
-walk_begins pages depth met stops stop is none' stop_is = record {
-  met_is = is;
-  added = sym (append-nil met.blocks.items) ∙ ap (λ (ss : List Stop). met.blocks.items ++ stop_blocks ss) (sym none');
-  placed = λ k s e. absurd (no_link (sym (ap (λ (ss : List Stop). slice_get ss k) none') ∙ e));
-  on_level = λ k s e. absurd (no_link (sym (ap (λ (ss : List Stop). slice_get ss k) none') ∙ e));
-  count = ap length none';
-  here = ap (λ (s : Stop). let p : Place = record { spot = spot_at (nodes_of pages) s; block = Some s.block } in p) (sym stop_is);
-}
 
 module _ (pages : List Page) (depth : ℕ) (before : List ℕ) (met : Met) (stops : List Stop) (stop : Stop) (step : ℕ) (far : HasWalked pages depth before met stops stop step) where
   abbrev ix : Index
@@ -93,9 +81,6 @@ module _ (pages : List Page) (depth : ℕ) (before : List ℕ) (met : Met) (stop
 
   at_end : place_at ix depth (length stops) ≡ record { spot = spot_at (nodes_of pages) stop; block = Some stop.block }
   at_end = ap (place_at ix depth) far.count ∙ far.here
-
-  pub ends_off : (IsOnLevel ix depth stop.block → ⊥) → IsChainEnd ix depth (length stops) (ends.Off stop.block)
-  ends_off off = (ap (λ (p : Place). p.block) at_end, off)
 
   pub ends_met : ((b : ℕ) → IsIn b before → IsOnLevel ix depth b → ⊥) → IsOnLevel ix depth stop.block → IsIn stop.block met.blocks.items → IsChainEnd ix depth (length stops) (ends.Met stop)
   ends_met apart on i = (at_end, on, by (in_append_cases stop.block before (stop_blocks stops) (subst (IsIn stop.block) far.added i)))

@@ -6,11 +6,11 @@ use Rattle.page_codec.specs.declared.page.Page.{Page}
 use Rattle.tree_shape.specs.Nodes.{Node, nodes_of}
 use Rattle.tree_shape.specs.Chains.{IsIn, AreDistinct}
 use Rattle.tree_shape.proofs.Members.{not_in_from}
-use Rattle.damages.specs.Damages.{Index, index_of, or_block, start, left_after_steps, IsOnLevel, IsOfWay}
+use Rattle.damages.specs.Damages.{Index, index_of, or_block, start, left_after_steps, IsOnLevel, IsOfPath}
 use Rattle.tree_shape.proofs.Few.{few_blocks}
 use Rattle.damages.proofs.Decided.{no_link, on_level_so}
 use Rattle.amcheck.specs.Places as places
-use Rattle.amcheck.specs.Ways.{IsClearWay, IsFirstOfWay}
+use Rattle.amcheck.specs.Ways.{IsClearPath, IsFirstOfPath}
 
 -- a level by its number, and by its depth below the root's
 pub level_there : (pages : List Page) (level depth block : ℕ) → level + depth ≡ (index_of pages).top → places.PageIsOnLevel pages level block → IsOnLevel (index_of pages) depth block
@@ -39,15 +39,15 @@ size ix depth zero = refl
 size ix depth (suc n) = (let r = size ix depth n in omega (arith, r))
 
 -- how far the way was gone: nothing is damaged so far, it goes on, and its pages are marked beside those that were before
-pub record HasGone (pages : List Page) (depth : ℕ) (before seen : List Bool) (block step : ℕ) : Type 0 where
+pub record IsKeptFromReuse (pages : List Page) (depth : ℕ) (before seen : List Bool) (block step : ℕ) : Type 0 where
   pub block_is : block ≡ left_after_steps (index_of pages) depth step
   pub size : length seen ≡ length pages
-  pub clear : (m n : ℕ) → m < step → IsOfWay (index_of pages) depth m n → ⊥
+  pub clear : (m n : ℕ) → m < step → IsOfPath (index_of pages) depth m n → ⊥
   pub on : (m : ℕ) → m < step → (nodes_of pages (left_after_steps (index_of pages) depth m)).left ≢ None
   pub marked : (m : ℕ) → m < step → get_or seen (left_after_steps (index_of pages) depth m) false ≡ true
   pub from : (b : ℕ) → get_or seen b false ≡ true → (get_or before b false ≡ true) ⊎ IsCome (index_of pages) depth step b
 
-pub begin_way : (pages : List Page) (depth begin : ℕ) (seen : List Bool) → length seen ≡ length pages → begin ≡ start (index_of pages) depth → HasGone pages depth seen seen begin 0
+pub begin_way : (pages : List Page) (depth begin : ℕ) (seen : List Bool) → length seen ≡ length pages → begin ≡ start (index_of pages) depth → IsKeptFromReuse pages depth seen seen begin 0
 begin_way pages depth begin seen size is = record {
   block_is = is;
   size = size;
@@ -57,7 +57,7 @@ begin_way pages depth begin seen size is = record {
   from = λ b e. inl e;
 }
 
-module _ (pages : List Page) (depth : ℕ) (before seen : List Bool) (block step : ℕ) (gone : HasGone pages depth before seen block step)
+module _ (pages : List Page) (depth : ℕ) (before seen : List Bool) (block step : ℕ) (gone : IsKeptFromReuse pages depth before seen block step)
     (apart : (b : ℕ) → get_or before b false ≡ true → IsOnLevel (index_of pages) depth b → ⊥) where
   abbrev ix : Index
   ix = index_of pages
@@ -69,7 +69,7 @@ module _ (pages : List Page) (depth : ℕ) (before seen : List Bool) (block step
   on_before m lt = on_level_so ix depth (left_after_steps ix depth m) (λ fails. gone.clear m 1 lt (inl (refl, fails)))
 
   -- it comes to a block that isn't on the level
-  pub way_off : (IsOnLevel ix depth block → ⊥) → IsFirstOfWay ix depth 1 block
+  pub way_off : (IsOnLevel ix depth block → ⊥) → IsFirstOfPath ix depth 1 block
   way_off off = record {
     step = step;
     is = inl (refl, λ on. off (subst (IsOnLevel ix depth) (sym gone.block_is) on));
@@ -84,13 +84,13 @@ module _ (pages : List Page) (depth : ℕ) (before seen : List Bool) (block step
   }
 
   -- ... or back to a page
-  pub way_back : IsOnLevel ix depth block → get_or seen block false ≡ true → IsFirstOfWay ix depth 3 block
+  pub way_back : IsOnLevel ix depth block → get_or seen block false ≡ true → IsFirstOfPath ix depth 3 block
   way_back on mark = by (gone.from block mark)
     where
-      back : (earlier : ℕ) → earlier < step → block ≡ left_after_steps ix depth earlier → IsFirstOfWay ix depth 3 block
+      back : (earlier : ℕ) → earlier < step → block ≡ left_after_steps ix depth earlier → IsFirstOfPath ix depth 3 block
       back earlier lt same = at_step step refl
         where
-          at_step : (n : ℕ) → step ≡ n → IsFirstOfWay ix depth 3 block
+          at_step : (n : ℕ) → step ≡ n → IsFirstOfPath ix depth 3 block
           at_step zero e = absurd (omega arith)
           at_step (suc n) e = record {
             step = step;
@@ -105,7 +105,7 @@ module _ (pages : List Page) (depth : ℕ) (before seen : List Bool) (block step
             ];
           }
 
-      by : (get_or before block false ≡ true) ⊎ IsCome ix depth step block → IsFirstOfWay ix depth 3 block
+      by : (get_or before block false ≡ true) ⊎ IsCome ix depth step block → IsFirstOfPath ix depth 3 block
       by (inl old) = absurd (apart block old on)
       by (inr c) = back c.step c.earlier c.is
 
@@ -114,13 +114,13 @@ module _ (pages : List Page) (depth : ℕ) (before seen : List Bool) (block step
     new_here : (m : ℕ) → m < step → left_after_steps ix depth m ≢ left_after_steps ix depth step
     new_here m lt same = unmarked (subst (λ (b : ℕ). get_or seen b false ≡ true) (same ∙ sym gone.block_is) (gone.marked m lt))
 
-    clear_here : (n : ℕ) → IsOfWay ix depth step n → ⊥
+    clear_here : (n : ℕ) → IsOfPath ix depth step n → ⊥
     clear_here n (inl one) = one.1 (subst (IsOnLevel ix depth) gone.block_is on)
     clear_here n (inr three) = (let b = three.1 in let c = b.comes in let e = b.earlier in new_here b.met (omega arith) b.same)
 
-    clear_to : (m n : ℕ) → m < suc step → IsOfWay ix depth m n → ⊥
+    clear_to : (m n : ℕ) → m < suc step → IsOfPath ix depth m n → ⊥
     clear_to m n lt damage = elim (cases_eq m step) [
-      | inl same ↦ clear_here n (subst (λ (k : ℕ). IsOfWay ix depth k n) same damage)
+      | inl same ↦ clear_here n (subst (λ (k : ℕ). IsOfPath ix depth k n) same damage)
       | inr differs ↦ gone.clear m n (omega arith) damage
     ]
 
@@ -134,8 +134,8 @@ module _ (pages : List Page) (depth : ℕ) (before seen : List Bool) (block step
     ]
 
     -- it goes on to the page on the left
-    pub way_goes_on : (left next : ℕ) → (at block).left ≡ Some left → next ≡ suc step → HasGone pages depth before (slice_set seen block true) left next
-    way_goes_on left next is next_is = subst (HasGone pages depth before (slice_set seen block true) left) (sym next_is) (record {
+    pub way_goes_on : (left next : ℕ) → (at block).left ≡ Some left → next ≡ suc step → IsKeptFromReuse pages depth before (slice_set seen block true) left next
+    way_goes_on left next is next_is = subst (IsKeptFromReuse pages depth before (slice_set seen block true) left) (sym next_is) (record {
       block_is = sym (ap (λ (b : ℕ). or_block (at b).left b) (sym gone.block_is) ∙ ap (λ (o : Option ℕ). or_block o block) is);
       size = length-set seen block true ∙ gone.size;
       clear = clear_to;
@@ -159,7 +159,7 @@ module _ (pages : List Page) (depth : ℕ) (before seen : List Bool) (block step
       | inr differs ↦ let r = stays is n (omega arith) in ap (λ (b : ℕ). or_block (at b).left b) r ∙ ap (λ (o : Option ℕ). or_block o block) is
     ]
 
-    pub way_ends : (at block).left ≡ None → step ≤ length pages → (block ≡ left_after_steps ix depth (length pages)) × IsClearWay ix depth
+    pub way_ends : (at block).left ≡ None → step ≤ length pages → (block ≡ left_after_steps ix depth (length pages)) × IsClearPath ix depth
     way_ends is le = (
       sym (stays is (length pages) le),
       λ s n damage. elim (cases_lt step s) [

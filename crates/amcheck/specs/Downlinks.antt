@@ -34,7 +34,7 @@ pub record HasWrongBound (at : ℕ → Node) (stops : List Stop) (links : List D
   pub there : slice_get links item ≡ Some link
   pub wrong : HasOtherLow at stops link
 
--- a page without a downlink: half-dead, or right behind a flagged page
+-- a page without a downlink: half-dead, or right after a page with an incomplete split
 pub record IsSkipped (node : Node) (behind : Bool) : Type 0 where
   pub is : (node.state ≡ HalfDead) ⊎ (behind ≡ true)
 

@@ -3,17 +3,17 @@ use Rattle.std.specs.Prelude.{◌⊎◌, ℕ, ◌<◌, Bool, true, false, ◌≡
 use Rattle.tree_shape.specs.Chains.{IsIn}
 use Rattle.damages.specs.Damages.{Index, IsOnLevel}
 use Rattle.amcheck.specs.Chains.{IsClearChain, IsFirstOfChain}
-use Rattle.amcheck.specs.Ways.{IsClearWay, IsFirstOfWay}
+use Rattle.amcheck.specs.Ways.{IsClearPath, IsFirstOfPath}
 use Rattle.amcheck.specs.declared.marks.Met.{Met}
 
 -- nothing is damaged there
 pub record IsClearLevel (ix : Index) (keys : Bool) (depth : ℕ) : Type 0 where
-  pub way : IsClearWay ix depth
+  pub way : IsClearPath ix depth
   pub chain : IsClearChain ix keys depth
 
 -- this is, with this number and block, and nothing that comes before it; the chain is looked at where the way is clear
 pub record IsFirstOfLevel (ix : Index) (keys : Bool) (depth number block : ℕ) : Type 0 where
-  pub is : IsFirstOfWay ix depth number block ⊎ (IsClearWay ix depth × IsFirstOfChain ix keys depth number block)
+  pub is : IsFirstOfPath ix depth number block ⊎ (IsClearPath ix depth × IsFirstOfChain ix keys depth number block)
 
 -- the block is of a level above this one
 pub record IsOfUpper (ix : Index) (depth block : ℕ) : Type 0 where

@@ -35,11 +35,11 @@ blocks_below (suc n) = blocks_below n ++ n ∷ []
 abbrev pub AreFetched : State → Memory → Memory → Backing → Backing → Type 0
 AreFetched st m m' old new = TakesFrames st.frames (pinned_blocks st.table) (blocks_below (length st.pages)) m m' old new
 
--- these blocks without the first so many, but for those of them that are pinned
+-- these blocks without the first so many, except for those of them that are pinned
 abbrev pub without_first : List ℕ → ℕ → List ℕ → List ℕ
 without_first pinned count blocks = filter (is_block_among pinned) (take count blocks) ++ drop count blocks
 
--- of the blocks that wait some first ones don't any more, but for pinned ones; the others wait in their order
+-- of the blocks that wait some first ones don't any more, except for pinned ones; the others wait in their order
 pub record IsRestBut (pinned rest blocks : List ℕ) : Type 0 where
   pub count : ℕ
   pub is : rest ≡ without_first pinned count blocks

@@ -25,12 +25,12 @@ one_if_deleted Live = 0
 one_if_deleted HalfDead = 0
 one_if_deleted Deleted = 1
 
-abbrev pub one_if_flagged : Bool → ℕ
-one_if_flagged true = 1
-one_if_flagged false = 0
+abbrev pub one_if_incomplete : Bool → ℕ
+one_if_incomplete true = 1
+one_if_incomplete false = 0
 
 -- The report on pages in so many levels, from the root's to the leaves: the blocks in use, block 0 included; the entries on
--- live leaves; the pages that are half-dead, deleted and flagged.
+-- live leaves; the pages that are half-dead, deleted and with an incomplete split.
 abbrev pub report_of : ℕ → List Page → Report
 report_of levels pages = record {
   levels = levels;
@@ -38,7 +38,7 @@ report_of levels pages = record {
   entries = sum_of_all count_entries_on pages;
   half_dead = sum_of_all (λ p. one_if_half_dead p.state) pages;
   deleted = sum_of_all (λ p. one_if_deleted p.state) pages;
-  unfinished = sum_of_all (λ p. one_if_flagged p.split) pages;
+  unfinished = sum_of_all (λ p. one_if_incomplete p.split) pages;
 }
 
 -- the numbers of a report are those of the pages, whose levels the metapage tells

@@ -43,7 +43,7 @@ links_at whole None = []
 links_at whole (Some place) = (node_from (slice_get whole place)).links
 
 -- the sketch is that of the page, and leads to its downlinks among the pages that are kept whole
-pub record KeepsSketch (whole : List Page) (page : Page) (sketch : Sketch) : Type 0 where
+pub record HoldsSketch (whole : List Page) (page : Page) (sketch : Sketch) : Type 0 where
   pub is : IsSketch (node_of page) sketch
   pub entries : sketch.entries ≡ count_entries_on page
   pub few : sketch.entries ≤ 50
@@ -55,7 +55,7 @@ pub record AreKept (pages whole : List Page) (sketches : List Sketch) : Type 0 w
   pub count : length sketches ≡ length pages
   pub fewer : length whole ≤ length pages
   pub each : (block : ℕ) (page : Page) (sketch : Sketch) → slice_get pages block ≡ Some page → slice_get sketches block ≡ Some sketch
-      → KeepsSketch whole page sketch
+      → HoldsSketch whole page sketch
 
 -- one page more is kept whole, or none
 pub record HasGrown (before after : List Page) : Type 0 where

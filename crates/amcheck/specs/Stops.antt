@@ -4,8 +4,8 @@ use Rattle.index_model.specs.declared.bound.Bound.{Bound}
 use Rattle.page_codec.specs.declared.page.PageState.TheVariants.{Live, HalfDead, Deleted}
 use Rattle.tree_shape.specs.KeyPages.{IsUniqueNode}
 use Rattle.tree_shape.specs.Nodes.{Node}
-use Rattle.tree_shape.specs.Chains.{Spot, Rises}
-use Rattle.damages.specs.Damages.{Index, place_at, IsOnLevel, IsBehindRoot, HasNotBeyond}
+use Rattle.tree_shape.specs.Chains.{LeftContext, Rises}
+use Rattle.damages.specs.Damages.{Index, place_at, IsOnLevel, IsAfterRoot, HasNotBeyond}
 use Rattle.amcheck.specs.declared.stops.Stop.{Stop}
 
 -- the high key of the page there is the low
@@ -14,7 +14,7 @@ high_at at None = None
 high_at at (Some block) = (at block).high
 
 -- what the walk knew before this stop
-abbrev pub spot_at : (ℕ → Node) → Stop → Spot
+abbrev pub spot_at : (ℕ → Node) → Stop → LeftContext
 spot_at at s = record { low = high_at at s.low_at; left = s.left; behind = s.behind }
 
 -- the blocks of these stops
@@ -37,10 +37,10 @@ abbrev pub IsRootAt : Index → ℕ → Option ℕ → Type 0
 IsRootAt ix depth None = 0 < depth
 IsRootAt ix depth (Some root) = (depth ≡ 0) × (root ≡ ix.root)
 
--- on the root's level, neither the root nor right behind the flagged root
-abbrev pub IsTooMuch : Option ℕ → Spot → ℕ → Type 0
+-- on the root's level, neither the root nor right after the root with an incomplete split
+abbrev pub IsTooMuch : Option ℕ → LeftContext → ℕ → Type 0
 IsTooMuch None s block = ⊥
-IsTooMuch (Some root) s block = (block ≢ root) × (IsBehindRoot root s → ⊥)
+IsTooMuch (Some root) s block = (block ≢ root) × (IsAfterRoot root s → ⊥)
 
 -- an entry of the page, or a bound after the first, isn't beyond the low
 pub record HasWrongItem (low : Option Bound) (node : Node) : Type 0 where
@@ -48,7 +48,7 @@ pub record HasWrongItem (low : Option Bound) (node : Node) : Type 0 where
 
 -- Number by number, what is judged of a page of the level that wasn't met before: all but 1 and 3, which the walk finds. The
 -- last is judged where keys are seen.
-abbrev pub IsWrong : Bool → Node → Option ℕ → Spot → ℕ → ℕ → Type 0
+abbrev pub IsWrong : Bool → Node → Option ℕ → LeftContext → ℕ → ℕ → Type 0
 IsWrong keys node root s block number =
     ((number ≡ 2) × (node.left ≢ s.left))
     ⊎ ((number ≡ 4) × (node.state ≡ Deleted))

@@ -1,14 +1,14 @@
 -- The way to the leftmost page of a level, and its first damage.
 use Rattle.std.specs.Prelude.{◌≡◌, ◌⊎◌, ℕ, ◌<◌}
-use Rattle.damages.specs.Damages.{Index, left_after_steps, IsOfWay}
+use Rattle.damages.specs.Damages.{Index, left_after_steps, IsOfPath}
 
 -- on the way to the leftmost page of this level nothing is damaged
-abbrev pub IsClearWay : Index → ℕ → Type 0
-IsClearWay ix depth = (step number : ℕ) → IsOfWay ix depth step number → ⊥
+abbrev pub IsClearPath : Index → ℕ → Type 0
+IsClearPath ix depth = (step number : ℕ) → IsOfPath ix depth step number → ⊥
 
 -- this is, with this number and block, and nothing that comes before it: at an earlier step, or of a lesser number
-pub record IsFirstOfWay (ix : Index) (depth number block : ℕ) : Type 0 where
+pub record IsFirstOfPath (ix : Index) (depth number block : ℕ) : Type 0 where
   pub step : ℕ
-  pub is : IsOfWay ix depth step number
+  pub is : IsOfPath ix depth step number
   pub block_is : block ≡ left_after_steps ix depth step
-  pub first : (s n : ℕ) → IsOfWay ix depth s n → (s < step) ⊎ ((s ≡ step) × (n < number)) → ⊥
+  pub first : (s n : ℕ) → IsOfPath ix depth s n → (s < step) ⊎ ((s ≡ step) × (n < number)) → ⊥

@@ -84,7 +84,7 @@ fn judge_level<F: Fn(&Pages, bool, Option<u32>, &[Stop]) -> Option<usize>>(
     }
 }
 
-/// Puts the stops of a level behind those of the levels above.
+/// Puts the stops of a level after those of the levels above.
 fn keep(chains: &mut Vec<Stop>, stops: &[Stop])
     requires { length chains.old.items + length stops.now ≤ vec_capacity chains.old }
     ensures kept { chains.new.items ≡ chains.old.items ++ stops.now }

@@ -19,7 +19,7 @@ use crate::pages::Pages;
 use crate::reading::{Room, read_pages};
 use crate::report::{CheckFault, Damage, Report};
 use crate::stops::Stop;
-use index_model::Fault;
+use index_model::{Fault, Progress};
 use page_action::PageStore;
 use std::alloc::Global;
 
@@ -38,17 +38,17 @@ fn told(judged: Result<Report, Damage>) -> Result<Report, CheckFault>
 }
 
 /// Judges the levels of an index and their links, as `check` and `check_one` do, where the first bad stop is found so.
-pub(crate) fn check_by<F: Fn(&Pages, bool, Option<u32>, &[Stop]) -> Option<usize>, S: PageStore>(
-    find: F,
-    alloc: Global,
-    store: &mut S,
-) -> Result<Report, CheckFault>
+pub(crate) fn check_by<
+    F: Fn(&Pages, bool, Option<u32>, &[Stop]) -> Option<usize>,
+    S: PageStore,
+    P: Progress,
+>(find: F, alloc: Global, store: &mut S, progress: &P) -> Result<Report, CheckFault>
     requires may { MaySearch (F.pre find) }
     requires finds { FindsFirst (F.post find) }
     ensures steps { Continues S.follows store.old store.new }
     ensures state { S.state store.new ≡ S.state store.old }
     ensures room { KeepsRoom (S.state store.old) (S.backing store.old) (S.backing store.new) }
-    // Nothing is forced or written but for the frames that the pages take, and the log isn't stopped where a check answers.
+    // Nothing is forced or written except for the frames that the pages take, and the log isn't stopped where a check answers.
     ensures frames { AreFetched (S.state store.old) (S.memory store.old) (S.memory store.new)
         (S.backing store.old) (S.backing store.new) }
     ensures order { IsRestBut (pinned_blocks (S.state store.old).table)
@@ -76,7 +76,7 @@ pub(crate) fn check_by<F: Fn(&Pages, bool, Option<u32>, &[Stop]) -> Option<usize
         Ok(room) => room,
         Err(fault) => return Err(CheckFault::Refused(fault)),
     };
-    let pages = match read_pages(store, page_room) {
+    let pages = match read_pages(store, page_room, progress) {
         Ok(pages) => pages,
         Err(fault) => return Err(CheckFault::Refused(fault)),
     };
@@ -95,13 +95,14 @@ pub(crate) fn check_by<F: Fn(&Pages, bool, Option<u32>, &[Stop]) -> Option<usize
 pub(crate) fn check_parents_by<
     F: Fn(&Pages, bool, Option<u32>, &[Stop]) -> Option<usize>,
     S: PageStore,
->(find: F, alloc: Global, store: &mut S) -> Result<Report, CheckFault>
+    P: Progress,
+>(find: F, alloc: Global, store: &mut S, progress: &P) -> Result<Report, CheckFault>
     requires may { MaySearch (F.pre find) }
     requires finds { FindsFirst (F.post find) }
     ensures steps { Continues S.follows store.old store.new }
     ensures state { S.state store.new ≡ S.state store.old }
     ensures room { KeepsRoom (S.state store.old) (S.backing store.old) (S.backing store.new) }
-    // Nothing is forced or written but for the frames that the pages take, and the log isn't stopped where a check answers.
+    // Nothing is forced or written except for the frames that the pages take, and the log isn't stopped where a check answers.
     ensures frames { AreFetched (S.state store.old) (S.memory store.old) (S.memory store.new)
         (S.backing store.old) (S.backing store.new) }
     ensures order { IsRestBut (pinned_blocks (S.state store.old).table)
@@ -129,7 +130,7 @@ pub(crate) fn check_parents_by<
         Ok(room) => room,
         Err(fault) => return Err(CheckFault::Refused(fault)),
     };
-    let pages = match read_pages(store, page_room) {
+    let pages = match read_pages(store, page_room, progress) {
         Ok(pages) => pages,
         Err(fault) => return Err(CheckFault::Refused(fault)),
     };

@@ -22,14 +22,14 @@ use crate::pages::Pages;
 use crate::report::{CheckFault, Report};
 use crate::stops::Stop;
 use damages::first_damage_is_one;
-use index_model::Fault;
+use index_model::{Fault, Progress};
 use page_action::PageStore;
 use std::alloc::Global;
 use std::thread::Threads;
 
 /// Judges the levels of an index and their links: a report, or the first damage. It makes its room, brings each page in use into
-/// memory once, and changes none. The pages of a level are judged in as many threads as serve. Parents and children are not
-/// judged. Whether the index is unique is known from its format.
+/// memory once, of which `progress` is told, and changes none. The pages of a level are judged in as many threads as serve.
+/// Parents and children are not judged. Whether the index is unique is known from its format.
 ///
 /// Over a device that kept its model, a report means that each level, from the root's to the leaves, is one chain of pages,
 /// linked both ways, whose bounds and entries ascend; and its numbers are those of the pages. On a unique index it also means
@@ -38,15 +38,16 @@ use std::thread::Threads;
 ///
 /// Refused with `NoMemory` (1), and then nothing was read; with `Io` (2), `Stopped` (3); with `NoFrame` (10) where all frames are
 /// pinned; with `PageDamaged` (17) only where the device did not keep its model.
-pub fn check<R: Threads + Sync, S: PageStore>(
+pub fn check<R: Threads + Sync, S: PageStore, P: Progress>(
     rt: &R,
     alloc: Global,
     store: &mut S,
+    progress: &P,
 ) -> Result<Report, CheckFault>
     ensures steps { Continues S.follows store.old store.new }
     ensures state { S.state store.new ≡ S.state store.old }
     ensures room { KeepsRoom (S.state store.old) (S.backing store.old) (S.backing store.new) }
-    // Nothing is forced or written but for the frames that the pages take, and the log isn't stopped where a check answers.
+    // Nothing is forced or written except for the frames that the pages take, and the log isn't stopped where a check answers.
     ensures frames { AreFetched (S.state store.old) (S.memory store.old) (S.memory store.new)
         (S.backing store.old) (S.backing store.new) }
     ensures order { IsRestBut (pinned_blocks (S.state store.old).table)
@@ -72,15 +73,20 @@ pub fn check<R: Threads + Sync, S: PageStore>(
         { find_bad(rt, pages, keys, root, stops) },
         alloc,
         store,
+        progress,
     )
 }
 
 /// Judges as [`check`] does, in this thread alone, and answers and is refused alike.
-pub fn check_one<S: PageStore>(alloc: Global, store: &mut S) -> Result<Report, CheckFault>
+pub fn check_one<S: PageStore, P: Progress>(
+    alloc: Global,
+    store: &mut S,
+    progress: &P,
+) -> Result<Report, CheckFault>
     ensures steps { Continues S.follows store.old store.new }
     ensures state { S.state store.new ≡ S.state store.old }
     ensures room { KeepsRoom (S.state store.old) (S.backing store.old) (S.backing store.new) }
-    // Nothing is forced or written but for the frames that the pages take, and the log isn't stopped where a check answers.
+    // Nothing is forced or written except for the frames that the pages take, and the log isn't stopped where a check answers.
     ensures frames { AreFetched (S.state store.old) (S.memory store.old) (S.memory store.new)
         (S.backing store.old) (S.backing store.new) }
     ensures order { IsRestBut (pinned_blocks (S.state store.old).table)
@@ -105,24 +111,27 @@ pub fn check_one<S: PageStore>(alloc: Global, store: &mut S) -> Result<Report, C
         { find_bad_one(pages, keys, root, stops) },
         alloc,
         store,
+        progress,
     )
 }
 
 /// Judges the levels of an index, their links, and its parents and children: a report, or the first damage. It makes its room,
-/// brings each page in use into memory once, and changes none. The pages of a level are judged in as many threads as serve.
+/// brings each page in use into memory once, of which `progress` is told, and changes none. The pages of a level are judged in as
+/// many threads as serve.
 ///
 /// Over a device that kept its model, a report means that the pages are a B-link tree, and its numbers are those of the pages;
 /// on a unique index also that no bound is a whole entry, and that no two entries share a key. On such pages no damage is
 /// found. Refused as [`check`].
-pub fn check_parents<R: Threads + Sync, S: PageStore>(
+pub fn check_parents<R: Threads + Sync, S: PageStore, P: Progress>(
     rt: &R,
     alloc: Global,
     store: &mut S,
+    progress: &P,
 ) -> Result<Report, CheckFault>
     ensures steps { Continues S.follows store.old store.new }
     ensures state { S.state store.new ≡ S.state store.old }
     ensures room { KeepsRoom (S.state store.old) (S.backing store.old) (S.backing store.new) }
-    // Nothing is forced or written but for the frames that the pages take, and the log isn't stopped where a check answers.
+    // Nothing is forced or written except for the frames that the pages take, and the log isn't stopped where a check answers.
     ensures frames { AreFetched (S.state store.old) (S.memory store.old) (S.memory store.new)
         (S.backing store.old) (S.backing store.new) }
     ensures order { IsRestBut (pinned_blocks (S.state store.old).table)
@@ -148,15 +157,20 @@ pub fn check_parents<R: Threads + Sync, S: PageStore>(
         { find_bad(rt, pages, keys, root, stops) },
         alloc,
         store,
+        progress,
     )
 }
 
 /// Judges as [`check_parents`] does, in this thread alone, and answers and is refused alike.
-pub fn check_parents_one<S: PageStore>(alloc: Global, store: &mut S) -> Result<Report, CheckFault>
+pub fn check_parents_one<S: PageStore, P: Progress>(
+    alloc: Global,
+    store: &mut S,
+    progress: &P,
+) -> Result<Report, CheckFault>
     ensures steps { Continues S.follows store.old store.new }
     ensures state { S.state store.new ≡ S.state store.old }
     ensures room { KeepsRoom (S.state store.old) (S.backing store.old) (S.backing store.new) }
-    // Nothing is forced or written but for the frames that the pages take, and the log isn't stopped where a check answers.
+    // Nothing is forced or written except for the frames that the pages take, and the log isn't stopped where a check answers.
     ensures frames { AreFetched (S.state store.old) (S.memory store.old) (S.memory store.new)
         (S.backing store.old) (S.backing store.new) }
     ensures order { IsRestBut (pinned_blocks (S.state store.old).table)
@@ -181,6 +195,7 @@ pub fn check_parents_one<S: PageStore>(alloc: Global, store: &mut S) -> Result<R
         { find_bad_one(pages, keys, root, stops) },
         alloc,
         store,
+        progress,
     )
 }
 

@@ -1,7 +1,7 @@
 //! The numbers of a report.
 
 ghost use Rattle.std.specs.Prelude.{◌≡◌, ◌≤◌, length};
-ghost use Rattle.amcheck.specs.Reports.{report_of, one_if_half_dead, one_if_deleted, one_if_flagged};
+ghost use Rattle.amcheck.specs.Reports.{report_of, one_if_half_dead, one_if_deleted, one_if_incomplete};
 
 use crate::pages::Pages;
 use crate::report::Report;
@@ -25,8 +25,8 @@ fn one_if_deleted(state: PageState) -> u32
     }
 }
 
-fn one_if_flagged(split: bool) -> u32
-    ensures { result ≡ one_if_flagged split }
+fn one_if_incomplete(split: bool) -> u32
+    ensures { result ≡ one_if_incomplete split }
 {
     if split { 1 } else { 0 }
 }
@@ -49,7 +49,7 @@ pub(crate) fn count_up(pages: &Pages, levels: u32) -> Report
         report.entries += sketch.entries;
         report.half_dead += one_if_half_dead(sketch.state);
         report.deleted += one_if_deleted(sketch.state);
-        report.unfinished += one_if_flagged(sketch.split);
+        report.unfinished += one_if_incomplete(sketch.split);
     }
     report
 }

@@ -108,7 +108,7 @@ fn has_wrong_bound(
     false
 }
 
-/// Whether the page of a block in use is to have no downlink: it is half-dead, or right behind a flagged page.
+/// Whether the page of a block in use is to have no downlink: it is half-dead, or right after a page with an incomplete split.
 fn is_skipped(pages: &Pages, block: u32, behind: bool) -> bool
     requires { block < length pages.now }
     ensures { IsTrue result ↔ IsSkipped (nodes_of pages.now block) behind }

@@ -12,7 +12,7 @@ use crate::marks::Met;
 use crate::page_room::PageRoom;
 use crate::pages::Pages;
 use crate::stops::Stop;
-use index_model::Fault;
+use index_model::{Fault, Progress};
 use page_action::PageStore;
 use std::alloc::Global;
 
@@ -65,8 +65,13 @@ impl Room {
     }
 }
 
-/// Reads each page in use once, and keeps what is judged of it. Refused as [`PageStore::fetch`]: it takes no memory.
-pub(crate) fn read_pages<S: PageStore>(store: &mut S, room: PageRoom) -> Result<Pages, Fault>
+/// Reads each page in use once, and keeps what is judged of it; `progress` is told of each. Refused as [`PageStore::fetch`]: it
+/// takes no memory.
+pub(crate) fn read_pages<S: PageStore, P: Progress>(
+    store: &mut S,
+    room: PageRoom,
+    progress: &P,
+) -> Result<Pages, Fault>
     requires empty { room.list.pages ≡ [] }
     requires room { HasPageRoom room (length (S.state store.old).pages) }
     ensures steps { Continues S.follows store.old store.new }
@@ -89,6 +94,7 @@ pub(crate) fn read_pages<S: PageStore>(store: &mut S, room: PageRoom) -> Result<
             Err(fault) => return Err(fault),
         }
         room.add(used, store.view(block));
+        progress.done(u64::from(block) + 1, u64::from(used));
     }
     Ok(Pages::new(room))
 }

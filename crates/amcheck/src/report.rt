@@ -34,11 +34,11 @@ pub enum CheckFault {
     /// 6. an entry, or a bound after the first, that isn't greater than its page's low;
     /// 7. an item's bound isn't the low of its child (of the first item: the parent's low);
     /// 8. a page below the root's level lacks its downlink;
-    /// 9. a downlink to a half-dead page, to one right behind a flagged page or to one on no chain, or a
+    /// 9. a downlink to a half-dead page, to one right after a page with an incomplete split or to one on no chain, or a
     ///    second downlink to a page;
     /// 10. a page too many on the root's level;
     /// 11. a page in use, neither deleted nor the metapage, on no chain;
-    /// 12. a half-dead page right behind a flagged one;
+    /// 12. a half-dead page right after one with an incomplete split;
     /// 13. on a unique index alone: a page on a chain that has a whole entry as its high key or as one of its
     ///    bounds, or an entry whose key is the one before it.
     #[error("damage {number} block {block}")]

@@ -1,4 +1,4 @@
-//! What is kept of a page, but for its downlinks.
+//! What is kept of a page, except for its downlinks.
 
 ghost use Rattle.std.specs.Prelude.{◌≡◌, ◌≤◌};
 ghost use Rattle.page_codec.specs.Grammar.{IsPage};
@@ -11,7 +11,7 @@ use index_model::{Bound, Entry};
 use page_codec::{Downlink, Page, PageState};
 use tree_shape::{entries_on, links_on};
 
-/// What is judged of a page, but for its downlinks: some 200 bytes in place of 4,500.
+/// What is judged of a page, except for its downlinks: some 200 bytes in place of 4,500.
 #[derive(Clone, Copy)]
 pub(crate) struct Sketch {
     pub(crate) level: u8,

@@ -22,7 +22,7 @@ pub(crate) struct Stop {
     /// The nearest page to the left that isn't half-dead: its high key is the low.
     pub(crate) low_at: Option<u32>,
     pub(crate) left: Option<u32>,
-    /// Whether the page to the left is flagged.
+    /// Whether the page to the left has an incomplete split.
     pub(crate) behind: bool,
 }
 
@@ -102,8 +102,8 @@ fn is_too_much(
     }
 }
 
-/// Whether a half-dead page follows a flagged one.
-fn is_half_dead_behind(sketch: &Sketch, behind: bool) -> bool
+/// Whether a half-dead page follows one with an incomplete split.
+fn is_half_dead_after(sketch: &Sketch, behind: bool) -> bool
     ensures { IsTrue result ↔ (sketch.now.state ≡ HalfDead) × (behind ≡ true) }
 {
     match sketch.state {
@@ -146,7 +146,7 @@ pub(crate) fn find_number(
     if is_too_much(root, stop.left, stop.behind, low, stop.block) {
         return Some(10);
     }
-    if is_half_dead_behind(sketch, stop.behind) {
+    if is_half_dead_after(sketch, stop.behind) {
         return Some(12);
     }
     if has_wrong_keys(sketch, keys) {

@@ -2,7 +2,7 @@
 
 ghost use Rattle.std.specs.Prelude.{◌≡◌, ◌+◌, ◌<◌, ◌≤◌, ◌⊎◌, ℕ, true, false, IfOk, OnOk, IfErr, length, slice_index_or};
 ghost use Rattle.damages.specs.Damages.{index_of, head, start, IsOnLevel};
-ghost use Rattle.amcheck.specs.Ways.{IsClearWay, IsFirstOfWay};
+ghost use Rattle.amcheck.specs.Ways.{IsClearPath, IsFirstOfPath};
 
 use crate::pages::Pages;
 use crate::places::is_on_level;
@@ -28,9 +28,9 @@ pub(crate) fn find_leftmost(
     ensures kept { (b : ℕ) → slice_index_or seen.new b false ≡ true
         → (slice_index_or seen.old b false ≡ true) ⊎ IsOnLevel (index_of pages.now) depth b }
     ensures found { IfOk result (λ found. found ≡ head (index_of pages.now) depth) }
-    ensures clear { OnOk result (IsClearWay (index_of pages.now) depth) }
+    ensures clear { OnOk result (IsClearPath (index_of pages.now) depth) }
     ensures first { IfErr result
-        (λ damage. IsFirstOfWay (index_of pages.now) depth damage.number damage.block) }
+        (λ damage. IsFirstOfPath (index_of pages.now) depth damage.number damage.block) }
 {
     let mut block = begin;
     for _ in 0..pages.len() {

@@ -1,5 +1,5 @@
 -- What a pool holds, and what is changed of it, where a page was changed or written.
-use Rattle.std.proofs.Common.{◌≡◌, ℕ, suc, ◌+◌, ◌<◌, ◌≤◌, Bool, true, false, ◌||◌, cond, ltb, eqb, Option, Some, None, List, [], ◌∷◌, ◌++◌, length, get_or, set, take, drop, slice_get, refl, sym, ap, subst, inl, inr, ◌∙◌, arith, length-set}
+use Rattle.std.proofs.Common.{◌≡◌, ℕ, ◌+◌, ◌<◌, ◌≤◌, Bool, true, false, ◌||◌, cond, ltb, eqb, Option, Some, None, List, [], ◌∷◌, ◌++◌, length, get_or, set, take, drop, slice_get, refl, sym, ap, subst, inl, inr, ◌∙◌, arith, length-set}
 use Rattle.std.specs.Option.{IsSome, is_some, option_and_then}
 use Rattle.std.specs.List.{remove}
 use Rattle.std.proofs.lemmas.Bool.{cases_lt, cases_Bool, ltb-true, ltb-false, le-ltb, eqb-true, cond-true, cond-false, false_from_ne_true}
@@ -10,7 +10,7 @@ use Rattle.buffer_pool.specs.Orders.{waiting_in}
 use Rattle.buffer_pool.specs.declared.pool.Pool.{Pool}
 use Rattle.buffer_pool.specs.Frames.{blocks_in, has_block, BlocksAreApart, frame_in, act_in, AreChanged}
 use Rattle.buffer_pool.specs.Pools.{most_of, reach_of, pool_count, pool_blocks, page_at, frame_of, held_page, act_of, changed_of, HasSamePages, HasSameChanges, IsChanged, IsWritten, AreWritten}
-use Rattle.buffer_pool.proofs.Placing.{placed_within, as_frame, frame_is}
+use Rattle.buffer_pool.proofs.Placing.{placed_within}
 use Rattle.buffer_pool.proofs.Changing.{frame_cases, act_at, act_none, act_same, act_other, changed_first, changed_again, changed_act, has_block-at}
 use Rattle.buffer_pool.proofs.Lists.{slice_get-set_same, slice_get-set_other}
 use Rattle.buffer_pool.proofs.Putting.{held_at, place_from, same_frame, same_page}
@@ -28,9 +28,6 @@ frame_below pool block at is = placed_within pool.places.items block at (place_f
 
 pub block_there : (pool : Pool) (block at : ℕ) → frame_of pool block ≡ Some at → get_or (blocks_in pool.pages.items) at 0 ≡ block
 block_there pool block at is = pool.placed.same block at (place_from pool block at is)
-
-pub frame_at_place : (pool : Pool) (block at : ℕ) → get_or pool.places.items block 0 ≡ suc at → frame_in (blocks_in pool.pages.items) block ≡ Some at
-frame_at_place pool block at is = frame_is pool.places.items (blocks_in pool.pages.items) pool.placed block ∙ ap as_frame is
 
 pub frame_plain : (pool : Pool) (block at : ℕ) → frame_of pool block ≡ Some at → frame_in (blocks_in pool.pages.items) block ≡ Some at
 unfolding frame_of
@@ -159,7 +156,7 @@ written_is old new place at less is most pages places acts changed =
           (λ held. other (sym (block_there old b at (frame_back old b at held)) ∙ block_there old block at is));
     }
 
--- a block that stands once isn't both among the first so many and behind them
+-- a block that stands once isn't both among the first so many and after them
 pub take_drop_apart : (blocks : List ℕ) (n block : ℕ) → BlocksAreApart blocks → has_block (take n blocks) block ≡ true → has_block (drop n blocks) block ≡ false
 take_drop_apart blocks n block apart first =
     false_from_ne_true (has_block (drop n blocks) block) (λ second.
@@ -173,7 +170,7 @@ take_drop_apart blocks n block apart first =
     sym (get_or-drop n blocks b.0 block) ∙ (get_or_default (drop n blocks) b.0 block b.1 b.2 ∙ (b.3 ∙ eqb-true b.1 block b.4)) in
     apart a.0 (n + b.0) block (omega (arith, short)) less (one ∙ sym two))
 
--- a block that isn't among the first so many, is among all or none where it is behind them
+-- a block that isn't among the first so many, is among all or none where it is after them
 pub behind_is : (blocks : List ℕ) (n block : ℕ) → has_block (take n blocks) block ≡ false → has_block (drop n blocks) block ≡ has_block blocks block
 behind_is blocks n block off =
     sym (ap (λ (xs : List ℕ). has_block xs block) (sym (take-append-drop n blocks))

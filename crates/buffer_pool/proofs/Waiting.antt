@@ -53,7 +53,7 @@ window_same keys others first from count within inside same =
     let few : k < count = omega (arith, less, window_long keys first count within) in
     window_at keys first count within k few ∙ (same k few ∙ sym (window_at others from count inside k few)))
 
--- a block that didn't wait comes behind those that do
+-- a block that didn't wait comes after those that do
 module _ (keys : List ℕ) (first count at block : ℕ) (room : first + count < length keys) (fresh : has_block (window keys first count) block ≡ false) (found : position (eqb block) keys ≡ Some at) where
   pub found_within : at < length keys
   found_within = (position-Some (eqb block) keys at 0 found).0
@@ -149,14 +149,6 @@ module _ (keys was : List ℕ) (first at : ℕ) (inside : first + at < length ke
     (left : (k : ℕ) → at ≤ k → get_or keys (first + k) 0 ≡ get_or was (first + k) 0) (after : List ℕ) (is : after ≡ swap keys at (first + at)) where
   moved : Swapped (λ (i : ℕ). get_or keys i 0) (λ (i : ℕ). get_or after i 0) at (first + at)
   moved = swapped_from_swap keys after at (first + at) 0 (omega (arith, inside)) inside is
-
-  pub front_done : (k : ℕ) → k < at + 1 → get_or after k 0 ≡ get_or was (first + k) 0
-  front_done k less = elim (cases_lt k at) [
-    | inl before ↦ moved.2 k (omega (arith, before)) (omega (arith, before)) ∙ done k before
-    | inr last ↦
-        let here : k ≡ at = omega (arith, last, less) in
-        ap (λ (n : ℕ). get_or after n 0) here ∙ (moved.0 ∙ (left at (omega arith) ∙ ap (λ (n : ℕ). get_or was (first + n) 0) (sym here)))
-  ]
 
   pub front_left : (k : ℕ) → at + 1 ≤ k → get_or after (first + k) 0 ≡ get_or was (first + k) 0
   front_left k more = moved.2 (first + k) (omega (arith, more)) (omega (arith, more)) ∙ left k (omega (arith, more))

@@ -34,7 +34,7 @@ fn clean_frames(acts: &mut [u64], places: &[u32], written: &[u32])
     }
 }
 
-// Puts the block behind the changed ones, unless an act had changed its page before; 0 says that none had.
+// Puts the block after the changed ones, unless an act had changed its page before; 0 says that none had.
 fn add_changed(changed: &mut Order, block: u32, before: u64)
     requires below { before ≡ 0 → block < width_of changed.old }
     requires fresh { before ≡ 0 → has_block (waiting_in changed.old) block ≡ false }

@@ -69,7 +69,7 @@ impl Order {
         self.count
     }
 
-    /// Puts a block that doesn't wait behind those that do.
+    /// Puts a block that doesn't wait after those that do.
     pub fn push(&mut self, block: u32)
         requires below { block < width_of self.old }
         requires fresh { has_block (waiting_in self.old) block ≡ false }

@@ -123,7 +123,7 @@ impl Pool {
 
     /// Whether the page of the block is held, by one look. If so, it's noted that somebody looked at it, so that its frame
     /// isn't among the next to be taken. Any number may be asked for.
-    pub fn look(&mut self, block: u32) -> bool
+    pub fn note_use(&mut self, block: u32) -> bool
         ensures held { result ≡ is_some (frame_of self.old block) }
         ensures pages { HasSamePages self.old self.new }
         ensures changes { HasSameChanges self.old self.new }

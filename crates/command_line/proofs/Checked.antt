@@ -7,7 +7,7 @@ use Rattle.amcheck.specs.declared.report.CheckFault.TheVariants.{Damage, Refused
 use Rattle.amcheck.specs.declared.report.Report.{Report}
 use Rattle.page_action.specs.States.{State, Backing}
 use Rattle.tree_acts.specs.TheoremKeys.{IsTreeFor}
-use Rattle.command_line.specs.Reporting.{TellsDamage, PrintsAnswer}
+use Rattle.command_line.specs.Reporting.{PrintsDamage, PrintsAnswer}
 use Rattle.command_line.specs.declared.end.End.{End}
 use Rattle.command_line.specs.declared.end.End.TheVariants.{Done, Damaged, Refused}
 
@@ -15,7 +15,7 @@ use Rattle.command_line.specs.declared.end.End.TheVariants.{Done, Damaged, Refus
 pub tells_damage : {E : Type 0} (checked : Result Report CheckFault) (result : Result End E) (parents : Bool) (st : State) (was now : Backing)
     (old new : Option (List ℕ)) → IfOk result (PrintsAnswer checked old new)
     → (now.honest ≡ true → IsAnswer parents st.limits.unique st.pages checked)
-    → IfErr checked (IsCheckFault st was now (IsTreeFor st.limits st.pages)) → result ≡ Ok Damaged → TellsDamage now.honest parents st old new
+    → IfErr checked (IsCheckFault st was now (IsTreeFor st.limits st.pages)) → result ≡ Ok Damaged → PrintsDamage now.honest parents st old new
 tells_damage (Err (Damage number block)) (Ok end) parents st was now old new told answer fault is = record { number = number; block = block; printed = told.1; first = answer; unsound = fault }
 tells_damage (Ok report) (Ok end) parents st was now old new told answer fault is = absurd (let a : end ≡ Done = told.0 in cc)
 tells_damage (Err (NotChecked f)) (Ok end) parents st was now old new told answer fault is = absurd (let a : end ≡ Refused f = told.0 in cc)

@@ -17,19 +17,19 @@ use Rattle.world.specs.Worlds.{inside}
 use Rattle.world.specs.declared.world.World.{World}
 use Rattle.text_forms.specs.Printing.{answer_text}
 use Rattle.command_line.specs.Receipts.{run_text}
-use Rattle.command_line.specs.Running.{PrintsDone, PrintsRun, end_behind, last_text}
+use Rattle.command_line.specs.Running.{PrintsDone, PrintsRun, end_after, last_text}
 use Rattle.command_line.specs.RunningFiles.{IsWorldOfFile, PrintsRunOnFile}
 use Rattle.command_line.specs.declared.end.End.{End}
 use Rattle.command_line.specs.declared.end.End.TheVariants.{Done}
 
--- behind a checkpoint that isn't refused
-pub not_refused : (answer : Answer) → ((fault : Fault) → answer ≡ NotMade fault → ⊥) → (Done ≡ end_behind answer) × (last_text answer ≡ answer_text answer ++ 10 ∷ [])
+-- after a checkpoint that isn't refused
+pub not_refused : (answer : Answer) → ((fault : Fault) → answer ≡ NotMade fault → ⊥) → (Done ≡ end_after answer) × (last_text answer ≡ answer_text answer ++ 10 ∷ [])
 not_refused (NotMade fault) h = absurd (h fault refl)
 not_refused answer h = (refl, refl)
 
 -- unless the print failed, the run is printed
 pub prints_done : {S T E : Type 0} (g : Ghosts S) (rows : SetGhosts T) (done : Finished S T) (after : World S T) (old new : Option (List ℕ)) (r : Result End E) (answer : Answer)
-    → IsEventDone g Checkpoint answer (inside rows done.world) (inside rows after) → IfOk r (λ end. end ≡ end_behind answer)
+    → IsEventDone g Checkpoint answer (inside rows done.world) (inside rows after) → IfOk r (λ end. end ≡ end_after answer)
     → OnOk r (Appends old new (run_text done.history.items done.receipts.items done.calls.items ++ last_text answer)) → IfOk r (PrintsDone g rows done after old new)
 prints_done g rows done after old new (Ok end) answer made is printed = record { answer = answer; checkpointed = made; printed = printed; end_is = is }
 prints_done g rows done after old new (Err fault) answer made is printed = tt

@@ -1,7 +1,7 @@
 -- Lines that are read one after the other.
 use Rattle.std.proofs.Common.{◌≡◌, ◌∷◌, [], ◌++◌, ◌∙◌, ◌==◌, ℕ, true, false, List, length, refl, ap, sym, subst, append_assoc, arith}
 use Rattle.std.proofs.lemmas.Bool.{false≢true, eqb-true}
-use Rattle.command_line.specs.JobFiles.{SpellsJob, SpellJobs, sets_with, sets_behind}
+use Rattle.command_line.specs.JobFiles.{SpellsJob, SpellJobs, sets_with, sets_after}
 use Rattle.sessions.specs.declared.job.Job.{Job}
 
 joined : (jobs : List Job) (job : Job) (more : List Job) → jobs ++ (job ∷ more) ≡ (jobs ++ job ∷ []) ++ more
@@ -16,9 +16,9 @@ spelled_on all here lines line set jobs job first spells was more rest =
     subst (SpellJobs 0 all) (joined jobs job more) (was (job ∷ more) (subst (λ (ls : List (List ℕ)). SpellJobs set ls (job ∷ more)) (sym first) whole))
 
 -- ... and so its set, if it has one, is counted
-pub behind_on : (set : ℕ) (jobs : List Job) (job : Job) → ((more : List Job) → sets_behind set more ≡ sets_behind 0 (jobs ++ more))
-    → (more : List Job) → sets_behind (sets_with set job) more ≡ sets_behind 0 ((jobs ++ job ∷ []) ++ more)
-behind_on set jobs job was more = was (job ∷ more) ∙ ap (sets_behind 0) (joined jobs job more)
+pub after_on : (set : ℕ) (jobs : List Job) (job : Job) → ((more : List Job) → sets_after set more ≡ sets_after 0 (jobs ++ more))
+    → (more : List Job) → sets_after (sets_with set job) more ≡ sets_after 0 ((jobs ++ job ∷ []) ++ more)
+after_on set jobs job was more = was (job ∷ more) ∙ ap (sets_after 0) (joined jobs job more)
 
 -- a text of no byte, and one of some
 pub none_left : (text : List ℕ) → true ≡ (length text == 0) → text ≡ []

@@ -15,7 +15,7 @@ use Rattle.world.specs.declared.world.World.{World}
 use Rattle.command_line.specs.Commands.{DoesCommand, Named, PrintsCheck, PrintsCommand, PrintsCreation, PrintsDump, PrintsPlay, PrintsRunning}
 use Rattle.command_line.specs.Left.{IfNotRun}
 use Rattle.command_line.specs.Listing.{PrintsPages, ListsFirst}
-use Rattle.command_line.specs.Reporting.{TellsReport, TellsDamage}
+use Rattle.command_line.specs.Reporting.{PrintsReport, PrintsDamage}
 use Rattle.command_line.specs.RunningFiles.{PrintsRunOfJobFile}
 use Rattle.command_line.specs.declared.dead.DeadList.{DeadList}
 use Rattle.command_line.specs.declared.end.End.{End}
@@ -80,10 +80,10 @@ not_run_then (left.Checked looked) is then = tt
 not_run_then (left.Dumped looked) is then = tt
 
 module _ (old mid new : Option (List ℕ)) (kept : Keeps mid new) where
-  report_kept : (honest : Bool) (pages : List Page) → TellsReport honest pages old mid → TellsReport honest pages old new
+  report_kept : (honest : Bool) (pages : List Page) → PrintsReport honest pages old mid → PrintsReport honest pages old new
   report_kept honest pages told = record { report = told.report; printed = appends_kept _ _ _ _ kept told.printed; is = told.is }
 
-  damage_kept : (honest parents : Bool) (st : State) → TellsDamage honest parents st old mid → TellsDamage honest parents st old new
+  damage_kept : (honest parents : Bool) (st : State) → PrintsDamage honest parents st old mid → PrintsDamage honest parents st old new
   damage_kept honest parents st told = record {
     number = told.number;
     block = told.block;

@@ -9,7 +9,7 @@ use Rattle.page_codec.specs.declared.page.Page.{Page}
 use Rattle.text_forms.specs.Dumping.{page_text, pages_text}
 use Rattle.command_line.specs.Listing.{PrintsPages}
 
--- the lines of a page stand behind those of the pages before it
+-- the lines of a page stand after those of the pages before it
 next_lines : (pages : List Page) (i : ℕ) (page : Page) → slice_get pages i ≡ Some page
     → pages_text (take i pages) ++ page_text page ≡ pages_text (take (i + 1) pages)
 next_lines pages i page found =

@@ -9,14 +9,14 @@ use Rattle.page_action.specs.declared.page_store.PageStore.{Ghosts}
 use Rattle.page_store.specs.declared.store.Store.{Store}
 use Rattle.command_line.specs.Files.{IsOpenedFromFile, IsLookedAt, IsCheckRefused}
 use Rattle.command_line.specs.Listing.{PrintsPages, ListsFirst}
-use Rattle.command_line.specs.Reporting.{TellsReport, TellsDamage}
+use Rattle.command_line.specs.Reporting.{PrintsReport, PrintsDamage}
 
 module _ (now was : State) (same : now ≡ was) (honest : Bool) (old new : Option (List ℕ)) where
-  pub report_stays : TellsReport honest was.pages old new → TellsReport honest now.pages old new
-  report_stays told = subst (λ (st : State). TellsReport honest st.pages old new) (sym same) told
+  pub report_stays : PrintsReport honest was.pages old new → PrintsReport honest now.pages old new
+  report_stays told = subst (λ (st : State). PrintsReport honest st.pages old new) (sym same) told
 
-  pub damage_stays : (parents : Bool) → TellsDamage honest parents was old new → TellsDamage honest parents now old new
-  damage_stays parents told = subst (λ (st : State). TellsDamage honest parents st old new) (sym same) told
+  pub damage_stays : (parents : Bool) → PrintsDamage honest parents was old new → PrintsDamage honest parents now old new
+  damage_stays parents told = subst (λ (st : State). PrintsDamage honest parents st old new) (sym same) told
 
   pub list_stays : PrintsPages honest was.pages old new → PrintsPages honest now.pages old new
   list_stays told = subst (λ (st : State). PrintsPages honest st.pages old new) (sym same) told

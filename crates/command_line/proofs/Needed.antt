@@ -11,7 +11,7 @@ use Rattle.clap.specs.Walk.{Held, Names, Row, Text, answers_to, finished, nothin
 use Rattle.command_line.specs.Commands.{IsNoCommand, NamesNone}
 use Rattle.command_line.specs.Program.{KeepsLine, named_by, program_line}
 
--- where there is no kind, there is none behind the first list
+-- where there is no kind, there is none after the first list
 no_second : (xs ys : Kinds) → or_else xs ys ≡ [] → ys ≡ []
 no_second [] ys none = none
 no_second (x ∷ xs) ys none = cc

@@ -1,4 +1,4 @@
--- Steps of a session's call, one behind the other.
+-- Steps of a session's call, one after the other.
 use Rattle.std.specs.Prelude.{replicate}
 use Rattle.std.proofs.Common.{◌≡◌, ◌≢◌, ◌⊎◌, ℕ, ◌+◌, ◌≤◌, Bool, List, [], ◌∷◌, ◌++◌, refl, inl, inr, subst, arith}
 use Rattle.std.proofs.lemmas.List.{replicate-append-replicate}
@@ -21,7 +21,7 @@ use Rattle.session_calls.specs.declared.answer.Answer.{Answer}
 use Rattle.session_calls.specs.declared.answer.Answer.TheVariants.{Begun, Going, Added, Ready, Done, Finished, Gave, Ended, Forced, Flushed, Checkpointed, Refused}
 use Rattle.whole_calls.specs.Spending.{steps_left}
 use Rattle.whole_calls.proofs.Spending.{steps_few, takes_fewer}
-use Rattle.world.specs.Worlds.{ForEachWorldHistory, WorldGoes, WorldRuns, inside, snapshot_in}
+use Rattle.world.specs.Worlds.{ForEachWorldHistory, WorldIsRun, WorldRuns, inside, snapshot_in}
 use Rattle.world.specs.declared.world.World.{World}
 use Rattle.command_line.specs.Stepping.{steps_of, answers_to, IsStepped, IsSteppedInsert}
 
@@ -41,7 +41,7 @@ begun_or_refused (Checkpointed count) may = absurd may
 begun_or_refused (Refused fault) may = inr (fault, refl)
 
 -- the session's call has gone on, by so many steps
-pub record HasGone {S T : Type 0} (g : Ghosts S) (rows : SetGhosts T) (session : ℕ) (old new : World S T) (start : Entry → Bool) (history : List Action) (calls : List Call) : Type 0 where
+pub record IsKeptFromReuse {S T : Type 0} (g : Ghosts S) (rows : SetGhosts T) (session : ℕ) (old new : World S T) (start : Entry → Bool) (history : List Action) (calls : List Call) : Type 0 where
   pub count : ℕ
   pub runs : WorldRuns g rows old new (replicate count (Step session)) (replicate count Going) start history calls
 
@@ -51,7 +51,7 @@ IsWithin g rows session left old new =
     18446744073709551615 + steps_left (g.state new.store) (slot_of new.calls.slots.items session) ≤ left + steps_left (g.state old.store) (slot_of old.calls.slots.items session)
 
 module _ {S T : Type 0} (g : Ghosts S) (laws : Laws g) (rows : SetGhosts T) where
-  -- a run behind a run
+  -- a run after a run
   pub runs_then : (events more : List Event) (answers told : List Answer) (a b c : World S T) → Continues g.follows a.store b.store
       → Continues g.follows b.store c.store
       → (start : Entry → Bool) (history : List Action) (calls : List Call) (r : WorldRuns g rows a b events answers start history calls)
@@ -66,15 +66,15 @@ module _ {S T : Type 0} (g : Ghosts S) (laws : Laws g) (rows : SetGhosts T) wher
 
   module _ (session : ℕ) where
     -- no step
-    pub gone_nowhere : (a : World S T) → ForEachWorldHistory g rows a a (HasGone g rows session a a)
+    pub gone_nowhere : (a : World S T) → ForEachWorldHistory g rows a a (IsKeptFromReuse g rows session a a)
     gone_nowhere a honest start history calls fits = record {
       count = 0;
       runs = record { then_history = history; then_calls = calls; ran = none_ran g laws start (snapshot_in rows a history calls) fits };
     }
 
     module _ (a b c : World S T) (step : Continues g.follows a.store b.store) (next : Continues g.follows b.store c.store)
-        (gone : ForEachWorldHistory g rows a b (HasGone g rows session a b)) (answer : Answer)
-        (one : ForEachWorldHistory g rows b c (WorldGoes g rows b c (Step session) answer)) where
+        (gone : ForEachWorldHistory g rows a b (IsKeptFromReuse g rows session a b)) (answer : Answer)
+        (one : ForEachWorldHistory g rows b c (WorldIsRun g rows b c (Step session) answer)) where
       -- one step more, which answers this
       pub gone_then : ForEachWorldHistory g rows a c (IsStepped g rows [] [] session answer a c)
       gone_then honest start history calls fits =
@@ -84,7 +84,7 @@ module _ {S T : Type 0} (g : Ghosts S) (laws : Laws g) (rows : SetGhosts T) wher
           record { count = r.count; runs = runs_then (replicate r.count (Step session)) (Step session ∷ []) (replicate r.count Going) (answer ∷ []) a b c step next start history calls r.runs t }
 
       -- ... and goes on
-      pub gone_more : answer ≡ Going → ForEachWorldHistory g rows a c (HasGone g rows session a c)
+      pub gone_more : answer ≡ Going → ForEachWorldHistory g rows a c (IsKeptFromReuse g rows session a c)
       gone_more going honest start history calls fits =
           let r = gone_then honest start history calls fits in
           record {
@@ -115,7 +115,7 @@ module _ {S T : Type 0} (g : Ghosts S) (laws : Laws g) (rows : SetGhosts T) wher
         omega (arith, few, most)
 
 module _ {S T : Type 0} (g : Ghosts S) (laws : Laws g) (rows : SetGhosts T) (session : ℕ) (entry : Entry) (answer : Answer) (a b : World S T)
-    (goes : ForEachWorldHistory g rows a b (WorldGoes g rows a b (Insert session entry) answer)) where
+    (goes : ForEachWorldHistory g rows a b (WorldIsRun g rows a b (Insert session entry) answer)) where
   one : ForEachWorldHistory g rows a b (WorldRuns g rows a b (Insert session entry ∷ []) (answer ∷ []))
   one = follow_runs g (Insert session entry) answer (inside rows a) (inside rows b) goes
 

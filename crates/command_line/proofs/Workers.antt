@@ -15,7 +15,7 @@ next worker (count ∷ counts) (suc i) below =
     ∙ ap (λ line. worker_text worker count ++ line)
     (ap (λ w. calls_text (suc worker) (take i counts) ++ worker_text w (slice_index counts i)) same ∙ next (suc worker) counts i (omega (arith, below)))
 
--- a worker's line stands behind those of the workers before it
+-- a worker's line stands after those of the workers before it
 pub next_worker : (calls : List ℕ) (i : ℕ) → i < length calls
     → calls_text 0 (take i calls) ++ worker_text i (slice_index calls i) ≡ calls_text 0 (take (i + 1) calls)
 next_worker calls i below =

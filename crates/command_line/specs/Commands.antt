@@ -13,11 +13,11 @@ use Rattle.index_model.specs.declared.fault.Fault.TheVariants.{BadLimits, Io}
 use Rattle.index_model.specs.declared.limits.Limits.{Limits}
 use Rattle.page_action.specs.declared.page_store.PageStore.{Ghosts}
 use Rattle.page_store.specs.declared.store.Store.{Store}
-use Rattle.recovery.specs.Fresh.{IsEmptyIndex, LeavesEmpty}
+use Rattle.recovery.specs.Fresh.{IsEmptyIndex, CrashesToEmpty}
 use Rattle.command_line.specs.CommandLine.{HasFlag, HasLimits, HasRunSizes, HasSetting, said_in}
 use Rattle.command_line.specs.Files.{IsLookedAt, IsCheckRefused}
 use Rattle.command_line.specs.Listing.{PrintsPages, ListsFirst, IsDoneOrRefused}
-use Rattle.command_line.specs.Reporting.{TellsReport, TellsDamage, AreSound, IsCheckEnd}
+use Rattle.command_line.specs.Reporting.{PrintsReport, PrintsDamage, AreSound, IsCheckEnd}
 use Rattle.command_line.specs.Running.{IsRunEnd}
 use Rattle.command_line.specs.RunningFiles.{PrintsRunOfJobFile}
 use Rattle.command_line.specs.declared.dead.DeadList.{DeadList}
@@ -37,7 +37,7 @@ pub record PrintsCreation {D : Type 0} (d : DeviceGhosts D) (limits : Limits) (o
   pub allowed : creation.end ≡ Ok Done → AreLimits (made limits)
   pub file : creation.end ≡ Ok Done → IsSome creation.device
   pub empty : IfSome creation.device (λ device. IsEmptyIndex (made limits) (d.trace device).now)
-  pub own : IfSome creation.device (λ device. LeavesEmpty (made limits) (d.trace device).now)
+  pub own : IfSome creation.device (λ device. CrashesToEmpty (made limits) (d.trace device).now)
   pub exact : IfSome creation.device (λ device. length (d.trace device).now.seen ≡ needed_length (made limits))
   pub created : creation.end ≡ Ok Done → Appends old new (codes "created" ++ 10 ∷ [])
   pub refused : (fault : Fault) → creation.end ≡ Ok (Refused fault)
@@ -51,11 +51,11 @@ pub record PrintsCheck {D : Type 0} (d : DeviceGhosts D) (g : Ghosts (Store D d)
   pub ends : IfOk looked.end IsCheckEnd
   pub opened : IfSome looked.store (IsLookedAt d g bytes)
   pub report : looked.end ≡ Ok Done → IsSomeAnd looked.store (λ store.
-      TellsReport (g.backing store).honest (g.state store).pages old new)
+      PrintsReport (g.backing store).honest (g.state store).pages old new)
   pub sound : looked.end ≡ Ok Done → IsSomeAnd looked.store (λ store.
       (g.backing store).honest ≡ true → AreSound parents (g.state store))
   pub damage : looked.end ≡ Ok Damaged → IsSomeAnd looked.store (λ store.
-      TellsDamage (g.backing store).honest parents (g.state store) old new)
+      PrintsDamage (g.backing store).honest parents (g.state store) old new)
   pub refused : (fault : Fault) → looked.end ≡ Ok (Refused fault)
       → MatchOption looked.store (IsOpenFault fault) (IsCheckRefused d g bytes fault)
   pub silent : (fault : Fault) → looked.end ≡ Ok (Refused fault) → Keeps old new

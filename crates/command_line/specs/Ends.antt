@@ -1,11 +1,11 @@
 -- The statuses that the program ends with.
 use Rattle.std.specs.Prelude.{ℕ}
 use Rattle.command_line.specs.declared.end.End.{End}
-use Rattle.command_line.specs.declared.end.End.TheVariants.{Done, Damaged, Said, Refused}
+use Rattle.command_line.specs.declared.end.End.TheVariants.{Done, Damaged, AlreadyPrinted, Refused}
 
 -- 0 where all was done, 1 where a check found damage, 2 where something was wrong
 abbrev pub status_of : End → ℕ
 status_of Done = 0
 status_of Damaged = 1
-status_of Said = 2
+status_of AlreadyPrinted = 2
 status_of (Refused fault) = 2

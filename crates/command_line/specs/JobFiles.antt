@@ -67,6 +67,6 @@ SpellJobs set (line ∷ lines) [] = ⊥
 SpellJobs set (line ∷ lines) (job ∷ jobs) = SpellsJob set line job × SpellJobs (sets_with set job) lines jobs
 
 -- how many sets there are up to the end of these jobs
-abbrev pub sets_behind : ℕ → List Job → ℕ
-sets_behind set [] = set
-sets_behind set (job ∷ jobs) = sets_behind (sets_with set job) jobs
+abbrev pub sets_after : ℕ → List Job → ℕ
+sets_after set [] = set
+sets_after set (job ∷ jobs) = sets_after (sets_with set job) jobs

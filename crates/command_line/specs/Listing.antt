@@ -4,7 +4,7 @@ use Rattle.std.specs.Io.KnownBytes.{Appends}
 use Rattle.page_codec.specs.declared.page.Page.{Page}
 use Rattle.text_forms.specs.Dumping.{pages_text}
 use Rattle.command_line.specs.declared.end.End.{End}
-use Rattle.command_line.specs.declared.end.End.TheVariants.{Done, Damaged, Said, Refused}
+use Rattle.command_line.specs.declared.end.End.TheVariants.{Done, Damaged, AlreadyPrinted, Refused}
 
 -- what was printed is the lines of these pages, in their order, as far as the device kept its model
 abbrev pub PrintsPages : Bool → List Page → Option (List ℕ) → Option (List ℕ) → Type 0
@@ -20,5 +20,5 @@ pub record ListsFirst (honest : Bool) (pages : List Page) (old new : Option (Lis
 abbrev pub IsDoneOrRefused : End → Type 0
 IsDoneOrRefused Done = ⊤
 IsDoneOrRefused Damaged = ⊥
-IsDoneOrRefused Said = ⊥
+IsDoneOrRefused AlreadyPrinted = ⊥
 IsDoneOrRefused (Refused fault) = ⊤

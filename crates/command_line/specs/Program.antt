@@ -51,17 +51,21 @@ abbrev pub with_run_sizes : App → App
 with_run_sizes app = with_size (codes "frames") (codes "64") (with_size (codes "workers") (codes "1") app)
 
 abbrev pub run_app : App
-run_app = with_run_sizes (with_rule (file_app (codes "run")) (word_rule (codes "jobs")))
+run_app = with_run_sizes (with_flag (codes "progress") (with_rule (file_app (codes "run")) (word_rule (codes "jobs"))))
 
 -- the sizes of a new index, which are needed, and whether it is unique
 abbrev pub with_needed_sizes : App → App
 with_needed_sizes app = with_flag (codes "unique") (with_rule (with_rule (with_rule app (needed_rule (codes "items"))) (needed_rule (codes "pages"))) (needed_rule (codes "log")))
 
 abbrev pub create_app : App
-create_app = with_needed_sizes (file_app (codes "create"))
+create_app = with_needed_sizes (with_flag (codes "progress") (file_app (codes "create")))
+
+-- what a check does, and tells
+abbrev pub with_check_flags : App → App
+with_check_flags app = with_flag (codes "progress") (with_flag (codes "one-thread") (with_flag (codes "parents") app))
 
 abbrev pub check_app : App
-check_app = with_flag (codes "one-thread") (with_flag (codes "parents") (file_app (codes "check")))
+check_app = with_check_flags (file_app (codes "check"))
 
 abbrev pub dump_app : App
 dump_app = file_app (codes "dump")

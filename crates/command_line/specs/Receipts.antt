@@ -41,7 +41,7 @@ records_text history receipts = flat_map (receipt_text history) receipts
 abbrev pub worker_text : ℕ → ℕ → List ℕ
 worker_text worker count = numbered (codes "worker ") worker ++ (numbered (codes " calls ") count ++ 10 ∷ [])
 
--- ... and each behind it, this number being that of the first
+-- ... and each after it, this number being that of the first
 abbrev pub calls_text : ℕ → List ℕ → List ℕ
 calls_text worker [] = []
 calls_text worker (count ∷ counts) = worker_text worker count ++ calls_text (suc worker) counts

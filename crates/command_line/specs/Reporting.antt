@@ -9,7 +9,7 @@ use Rattle.amcheck.specs.Sound.{HasLevelsFor}
 use Rattle.amcheck.specs.declared.report.Report.{Report}
 use Rattle.text_forms.specs.Printing.{numbered}
 use Rattle.command_line.specs.declared.end.End.{End}
-use Rattle.command_line.specs.declared.end.End.TheVariants.{Done, Damaged, Said, Refused}
+use Rattle.command_line.specs.declared.end.End.TheVariants.{Done, Damaged, AlreadyPrinted, Refused}
 use Rattle.page_action.specs.States.{State}
 use Rattle.page_codec.specs.declared.page.Page.{Page}
 use Rattle.tree_acts.specs.TheoremKeys.{IsTreeFor}
@@ -24,14 +24,14 @@ abbrev pub damage_text : ℕ → ℕ → List ℕ
 damage_text number block = numbered (codes "damage ") number ++ numbered (codes " block ") block
 
 -- what was printed is the report of these pages, as far as the device kept its model
-pub record TellsReport (honest : Bool) (pages : List Page) (old new : Option (List ℕ)) : Type 0 where
+pub record PrintsReport (honest : Bool) (pages : List Page) (old new : Option (List ℕ)) : Type 0 where
   pub report : Report
   pub printed : Appends old new (report_text report ++ 10 ∷ [])
   pub is : honest ≡ true → IsReport pages report
 
 -- what was printed is the first damage that the pages have, with parents and children or without; pages that are a B-link
 -- tree, and on a unique index those of one, have none
-pub record TellsDamage (honest parents : Bool) (st : State) (old new : Option (List ℕ)) : Type 0 where
+pub record PrintsDamage (honest parents : Bool) (st : State) (old new : Option (List ℕ)) : Type 0 where
   pub number : ℕ
   pub block : ℕ
   pub printed : Appends old new (damage_text number block ++ 10 ∷ [])
@@ -53,5 +53,5 @@ PrintsAnswer (Err (NotChecked fault)) old new end = (end ≡ Refused fault) × (
 abbrev pub IsCheckEnd : End → Type 0
 IsCheckEnd Done = ⊤
 IsCheckEnd Damaged = ⊤
-IsCheckEnd Said = ⊥
+IsCheckEnd AlreadyPrinted = ⊥
 IsCheckEnd (Refused fault) = ⊤

@@ -15,17 +15,17 @@ use Rattle.world.specs.declared.world.World.{World}
 use Rattle.text_forms.specs.Printing.{answer_text}
 use Rattle.command_line.specs.Receipts.{run_text}
 use Rattle.command_line.specs.declared.end.End.{End}
-use Rattle.command_line.specs.declared.end.End.TheVariants.{Done, Damaged, Said, Refused}
+use Rattle.command_line.specs.declared.end.End.TheVariants.{Done, Damaged, AlreadyPrinted, Refused}
 
--- the line of the checkpoint behind a run; a refusal of it is told elsewhere
+-- the line of the checkpoint after a run; a refusal of it is told elsewhere
 abbrev pub last_text : Answer → List ℕ
 last_text (NotMade fault) = []
 last_text answer = answer_text answer ++ 10 ∷ []
 
 -- how a run ends whose checkpoint answered so
-abbrev pub end_behind : Answer → End
-end_behind (NotMade fault) = Refused fault
-end_behind answer = Done
+abbrev pub end_after : Answer → End
+end_after (NotMade fault) = Refused fault
+end_after answer = Done
 
 -- A checkpoint has followed a run that is done, and left this world. What was printed is that run: each job's record, by the jobs'
 -- numbers, and how many each worker has; and what the checkpoint answered.
@@ -33,7 +33,7 @@ pub record PrintsDone {S T : Type 0} (g : Ghosts S) (rows : SetGhosts T) (done :
   pub answer : Answer
   pub checkpointed : IsEventDone g Checkpoint answer (inside rows done.world) (inside rows after)
   pub printed : Appends old new (run_text done.history.items done.receipts.items done.calls.items ++ last_text answer)
-  pub end_is : end ≡ end_behind answer
+  pub end_is : end ≡ end_after answer
 
 -- ... which was a run of these jobs by so many workers on the world before: so its records are those of calls that this world had since
 pub record PrintsRun {S T : Type 0} (g : Ghosts S) (rows : SetGhosts T) (jobs : List Job) (workers : ℕ) (before after : World S T) (old new : Option (List ℕ)) (end : End) : Type 0 where
@@ -45,5 +45,5 @@ pub record PrintsRun {S T : Type 0} (g : Ghosts S) (rows : SetGhosts T) (jobs : 
 abbrev pub IsRunEnd : End → Type 0
 IsRunEnd Done = ⊤
 IsRunEnd Damaged = ⊥
-IsRunEnd Said = ⊤
+IsRunEnd AlreadyPrinted = ⊤
 IsRunEnd (Refused fault) = ⊤

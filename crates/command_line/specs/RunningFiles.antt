@@ -14,7 +14,7 @@ use Rattle.tree_acts.specs.TheoremKeys.{IsTreeFor}
 use Rattle.world.specs.Reopening.{BeginsWith}
 use Rattle.world.specs.declared.world.World.{World}
 use Rattle.access_method.specs.Files.{bytes_before}
-use Rattle.command_line.specs.JobFiles.{SpellJobs, sets_behind}
+use Rattle.command_line.specs.JobFiles.{SpellJobs, sets_after}
 use Rattle.command_line.specs.Running.{PrintsRun}
 use Rattle.command_line.specs.declared.end.End.{End}
 use Rattle.text_forms.specs.Spelling.{lines_of}
@@ -45,7 +45,7 @@ pub record PrintsRunOfText {D T : Type 0} (d : DeviceGhosts D) (g : Ghosts (Stor
   pub jobs : List Job
   pub sets : List T
   pub spelled : SpellJobs 0 (lines_of text) jobs
-  pub counted : length sets ≡ sets_behind 0 jobs
+  pub counted : length sets ≡ sets_after 0 jobs
   pub prints : PrintsRunOnFile d g rows bytes frames workers jobs sets after old new end
 
 -- ... of some text: what a file of jobs held, no clause can name

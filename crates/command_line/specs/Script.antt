@@ -91,7 +91,7 @@ has_range name = is_one_of name (codes "scan" ∷ codes "list" ∷ [])
 abbrev pub has_rows : List ℕ → Bool
 has_rows name = is_one_of name (codes "bulk" ∷ [])
 
--- what a line of this name with these words behind its session is refused with: it has its form, but a key or a row that there isn't
+-- what a line of this name with these words after its session is refused with: it has its form, but a key or a row that there isn't
 abbrev pub AreNoValues : Fault → List ℕ → List (List ℕ) → Type 0
 AreNoValues fault name words = ((names_entry name ≡ true) × AreNoEntry fault words [])
     ⊎ (((has_range name ≡ true) × AreNoRange fault words []) ⊎ ((has_rows name ≡ true) × AreNoRows fault words))

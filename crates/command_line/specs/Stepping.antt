@@ -14,7 +14,7 @@ use Rattle.world.specs.Worlds.{WorldRuns}
 use Rattle.world.specs.declared.world.World.{World}
 
 -- there are as many sessions, and as many pages may be in memory
-pub record KeepsSizes {S T : Type 0} (g : Ghosts S) (old new : World S T) : Type 0 where
+pub record SameSizes {S T : Type 0} (g : Ghosts S) (old new : World S T) : Type 0 where
   pub sessions : length new.calls.slots.items ≡ length old.calls.slots.items
   pub frames : (g.state new.store).frames ≡ (g.state old.store).frames
 
@@ -27,7 +27,7 @@ abbrev pub answers_to : Answer → ℕ → List Answer
 answers_to answer count = replicate count Going ++ answer ∷ []
 
 -- There is a continuation of the history and of the calls that fits the world now, by a run of these events with these
--- answers and of steps of the session behind them: the last answers this, and each before it that its call goes on.
+-- answers and of steps of the session after them: the last answers this, and each before it that its call goes on.
 pub record IsStepped {S T : Type 0} (g : Ghosts S) (rows : SetGhosts T) (events : List Event) (answers : List Answer) (session : ℕ) (answer : Answer)
     (old new : World S T) (start : Entry → Bool) (history : List Action) (calls : List Call) : Type 0 where
   -- how many steps go on

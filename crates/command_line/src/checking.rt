@@ -5,11 +5,11 @@ ghost use Rattle.index_model.specs.Faults.{HasCause};
 ghost use Rattle.page_action.specs.States.{Continues};
 ghost use Rattle.amcheck.specs.Checks.{causes_of_checked};
 ghost use Rattle.text_forms.specs.Printing.{PrintsLine};
-ghost use Rattle.command_line.specs.Reporting.{TellsReport, TellsDamage, AreSound, IsCheckEnd, PrintsAnswer, report_text, damage_text};
+ghost use Rattle.command_line.specs.Reporting.{PrintsReport, PrintsDamage, AreSound, IsCheckEnd, PrintsAnswer, report_text, damage_text};
 
 use crate::end::End;
 use amcheck::{CheckFault, Report, check, check_one, check_parents, check_parents_one};
-use index_model::Fault;
+use index_model::{Fault, Progress};
 use page_action::PageStore;
 use std::alloc::Global;
 use std::io::{self, Write};
@@ -20,21 +20,22 @@ use std::thread::Threads;
 ///
 /// A printed report is that of the pages, and with parents it means that they are a B-link tree; pages that are one have no
 /// damage. A printed damage is the first that there is.
-pub fn check_pages<R: Threads + Sync, S: PageStore, W: Write>(
+pub fn check_pages<R: Threads + Sync, S: PageStore, P: Progress, W: Write>(
     rt: &R,
     alloc: Global,
     store: &mut S,
     parents: bool,
+    progress: &P,
     out: &mut W,
 ) -> io::Result<End>
     ensures steps { Continues S.follows store.old store.new }
     ensures state { S.state store.new ≡ S.state store.old }
     ensures ends { IfOk result IsCheckEnd }
-    ensures report { result ≡ Ok End.Done → TellsReport (S.backing store.new).honest
+    ensures report { result ≡ Ok End.Done → PrintsReport (S.backing store.new).honest
         (S.state store.old).pages (W.contents out.old) (W.contents out.new) }
     ensures sound { result ≡ Ok End.Done → (S.backing store.new).honest ≡ true
         → AreSound parents (S.state store.old) }
-    ensures damage { result ≡ Ok End.Damaged → TellsDamage (S.backing store.new).honest parents
+    ensures damage { result ≡ Ok End.Damaged → PrintsDamage (S.backing store.new).honest parents
         (S.state store.old) (W.contents out.old) (W.contents out.new) }
     ensures refused { (fault : Fault) → result ≡ Ok (End.Refused fault)
         → HasCause (causes_of_checked (S.state store.old) (S.backing store.old)
@@ -43,28 +44,29 @@ pub fn check_pages<R: Threads + Sync, S: PageStore, W: Write>(
         → W.contents out.new ≡ W.contents out.old }
 {
     let checked = if parents {
-        check_parents(rt, alloc, store)
+        check_parents(rt, alloc, store, progress)
     } else {
-        check(rt, alloc, store)
+        check(rt, alloc, store, progress)
     };
     print_checked(out, checked)
 }
 
 /// Prints the same as [`check_pages`], and judges in this thread alone.
-pub fn check_pages_one<S: PageStore, W: Write>(
+pub fn check_pages_one<S: PageStore, P: Progress, W: Write>(
     alloc: Global,
     store: &mut S,
     parents: bool,
+    progress: &P,
     out: &mut W,
 ) -> io::Result<End>
     ensures steps { Continues S.follows store.old store.new }
     ensures state { S.state store.new ≡ S.state store.old }
     ensures ends { IfOk result IsCheckEnd }
-    ensures report { result ≡ Ok End.Done → TellsReport (S.backing store.new).honest
+    ensures report { result ≡ Ok End.Done → PrintsReport (S.backing store.new).honest
         (S.state store.old).pages (W.contents out.old) (W.contents out.new) }
     ensures sound { result ≡ Ok End.Done → (S.backing store.new).honest ≡ true
         → AreSound parents (S.state store.old) }
-    ensures damage { result ≡ Ok End.Damaged → TellsDamage (S.backing store.new).honest parents
+    ensures damage { result ≡ Ok End.Damaged → PrintsDamage (S.backing store.new).honest parents
         (S.state store.old) (W.contents out.old) (W.contents out.new) }
     ensures refused { (fault : Fault) → result ≡ Ok (End.Refused fault)
         → HasCause (causes_of_checked (S.state store.old) (S.backing store.old)
@@ -73,9 +75,9 @@ pub fn check_pages_one<S: PageStore, W: Write>(
         → W.contents out.new ≡ W.contents out.old }
 {
     let checked = if parents {
-        check_parents_one(alloc, store)
+        check_parents_one(alloc, store, progress)
     } else {
-        check_one(alloc, store)
+        check_one(alloc, store, progress)
     };
     print_checked(out, checked)
 }
@@ -97,7 +99,7 @@ fn print_checked<W: Write>(out: &mut W, checked: Result<Report, CheckFault>) -> 
     }
 }
 
-/// Prints `ok`, and each number of the report behind its name.
+/// Prints `ok`, and each number of the report after its name.
 pub fn print_report<W: Write>(out: &mut W, report: &Report) -> io::Result<()>
     ensures { PrintsLine (W.contents out.old) (W.contents out.new) result (report_text report.now) }
 {

@@ -4,7 +4,7 @@ ghost use Rattle.std.specs.Prelude.{◌≡◌, [], false, IfOk, codes, unwrap_or
 ghost use Rattle.clap.specs.Words.{app_of, found_of, first_value, one_text, rule_of};
 ghost use Rattle.clap.specs.declared.builder.command.Command.TheViews.{out-Command as fields_of};
 ghost use Rattle.command_line.specs.CommandLine.{HasFlag, HasLimits, HasNumber, HasRunSizes, HasSetting};
-ghost use Rattle.command_line.specs.Program.{check_app, create_app, dump_app, flag_rule, needed_rule, play_app, program_line, run_app, size_rule, start_app, with_file_apps, with_index_sizes, with_needed_sizes, with_run_sizes, word_rule};
+ghost use Rattle.command_line.specs.Program.{check_app, create_app, dump_app, flag_rule, needed_rule, play_app, program_line, run_app, size_rule, start_app, with_check_flags, with_file_apps, with_index_sizes, with_needed_sizes, with_run_sizes, word_rule};
 
 use crate::engine::Setting;
 use crate::help::{FAULTS, JOBS, REPORT, SCRIPT};
@@ -22,6 +22,8 @@ const LOG: &str = "Bytes of the log: 65536 to 16777216, a multiple of 4096";
 
 const UNIQUE: &str =
     "No two entries share a key: an insert of a key that is there is refused with 21";
+
+const PROGRESS: &str = "Tell on standard error how far it is";
 
 const FRAMES: &str = "Pages that are held in memory: 16 to 1024";
 
@@ -88,7 +90,8 @@ fn create<'a>(alloc: Global) -> Result<Command<'a>, AllocError>
 {
     let command = Command::new(alloc, "create")
         .about("Make an empty index in a new file")
-        .arg(file(alloc))?;
+        .arg(file(alloc))?
+        .arg(flag(alloc, "progress", PROGRESS))?;
     with_needed_limits(alloc, command)
 }
 
@@ -109,12 +112,23 @@ fn check<'a>(alloc: Global) -> Result<Command<'a>, AllocError>
     ensures app { IfOk result (λ command. app_of command ≡ check_app) }
     ensures local { IfOk result (λ command. (fields_of command).has_globals ≡ false) }
 {
-    Command::new(alloc, "check")
+    let command = Command::new(alloc, "check")
         .about("Look for damage in the index in a file")
         .after_help(REPORT)
-        .arg(file(alloc))?
+        .arg(file(alloc))?;
+    with_check_flags(alloc, command)
+}
+
+// What a check does, and tells.
+fn with_check_flags<'a>(alloc: Global, command: Command<'a>) -> Result<Command<'a>, AllocError>
+    ensures app { IfOk result (λ whole. app_of whole ≡ with_check_flags (app_of command.entry)) }
+    ensures local { (fields_of command.entry).has_globals ≡ false
+        → IfOk result (λ whole. (fields_of whole).has_globals ≡ false) }
+{
+    command
         .arg(flag(alloc, "parents", "Compare parents and children too"))?
-        .arg(flag(alloc, "one-thread", "Judge the pages in one thread"))
+        .arg(flag(alloc, "one-thread", "Judge the pages in one thread"))?
+        .arg(flag(alloc, "progress", PROGRESS))
 }
 
 fn run<'a>(alloc: Global) -> Result<Command<'a>, AllocError>
@@ -125,7 +139,8 @@ fn run<'a>(alloc: Global) -> Result<Command<'a>, AllocError>
         .about("Run the jobs of a file over the index in a file, with threads")
         .after_help(JOBS)
         .arg(file(alloc))?
-        .arg(jobs(alloc))?;
+        .arg(jobs(alloc))?
+        .arg(flag(alloc, "progress", PROGRESS))?;
     with_run_sizes(alloc, command)
 }
 
@@ -244,6 +259,7 @@ pub fn run_setting<'a>(matches: &ArgMatches<'a>) -> RunSetting<'a>
         jobs: matches.get_str("jobs").unwrap_or(""),
         workers: number(matches, "workers"),
         frames: number(matches, "frames"),
+        progress: has_progress(matches),
     }
 }
 
@@ -259,6 +275,11 @@ pub fn has_parents(matches: &ArgMatches<'_>) -> bool
     ensures { HasFlag (one_text (found_of matches.now) (codes "parents")) result }
 {
     matches.get_flag("parents")
+}
+
+/// Whether a command line of `create`, `check` or `run` asks to be told how far it is.
+pub fn has_progress(matches: &ArgMatches<'_>) -> bool {
+    matches.get_flag("progress")
 }
 
 /// Whether a command line of `check` asks for one thread.

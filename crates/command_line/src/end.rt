@@ -10,7 +10,7 @@ pub enum End {
     /// A check found damage, which is printed.
     Damaged,
     /// What was wrong is said.
-    Said,
+    AlreadyPrinted,
     /// It is to be said why.
     Refused(Fault),
 }

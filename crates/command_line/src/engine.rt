@@ -13,8 +13,8 @@ ghost use Rattle.page_store.specs.Logged.{backing_of};
 ghost use Rattle.page_store.specs.Stores.{state_of, held_by, device_of};
 ghost use Rattle.recovery.specs.Index.{HasIndex};
 ghost use Rattle.tree_acts.specs.TheoremKeys.{IsTreeFor};
-ghost use Rattle.world.specs.Reopening.{BeginsWith, BeginsEmpty, BeginsAfterFirstPart};
-ghost use Rattle.world.specs.Worlds.{WorldFits, WorldKeeps, ForEachWorldHistory, WorldGoes};
+ghost use Rattle.world.specs.Reopening.{BeginsWith, BeginsEmpty, BeginsAfterPrefix};
+ghost use Rattle.world.specs.Worlds.{WorldFits, WorldKeeps, ForEachWorldHistory, WorldIsRun};
 ghost use Rattle.command_line.specs.Settings.{IsSetting};
 ghost use Rattle.command_line.specs.Stepping.{IsSteppedInsert, IsStepped};
 
@@ -103,7 +103,7 @@ impl Engine {
         ensures setting { self.new.setting ≡ self.old.setting }
         ensures goes { ForEachWorldHistory ⟦<Store<MemDevice> as PageStore>⟧ ⟦<DeadList as DeadRows>⟧
             self.old.world self.new.world
-            (WorldGoes ⟦<Store<MemDevice> as PageStore>⟧ ⟦<DeadList as DeadRows>⟧
+            (WorldIsRun ⟦<Store<MemDevice> as PageStore>⟧ ⟦<DeadList as DeadRows>⟧
             self.old.world self.new.world event result) }
     {
         self.world.one(event)
@@ -219,7 +219,7 @@ impl Engine {
             start history calls
             → WorldKeeps ⟦<Store<MemDevice> as PageStore>⟧ ⟦<DeadList as DeadRows>⟧ self.old.world
             start history calls
-            → BeginsAfterFirstPart ⟦<MemDevice as Device>⟧ ⟦<Store<MemDevice> as PageStore>⟧
+            → BeginsAfterPrefix ⟦<MemDevice as Device>⟧ ⟦<Store<MemDevice> as PageStore>⟧
             ⟦<DeadList as DeadRows>⟧
             (state_of ⟦<MemDevice as Device>⟧ self.old.world.store).limits start history
             (backing_of (held_by ⟦<MemDevice as Device>⟧ self.old.world.store)).durable

@@ -6,18 +6,18 @@ ghost use Rattle.std.specs.Io.KnownBytes.{Appends};
 ghost use Rattle.page_codec.specs.Places.{needed_length};
 ghost use Rattle.index_model.specs.Formats.{made};
 ghost use Rattle.index_model.specs.Limits.{AreLimits};
-ghost use Rattle.recovery.specs.Fresh.{IsEmptyIndex, LeavesEmpty};
+ghost use Rattle.recovery.specs.Fresh.{IsEmptyIndex, CrashesToEmpty};
 ghost use Rattle.access_method.specs.Files.{IsOpenFault};
 ghost use Rattle.command_line.specs.Files.{IsLookedAt, IsCheckRefused};
 ghost use Rattle.command_line.specs.Listing.{PrintsPages, ListsFirst, IsDoneOrRefused};
-ghost use Rattle.command_line.specs.Reporting.{TellsReport, TellsDamage, AreSound, IsCheckEnd};
+ghost use Rattle.command_line.specs.Reporting.{PrintsReport, PrintsDamage, AreSound, IsCheckEnd};
 
 use crate::checking::{check_pages, check_pages_one};
 use crate::end::End;
 use crate::listing::list_pages;
 use access_method::in_file::{self, open_store};
 use device::{Device, FileDevice, Start};
-use index_model::{Fault, Limits};
+use index_model::{Fault, Limits, Progress};
 use page_action::PageStore;
 use page_store::Store;
 use std::alloc::Global;
@@ -37,10 +37,11 @@ pub struct Created<D> {
 }
 
 /// Makes a new file with an empty index, and says so. Refused as `in_file::create` is: nothing is printed then.
-pub fn create<R: Files<File = File>, S: Start, W: Write>(
+pub fn create<R: Files<File = File>, S: Start, P: Progress, W: Write>(
     rt: &R,
     path: &str,
     limits: &Limits,
+    progress: &P,
     out: &mut W,
 ) -> Created<FileDevice<S>>
     ensures ends { IfOk result.end IsDoneOrRefused }
@@ -50,7 +51,7 @@ pub fn create<R: Files<File = File>, S: Start, W: Write>(
     ensures empty { IfSome result.device (λ device.
         IsEmptyIndex (made limits.now) (⟦<FileDevice<S> as Device>⟧.trace device).now) }
     ensures own { IfSome result.device (λ device.
-        LeavesEmpty (made limits.now) (⟦<FileDevice<S> as Device>⟧.trace device).now) }
+        CrashesToEmpty (made limits.now) (⟦<FileDevice<S> as Device>⟧.trace device).now) }
     ensures exact { IfSome result.device (λ device.
         length (⟦<FileDevice<S> as Device>⟧.trace device).now.seen ≡ needed_length (made limits.now)) }
     ensures created { result.end ≡ Ok End.Done
@@ -60,15 +61,21 @@ pub fn create<R: Files<File = File>, S: Start, W: Write>(
     ensures silent { (fault : Fault) → result.end ≡ Ok (End.Refused fault)
         → W.contents out.new ≡ W.contents out.old }
 {
-    match in_file::create::<R, S>(rt, path, limits) {
-        Ok(device) => Created {
-            device: Some(device),
-            end: say_created(out),
-        },
-        Err(fault) => Created {
-            device: None,
-            end: Ok(End::Refused(fault)),
-        },
+    match in_file::create::<R, S, P>(rt, path, limits, progress) {
+        Ok(device) => {
+            progress.end();
+            Created {
+                device: Some(device),
+                end: say_created(out),
+            }
+        }
+        Err(fault) => {
+            progress.end();
+            Created {
+                device: None,
+                end: Ok(End::Refused(fault)),
+            }
+        }
     }
 }
 
@@ -90,11 +97,12 @@ pub struct Looked<S> {
 
 /// Prints what a check of the index in a file answers, as `check_pages` does: with parents and children where that is asked
 /// for. Refused as `open_store` and `check_pages` are: nothing is printed then.
-pub fn check<R: Files<File = File> + Threads + Sync, S: Start, W: Write>(
+pub fn check<R: Files<File = File> + Threads + Sync, S: Start, P: Progress, W: Write>(
     rt: &R,
     alloc: Global,
     path: &str,
     parents: bool,
+    progress: &P,
     out: &mut W,
 ) -> Looked<Store<FileDevice<S>>>
     ensures ends { IfOk result.end IsCheckEnd }
@@ -103,14 +111,14 @@ pub fn check<R: Files<File = File> + Threads + Sync, S: Start, W: Write>(
         S.Start.bytes) }
     ensures report { result.end ≡ Ok End.Done → IsSomeAnd result.store (λ store.
         let g = ⟦<Store<FileDevice<S>> as PageStore>⟧ in
-        TellsReport (g.backing store).honest (g.state store).pages
+        PrintsReport (g.backing store).honest (g.state store).pages
         (W.contents out.old) (W.contents out.new)) }
     ensures sound { result.end ≡ Ok End.Done → IsSomeAnd result.store (λ store.
         let g = ⟦<Store<FileDevice<S>> as PageStore>⟧ in
         (g.backing store).honest ≡ true → AreSound parents (g.state store)) }
     ensures damage { result.end ≡ Ok End.Damaged → IsSomeAnd result.store (λ store.
         let g = ⟦<Store<FileDevice<S>> as PageStore>⟧ in
-        TellsDamage (g.backing store).honest parents (g.state store)
+        PrintsDamage (g.backing store).honest parents (g.state store)
         (W.contents out.old) (W.contents out.new)) }
     ensures refused { (fault : Fault) → result.end ≡ Ok (End.Refused fault)
         → MatchOption result.store (IsOpenFault fault)
@@ -121,7 +129,8 @@ pub fn check<R: Files<File = File> + Threads + Sync, S: Start, W: Write>(
 {
     match open_store::<R, S>(rt, alloc, path, FRAMES) {
         Ok(mut store) => {
-            let end = check_pages(rt, alloc, &mut store, parents, out);
+            let end = check_pages(rt, alloc, &mut store, parents, progress, out);
+            progress.end();
             Looked {
                 store: Some(store),
                 end,
@@ -135,11 +144,12 @@ pub fn check<R: Files<File = File> + Threads + Sync, S: Start, W: Write>(
 }
 
 /// Prints the same as [`check`], in this thread alone, as `check_pages_one` does.
-pub fn check_one<R: Files<File = File>, S: Start, W: Write>(
+pub fn check_one<R: Files<File = File>, S: Start, P: Progress, W: Write>(
     rt: &R,
     alloc: Global,
     path: &str,
     parents: bool,
+    progress: &P,
     out: &mut W,
 ) -> Looked<Store<FileDevice<S>>>
     ensures ends { IfOk result.end IsCheckEnd }
@@ -148,14 +158,14 @@ pub fn check_one<R: Files<File = File>, S: Start, W: Write>(
         S.Start.bytes) }
     ensures report { result.end ≡ Ok End.Done → IsSomeAnd result.store (λ store.
         let g = ⟦<Store<FileDevice<S>> as PageStore>⟧ in
-        TellsReport (g.backing store).honest (g.state store).pages
+        PrintsReport (g.backing store).honest (g.state store).pages
         (W.contents out.old) (W.contents out.new)) }
     ensures sound { result.end ≡ Ok End.Done → IsSomeAnd result.store (λ store.
         let g = ⟦<Store<FileDevice<S>> as PageStore>⟧ in
         (g.backing store).honest ≡ true → AreSound parents (g.state store)) }
     ensures damage { result.end ≡ Ok End.Damaged → IsSomeAnd result.store (λ store.
         let g = ⟦<Store<FileDevice<S>> as PageStore>⟧ in
-        TellsDamage (g.backing store).honest parents (g.state store)
+        PrintsDamage (g.backing store).honest parents (g.state store)
         (W.contents out.old) (W.contents out.new)) }
     ensures refused { (fault : Fault) → result.end ≡ Ok (End.Refused fault)
         → MatchOption result.store (IsOpenFault fault)
@@ -166,7 +176,8 @@ pub fn check_one<R: Files<File = File>, S: Start, W: Write>(
 {
     match open_store::<R, S>(rt, alloc, path, FRAMES) {
         Ok(mut store) => {
-            let end = check_pages_one(alloc, &mut store, parents, out);
+            let end = check_pages_one(alloc, &mut store, parents, progress, out);
+            progress.end();
             Looked {
                 store: Some(store),
                 end,

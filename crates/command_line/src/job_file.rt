@@ -1,7 +1,7 @@
 //! Job files.
 
 ghost use Rattle.std.specs.Prelude.{◌≡◌, ◌+◌, IfOk, vec_len};
-ghost use Rattle.command_line.specs.JobFiles.{SpellJobs, line_job, sets_with, sets_behind};
+ghost use Rattle.command_line.specs.JobFiles.{SpellJobs, line_job, sets_with, sets_after};
 ghost use Rattle.text_forms.specs.Spelling.{lines_of};
 
 use crate::dead::{DeadList, listed};
@@ -30,7 +30,7 @@ pub enum JobFileError {
 /// memory is refused.
 pub fn read_jobs(alloc: Global, text: &[u8]) -> Result<JobFile, JobFileError>
     ensures jobs { IfOk result (λ file. SpellJobs 0 (lines_of text.now) file.jobs.items) }
-    ensures sets { IfOk result (λ file. vec_len file.sets ≡ sets_behind 0 file.jobs.items) }
+    ensures sets { IfOk result (λ file. vec_len file.sets ≡ sets_after 0 file.jobs.items) }
 {
     let mut jobs = Vec::new(alloc);
     let mut sets = Vec::new(alloc);
@@ -51,7 +51,7 @@ pub fn read_jobs(alloc: Global, text: &[u8]) -> Result<JobFile, JobFileError>
     Ok(JobFile { jobs, sets })
 }
 
-// Puts the set of a bulk delete behind the others, of which there are so many, and answers how many there are now. Other lines
+// Puts the set of a bulk delete after the others, of which there are so many, and answers how many there are now. Other lines
 // have none.
 fn add_set(
     alloc: Global,

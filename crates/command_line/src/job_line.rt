@@ -92,7 +92,7 @@ fn job_with_values<'a>(name: &[u8], words: &mut Words<'a>) -> Option<JobLine<'a>
     }
 }
 
-// An insert, behind its name.
+// An insert, after its name.
 fn insert<'a>(words: &mut Words<'a>) -> Option<JobLine<'a>>
     ensures words { IfSome result (λ line.
         codes "insert" ∷ words.old ≡ job_words line ++ words.new) }
@@ -106,7 +106,7 @@ fn insert<'a>(words: &mut Words<'a>) -> Option<JobLine<'a>>
     }
 }
 
-// A bulk delete, behind its name.
+// A bulk delete, after its name.
 fn bulk<'a>(words: &mut Words<'a>) -> Option<JobLine<'a>>
     ensures words { IfSome result (λ line.
         codes "bulk" ∷ words.old ≡ job_words line ++ words.new) }
@@ -120,7 +120,7 @@ fn bulk<'a>(words: &mut Words<'a>) -> Option<JobLine<'a>>
     }
 }
 
-// A scan, behind its name.
+// A scan, after its name.
 fn scan<'a>(words: &mut Words<'a>) -> Option<JobLine<'a>>
     ensures words { IfSome result (λ line.
         codes "scan" ∷ words.old ≡ job_words line ++ words.new) }

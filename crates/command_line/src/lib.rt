@@ -16,6 +16,7 @@ mod left;
 mod line;
 mod listing;
 mod play;
+mod progress_line;
 mod receipts;
 mod refusal;
 mod running;

@@ -122,7 +122,7 @@ fn run<W: Write, E: Write>(
             Played::NoEvent => {
                 out.flush()?;
                 print_no_event(err, number)?;
-                return Ok(End::Said);
+                return Ok(End::AlreadyPrinted);
             }
             Played::NotOpened(fault) => return Ok(End::Refused(fault)),
         }
@@ -161,7 +161,7 @@ enum Played {
     NotOpened(Fault),
 }
 
-/// Does what a line says, which has this rest behind it, and prints the answer.
+/// Does what a line says, which has this rest after it, and prints the answer.
 fn play_line<W: Write>(
     alloc: Global,
     engine: &mut Engine,

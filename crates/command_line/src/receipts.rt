@@ -73,7 +73,7 @@ fn print_record<W: Write>(out: &mut W, done: &Record) -> io::Result<()>
     print_outcome(out, &done.answer, done.given.as_slice())
 }
 
-// How a job ended; behind a scan's line the entries that it gave.
+// How a job ended; after a scan's line the entries that it gave.
 fn print_outcome<W: Write>(out: &mut W, answer: &Answer, given: &[Entry]) -> io::Result<()>
     ensures { OnOk result (Appends (W.contents out.old) (W.contents out.new)
         (outcome_text answer.now given.now)) }

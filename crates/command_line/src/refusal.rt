@@ -7,7 +7,7 @@ use index_model::Fault;
 use std::io::{self, Write};
 use text_forms::ShownNamed;
 
-/// Prints `btidx: refused N NAME`, with the block or the row that the fault names behind it.
+/// Prints `btidx: refused N NAME`, with the block or the row that the fault names after it.
 pub fn print_refusal<W: Write>(err: &mut W, fault: Fault) -> io::Result<()> {
     let named = ShownNamed { fault };
     let number = named.fault.number();

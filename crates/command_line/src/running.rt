@@ -5,21 +5,22 @@ ghost use Rattle.std.specs.Io.KnownBytes.{Appends};
 ghost use Rattle.sessions.specs.Finishing.{RunIsRefusedFor};
 ghost use Rattle.command_line.specs.Listing.{IsDoneOrRefused};
 ghost use Rattle.command_line.specs.Receipts.{run_text};
-ghost use Rattle.command_line.specs.Running.{IsRunEnd, PrintsDone, PrintsRun, end_behind, last_text};
+ghost use Rattle.command_line.specs.Running.{IsRunEnd, PrintsDone, PrintsRun, end_after, last_text};
 ghost use Rattle.command_line.specs.RunningFiles.{IsWorldOfFile, PrintsRunOnFile, PrintsRunOfText, PrintsRunOfJobFile};
 
 use crate::dead::DeadList;
 use crate::end::End;
 use crate::job_file::{JobFile, JobFileError, read_jobs};
+use crate::progress_line::{JobGate, ProgressLine};
 use crate::receipts::print_run;
 use crate::refusal::print_no_job;
 use device::{Device, FileDevice, Start};
-use index_model::{DeadRows, Fault};
+use index_model::{DeadRows, Fault, Progress};
 use page_action::PageStore;
 use page_store::Store;
 use schedule::Event;
 use session_calls::Answer;
-use sessions::{Finished, Job, NoGate, NotRun, Receipt, Record, run_jobs};
+use sessions::{Finished, Gate, Job, NotRun, Receipt, Record, run_jobs};
 use std::alloc::Global;
 use std::fs::File;
 use std::io::{self, Read, Write};
@@ -39,9 +40,11 @@ pub struct RunSetting<'a> {
     pub workers: u32,
     /// Pages that are held in memory: 16 to 1,024.
     pub frames: u32,
+    /// Whether to tell how far it is.
+    pub progress: bool,
 }
 
-/// What a run of the jobs of a file leaves: the world behind it, if it was made, and how the command ends.
+/// What a run of the jobs of a file leaves: the world after it, if it was made, and how the command ends.
 #[derive(Drop)]
 pub struct RanFile<S, T> {
     pub world: Option<World<S, T>>,
@@ -51,10 +54,15 @@ pub struct RanFile<S, T> {
 /// Runs the jobs of a file: reads them, opens the index with a session for each worker, runs them, makes a checkpoint, and prints
 /// the record of each job, what each worker did, and the checkpoint's answer.
 ///
-/// A line that is no job is said on `err`, and nothing is run. Refused with `Io` (2) where a file isn't there or a call of it fails;
-/// as `World::open` is; with `BadLimits` (18) for more than 65,536 jobs, or for more than 1,048,576 entries that scans may give
-/// in all; with `NoMemory` (1). A refusal of the checkpoint comes behind what is printed of the jobs.
-pub fn run<R: Files<File = File> + Threads + Wait + Sync, S: Start + Send, W: Write, E: Write>(
+/// A line that is no job is said on `err`, and nothing is run. Refused with `Io` (2) where a file isn't there or a call of it
+/// fails; as `World::open` is; with `BadLimits` (18) for more than 65,536 jobs, or for more than 1,048,576 entries that scans may
+/// give in all; with `NoMemory` (1). A refusal of the checkpoint comes after what is printed of the jobs.
+pub fn run<
+    R: Files<File = File> + Threads + Wait + Sync,
+    S: Start + Send,
+    W: Write,
+    E: Write + Send,
+>(
     rt: &R,
     alloc: Global,
     asked: &RunSetting<'_>,
@@ -85,7 +93,12 @@ fn read_file<R: Files<File = File>>(rt: &R, alloc: Global, path: &str) -> io::Re
 }
 
 // Runs the jobs that the lines of this text spell.
-fn run_text<R: Files<File = File> + Threads + Wait + Sync, S: Start + Send, W: Write, E: Write>(
+fn run_text<
+    R: Files<File = File> + Threads + Wait + Sync,
+    S: Start + Send,
+    W: Write,
+    E: Write + Send,
+>(
     rt: &R,
     alloc: Global,
     asked: &RunSetting<'_>,
@@ -102,17 +115,17 @@ fn run_text<R: Files<File = File> + Threads + Wait + Sync, S: Start + Send, W: W
         (W.contents out.old) (W.contents out.new))) }
 {
     match read_jobs(alloc, text) {
-        Ok(file) => run_file::<R, S, W>(rt, alloc, asked, file, out),
+        Ok(file) => run_file::<R, S, W, E>(rt, alloc, asked, file, out, err),
         Err(JobFileError::NotAJob(line)) => no_run(say_no_job(err, line)),
         Err(JobFileError::NoMemory) => no_run(Ok(End::Refused(Fault::NoMemory))),
     }
 }
 
 fn say_no_job<E: Write>(err: &mut E, line: u64) -> io::Result<End>
-    ensures { IfOk result (λ end. end ≡ End.Said) }
+    ensures { IfOk result (λ end. end ≡ End.AlreadyPrinted) }
 {
     print_no_job(err, line)?;
-    Ok(End::Said)
+    Ok(End::AlreadyPrinted)
 }
 
 // No run was made.
@@ -124,12 +137,18 @@ fn no_run<S, T>(end: io::Result<End>) -> RanFile<S, T>
 }
 
 // Runs the jobs of a file that was read, over an index in a file that held what `S` says.
-fn run_file<R: Files<File = File> + Threads + Wait + Sync, S: Start + Send, W: Write>(
+fn run_file<
+    R: Files<File = File> + Threads + Wait + Sync,
+    S: Start + Send,
+    W: Write,
+    E: Write + Send,
+>(
     rt: &R,
     alloc: Global,
     asked: &RunSetting<'_>,
     file: JobFile,
     out: &mut W,
+    err: &mut E,
 ) -> RanFile<Store<FileDevice<S>>, DeadList>
     ensures ends { IfOk result.end IsDoneOrRefused }
     ensures run { result.end ≡ Ok End.Done → IsSome result.world }
@@ -144,17 +163,25 @@ fn run_file<R: Files<File = File> + Threads + Wait + Sync, S: Start + Send, W: W
         Ok(world) => world,
         Err(fault) => return no_run(Ok(End::Refused(fault))),
     };
-    match run_world(rt, alloc, world, jobs.as_slice(), asked.workers, out) {
-        Ok(Ran { world, end }) => RanFile {
-            world: Some(world),
-            end,
-        },
+    let line = ProgressLine::new(err, "jobs", asked.progress);
+    let gate = JobGate {
+        progress: &line,
+        all: jobs.len() as u64,
+    };
+    match run_world(rt, alloc, world, jobs.as_slice(), asked.workers, &gate, out) {
+        Ok(Ran { world, end }) => {
+            line.end();
+            RanFile {
+                world: Some(world),
+                end,
+            }
+        }
         Err(not_run) => no_run(Ok(End::Refused(not_run.fault))),
     }
 }
 
-// Opens the index in a file with a session for each worker, after any crash. Refused with `Io` (2) where the file isn't there or can't
-// be opened for writing, and else as `World::open` is.
+// Opens the index in a file with a session for each worker, after any crash. Refused with `Io` (2) where the file isn't there or
+// can't be opened for writing, and else as `World::open` is.
 fn open_world<R: Files<File = File>, S: Start>(
     rt: &R,
     alloc: Global,
@@ -179,15 +206,16 @@ pub struct Ran<S, T> {
     pub end: io::Result<End>,
 }
 
-/// Runs these jobs on the world, as `run_jobs` does, makes a checkpoint, and prints the record of each job, what each worker did, and
-/// the checkpoint's answer. It ends with the refusal of the checkpoint, if that is refused: it comes behind what is printed of the
-/// jobs. Waits for the workers.
+/// Runs these jobs on the world, as `run_jobs` does, whose gate is told of each, makes a checkpoint, and prints the record of each
+/// job, what each worker did, and the checkpoint's answer. It ends with the refusal of the checkpoint, if that is refused: it comes
+/// after what is printed of the jobs. Waits for the workers.
 ///
 /// Refused as `run_jobs` is, with the world as it was: nothing is run or printed then.
 pub fn run_world<
     S: PageStore + Drop + Send,
     T: DeadRows + Drop + Send,
     R: Threads + Wait + Sync,
+    G: Gate + Sync,
     W: Write,
 >(
     rt: &R,
@@ -195,6 +223,7 @@ pub fn run_world<
     world: World<S, T>,
     jobs: &[Job],
     workers: u32,
+    gate: &G,
     out: &mut W,
 ) -> Result<Ran<S, T>, NotRun<S, T>>
     ensures given_back { IfErr result (λ not_run. not_run.world ≡ world) }
@@ -206,7 +235,7 @@ pub fn run_world<
         (PrintsRun S.PageStore T.DeadRows jobs.now workers world ran.world
         (W.contents out.old) (W.contents out.new))) }
 {
-    match run_jobs(rt, alloc, world, jobs, workers, &NoGate) {
+    match run_jobs(rt, alloc, world, jobs, workers, gate) {
         Ok(finished) => Ok(finish(finished, out)),
         Err(not_run) => Err(not_run),
     }
@@ -239,7 +268,7 @@ fn finish<S: PageStore, T: DeadRows + Drop, W: Write>(
     Ran { world, end }
 }
 
-// Prints what was done, and what the checkpoint behind it answered, if it wasn't refused.
+// Prints what was done, and what the checkpoint after it answered, if it wasn't refused.
 fn print_done<W: Write>(
     out: &mut W,
     history: &[Record],
@@ -248,7 +277,7 @@ fn print_done<W: Write>(
     answer: &Answer,
 ) -> io::Result<End>
     ensures ends { IfOk result IsDoneOrRefused }
-    ensures end { IfOk result (λ end. end ≡ end_behind answer.now) }
+    ensures end { IfOk result (λ end. end ≡ end_after answer.now) }
     ensures printed { OnOk result (Appends (W.contents out.old) (W.contents out.new)
         (run_text history.now receipts.now calls.now ++ last_text answer.now)) }
 {

@@ -4,7 +4,7 @@
 ghost use Rattle.std.specs.Prelude.{◌≡◌, ◌≢◌, ◌≤◌, ◌∷◌, []};
 ghost use Rattle.page_action.specs.States.{Continues};
 ghost use Rattle.world.specs.Worlds.{ForEachWorldHistory};
-ghost use Rattle.command_line.specs.Stepping.{IsSteppedInsert, IsStepped, KeepsSizes};
+ghost use Rattle.command_line.specs.Stepping.{IsSteppedInsert, IsStepped, SameSizes};
 
 use index_model::{DeadRows, Entry, Fault};
 use page_action::PageStore;
@@ -17,7 +17,7 @@ use world::World;
 pub fn run_call<S: PageStore, T: DeadRows + Drop>(world: &mut World<S, T>, session: u32) -> Answer
     requires pages { (S.state world.old.store).limits.pages ≤ 65536 }
     ensures steps { Continues S.follows world.old.store world.new.store }
-    ensures sizes { KeepsSizes S.PageStore world.old world.new }
+    ensures sizes { SameSizes S.PageStore world.old world.new }
     ensures goes { ForEachWorldHistory S.PageStore T.DeadRows world.old world.new
         (IsStepped S.PageStore T.DeadRows [] [] session result world.old world.new) }
     ensures over { result ≢ Answer.Going }
@@ -41,7 +41,7 @@ pub fn run_insert<S: PageStore, T: DeadRows + Drop>(
     entry: Entry,
 ) -> Answer
     requires pages { (S.state world.old.store).limits.pages ≤ 65536 }
-    ensures sizes { KeepsSizes S.PageStore world.old world.new }
+    ensures sizes { SameSizes S.PageStore world.old world.new }
     ensures goes { ForEachWorldHistory S.PageStore T.DeadRows world.old world.new
         (IsSteppedInsert S.PageStore T.DeadRows session entry result world.old world.new) }
     ensures over { result ≢ Answer.Going }
@@ -57,7 +57,7 @@ pub fn next_or_step<S: PageStore, T: DeadRows + Drop>(
     world: &mut World<S, T>,
     session: u32,
 ) -> Answer
-    ensures { KeepsSizes S.PageStore world.old world.new }
+    ensures { SameSizes S.PageStore world.old world.new }
 {
     match world.one(Event::Next(session)) {
         Answer::Gave(None) => world.one(Event::Step(session)),

@@ -8,18 +8,21 @@ ghost use Rattle.command_line.specs.Ends.{status_of};
 ghost use Rattle.command_line.specs.Left.{end_of, IsRun, IfNotRun};
 ghost use Rattle.command_line.specs.Program.{KeepsLine, named_by};
 
-use crate::command::{has_one_thread, has_parents, limits, path, program, run_setting, setting};
+use crate::command::{
+    has_one_thread, has_parents, has_progress, limits, path, program, run_setting, setting,
+};
 use crate::dead::DeadList;
 use crate::end::End;
 use crate::file_commands::{Looked, check, check_one, create, dump};
 use crate::left::Left;
 use crate::play::play;
+use crate::progress_line::ProgressLine;
 use crate::refusal::print_refusal;
 use crate::running;
 use clap::error::ErrorKind;
 use clap::{ArgMatches, Error};
 use device::{Device, FileDevice, Start};
-use index_model::{DeadRows, Fault};
+use index_model::{DeadRows, Fault, Progress};
 use page_action::PageStore;
 use page_store::Store;
 use std::alloc::Global;
@@ -52,7 +55,7 @@ pub fn execute<
     S: AsStr,
     R: Read,
     W: Write,
-    E: Write,
+    E: Write + Send,
 >(
     rt: &F,
     alloc: Global,
@@ -101,7 +104,7 @@ fn status<E: Write>(end: &io::Result<End>, flushed: &io::Result<()>, err: &mut E
     match end {
         Ok(End::Done) => 0,
         Ok(End::Damaged) => 1,
-        Ok(End::Said) => 2,
+        Ok(End::AlreadyPrinted) => 2,
         Ok(End::Refused(fault)) => refuse(err, *fault),
         Err(error) => refuse(err, fault_of(error)),
     }
@@ -130,7 +133,7 @@ fn command<
     S: AsStr,
     R: Read,
     W: Write,
-    E: Write,
+    E: Write + Send,
 >(
     rt: &F,
     alloc: Global,
@@ -175,14 +178,20 @@ fn say<W: Write, E: Write>(error: &Error, out: &mut W, err: &mut E) -> io::Resul
 fn print_usage<W: Write, E: Write>(error: &Error, out: &mut W, err: &mut E) -> io::Result<End> {
     if error.use_stderr() {
         write!(err, "{error}")?;
-        return Ok(End::Said);
+        return Ok(End::AlreadyPrinted);
     }
     write!(out, "{error}")?;
     Ok(End::Done)
 }
 
 /// Runs the command that was named. One of another name is none: nothing is printed.
-fn run<F: Files<File = File> + Threads + Wait + Sync, B: Start + Send, R: Read, W: Write, E: Write>(
+fn run<
+    F: Files<File = File> + Threads + Wait + Sync,
+    B: Start + Send,
+    R: Read,
+    W: Write,
+    E: Write + Send,
+>(
     rt: &F,
     alloc: Global,
     matches: &ArgMatches<'_>,
@@ -206,19 +215,24 @@ fn run<F: Files<File = File> + Threads + Wait + Sync, B: Start + Send, R: Read, 
             err,
         )),
         Some(("create", matches)) => {
-            Left::Created(create::<F, B, W>(rt, path(matches), &limits(matches), out))
+            let line = ProgressLine::new(err, "pages", has_progress(matches));
+            Left::Created(create::<F, B, _, W>(rt, path(matches), &limits(matches), &line, out))
         }
-        Some(("check", matches)) => Left::Checked(run_check::<F, B, W>(rt, alloc, matches, out)),
+        Some(("check", matches)) => {
+            let line = ProgressLine::new(err, "pages", has_progress(matches));
+            Left::Checked(run_check::<F, B, _, W>(rt, alloc, matches, &line, out))
+        }
         Some(("dump", matches)) => Left::Dumped(dump::<F, B, W>(rt, alloc, path(matches), out)),
-        _ => Left::Nothing(Ok(End::Said)),
+        _ => Left::Nothing(Ok(End::AlreadyPrinted)),
     }
 }
 
 /// A check, in one thread where that is asked for: what is printed is the same.
-fn run_check<F: Files<File = File> + Threads + Sync, B: Start, W: Write>(
+fn run_check<F: Files<File = File> + Threads + Sync, B: Start, P: Progress, W: Write>(
     rt: &F,
     alloc: Global,
     matches: &ArgMatches<'_>,
+    progress: &P,
     out: &mut W,
 ) -> Looked<Store<FileDevice<B>>>
     ensures { ChecksAs ⟦<FileDevice<B> as Device>⟧ ⟦<Store<FileDevice<B>> as PageStore>⟧
@@ -228,8 +242,8 @@ fn run_check<F: Files<File = File> + Threads + Sync, B: Start, W: Write>(
     let path = path(matches);
     let parents = has_parents(matches);
     if has_one_thread(matches) {
-        check_one::<F, B, W>(rt, alloc, path, parents, out)
+        check_one::<F, B, P, W>(rt, alloc, path, parents, progress, out)
     } else {
-        check::<F, B, W>(rt, alloc, path, parents, out)
+        check::<F, B, P, W>(rt, alloc, path, parents, progress, out)
     }
 }

@@ -5,7 +5,7 @@ use Rattle.page_codec.specs.declared.page.Downlink.{Downlink}
 use Rattle.page_codec.specs.declared.page.PageState.{PageState}
 use Rattle.page_codec.specs.declared.page.PageState.TheVariants.{Live, HalfDead, Deleted}
 use Rattle.tree_shape.specs.Nodes.{Node}
-use Rattle.tree_shape.specs.Chains.{Spot, past, low_past, first_or, Rises, IsBoundWithin, BoundsWithin, LinksWithin, FitsState, IsRunOf, due_link, due_links, from_low, downlinks}
+use Rattle.tree_shape.specs.Chains.{LeftContext, past, low_past, first_or, Rises, IsBoundWithin, BoundsWithin, LinksWithin, FitsState, IsRunOf, due_link, due_links, from_low, downlinks}
 use Rattle.tree_shape.proofs.Order.{before_trans, before_not, before_weak}
 use Rattle.damages.specs.Lows.{IsBoundBeyond}
 
@@ -93,7 +93,7 @@ ascend_append (x ∷ xs) ys a b h = (
   ascend_append xs ys a.1 b (λ d e i j. h d e (inr i) j),
 )
 
--- of two such lists behind each other, each of the first stands below each of the second
+-- of two such lists after each other, each of the first stands below each of the second
 pub ascend_sides : (xs ys : List Downlink) → Ascend (xs ++ ys) → (d e : Downlink) → IsAmong d xs → IsAmong e ys → IsBoundBeyond d.bound e.bound
 ascend_sides [] ys a d e i j = absurd i
 ascend_sides (x ∷ xs) ys a d e (inl same) j = subst (λ (z : Downlink). IsBoundBeyond z.bound e.bound) (sym same) (a.0 e (among_right e xs ys j))
@@ -107,13 +107,13 @@ pub ascend_back : (xs ys : List Downlink) → Ascend (xs ++ ys) → Ascend ys
 ascend_back [] ys a = a
 ascend_back (x ∷ xs) ys a = ascend_back xs ys a.1
 
--- a page with others behind it has a high key, beyond each bound that is below it
+-- a page with others after it has a high key, beyond each bound that is below it
 high_there : (low high : Option Bound) → is_some high ≡ true → Rises low high → IsBoundBeyond low high
 high_there low None e r = absurd cc
 high_there low (Some h) e r = r
 
 -- the downlinks that a level is to have
-due_more : (at : ℕ → Node) (s : Spot) (bs : List ℕ) (d : Downlink) → IsAmong d (due_links at s bs) → is_some (first_or bs None) ≡ true
+due_more : (at : ℕ → Node) (s : LeftContext) (bs : List ℕ) (d : Downlink) → IsAmong d (due_links at s bs) → is_some (first_or bs None) ≡ true
 due_more at s [] d i = absurd i
 due_more at s (b ∷ bs) d i = refl
 
@@ -124,13 +124,13 @@ due_one Live true low b d i = absurd i
 due_one HalfDead behind low b d i = absurd i
 due_one Deleted behind low b d i = absurd i
 
-past_low : (state : PageState) (level : ℕ) (s : Spot) (node : Node) (c : Option Bound) → FitsState state level s node → is_some node.high ≡ true
+past_low : (state : PageState) (level : ℕ) (s : LeftContext) (node : Node) (c : Option Bound) → FitsState state level s node → is_some node.high ≡ true
     → IsFrom (low_past state s.low node.high) c → IsFrom s.low c
 past_low Live level s node c f some from = inr (beyond_from s.low node.high c (high_there s.low node.high some f.0) from)
 past_low HalfDead level s node c f some from = from
 past_low Deleted level s node c f some from = absurd f
 
-pub due_from : (at : ℕ → Node) (level : ℕ) (s : Spot) (xs : List ℕ) (d : Downlink) → IsRunOf at level s xs None → IsAmong d (due_links at s xs)
+pub due_from : (at : ℕ → Node) (level : ℕ) (s : LeftContext) (xs : List ℕ) (d : Downlink) → IsRunOf at level s xs None → IsAmong d (due_links at s xs)
     → IsFrom s.low d.bound
 due_from at level s [] d run i = absurd i
 due_from at level s (b ∷ bs) d run i = elim (among_cases d (due_link (at b).state s.behind s.low b) (due_links at (past b (at b) s) bs) i) [
@@ -138,7 +138,7 @@ due_from at level s (b ∷ bs) d run i = elim (among_cases d (due_link (at b).st
   | inr r ↦ past_low (at b).state level s (at b) d.bound run.0.fits (run.0.high_is ∙ due_more at (past b (at b) s) bs d r) (due_from at level (past b (at b) s) bs d run.1 r)
 ]
 
-pub due_ascend : (at : ℕ → Node) (level : ℕ) (s : Spot) (xs : List ℕ) → IsRunOf at level s xs None → Ascend (due_links at s xs)
+pub due_ascend : (at : ℕ → Node) (level : ℕ) (s : LeftContext) (xs : List ℕ) → IsRunOf at level s xs None → Ascend (due_links at s xs)
 due_ascend at level s [] run = tt
 due_ascend at level s (b ∷ bs) run =
     go (at b).state s.behind run.0.fits (λ d i. due_from at level (past b (at b) s) bs d run.1 i) (due_ascend at level (past b (at b) s) bs run.1)
@@ -183,17 +183,17 @@ links_in low (x ∷ xs) high d up w (inl e) = (inl (ap (λ (z : Downlink). z.bou
 links_in low (x ∷ xs) high d up w (inr i) = (let r = bounds_in low xs high d w.1 i in (inr r.0, r.1))
 
 -- a page above the leaves is live
-pub upper_fits : (state : PageState) (level : ℕ) (s : Spot) (node : Node) → FitsState state (suc level) s node
+pub upper_fits : (state : PageState) (level : ℕ) (s : LeftContext) (node : Node) → FitsState state (suc level) s node
     → (state ≡ Live) × Rises s.low node.high × LinksWithin s.low node.links node.high
 upper_fits Live level s node f = (refl, f.0, f.1)
 upper_fits HalfDead level s node f = absurd (omega (arith, f.0))
 upper_fits Deleted level s node f = absurd f
 
-down_more : (at : ℕ → Node) (s : Spot) (bs : List ℕ) (d : Downlink) → IsAmong d (downlinks at s bs) → is_some (first_or bs None) ≡ true
+down_more : (at : ℕ → Node) (s : LeftContext) (bs : List ℕ) (d : Downlink) → IsAmong d (downlinks at s bs) → is_some (first_or bs None) ≡ true
 down_more at s [] d i = absurd i
 down_more at s (b ∷ bs) d i = refl
 
-down_from : (at : ℕ → Node) (level : ℕ) (s : Spot) (xs : List ℕ) (d : Downlink) → IsRunOf at (suc level) s xs None → IsAmong d (downlinks at s xs)
+down_from : (at : ℕ → Node) (level : ℕ) (s : LeftContext) (xs : List ℕ) (d : Downlink) → IsRunOf at (suc level) s xs None → IsAmong d (downlinks at s xs)
     → IsFrom s.low d.bound
 down_from at level s [] d run i = absurd i
 down_from at level s (b ∷ bs) d run i = elim (among_cases d (from_low s.low (at b).links) (downlinks at (past b (at b) s) bs) i) [
@@ -201,7 +201,7 @@ down_from at level s (b ∷ bs) d run i = elim (among_cases d (from_low s.low (a
   | inr r ↦ past_low (at b).state (suc level) s (at b) d.bound run.0.fits (run.0.high_is ∙ down_more at (past b (at b) s) bs d r) (down_from at level (past b (at b) s) bs d run.1 r)
 ]
 
-pub down_ascend : (at : ℕ → Node) (level : ℕ) (s : Spot) (xs : List ℕ) → IsRunOf at (suc level) s xs None → Ascend (downlinks at s xs)
+pub down_ascend : (at : ℕ → Node) (level : ℕ) (s : LeftContext) (xs : List ℕ) → IsRunOf at (suc level) s xs None → Ascend (downlinks at s xs)
 down_ascend at level s [] run = tt
 down_ascend at level s (b ∷ bs) run =
     let f = upper_fits (at b).state level s (at b) run.0.fits in

@@ -13,7 +13,7 @@ use Rattle.page_codec.specs.declared.page.Page.{Page}
 use Rattle.page_codec.specs.declared.page.PageState.{PageState}
 use Rattle.page_codec.specs.declared.page.PageState.TheVariants.{Live, HalfDead, Deleted}
 use Rattle.tree_shape.specs.Nodes.{Node, links_of, node_of, node_from, nodes_of}
-use Rattle.tree_shape.specs.Chains.{Spot, IsBeyond, Rises, FitsState, IsPlaced}
+use Rattle.tree_shape.specs.Chains.{LeftContext, IsBeyond, Rises, FitsState, IsPlaced}
 use Rattle.damages.specs.Damages.{index_of, Here, node, spot, IsOnLevel, IsOfChain, HasNotBeyond}
 use Rattle.damages.specs.Levels.{StandAtTheirBlocks}
 use Rattle.damages.proofs.Decided.{link_so, beyond_so, rises_so, bool_so, on_level_so}
@@ -43,7 +43,7 @@ second_so low [] up h = tt
 second_so low (i ∷ []) up h = tt
 second_so low (i ∷ j ∷ js) up h = bound_there i j up.0 low (λ bound e. beyond_so low bound (λ fails. h 1 j bound (omega arith) refl e fails))
 
-module _ (page : Page) (admitted : IsPage page) (after_meta : 0 < page.block) (s : Spot) where
+module _ (page : Page) (admitted : IsPage page) (after_meta : 0 < page.block) (s : LeftContext) where
   ascending : Ascends LinkBefore (links_of page.items)
   ascending = by page.items refl admitted.kind
     where
@@ -72,7 +72,7 @@ page_there (p ∷ pages) zero lt = (p, refl)
 page_there (p ∷ pages) (suc n) lt = page_there pages n (omega arith)
 
 -- what stands at a place where there is no damage
-pub record IsRight (pages : List Page) (depth level : ℕ) (s : Spot) (block : ℕ) : Type 0 where
+pub record IsRight (pages : List Page) (depth level : ℕ) (s : LeftContext) (block : ℕ) : Type 0 where
   pub on_level : IsOnLevel (index_of pages) depth block
   pub placed : IsPlaced (nodes_of pages block) level s (nodes_of pages block).right
 

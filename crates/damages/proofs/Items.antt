@@ -28,10 +28,6 @@ entries_within low [] high up within first = tt
 entries_within low (e ∷ es) (Some h) up within first = (first, within.0, ascend_more (bound_of e) es (Some h) up.1 within.1)
 entries_within low (e ∷ es) None up within first = (first, tt, ascend_more (bound_of e) es None up.1 within.1)
 
-pub first_within : (low : Option Bound) (es : List Entry) (high : Option Bound) → AscendWithin low es high → IsFirstBeyond low es
-first_within low [] high h = tt
-first_within low (e ∷ es) high h = h.0
-
 bound_within : (low bound before high : Option Bound) (child child' : ℕ) → IsBoundBeyond low bound → Below high (record { bound = bound; child = child })
     → IsBoundWithin low bound high
 bound_within low None before high child child' beyond below = absurd beyond
@@ -71,15 +67,6 @@ links_within low d (j ∷ js) high first up below second = (first, go j.bound re
       bound_within low j.bound None high j.child 0 second below.0,
       subst (λ (o : Option Bound). BoundsWithin o js high) (sym e) (bounds_more j t js high e up.1 below.1),
     )
-
-pub second_within : (low : Option Bound) (ds : List Downlink) (high : Option Bound) → LinksWithin low ds high → IsSecondBeyond low ds
-second_within low [] high h = tt
-second_within low (d ∷ []) high h = tt
-second_within low (d ∷ j ∷ js) high h = go j.bound h.1.0
-  where
-    go : (o : Option Bound) → IsBoundWithin low o high → IsBoundBeyond low o
-    go None w = absurd w
-    go (Some s) w = w.0
 
 -- what a live page of the format that isn't the metapage holds
 pub items_are : (page : Page) (low : Option Bound) → IsPage page → 0 < page.block → page.state ≡ Live → IsFirstBeyond low (entries_of page.items)

@@ -43,13 +43,13 @@ before_so a b h = elim (cases_Bool (is_lt (key_cmp a.key b.key))) [
   | inr fails ↦ absurd (h (λ e. absurd (let k : true ≡ false = sym e ∙ fails in cc)))
 ]
 
-behind_so : (a : Entry) (es : List Entry) → ((FollowedBy KeyBefore a es → ⊥) → ⊥) → FollowedBy KeyBefore a es
-behind_so a [] h = tt
-behind_so a (e ∷ es) h = (before_so a e (λ fails. h (λ all. fails all.0)), behind_so e es (λ fails. h (λ all. fails all.1)))
+after_so : (a : Entry) (es : List Entry) → ((FollowedBy KeyBefore a es → ⊥) → ⊥) → FollowedBy KeyBefore a es
+after_so a [] h = tt
+after_so a (e ∷ es) h = (before_so a e (λ fails. h (λ all. fails all.0)), after_so e es (λ fails. h (λ all. fails all.1)))
 
 keys_so : (es : List Entry) → ((Ascends KeyBefore es → ⊥) → ⊥) → Ascends KeyBefore es
 keys_so [] h = tt
-keys_so (e ∷ es) h = behind_so e es h
+keys_so (e ∷ es) h = after_so e es h
 
 pub unique_so : (n : Node) → ((IsUniqueNode n → ⊥) → ⊥) → IsUniqueNode n
 unique_so n h = record {

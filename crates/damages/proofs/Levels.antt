@@ -3,9 +3,9 @@ use Rattle.std.proofs.Common.{◌≡◌, ◌≢◌, ◌⊎◌, ℕ, suc, ◌+◌
 use Rattle.std.proofs.lemmas.Bool.{cases_eq}
 use Rattle.page_codec.specs.declared.page.Page.{Page}
 use Rattle.tree_shape.specs.Nodes.{Node, node_from, nodes_of}
-use Rattle.tree_shape.specs.Chains.{Spot, spot_after, first_spot, first_or, IsRunOf, IsRootLevel, IsIn, IsNotIn, AreDistinct}
+use Rattle.tree_shape.specs.Chains.{LeftContext, spot_after, first_spot, first_or, IsRunOf, IsRootLevel, IsIn, IsNotIn, AreDistinct}
 use Rattle.tree_shape.specs.Tree.{IsMetaOf}
-use Rattle.damages.specs.Damages.{Index, index_of, or_block, gone_left, first_child, head, Place, place_at, IsOnLevel, IsBehindRoot, IsSound, IsOfChain}
+use Rattle.damages.specs.Damages.{Index, index_of, or_block, moved_left, first_child, head, Place, place_at, IsOnLevel, IsAfterRoot, IsSound, IsOfChain}
 use Rattle.damages.specs.Damages.Site.{on_way, on_chain}
 use Rattle.damages.specs.Levels.{StandAtTheirBlocks, IsAbove, AreLevels, HasLevels}
 use Rattle.damages.proofs.Decided.{no_link, some_is, link_so, on_level_so}
@@ -26,12 +26,12 @@ true_so : (b : Bool) → ((b ≢ true) → ⊥) → b ≡ true
 true_so true h = refl
 true_so false h = absurd (h (λ e. cc))
 
-behind_so : (root : ℕ) (s : Spot) → ((IsBehindRoot root s → ⊥) → ⊥) → IsBehindRoot root s
-behind_so root s h = (link_so s.left (Some root) (λ differ. h (λ b. differ b.0)), true_so s.behind (λ differ. h (λ b. differ b.1)))
+after_so : (root : ℕ) (s : LeftContext) → ((IsAfterRoot root s → ⊥) → ⊥) → IsAfterRoot root s
+after_so root s h = (link_so s.left (Some root) (λ differ. h (λ b. differ b.0)), true_so s.behind (λ differ. h (λ b. differ b.1)))
 
--- page by page, the root's level has the root alone, or the flagged root and one page
+-- page by page, the root's level has the root alone, or the root with an incomplete split and one page
 root_told : (at : ℕ → Node) (root : ℕ) (xs : List ℕ) → (xs ≢ []) → AreDistinct xs
-    → ((n b : ℕ) → slice_get xs n ≡ Some b → (b ≡ root) ⊎ IsBehindRoot root (spot_after at first_spot (take n xs))) → IsRootLevel at root xs
+    → ((n b : ℕ) → slice_get xs n ≡ Some b → (b ≡ root) ⊎ IsAfterRoot root (spot_after at first_spot (take n xs))) → IsRootLevel at root xs
 root_told at root [] some d each = absurd (some refl)
 root_told at root (b ∷ []) some d each = elim (each 0 b refl) [
   | inl is ↦ is
@@ -42,12 +42,12 @@ root_told at root (b ∷ c ∷ rest) some d each = by rest d.0.1 (each 2)
     is_root : b ≡ root
     is_root = elim (each 0 b refl) [ inl is ↦ is | inr h ↦ absurd (no_link h.0) ]
 
-    flagged : (at b).split ≡ true
-    flagged = elim (each 1 c refl) [ inl is ↦ absurd (d.0.0 (is_root ∙ sym is)) | inr h ↦ h.1 ]
+    incomplete : (at b).split ≡ true
+    incomplete = elim (each 1 c refl) [ inl is ↦ absurd (d.0.0 (is_root ∙ sym is)) | inr h ↦ h.1 ]
 
-    by : (rest : List ℕ) → IsNotIn b rest → ((e : ℕ) → slice_get rest 0 ≡ Some e → (e ≡ root) ⊎ IsBehindRoot root (spot_after at first_spot (b ∷ c ∷ [])))
+    by : (rest : List ℕ) → IsNotIn b rest → ((e : ℕ) → slice_get rest 0 ≡ Some e → (e ≡ root) ⊎ IsAfterRoot root (spot_after at first_spot (b ∷ c ∷ [])))
         → IsRootLevel at root (b ∷ c ∷ rest)
-    by [] n third = (is_root, flagged)
+    by [] n third = (is_root, incomplete)
     by (e ∷ es) n third = elim (third e refl) [
       | inl is ↦ absurd (n.0 (is_root ∙ sym is))
       | inr h ↦ absurd (d.0.0 (is_root ∙ sym (some_is c root h.0)))
@@ -126,8 +126,8 @@ module _ (parents : Bool) (pages : List Page) (stand : StandAtTheirBlocks pages)
     pub rooted : depth ≡ 0 → IsRootLevel at ix.root (chain_at pages depth)
     rooted top = root_told at ix.root (chain_at pages depth) some_at distinct_at (λ n b e. elim (cases_eq b ix.root) [
       | inl is ↦ inl is
-      | inr differs ↦ inr (subst (IsBehindRoot ix.root) (ap (λ (p : Place). p.spot) (place_told n))
-          (behind_so ix.root (place_at ix depth n).spot (λ fails.
+      | inr differs ↦ inr (subst (IsAfterRoot ix.root) (ap (λ (p : Place). p.spot) (place_told n))
+          (after_so ix.root (place_at ix depth n).spot (λ fails.
           no_damage n b (block_at n b e) 10 (inr (inr (inr (inr (inr (inr (inl (refl, top, differs, fails)))))))))))
     ])
 
@@ -141,7 +141,7 @@ module _ (parents : Bool) (pages : List Page) (stand : StandAtTheirBlocks pages)
       let lower : low ≡ head ix (suc (deep_of (suc level))) = some_is low _ (sym lows ∙ begins_at (deep_of level) level (omega arith) (omega arith)) ∙ ap (head ix) deeper in
       let first : child ≡ first_child (at (head ix (deep_of (suc level)))).links =
       has.child_is ∙ ap first_child (sym has.links_are) ∙ ap (λ (b : ℕ). first_child (at b).links) upper in
-      record { steps = length pages; leads = ap (λ (b : ℕ). gone_left at b (length pages)) first ∙ sym lower }
+      record { steps = length pages; leads = ap (λ (b : ℕ). moved_left at b (length pages)) first ∙ sym lower }
 
   pub levels_are : AreLevels pages ix.root ix.top (chain_of pages)
   levels_are = record {

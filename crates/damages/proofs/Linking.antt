@@ -5,7 +5,7 @@ use Rattle.page_codec.specs.declared.page.Downlink.{Downlink}
 use Rattle.page_codec.specs.declared.page.PageState.{PageState}
 use Rattle.page_codec.specs.declared.page.PageState.TheVariants.{Live, HalfDead, Deleted}
 use Rattle.tree_shape.specs.Nodes.{Node}
-use Rattle.tree_shape.specs.Chains.{Spot, past, spot_after, due_link, due_links, from_low, downlinks}
+use Rattle.tree_shape.specs.Chains.{LeftContext, past, spot_after, due_link, due_links, from_low, downlinks}
 use Rattle.damages.proofs.Ascending.{IsAmong, among_left, among_right, among_cases, Ascend, ascend_front, ascend_back, ascend_sides}
 use Rattle.damages.specs.Lows.{IsBoundBeyond}
 use Rattle.damages.proofs.Decided.{no_link, some_is}
@@ -32,21 +32,21 @@ leads_or child (x ∷ xs) = elim (cases_eq x.child child) [
 ]
 
 -- a downlink that a level has: the place of its page there, and its own
-pub record IsHad (at : ℕ → Node) (s : Spot) (xs : List ℕ) (d : Downlink) : Type 0 where
+pub record IsHad (at : ℕ → Node) (s : LeftContext) (xs : List ℕ) (d : Downlink) : Type 0 where
   pub place : ℕ
   pub block : ℕ
   pub there : slice_get xs place ≡ Some block
   pub item : ℕ
   pub is : slice_get (from_low (spot_after at s (take place xs)).low (at block).links) item ≡ Some d
 
-pub had : (at : ℕ → Node) (s : Spot) (xs : List ℕ) (d : Downlink) → IsAmong d (downlinks at s xs) → IsHad at s xs d
+pub had : (at : ℕ → Node) (s : LeftContext) (xs : List ℕ) (d : Downlink) → IsAmong d (downlinks at s xs) → IsHad at s xs d
 had at s [] d i = absurd i
 had at s (b ∷ bs) d i = elim (among_cases d (from_low s.low (at b).links) (downlinks at (past b (at b) s) bs) i) [
   | inl l ↦ (let r = at_among d (from_low s.low (at b).links) l in record { place = 0; block = b; there = refl; item = r.0; is = r.1 })
   | inr r ↦ (let h = had at (past b (at b) s) bs d r in record { place = suc h.place; block = h.block; there = h.there; item = h.item; is = h.is })
 ]
 
-pub has : (at : ℕ → Node) (s : Spot) (xs : List ℕ) (place block item : ℕ) (d : Downlink) → slice_get xs place ≡ Some block
+pub has : (at : ℕ → Node) (s : LeftContext) (xs : List ℕ) (place block item : ℕ) (d : Downlink) → slice_get xs place ≡ Some block
     → slice_get (from_low (spot_after at s (take place xs)).low (at block).links) item ≡ Some d → IsAmong d (downlinks at s xs)
 has at s [] place block item d there is = absurd (no_link there)
 has at s (b ∷ bs) zero block item d there is =
@@ -54,14 +54,14 @@ has at s (b ∷ bs) zero block item d there is =
 has at s (b ∷ bs) (suc place) block item d there is = among_right d (from_low s.low (at b).links) _ (has at (past b (at b) s) bs place block item d there is)
 
 -- a downlink that is due: the place of the page that is to have it
-pub record IsDue (at : ℕ → Node) (s : Spot) (xs : List ℕ) (d : Downlink) : Type 0 where
+pub record IsDue (at : ℕ → Node) (s : LeftContext) (xs : List ℕ) (d : Downlink) : Type 0 where
   pub place : ℕ
   pub there : slice_get xs place ≡ Some d.child
   pub bound : d.bound ≡ (spot_after at s (take place xs)).low
   pub alive : (at d.child).state ≡ Live
   pub clear : (spot_after at s (take place xs)).behind ≡ false
 
-pub due : (at : ℕ → Node) (s : Spot) (xs : List ℕ) (d : Downlink) → IsAmong d (due_links at s xs) → IsDue at s xs d
+pub due : (at : ℕ → Node) (s : LeftContext) (xs : List ℕ) (d : Downlink) → IsAmong d (due_links at s xs) → IsDue at s xs d
 due at s [] d i = absurd i
 due at s (b ∷ bs) d i = elim (among_cases d (due_link (at b).state s.behind s.low b) (due_links at (past b (at b) s) bs) i) [
   | inl l ↦ here (at b).state s.behind refl refl l
@@ -81,7 +81,7 @@ due at s (b ∷ bs) d i = elim (among_cases d (due_link (at b).state s.behind s.
     here HalfDead behind is clear i = absurd i
     here Deleted behind is clear i = absurd i
 
-pub is_due : (at : ℕ → Node) (s : Spot) (xs : List ℕ) (place : ℕ) (d : Downlink) → slice_get xs place ≡ Some d.child
+pub is_due : (at : ℕ → Node) (s : LeftContext) (xs : List ℕ) (place : ℕ) (d : Downlink) → slice_get xs place ≡ Some d.child
     → d.bound ≡ (spot_after at s (take place xs)).low
     → (at d.child).state ≡ Live → (spot_after at s (take place xs)).behind ≡ false → IsAmong d (due_links at s xs)
 is_due at s [] place d there bound alive clear = absurd (no_link there)
@@ -106,7 +106,7 @@ ascend_index (x ∷ xs) zero (suc j) d e a lt f g = subst (λ (z : Downlink). Is
 ascend_index (x ∷ xs) (suc i) zero d e a lt f g = absurd (omega arith)
 ascend_index (x ∷ xs) (suc i) (suc j) d e a lt f g = ascend_index xs i j d e a.1 (omega arith) f g
 
-pub ascend_items : (at : ℕ → Node) (s : Spot) (xs : List ℕ) (n b : ℕ) (i j : ℕ) (d e : Downlink) → Ascend (downlinks at s xs) → slice_get xs n ≡ Some b → i < j
+pub ascend_items : (at : ℕ → Node) (s : LeftContext) (xs : List ℕ) (n b : ℕ) (i j : ℕ) (d e : Downlink) → Ascend (downlinks at s xs) → slice_get xs n ≡ Some b → i < j
     → slice_get (from_low (spot_after at s (take n xs)).low (at b).links) i ≡ Some d → slice_get (from_low (spot_after at s (take n xs)).low (at b).links) j ≡ Some e → IsBoundBeyond d.bound e.bound
 ascend_items at s [] n b i j d e a there lt f g = absurd (no_link there)
 ascend_items at s (x ∷ xs) zero b i j d e a there lt f g =
@@ -114,7 +114,7 @@ ascend_items at s (x ∷ xs) zero b i j d e a there lt f g =
     (subst (λ (c : ℕ). Ascend (from_low s.low (at c).links)) (some_is x b there) (ascend_front (from_low s.low (at x).links) (downlinks at (past x (at x) s) xs) a)) lt f g
 ascend_items at s (x ∷ xs) (suc n) b i j d e a there lt f g = ascend_items at (past x (at x) s) xs n b i j d e (ascend_back (from_low s.low (at x).links) _ a) there lt f g
 
-pub ascend_places : (at : ℕ → Node) (s : Spot) (xs : List ℕ) (n b m c : ℕ) (i j : ℕ) (d e : Downlink) → Ascend (downlinks at s xs) → n < m
+pub ascend_places : (at : ℕ → Node) (s : LeftContext) (xs : List ℕ) (n b m c : ℕ) (i j : ℕ) (d e : Downlink) → Ascend (downlinks at s xs) → n < m
     → slice_get xs n ≡ Some b → slice_get xs m ≡ Some c
     → slice_get (from_low (spot_after at s (take n xs)).low (at b).links) i ≡ Some d → slice_get (from_low (spot_after at s (take m xs)).low (at c).links) j ≡ Some e → IsBoundBeyond d.bound e.bound
 ascend_places at s [] n b m c i j d e a lt there then f g = absurd (no_link there)

@@ -5,7 +5,7 @@ use Rattle.page_codec.specs.declared.page.Page.{Page}
 use Rattle.page_codec.specs.declared.page.PageState.{PageState}
 use Rattle.page_codec.specs.declared.page.PageState.TheVariants.{Live, HalfDead, Deleted}
 use Rattle.tree_shape.specs.Nodes.{Node, nodes_of}
-use Rattle.tree_shape.specs.Chains.{Spot, spot_after, first_spot, due_links, from_low, downlinks, FitsState, IsIn}
+use Rattle.tree_shape.specs.Chains.{LeftContext, spot_after, first_spot, due_links, from_low, downlinks, FitsState, IsIn}
 use Rattle.damages.specs.Damages.{Index, index_of, Place, place_at, Here, Item, spot, IsOnLevel, IsOnChain, IsUnlinked, IsSound}
 use Rattle.damages.specs.Damages.Site.{at_child, at_page}
 use Rattle.damages.specs.Levels.{StandAtTheirBlocks}
@@ -16,7 +16,7 @@ use Rattle.damages.proofs.Levels.{chain_at, right_at, place_told, block_at, dist
 use Rattle.damages.proofs.Linking.{leads_or, had, has, IsDue, due, is_due}
 use Rattle.damages.proofs.Places.{at_from, in_from, one_place}
 
-pub live_so : (state : PageState) (level : ℕ) (s : Spot) (n : Node) → FitsState state level s n → state ≢ HalfDead → state ≡ Live
+pub live_so : (state : PageState) (level : ℕ) (s : LeftContext) (n : Node) → FitsState state level s n → state ≢ HalfDead → state ≡ Live
 live_so Live level s n f stands = refl
 live_so HalfDead level s n f stands = absurd (stands refl)
 live_so Deleted level s n f stands = absurd f
@@ -109,7 +109,7 @@ module _ (pages : List Page) (stand : StandAtTheirBlocks pages) (sound : IsSound
         let a = had at first_spot upper d among in
         let told = upper_told a.place in
         let h : Here ix = record { depth = depth; place = a.place; block = a.block; deep = omega arith; is = ap (λ (p : Place). p.block) told ∙ a.there } in
-        let i : Item h = record { item = a.item; link = d; is = subst (λ (s : Spot). slice_get (from_low s.low (at a.block).links) a.item ≡ Some d) (sym (ap (λ (p : Place). p.spot) told)) a.is } in
+        let i : Item h = record { item = a.item; link = d; is = subst (λ (s : LeftContext). slice_get (from_low s.low (at a.block).links) a.item ≡ Some d) (sym (ap (λ (p : Place). p.spot) told)) a.is } in
         item_due h i refl
 
     -- an item of a page on this level is one of the level's
@@ -123,7 +123,7 @@ module _ (pages : List Page) (stand : StandAtTheirBlocks pages) (sound : IsSound
             let told = upper_told place in
             has at first_spot upper place block i.item i.link
             (sym (ap (λ (p : Place). p.block) told) ∙ subst (λ (n : ℕ). (place_at ix n place).block ≡ Some block) d_same is)
-            (subst (λ (s : Spot). slice_get (from_low s.low (at block).links) i.item ≡ Some i.link) (ap (λ (p : Place). p.spot) told)
+            (subst (λ (s : LeftContext). slice_get (from_low s.low (at block).links) i.item ≡ Some i.link) (ap (λ (p : Place). p.spot) told)
             (subst (λ (n : ℕ). slice_get (from_low (place_at ix n place).spot.low (at block).links) i.item ≡ Some i.link) d_same found))
 
     -- what is due is there

@@ -1,7 +1,7 @@
 -- The places of a level whose pages are a chain.
 use Rattle.std.proofs.Common.{◌≡◌, ℕ, zero, suc, ◌+◌, ◌<◌, inl, inr, Option, Some, None, List, [], ◌∷◌, take, slice_get, refl, sym, ap, subst, ◌∙◌, arith}
 use Rattle.tree_shape.specs.Nodes.{Node}
-use Rattle.tree_shape.specs.Chains.{Spot, past, spot_after, first_spot, first_or, IsPlaced, IsRunOf, IsIn, AreDistinct}
+use Rattle.tree_shape.specs.Chains.{LeftContext, past, spot_after, first_spot, first_or, IsPlaced, IsRunOf, IsIn, AreDistinct}
 use Rattle.tree_shape.proofs.Members.{not_in_apart, not_in_from}
 use Rattle.damages.specs.Damages.{Place, next_place, place_from}
 use Rattle.damages.proofs.Decided.{no_link, some_is}
@@ -38,7 +38,7 @@ distinct_from (x ∷ xs) h = (
 )
 
 -- each page of a chain is placed, with those before it for its spot
-pub placed_at : (at : ℕ → Node) (level : ℕ) (s : Spot) (xs : List ℕ) (n b : ℕ) → IsRunOf at level s xs None → slice_get xs n ≡ Some b
+pub placed_at : (at : ℕ → Node) (level : ℕ) (s : LeftContext) (xs : List ℕ) (n b : ℕ) → IsRunOf at level s xs None → slice_get xs n ≡ Some b
     → IsPlaced (at b) level (spot_after at s (take n xs)) (slice_get xs (suc n))
 placed_at at level s [] n b run e = absurd (no_link e)
 placed_at at level s (x ∷ xs) zero b run e = subst (λ (c : ℕ). IsPlaced (at c) level s (slice_get xs 0)) (some_is x b e) (subst (IsPlaced (at x) level s) (first_at xs) run.0)
@@ -49,7 +49,7 @@ placed_at at level s (x ∷ xs) zero b run e = subst (λ (c : ℕ). IsPlaced (at
 placed_at at level s (x ∷ xs) (suc n) b run e = placed_at at level (past x (at x) s) xs n b run.1 e
 
 -- a walk along right links comes to the pages of the chain
-places_from : (at : ℕ → Node) (level start : ℕ) (n k : ℕ) (s : Spot) (xs : List ℕ) → IsRunOf at level s xs None
+places_from : (at : ℕ → Node) (level start : ℕ) (n k : ℕ) (s : LeftContext) (xs : List ℕ) → IsRunOf at level s xs None
     → place_from at start k ≡ record { spot = s; block = first_or xs None }
     → (j : ℕ) → j ≡ n + k → place_from at start j ≡ record { spot = spot_after at s (take n xs); block = slice_get xs n }
 places_from at level start zero k s [] run is j sum = subst (λ (i : ℕ). place_from at start i ≡ record { spot = s; block = None }) (let e : k ≡ j = omega arith in e) is

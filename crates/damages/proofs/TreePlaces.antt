@@ -3,16 +3,16 @@ use Rattle.std.proofs.Common.{◌≡◌, ℕ, zero, suc, ◌-◌, ◌<◌, ◌�
 use Rattle.page_codec.specs.declared.page.Downlink.{Downlink}
 use Rattle.page_codec.specs.declared.page.Page.{Page}
 use Rattle.tree_shape.specs.Nodes.{Node, nodes_of}
-use Rattle.tree_shape.specs.Chains.{Spot, past, spot_after, first_spot, first_or, LinksWithin, IsPlaced, IsRunOf, IsRootLevel, IsTreeOf, from_low, downlinks}
-use Rattle.damages.specs.Damages.{Index, index_of, gone_left, first_child, head, start, left_after_steps, Place, place_at, Here, node, spot, IsOnLevel, IsBack}
+use Rattle.tree_shape.specs.Chains.{LeftContext, past, spot_after, first_spot, first_or, LinksWithin, IsPlaced, IsRunOf, IsRootLevel, IsTreeOf, from_low, downlinks}
+use Rattle.damages.specs.Damages.{Index, index_of, moved_left, first_child, head, start, left_after_steps, Place, place_at, Here, node, spot, IsOnLevel, IsBack}
 use Rattle.damages.proofs.Ascending.{IsAmong, upper_fits}
 use Rattle.tree_shape.proofs.Few.{few_blocks}
 use Rattle.damages.proofs.Decided.{no_link, some_is}
 use Rattle.damages.proofs.Linking.{due}
 use Rattle.damages.proofs.Places.{in_from, one_place, placed_at, place_is}
-use Rattle.damages.proofs.Ways.{gone_to, gone_first, never_back}
+use Rattle.damages.proofs.Ways.{moved_to, gone_first, never_back}
 
-pub head_is : (ix : Index) (depth : ℕ) → head ix depth ≡ gone_left ix.at (start ix depth) ix.used
+pub head_is : (ix : Index) (depth : ℕ) → head ix depth ≡ moved_left ix.at (start ix depth) ix.used
 head_is ix zero = refl
 head_is ix (suc depth) = refl
 
@@ -102,7 +102,7 @@ module _ (pages : List Page) (chain : ℕ → List ℕ) (t : IsTreeOf (nodes_of 
   way_on depth steps deep =
       let s = starts depth deep in
       on_level_from depth (s.place - steps) (left_after_steps ix depth steps) deep
-      (gone_to at (ix.top - depth) (chain (ix.top - depth)) (t.runs (ix.top - depth) (omega arith)) (start ix depth) s.place s.is steps)
+      (moved_to at (ix.top - depth) (chain (ix.top - depth)) (t.runs (ix.top - depth) (omega arith)) (start ix depth) s.place s.is steps)
 
   pub way_not_back : (depth step : ℕ) → depth ≤ ix.top → IsBack ix depth step → ⊥
   way_not_back depth step deep back =
@@ -119,7 +119,7 @@ module _ (pages : List Page) (chain : ℕ → List ℕ) (t : IsTreeOf (nodes_of 
     spot_is = ap (λ (p : Place). p.spot) (place_told h.depth h.deep h.place)
 
     pub placed : IsPlaced (node h) (ix.top - h.depth) (spot h) (slice_get (chain (ix.top - h.depth)) (suc h.place))
-    placed = subst (λ (s : Spot). IsPlaced (node h) (ix.top - h.depth) s (slice_get (chain (ix.top - h.depth)) (suc h.place))) (sym spot_is)
+    placed = subst (λ (s : LeftContext). IsPlaced (node h) (ix.top - h.depth) s (slice_get (chain (ix.top - h.depth)) (suc h.place))) (sym spot_is)
         (placed_at at (ix.top - h.depth) first_spot (chain (ix.top - h.depth)) h.place h.block (t.runs (ix.top - h.depth) (let deep = h.deep in omega arith)) there)
 
     pub on_level : IsOnLevel ix h.depth h.block

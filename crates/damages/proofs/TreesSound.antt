@@ -11,8 +11,8 @@ use Rattle.page_codec.specs.declared.page.PageState.{PageState}
 use Rattle.page_codec.specs.declared.page.PageState.TheVariants.{Live, HalfDead, Deleted}
 use Rattle.tree_shape.specs.KeyPages.{AreUnique}
 use Rattle.tree_shape.specs.Nodes.{Node, node_of, node_from, nodes_of}
-use Rattle.tree_shape.specs.Chains.{Spot, spot_after, first_spot, IsBeyond, Rises, AscendWithin, LinksWithin, FitsState, IsRootLevel, IsTreeOf, from_low, downlinks}
-use Rattle.damages.specs.Damages.{Index, index_of, or_block, ComesBefore, Place, Here, Item, Site, node, spot, IsOnLevel, IsOnChain, IsMetBefore, HasNotBeyond, IsBehindRoot, IsUnlinked, IsOfWay, IsOfChain, IsOfParents, IsDamage, IsSound}
+use Rattle.tree_shape.specs.Chains.{LeftContext, spot_after, first_spot, IsBeyond, Rises, AscendWithin, LinksWithin, FitsState, IsRootLevel, IsTreeOf, from_low, downlinks}
+use Rattle.damages.specs.Damages.{Index, index_of, or_block, ComesBefore, Place, Here, Item, Site, node, spot, IsOnLevel, IsOnChain, IsMetBefore, HasNotBeyond, IsAfterRoot, IsUnlinked, IsOfPath, IsOfChain, IsOfParents, IsDamage, IsSound}
 use Rattle.damages.specs.Damages.Site.{on_way, on_chain, at_child, at_page, nowhere}
 use Rattle.damages.specs.Levels.{StandAtTheirBlocks, LevelsHaveTree}
 use Rattle.damages.proofs.Ascending.{IsAmong, Ascend, beyond_not, beyond_trans, bounds_in, down_ascend}
@@ -27,17 +27,17 @@ use Rattle.damages.proofs.TreePlaces.{place_told, way_on, way_not_back, there, s
 use Rattle.damages.proofs.Parents.{live_so}
 
 -- what a page that stands in its place says of the numbers of damages
-not_deleted : (state : PageState) (level : ℕ) (s : Spot) (n : Node) → FitsState state level s n → state ≡ Deleted → ⊥
+not_deleted : (state : PageState) (level : ℕ) (s : LeftContext) (n : Node) → FitsState state level s n → state ≡ Deleted → ⊥
 not_deleted Live level s n f e = cc
 not_deleted HalfDead level s n f e = cc
 not_deleted Deleted level s n f e = f
 
-live_rises : (state : PageState) (level : ℕ) (s : Spot) (n : Node) → FitsState state level s n → state ≡ Live → Rises s.low n.high
+live_rises : (state : PageState) (level : ℕ) (s : LeftContext) (n : Node) → FitsState state level s n → state ≡ Live → Rises s.low n.high
 live_rises Live level s n f e = f.0
 live_rises HalfDead level s n f e = absurd cc
 live_rises Deleted level s n f e = absurd f
 
-dead_clear : (state : PageState) (level : ℕ) (s : Spot) (n : Node) → FitsState state level s n → state ≡ HalfDead → s.behind ≡ false
+dead_clear : (state : PageState) (level : ℕ) (s : LeftContext) (n : Node) → FitsState state level s n → state ≡ HalfDead → s.behind ≡ false
 dead_clear Live level s n f e = absurd cc
 dead_clear HalfDead level s n f e = f.3
 dead_clear Deleted level s n f e = absurd f
@@ -57,7 +57,7 @@ link_beyond low [] high item link bound w pos e is = absurd w
 link_beyond low (x ∷ xs) high zero link bound w pos e is = absurd (omega arith)
 link_beyond low (x ∷ xs) high (suc k) link bound w pos e is = subst (IsBoundBeyond low) is (bounds_in low xs high link w.1 (among_at link xs k e)).0
 
-module _ (level : ℕ) (s : Spot) (n : Node) (leaf : level ≡ 0 → n.links ≡ []) (upper : 0 < level → n.entries ≡ []) where
+module _ (level : ℕ) (s : LeftContext) (n : Node) (leaf : level ≡ 0 → n.links ≡ []) (upper : 0 < level → n.entries ≡ []) where
   no_entry : (e : Entry) → n.entries ≡ [] → Contains n.entries e → ⊥
   no_entry e none' c = (let lt = c.1 in let size = ap length none' in absurd (omega (arith, lt, size)))
 
@@ -80,9 +80,9 @@ module _ (level : ℕ) (s : Spot) (n : Node) (leaf : level ≡ 0 → n.links ≡
       item HalfDead l f leaf = no_item i.0 i.1 (leaf f.0) i.4
       item Deleted l f leaf = f
 
--- each page of the root's level is the root, or right behind the flagged root
+-- each page of the root's level is the root, or right after the root with an incomplete split
 root_part : (at : ℕ → Node) (root : ℕ) (xs : List ℕ) (n b : ℕ) → IsRootLevel at root xs → slice_get xs n ≡ Some b
-    → (b ≡ root) ⊎ IsBehindRoot root (spot_after at first_spot (take n xs))
+    → (b ≡ root) ⊎ IsAfterRoot root (spot_after at first_spot (take n xs))
 root_part at root [] n b h e = absurd h
 root_part at root (x ∷ []) zero b h e = inl (sym (some_is x b e) ∙ h)
 root_part at root (x ∷ []) (suc n) b h e = absurd (no_link e)
@@ -113,7 +113,7 @@ module _ (pages : List Page) (stand : StandAtTheirBlocks pages) (chain : ℕ →
       let here : at b ≡ node_of p.0 = ap node_from p.1 in
       subst (λ (n : Node). n.entries ≡ []) (sym here) (upper_entries p.0 own.0 (let e = own.1 in omega arith) (subst (λ (n : Node). 0 < n.level) here upper))
 
-  way_sound : (depth step number : ℕ) → depth ≤ ix.top → IsOfWay ix depth step number → ⊥
+  way_sound : (depth step number : ℕ) → depth ≤ ix.top → IsOfPath ix depth step number → ⊥
   way_sound depth step number deep (inl off) = off.1 (way_on pages chain t depth step deep)
   way_sound depth step number deep (inr back) = way_not_back pages chain t depth step deep back.1
 
@@ -145,10 +145,10 @@ module _ (pages : List Page) (stand : StandAtTheirBlocks pages) (chain : ℕ →
         beyond (ix.top - h.depth) (spot h) (node h)
         (λ leaf. page_links h.block on.after_meta on.in_use (omega arith)) (λ upper. page_entries h.block on.after_meta on.in_use (omega arith)) (node h).state place_fits has'
 
-    not_more : h.depth ≡ 0 → h.block ≢ ix.root → (IsBehindRoot ix.root (spot h) → ⊥) → ⊥
+    not_more : h.depth ≡ 0 → h.block ≢ ix.root → (IsAfterRoot ix.root (spot h) → ⊥) → ⊥
     not_more top not_root not_behind = elim (root_part at ix.root xs h.place h.block root_level (there pages chain t h)) [
       | inl is ↦ not_root is
-      | inr b ↦ not_behind (subst (IsBehindRoot ix.root) (sym (spot_is pages chain t h)) b)
+      | inr b ↦ not_behind (subst (IsAfterRoot ix.root) (sym (spot_is pages chain t h)) b)
     ]
       where
         root_level : IsRootLevel at ix.root xs
@@ -180,7 +180,7 @@ module _ (pages : List Page) (stand : StandAtTheirBlocks pages) (chain : ℕ →
     ]
 
     item_at : (i : Item h) → slice_get (from_low (spot_after at first_spot (take h.place xs)).low (at h.block).links) i.item ≡ Some i.link
-    item_at i = subst (λ (s : Spot). slice_get (from_low s.low (at h.block).links) i.item ≡ Some i.link) (spot_is pages chain t h) i.is
+    item_at i = subst (λ (s : LeftContext). slice_get (from_low s.low (at h.block).links) i.item ≡ Some i.link) (spot_is pages chain t h) i.is
 
     item_due : (i : Item h) → IsDue at first_spot ys i.link
     item_due i =
@@ -206,7 +206,7 @@ module _ (pages : List Page) (stand : StandAtTheirBlocks pages) (chain : ℕ →
     child_spot i child same = same_spot pages chain t child (ix.top - suc h.depth) (item_due i).place (omega arith) ((item_due i).there ∙ ap Some same)
 
     bound_right : (i : Item h) (child : Here ix) → i.link.child ≡ child.block → i.link.bound ≡ (spot child).low
-    bound_right i child same = (item_due i).bound ∙ ap (λ (s : Spot). s.low) (sym (child_spot i child same))
+    bound_right i child same = (item_due i).bound ∙ ap (λ (s : LeftContext). s.low) (sym (child_spot i child same))
 
     -- a page that is to have a downlink has one
     linked : 0 < h.depth → (IsUnlinked h → ⊥) → ((above : Here ix) (i : Item above) → above.depth < h.depth → i.link.child ≢ h.block) → ⊥
@@ -217,7 +217,7 @@ module _ (pages : List Page) (stand : StandAtTheirBlocks pages) (chain : ℕ →
         let alive = live_so (node h).state (ix.top - h.depth) (spot h) (node h) place_fits (λ dead. not_unlinked (inl dead)) in
         let clear = bool_so (spot h).behind (λ behind. not_unlinked (inr behind)) in
         let among = is_due at first_spot xs h.place own
-        (there pages chain t h) refl alive (ap (λ (s : Spot). s.behind) (sym spot_told) ∙ clear) in
+        (there pages chain t h) refl alive (ap (λ (s : LeftContext). s.behind) (sym spot_told) ∙ clear) in
         had_none (had at first_spot (chain (ix.top - (h.depth - 1))) own
         (subst (λ (l : ℕ). IsAmong own (downlinks at first_spot (chain l))) upper
         (subst (IsAmong own) (sym (t.parents (ix.top - h.depth) (omega arith))) among)))
@@ -230,7 +230,7 @@ module _ (pages : List Page) (stand : StandAtTheirBlocks pages) (chain : ℕ →
             let i : Item above = record {
               item = a.item;
               link = own;
-              is = subst (λ (s : Spot). slice_get (from_low s.low (at a.block).links) a.item ≡ Some own)
+              is = subst (λ (s : LeftContext). slice_get (from_low s.low (at a.block).links) a.item ≡ Some own)
                   (sym (ap (λ (p : Place). p.spot) told)) a.is;
             } in
             none' above i (omega arith) refl
@@ -251,7 +251,7 @@ module _ (pages : List Page) (stand : StandAtTheirBlocks pages) (chain : ℕ →
       where
         differ : Live ≡ HalfDead → ⊥
         differ e = cc
-    leads_to_linked i child same (inr behind) = not_false (sym behind ∙ ap (λ (s : Spot). s.behind) (child_spot i child same) ∙ (item_due i).clear)
+    leads_to_linked i child same (inr behind) = not_false (sym behind ∙ ap (λ (s : LeftContext). s.behind) (child_spot i child same) ∙ (item_due i).clear)
 
   -- no page has two downlinks
   module _ (h : Here ix) (i : Item h) (page : Here ix) (first : Item page) (same : first.link.child ≡ i.link.child) where

@@ -3,7 +3,7 @@ use Rattle.std.proofs.Common.{◌≡◌, ℕ, zero, suc, ◌+◌, ◌<◌, ◌�
 use Rattle.std.proofs.lemmas.Bool.{cases_eq}
 use Rattle.page_codec.specs.declared.page.Page.{Page}
 use Rattle.tree_shape.specs.Nodes.{Node, nodes_of}
-use Rattle.tree_shape.specs.Chains.{Spot, past, first_spot, first_or, IsPlaced, IsRunOf, IsIn, IsNotIn, AreDistinct}
+use Rattle.tree_shape.specs.Chains.{LeftContext, past, first_spot, first_or, IsPlaced, IsRunOf, IsIn, IsNotIn, AreDistinct}
 use Rattle.tree_shape.proofs.Members.{not_in_from}
 use Rattle.damages.specs.Damages.{Index, index_of, or_block, head, Place, next_place, place_at}
 use Rattle.tree_shape.proofs.Few.{few_blocks}
@@ -81,7 +81,7 @@ module _ (pages : List Page) (depth level : ℕ)
       omega (arith, r, size (index_of pages) depth (suc k))
 
   -- from a place on, the walk is a chain
-  run_from : (n k : ℕ) (s : Spot) (o : Option ℕ) → place_at (index_of pages) depth k ≡ record { spot = s; block = o } → k + n ≡ length pages
+  run_from : (n k : ℕ) (s : LeftContext) (o : Option ℕ) → place_at (index_of pages) depth k ≡ record { spot = s; block = o } → k + n ≡ length pages
       → IsRunOf (nodes_of pages) level s (follow (nodes_of pages) n o) None × (first_or (follow (nodes_of pages) n o) None ≡ o)
   run_from zero k s None is sum = (tt, refl)
   run_from zero k s (Some b) is sum = absurd (let lt = few k b (ap (λ (p : Place). p.block) is) in omega arith)
@@ -91,7 +91,7 @@ module _ (pages : List Page) (depth level : ℕ)
       let here = (right k b (ap (λ (p : Place). p.block) is)).placed in (
         (
           subst (λ (o : Option ℕ). IsPlaced (nodes_of pages b) level s o) (sym r.1)
-              (subst (λ (t : Spot). IsPlaced (nodes_of pages b) level t (nodes_of pages b).right) (ap (λ (p : Place). p.spot) is) here),
+              (subst (λ (t : LeftContext). IsPlaced (nodes_of pages b) level t (nodes_of pages b).right) (ap (λ (p : Place). p.spot) is) here),
           r.0,
         ),
         refl,

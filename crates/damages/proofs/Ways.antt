@@ -2,8 +2,8 @@
 use Rattle.std.proofs.Common.{◌≡◌, ◌≢◌, ℕ, zero, suc, ◌-◌, ◌<◌, ◌≤◌, inl, inr, Option, Some, None, List, [], ◌∷◌, length, take, slice_get, refl, sym, ap, subst, ◌∙◌, arith}
 use Rattle.std.proofs.lemmas.Bool.{cases_lt}
 use Rattle.tree_shape.specs.Nodes.{Node}
-use Rattle.tree_shape.specs.Chains.{Spot, past, spot_after, first_spot, IsRunOf, AreDistinct}
-use Rattle.damages.specs.Damages.{or_block, gone_left}
+use Rattle.tree_shape.specs.Chains.{LeftContext, past, spot_after, first_spot, IsRunOf, AreDistinct}
+use Rattle.damages.specs.Damages.{or_block, moved_left}
 use Rattle.damages.proofs.Decided.{no_link}
 use Rattle.damages.proofs.Places.{one_place, placed_at}
 
@@ -13,7 +13,7 @@ place_below (x ∷ xs) zero b e = omega arith
 place_below (x ∷ xs) (suc n) b e = (let r = place_below xs n b e in omega arith)
 
 -- before each place but the first there is one, whose page stands left of it
-left_at : (at : ℕ → Node) (s : Spot) (xs : List ℕ) (q b : ℕ) → slice_get xs (suc q) ≡ Some b
+left_at : (at : ℕ → Node) (s : LeftContext) (xs : List ℕ) (q b : ℕ) → slice_get xs (suc q) ≡ Some b
     → (c : ℕ) × (slice_get xs q ≡ Some c) × ((spot_after at s (take (suc q) xs)).left ≡ Some c)
 left_at at s [] q b e = absurd (no_link e)
 left_at at s (x ∷ xs) zero b e = (x, refl, refl)
@@ -27,21 +27,21 @@ module _ (at : ℕ → Node) (level : ℕ) (xs : List ℕ) (run : IsRunOf at lev
       let left : (at b).left ≡ Some l.0 = (placed_at at level first_spot xs (suc q) b run e).left_is ∙ l.2 in
       subst (λ (n : ℕ). slice_get xs n ≡ Some (or_block (at b).left b)) (let k : q ≡ suc q - 1 = omega arith in k) (l.1 ∙ ap (λ (o : Option ℕ). Some (or_block o b)) (sym left))
 
-  pub gone_to : (n : ℕ) → slice_get xs (p - n) ≡ Some (gone_left at start n)
-  gone_to zero = subst (λ (k : ℕ). slice_get xs k ≡ Some start) (let k : p ≡ p - 0 = omega arith in k) there
-  gone_to (suc n) = subst (λ (k : ℕ). slice_get xs k ≡ Some (gone_left at start (suc n))) (let k : p - n - 1 ≡ p - suc n = omega arith in k) (step (p - n) (gone_left at start n) (gone_to n))
+  pub moved_to : (n : ℕ) → slice_get xs (p - n) ≡ Some (moved_left at start n)
+  moved_to zero = subst (λ (k : ℕ). slice_get xs k ≡ Some start) (let k : p ≡ p - 0 = omega arith in k) there
+  moved_to (suc n) = subst (λ (k : ℕ). slice_get xs k ≡ Some (moved_left at start (suc n))) (let k : p - n - 1 ≡ p - suc n = omega arith in k) (step (p - n) (moved_left at start n) (moved_to n))
 
-  pub gone_first : (used : ℕ) → length xs ≤ used → slice_get xs 0 ≡ Some (gone_left at start used)
-  gone_first used few = subst (λ (k : ℕ). slice_get xs k ≡ Some (gone_left at start used)) (let lt = place_below xs p start there in let k : p - used ≡ 0 = omega arith in k) (gone_to used)
+  pub gone_first : (used : ℕ) → length xs ≤ used → slice_get xs 0 ≡ Some (moved_left at start used)
+  gone_first used few = subst (λ (k : ℕ). slice_get xs k ≡ Some (moved_left at start used)) (let lt = place_below xs p start there in let k : p - used ≡ 0 = omega arith in k) (moved_to used)
 
-  pub never_back : AreDistinct xs → (before met : ℕ) → (at (gone_left at start before)).left ≢ None → met ≤ before
-      → gone_left at start met ≡ gone_left at start (suc before) → ⊥
+  pub never_back : AreDistinct xs → (before met : ℕ) → (at (moved_left at start before)).left ≢ None → met ≤ before
+      → moved_left at start met ≡ moved_left at start (suc before) → ⊥
   never_back distinct before met goes_on earlier same =
-      let one = one_place xs (p - met) (p - suc before) (gone_left at start (suc before)) distinct (gone_to met ∙ ap Some same) (gone_to (suc before)) in
+      let one = one_place xs (p - met) (p - suc before) (moved_left at start (suc before)) distinct (moved_to met ∙ ap Some same) (moved_to (suc before)) in
       elim (cases_lt before p) [
         | inl lt ↦ absurd (omega (arith, one))
         | inr ge ↦ goes_on (ended (let k : p - before ≡ 0 = omega arith in k))
       ]
     where
-      ended : p - before ≡ 0 → (at (gone_left at start before)).left ≡ None
-      ended e = (placed_at at level first_spot xs 0 (gone_left at start before) run (subst (λ (k : ℕ). slice_get xs k ≡ Some (gone_left at start before)) e (gone_to before))).left_is
+      ended : p - before ≡ 0 → (at (moved_left at start before)).left ≡ None
+      ended e = (placed_at at level first_spot xs 0 (moved_left at start before) run (subst (λ (k : ℕ). slice_get xs k ≡ Some (moved_left at start before)) e (moved_to before))).left_is

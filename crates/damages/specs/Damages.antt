@@ -9,7 +9,7 @@ use Rattle.page_codec.specs.declared.page.Page.{Page}
 use Rattle.page_codec.specs.declared.page.PageState.TheVariants.{Live, HalfDead, Deleted}
 use Rattle.tree_shape.specs.KeyPages.{IsUniqueNode}
 use Rattle.tree_shape.specs.Nodes.{Node, nodes_of}
-use Rattle.tree_shape.specs.Chains.{Spot, first_spot, past, from_low, IsBeyond, Rises}
+use Rattle.tree_shape.specs.Chains.{LeftContext, first_spot, past, from_low, IsBeyond, Rises}
 
 -- what a verifier sees: the pages by their blocks, how many are in use, and the root with its level, as the metapage names
 -- them; where there is no metapage block 0, which is on no level
@@ -38,9 +38,9 @@ pub record IsOnLevel (ix : Index) (depth block : ℕ) : Type 0 where
   pub level_is : (ix.at block).level + depth ≡ ix.top
 
 -- so many left links on; a page without one is stayed at
-abbrev pub gone_left : (ℕ → Node) → ℕ → ℕ → ℕ
-gone_left at start zero = start
-gone_left at start (suc steps) = or_block (at (gone_left at start steps)).left (gone_left at start steps)
+abbrev pub moved_left : (ℕ → Node) → ℕ → ℕ → ℕ
+moved_left at start zero = start
+moved_left at start (suc steps) = or_block (at (moved_left at start steps)).left (moved_left at start steps)
 
 abbrev pub first_child : List Downlink → ℕ
 first_child [] = 0
@@ -49,8 +49,8 @@ first_child (link ∷ links) = link.child
 -- the leftmost page of a level: from the root, and else from the first child of the leftmost page above, left links are
 -- followed as far as they lead
 abbrev pub head : Index → ℕ → ℕ
-head ix zero = gone_left ix.at ix.root ix.used
-head ix (suc depth) = gone_left ix.at (first_child (ix.at (head ix depth)).links) ix.used
+head ix zero = moved_left ix.at ix.root ix.used
+head ix (suc depth) = moved_left ix.at (first_child (ix.at (head ix depth)).links) ix.used
 
 -- ... where that way begins,
 abbrev pub start : Index → ℕ → ℕ
@@ -59,14 +59,14 @@ start ix (suc depth) = first_child (ix.at (head ix depth)).links
 
 -- ... and where it is after so many steps
 abbrev pub left_after_steps : Index → ℕ → ℕ → ℕ
-left_after_steps ix depth steps = gone_left ix.at (start ix depth) steps
+left_after_steps ix depth steps = moved_left ix.at (start ix depth) steps
 
 -- a place of a chain: what a walk along right links knows before it, and the block there, if the chain is so long
 pub record Place : Type 0 where
-  pub spot : Spot
+  pub spot : LeftContext
   pub block : Option ℕ
 
-abbrev pub next_place : (ℕ → Node) → Spot → Option ℕ → Place
+abbrev pub next_place : (ℕ → Node) → LeftContext → Option ℕ → Place
 next_place at spot None = record { spot = spot; block = None }
 next_place at spot (Some block) = record { spot = past block (at block) spot; block = (at block).right }
 
@@ -96,7 +96,7 @@ pub record Here (ix : Index) : Type 0 where
 abbrev pub node : {ix : Index} → Here ix → Node
 node {ix} h = ix.at h.block
 
-abbrev pub spot : {ix : Index} → Here ix → Spot
+abbrev pub spot : {ix : Index} → Here ix → LeftContext
 spot {ix} h = (place_at ix h.depth h.place).spot
 
 -- an item of that page, with the page's low for its bound if it is the first
@@ -163,11 +163,11 @@ HasNotBeyond low node =
     ⊎ ((item : ℕ) × (link : Downlink) × (bound : Bound) × (0 < item) × (slice_get node.links item ≡ Some link)
     × (link.bound ≡ Some bound) × (IsBeyond low bound → ⊥))
 
--- right behind the flagged root
-abbrev pub IsBehindRoot : ℕ → Spot → Type 0
-IsBehindRoot root spot = (spot.left ≡ Some root) × (spot.behind ≡ true)
+-- right after the root with an incomplete split
+abbrev pub IsAfterRoot : ℕ → LeftContext → Type 0
+IsAfterRoot root spot = (spot.left ≡ Some root) × (spot.behind ≡ true)
 
--- half-dead, or right behind a flagged page: a page without a downlink
+-- half-dead, or right after a page with an incomplete split: a page without a downlink
 abbrev pub IsUnlinked : {ix : Index} → Here ix → Type 0
 IsUnlinked h = ((node h).state ≡ HalfDead) ⊎ ((spot h).behind ≡ true)
 
@@ -179,8 +179,8 @@ pub record IsSecond {ix : Index} {h : Here ix} (i : Item h) : Type 0 where
   pub same : first.link.child ≡ i.link.child
 
 -- Number by number, what is damaged on the way to the leftmost page,
-abbrev pub IsOfWay : Index → ℕ → ℕ → ℕ → Type 0
-IsOfWay ix depth step number =
+abbrev pub IsOfPath : Index → ℕ → ℕ → ℕ → Type 0
+IsOfPath ix depth step number =
     ((number ≡ 1) × (IsOnLevel ix depth (left_after_steps ix depth step) → ⊥))
     ⊎ ((number ≡ 3) × IsBack ix depth step)
 
@@ -194,7 +194,7 @@ IsOfChain {ix} keys h number =
     ⊎ ((number ≡ 4) × ((node h).state ≡ Deleted))
     ⊎ ((number ≡ 5) × ((node h).state ≡ Live) × (Rises (spot h).low (node h).high → ⊥))
     ⊎ ((number ≡ 6) × HasNotBeyond (spot h).low (node h))
-    ⊎ ((number ≡ 10) × (h.depth ≡ 0) × (h.block ≢ ix.root) × (IsBehindRoot ix.root (spot h) → ⊥))
+    ⊎ ((number ≡ 10) × (h.depth ≡ 0) × (h.block ≢ ix.root) × (IsAfterRoot ix.root (spot h) → ⊥))
     ⊎ ((number ≡ 12) × ((node h).state ≡ HalfDead) × ((spot h).behind ≡ true))
     ⊎ ((number ≡ 13) × (keys ≡ true) × (IsUniqueNode (node h) → ⊥))
 
@@ -215,7 +215,7 @@ IsStray ix block = (0 < block) × (block < ix.used) × ((ix.at block).state ≢ 
 -- There is this damage at this site. Parents and children, and pages on no chain, are seen by `check_parents` alone; what a
 -- unique index asks of bounds and keys on such an index alone.
 abbrev pub IsDamage : {ix : Index} → (parents keys : Bool) → Site ix → ℕ → Type 0
-IsDamage {ix} parents keys (on_way depth step deep) number = IsOfWay ix depth step number
+IsDamage {ix} parents keys (on_way depth step deep) number = IsOfPath ix depth step number
 IsDamage parents keys (on_chain h) number = IsOfChain keys h number
 IsDamage {ix} parents keys (at_child h i) number = (parents ≡ true) × (number ≡ 1)
     × (IsOnLevel ix (suc h.depth) i.link.child → ⊥)

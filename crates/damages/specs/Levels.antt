@@ -7,7 +7,7 @@ use Rattle.tree_shape.specs.KeyPages.{IsUniqueNode}
 use Rattle.tree_shape.specs.Nodes.{Node, nodes_of}
 use Rattle.tree_shape.specs.Chains.{IsRunOf, IsRootLevel, IsIn, IsTreeOf, AreDistinct, first_spot, first_or}
 use Rattle.tree_shape.specs.Tree.{IsMetaOf}
-use Rattle.damages.specs.Damages.{index_of, gone_left, IsOnChain}
+use Rattle.damages.specs.Damages.{index_of, moved_left, IsOnChain}
 
 -- each page is one of the format, and stands at its block
 abbrev pub StandAtTheirBlocks : List Page → Type 0
@@ -24,7 +24,7 @@ pub record HasFirstChild (pages : List Page) (block child : ℕ) : Type 0 where
 -- left links lead from the first block to the second
 pub record LeadsLeft (at : ℕ → Node) (start head : ℕ) : Type 0 where
   pub steps : ℕ
-  pub leads : gone_left at start steps ≡ head
+  pub leads : moved_left at start steps ≡ head
 
 -- from the first child of the leftmost page of the upper chain left links lead to that of the lower one
 abbrev pub IsAbove : List Page → List ℕ → List ℕ → Type 0

@@ -12,13 +12,13 @@ use Rattle.page_action.specs.Contents.{entry_on_live_leaf}
 use Rattle.page_action.specs.States.{State, with_table, after_act}
 use Rattle.page_action.specs.Stored.{IsApartFrom}
 use Rattle.tree_acts.specs.Acts.{MayActWith, TreeLasts, ContentsStay, ContentsGain}
-use Rattle.tree_acts.specs.Leaves.{LeavesStay}
-use Rattle.tree_acts.specs.Trees.{HasTree, HasPlace, HasTrail, PlacesLast, TrailsLast}
+use Rattle.tree_acts.specs.Leaves.{LeafPagesStay}
+use Rattle.tree_acts.specs.Trees.{HasTree, LeadsTo, HasTrail, PlacesLast, TrailsLast}
 use Rattle.tree_acts.proofs.Leaving.{leaves_same}
 use Rattle.tree_acts.proofs.Lows.{lows_same}
 use Rattle.tree_acts.proofs.Overlays.{pages_other}
-use Rattle.descent.specs.Steps.{HoldsAlone, AreApart}
-use Rattle.descent.specs.Shared.{IsRaised, IsInOrder, NumbersStay, OthersRely, SplitsALeaf, FinishesASplit, Does, DeletesALeaf, CleansUp, IsOneStep}
+use Rattle.tree_acts.specs.Steps.{HoldsAlone, AreApart}
+use Rattle.tree_acts.specs.StepEffects.{IsRaised, IsInOrder, NumbersStay, OthersRely, SplitsALeaf, FinishesASplit, StepEffect, DeletesALeaf, CleanupEffect, IsOneActAtMost}
 use Rattle.descent.proofs.Tables.{any_excluded, free_of}
 
 -- nothing of another session's is in the way of changing these pages
@@ -61,7 +61,7 @@ in_order_after st changed order lasts = record { tree = lasts.has; apart = order
 
 -- an act on the shape alone, by which a split is finished
 pub does_finish : (st : State) (session : ℕ) (changed : List Page) → IsInOrder st → MayActWith st changed → TreeLasts st (after_act changed st) → ContentsStay st (after_act changed st)
-    → LeavesStay (Some Shape) st (after_act changed st) → FinishesASplit st (after_act changed st) → AreFree st session changed → Does session (Some Shape) st (after_act changed st)
+    → LeafPagesStay (Some Shape) st (after_act changed st) → FinishesASplit st (after_act changed st) → AreFree st session changed → StepEffect session (Some Shape) st (after_act changed st)
 does_finish st session changed order may lasts stay leaves finishes free = record {
   changes = record { acts = refl; apt = tt; contents = stay };
   flags = finishes;
@@ -83,7 +83,7 @@ said e x was = by (same_entry e x)
 
 -- a place is one whoever holds what
 pub place_held_else : (st : State) (table : Table) (start level : ℕ) (aim : Bound → Bool) (clear : Bool) (block : ℕ)
-    → HasPlace st start level aim clear block → HasPlace (with_table st table) start level aim clear block
+    → LeadsTo st start level aim clear block → LeadsTo (with_table st table) start level aim clear block
 place_held_else st table start level aim clear block place = record { tree = place.tree; in_tree = place.in_tree; place = place.place }
 
 pub trail_held_else : (st : State) (table : Table) (start level block moves : ℕ) → HasTrail st start level block moves → HasTrail (with_table st table) start level block moves
@@ -117,10 +117,10 @@ tree_held_else st table tree = record { tree = tree.tree; stored = tree.stored; 
 
 -- an act that puts an entry which wasn't there, by a session that may let go what it held
 pub does_add : (st : State) (session : ℕ) (e : Entry) (changed : List Page) (table : Table) → IsInOrder st → MayActWith st changed → TreeLasts st (after_act changed st)
-    → ContentsGain e st (after_act changed st) → LeavesStay (Some (Add e)) st (after_act changed st) → entry_on_live_leaf st.pages e ≡ false → SplitsALeaf st (after_act changed st)
+    → ContentsGain e st (after_act changed st) → LeafPagesStay (Some (Add e)) st (after_act changed st) → entry_on_live_leaf st.pages e ≡ false → SplitsALeaf st (after_act changed st)
     → ((other block : ℕ) → other ≢ session → HoldsAlone st.table other block → IsApartFrom block changed)
     → AreApart table → length table ≡ 64 → ((other : ℕ) → other ≢ session → holding_of table other ≡ holding_of st.table other)
-    → Does session (Some (Add e)) st (with_table (after_act changed st) table)
+    → StepEffect session (Some (Add e)) st (with_table (after_act changed st) table)
 does_add st session e changed table order may lasts gain leaves absent splits apart_pages apart many kept = record {
   changes = record {
     acts = refl;
@@ -139,8 +139,8 @@ does_add st session e changed table order may lasts gain leaves absent splits ap
 
 -- what this session holds changed, and nothing else
 pub holds_else : (session : ℕ) (old new : State) (table : Table) → new ≡ with_table old table → IsInOrder old → AreApart table → length table ≡ 64
-    → ((other : ℕ) → other ≢ session → holding_of table other ≡ holding_of old.table other) → Does session None old new
-holds_else session old new table is order apart many kept = subst (λ (st : State). Does session None old st) (sym is) (record {
+    → ((other : ℕ) → other ≢ session → holding_of table other ≡ holding_of old.table other) → StepEffect session None old new
+holds_else session old new table is order apart many kept = subst (λ (st : State). StepEffect session None old st) (sym is) (record {
   changes = refl;
   flags = tt;
   leaves = leaves_same old (with_table old table) refl refl;
@@ -163,12 +163,12 @@ holds_else session old new table is order apart many kept = subst (λ (st : Stat
 })
 
 -- nothing changed
-pub nothing_else : (session : ℕ) (old new : State) → new ≡ old → IsInOrder old → Does session None old new
+pub nothing_else : (session : ℕ) (old new : State) → new ≡ old → IsInOrder old → StepEffect session None old new
 nothing_else session old new same order = holds_else session old new old.table same order order.apart order.holdings (λ other differ. refl)
 
 -- one step: one act, or nothing but who holds what
-pub one_act : (old new : State) (changed : List Page) → new ≡ after_act changed old → IsOneStep old new
-one_act old new changed is = subst (λ (s : State). IsOneStep old s) (sym is) (record {
+pub one_act : (old new : State) (changed : List Page) → new ≡ after_act changed old → IsOneActAtMost old new
+one_act old new changed is = subst (λ (s : State). IsOneActAtMost old s) (sym is) (record {
   acts = inr refl;
   quiet = λ h. absurd (let k : suc old.acts ≡ old.acts = h in omega arith);
   limits = refl;
@@ -177,8 +177,8 @@ one_act old new changed is = subst (λ (s : State). IsOneStep old s) (sym is) (r
   running = refl;
 })
 
-pub one_act_else : (old new : State) (changed : List Page) (table : Table) → new ≡ with_table (after_act changed old) table → IsOneStep old new
-one_act_else old new changed table is = subst (λ (s : State). IsOneStep old s) (sym is) (record {
+pub one_act_else : (old new : State) (changed : List Page) (table : Table) → new ≡ with_table (after_act changed old) table → IsOneActAtMost old new
+one_act_else old new changed table is = subst (λ (s : State). IsOneActAtMost old s) (sym is) (record {
   acts = inr refl;
   quiet = λ h. absurd (let k : suc old.acts ≡ old.acts = h in omega arith);
   limits = refl;
@@ -187,8 +187,8 @@ one_act_else old new changed table is = subst (λ (s : State). IsOneStep old s) 
   running = refl;
 })
 
-pub one_table : (old new : State) (table : Table) → new ≡ with_table old table → IsOneStep old new
-one_table old new table is = subst (λ (s : State). IsOneStep old s) (sym is) (record {
+pub one_table : (old new : State) (table : Table) → new ≡ with_table old table → IsOneActAtMost old new
+one_table old new table is = subst (λ (s : State). IsOneActAtMost old s) (sym is) (record {
   acts = inl refl;
   quiet = λ h. refl;
   limits = refl;
@@ -197,12 +197,12 @@ one_table old new table is = subst (λ (s : State). IsOneStep old s) (sym is) (r
   running = refl;
 })
 
-pub one_nothing : (old new : State) → new ≡ old → IsOneStep old new
+pub one_nothing : (old new : State) → new ≡ old → IsOneActAtMost old new
 one_nothing old new same = one_table old new old.table same
 
 -- an act by which a leaf goes on its way out of the tree
 pub does_delete : (st : State) (session : ℕ) (changed : List Page) → IsInOrder st → MayActWith st changed → TreeLasts st (after_act changed st) → ContentsStay st (after_act changed st)
-    → DeletesALeaf st (after_act changed st) → AreFree st session changed → CleansUp session (Some Shape) st (after_act changed st)
+    → DeletesALeaf st (after_act changed st) → AreFree st session changed → CleanupEffect session (Some Shape) st (after_act changed st)
 does_delete st session changed order may lasts stay deletes free = record {
   changes = record { acts = refl; apt = tt; contents = stay };
   deletes = deletes;
@@ -216,7 +216,7 @@ does_delete st session changed order may lasts stay deletes free = record {
 }
 
 -- a step of a cleanup that changes nothing
-pub cleans_nothing : (session : ℕ) (old new : State) → new ≡ old → IsInOrder old → CleansUp session None old new
+pub cleans_nothing : (session : ℕ) (old new : State) → new ≡ old → IsInOrder old → CleanupEffect session None old new
 cleans_nothing session old new same order =
     let d = nothing_else session old new same order in
     record {

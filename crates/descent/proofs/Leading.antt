@@ -13,15 +13,15 @@ use Rattle.tree_shape.specs.Nodes.{Node, node_of, node_from, nodes_of, links_of}
 use Rattle.tree_shape.specs.Chains.{first_spot}
 use Rattle.tree_shape.proofs.Places.{IsCoverAt, cover_at}
 use Rattle.tree_shape.specs.Walks.{is_within}
-use Rattle.tree_shape.specs.declared.aim.Aim.{Aim}
-use Rattle.tree_acts.specs.Trees.{HasTree, HasPlace, HasCover, HasTrail}
-use Rattle.tree_acts.specs.Ways.{RightIsThere, IsArrival, AreWhole}
-use Rattle.tree_acts.proofs.Telling.{passed_tells, live_tells, internal_tells, straight_tells, trail_begins_here, trail_goes_right, trail_is_short_here}
+use Rattle.tree_shape.specs.declared.aim.SearchKey.{SearchKey}
+use Rattle.tree_acts.specs.Trees.{HasTree, LeadsTo, HasCover, HasTrail}
+use Rattle.tree_acts.specs.Ways.{RightIsThere, IsArrival, NoneIsIncomplete}
+use Rattle.tree_acts.proofs.Meanings.{passed_shows, live_shows, internal_shows, straight_shows, trail_begins_here, trail_moves_right, trail_is_short_here}
 use Rattle.tree_acts.proofs.Finishing.{covered}
 use Rattle.tree_acts.proofs.Lasting.{on_level}
 use Rattle.tree_acts.proofs.Words.{cover_in}
-use Rattle.descent.specs.Onward.{IsOnWay, LeadsOnward, LeadsStraight, right_from, right_of, going, DownTo}
-use Rattle.descent.specs.declared.way.Way.{Way}
+use Rattle.descent.specs.NextPage.{IsOnDescent, LeadsToNext, LeadsStraight, right_from, right_of, going, DownTo}
+use Rattle.descent.specs.declared.way.Position.{Position}
 
 -- an internal page of the format has downlinks that ascend from minus infinity
 internal_links : (page : Page) (level : ℕ) → IsPage page → page.level ≡ suc level → 0 < page.block → Ascends LinkBefore (links_of page.items) × StartsLow (links_of page.items)
@@ -32,33 +32,33 @@ internal_links page level admitted is above = by page.items refl admitted.kind
     by (Entries v) same h = absurd (let z : page.level ≡ 0 = h.level in omega arith)
     by (Downlinks v) same h = rw same (h.links.ascends, h.first)
 
-module _ (st : State) (start : ℕ) (clear : Bool) (aim : Aim) (to most : ℕ) (page : Page) (way : Way) (h : HasTree st) (found : slice_get st.pages way.block ≡ Some page)
-    (on : IsOnWay st start (aim_of aim) clear to way) (whole : clear ≡ true → page.split ≡ false) (few : length st.pages ≤ most) where
+module _ (st : State) (start : ℕ) (clear : Bool) (aim : SearchKey) (to most : ℕ) (page : Page) (way : Position) (h : HasTree st) (found : slice_get st.pages way.block ≡ Some page)
+    (on : IsOnDescent st start (aim_of aim) clear to way) (whole : clear ≡ true → page.split ≡ false) (few : length st.pages ≤ most) where
   at_block : page.block ≡ way.block
   at_block = (stored_page st.limits way.block st.pages page h.stored found).block_is
 
   found_there : slice_get st.pages page.block ≡ Some page
   found_there = subst (λ (b : ℕ). slice_get st.pages b ≡ Some page) (sym at_block) found
 
-  place_there : HasPlace st start way.level (aim_of aim) clear page.block
-  place_there = subst (HasPlace st start way.level (aim_of aim) clear) (sym at_block) on.place
+  place_there : LeadsTo st start way.level (aim_of aim) clear page.block
+  place_there = subst (LeadsTo st start way.level (aim_of aim) clear) (sym at_block) on.place
 
   arrival : page.state ≡ Live → IsArrival st way.level (aim_of aim) page
-  arrival alive = live_tells st start way.level (aim_of aim) clear page h found_there place_there alive
+  arrival alive = live_shows st start way.level (aim_of aim) clear page h found_there place_there alive
 
   -- a live page is on its level
   pub on_its_level : page.state ≡ Live → page.level ≢ way.level → ⊥
   on_its_level alive ne = ne (arrival alive).level_is
 
   -- a page that has to be passed leads right
-  pub leads_right : (page.state ≢ Live) ⊎ (is_within (aim_of aim) page.high ≡ false) → LeadsOnward st start (aim_of aim) clear to way (going (right_of page way most))
-  leads_right why = go (passed_tells st start way.level (aim_of aim) clear page h found_there place_there (record { why = why; whole = whole }))
+  pub leads_right : (page.state ≢ Live) ⊎ (is_within (aim_of aim) page.high ≡ false) → LeadsToNext st start (aim_of aim) clear to way (going (right_of page way most))
+  leads_right why = go (passed_shows st start way.level (aim_of aim) clear page h found_there place_there (record { why = why; whole = whole }))
     where
-      go : RightIsThere st start way.level (aim_of aim) clear page → LeadsOnward st start (aim_of aim) clear to way (going (right_of page way most))
+      go : RightIsThere st start way.level (aim_of aim) clear page → LeadsToNext st start (aim_of aim) clear to way (going (right_of page way most))
       go r =
           let short = trail_is_short_here st start way.level way.block way.moves h on.trail in
-          let on_right = trail_goes_right st start way.level way.moves r.to page h found_there r.right_is (subst (λ (b : ℕ). HasTrail st start way.level b way.moves) (sym at_block) on.trail) in
-          subst (λ (o : Option ℕ). LeadsOnward st start (aim_of aim) clear to way (going (right_from o way most))) (sym r.right_is)
+          let on_right = trail_moves_right st start way.level way.moves r.to page h found_there r.right_is (subst (λ (b : ℕ). HasTrail st start way.level b way.moves) (sym at_block) on.trail) in
+          subst (λ (o : Option ℕ). LeadsToNext st start (aim_of aim) clear to way (going (right_from o way most))) (sym r.right_is)
           (rw (lt-ltb way.moves most (omega arith)) (record { not_below = on.not_below; place = r.place; trail = on_right }))
 
   covers : page.state ≡ Live → is_within (aim_of aim) page.high ≡ true → HasCover st way.level (aim_of aim) page.block
@@ -69,7 +69,7 @@ module _ (st : State) (start : ℕ) (clear : Bool) (aim : Aim) (to most : ℕ) (
   leads_here alive within is = (is, subst (λ (b : ℕ). HasCover st to (aim_of aim) b) at_block (subst (λ (k : ℕ). HasCover st k (aim_of aim) page.block) is (covers alive within)))
 
   -- a page above it leads down
-  pub leads_down : page.state ≡ Live → is_within (aim_of aim) page.high ≡ true → to < way.level → (r : Option Way) → DownTo page way aim r → LeadsOnward st start (aim_of aim) clear to way (going r)
+  pub leads_down : page.state ≡ Live → is_within (aim_of aim) page.high ≡ true → to < way.level → (r : Option Position) → DownTo page way aim r → LeadsToNext st start (aim_of aim) clear to way (going r)
   leads_down alive within lower r down = by way.level refl r down
     where
       links_at : (level : ℕ) → way.level ≡ suc level → Ascends LinkBefore (links_of page.items) × StartsLow (links_of page.items)
@@ -79,15 +79,15 @@ module _ (st : State) (start : ℕ) (clear : Bool) (aim : Aim) (to most : ℕ) (
           let above : 0 < page.block = (h.tree.is.in_use (suc level) page.block w.0 w.1).0 in
           internal_links page level (stored_page st.limits way.block st.pages page h.stored found).storable.admitted ((arrival alive).level_is ∙ is) above
 
-      by : (level : ℕ) → way.level ≡ level → (r : Option Way) → DownTo page way aim r → LeadsOnward st start (aim_of aim) clear to way (going r)
+      by : (level : ℕ) → way.level ≡ level → (r : Option Position) → DownTo page way aim r → LeadsToNext st start (aim_of aim) clear to way (going r)
       by zero is r down = absurd (omega arith)
       by (suc level) is None down = (let l = links_at level is in absurd (down l.0 l.1))
       by (suc level) is (Some child) down =
           let l = links_at level is in
           let t : IsToward (links_of page.items) (aim_of aim) child.block = down.2 l.0 l.1 in
           let same : child.level ≡ level = (let a = down.0 in omega arith) in
-          let place = subst (λ (k : ℕ). HasPlace st start k (aim_of aim) clear child.block) (sym same)
-          (internal_tells st start level (aim_of aim) clear page h found_there (subst (λ (k : ℕ). HasCover st k (aim_of aim) page.block) is (covers alive within))
+          let place = subst (λ (k : ℕ). LeadsTo st start k (aim_of aim) clear child.block) (sym same)
+          (internal_shows st start level (aim_of aim) clear page h found_there (subst (λ (k : ℕ). HasCover st k (aim_of aim) page.block) is (covers alive within))
           t.before t.bound child.block t.after t.links_are t.beyond) in
           record {
             not_below = omega arith;
@@ -95,8 +95,8 @@ module _ (st : State) (start : ℕ) (clear : Bool) (aim : Aim) (to most : ℕ) (
             trail = subst (HasTrail st start child.level child.block) (sym down.1) (trail_begins_here st start child.level (aim_of aim) clear child.block h place);
           }
 
--- where no page is flagged, from a page that covers what is looked for
-module _ (st : State) (aim : Aim) (to : ℕ) (page : Page) (way : Way) (h : HasTree st) (whole : AreWhole st.pages) (found : slice_get st.pages way.block ≡ Some page)
+-- where no page has an incomplete split, from a page that covers what is looked for
+module _ (st : State) (aim : SearchKey) (to : ℕ) (page : Page) (way : Position) (h : HasTree st) (whole : NoneIsIncomplete st.pages) (found : slice_get st.pages way.block ≡ Some page)
     (cover : HasCover st way.level (aim_of aim) way.block) where
   cover_block : page.block ≡ way.block
   cover_block = (stored_page st.limits way.block st.pages page h.stored found).block_is
@@ -133,10 +133,10 @@ module _ (st : State) (aim : Aim) (to : ℕ) (page : Page) (way : Way) (h : HasT
       internal_links page level (stored_page st.limits way.block st.pages page h.stored found).storable.admitted
       (sym (ap (λ (n : Node). n.level) here) ∙ on_level st h.tree way.level way.block w.0 w.1 ∙ is) above
 
-  pub leads_straight_down : to < way.level → (r : Option Way) → DownTo page way aim r → LeadsStraight st (aim_of aim) to way (going r)
+  pub leads_straight_down : to < way.level → (r : Option Position) → DownTo page way aim r → LeadsStraight st (aim_of aim) to way (going r)
   leads_straight_down lower r down = by way.level refl r down
     where
-      by : (level : ℕ) → way.level ≡ level → (r : Option Way) → DownTo page way aim r → LeadsStraight st (aim_of aim) to way (going r)
+      by : (level : ℕ) → way.level ≡ level → (r : Option Position) → DownTo page way aim r → LeadsStraight st (aim_of aim) to way (going r)
       by zero is r down = absurd (omega arith)
       by (suc level) is None down = (let l = links_there level is in absurd (down l.0 l.1))
       by (suc level) is (Some child) down =
@@ -145,7 +145,7 @@ module _ (st : State) (aim : Aim) (to : ℕ) (page : Page) (way : Way) (h : HasT
           let same : child.level ≡ level = (let a = down.0 in omega arith) in (
             down.0,
             subst (λ (k : ℕ). HasCover st k (aim_of aim) child.block) (sym same)
-                (straight_tells st level (aim_of aim) page h whole cover_found
+                (straight_shows st level (aim_of aim) page h whole cover_found
                 (subst (λ (b : ℕ). HasCover st (suc level) (aim_of aim) b) (sym cover_block) (subst (λ (k : ℕ). HasCover st k (aim_of aim) way.block) is cover))
                 t.before t.bound child.block t.after t.links_are t.beyond t.up_to_next),
           )

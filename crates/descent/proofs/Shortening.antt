@@ -1,17 +1,17 @@
 -- A way that leads on gets shorter, and none is as long as a walk.
 use Rattle.std.proofs.Common.{◌≡◌, ◌⊎◌, ℕ, suc, ◌+◌, ◌*◌, ◌<◌, ◌≤◌, inl, inr, ap, arith}
 use Rattle.std.proofs.Math.Nat.{mul-le-mul_right}
-use Rattle.descent.specs.Onward.{IsShorter, way_left, walk_length}
-use Rattle.descent.specs.declared.way.Way.{Way}
+use Rattle.descent.specs.NextPage.{IsShorter, way_left, walk_length}
+use Rattle.descent.specs.declared.way.Position.{Position}
 
 -- a way is shorter than a walk
-pub walk_is_long : (most : ℕ) (way : Way) → way.level ≤ 255 → way_left most way < walk_length most
+pub walk_is_long : (most : ℕ) (way : Position) → way.level ≤ 255 → way_left most way < walk_length most
 walk_is_long most way low =
     let k : way.level * (most + 4) ≤ 255 * (most + 4) = mul-le-mul_right (most + 4) low in
     omega arith
 
 -- a way that leads on gets shorter
-pub way_shortens : (to most : ℕ) (way on : Way) → IsShorter to most way on → way_left most on < way_left most way
+pub way_shortens : (to most : ℕ) (way on : Position) → IsShorter to most way on → way_left most on < way_left most way
 way_shortens to most way on h = shorter h.shorter
   where
     shorter : (on.level < way.level) ⊎ ((on.level ≡ way.level) × ((on.moves ≡ suc way.moves) × (on.moves ≤ most))) → way_left most on < way_left most way

@@ -6,7 +6,7 @@ use Rattle.latch_table.specs.declared.mode.Mode.{Mode}
 use Rattle.latch_table.specs.declared.mode.Mode.TheVariants.{Shared, Exclusive, Cleanup}
 use Rattle.latch_table.specs.declared.mode.Latch.{Latch}
 use Rattle.latch_table.proofs.Tables.{holding_of-with_holding, holding_of-with_holding_other, is_held_by_another-free}
-use Rattle.descent.specs.Steps.{HoldsAlone, AreApart}
+use Rattle.tree_acts.specs.Steps.{HoldsAlone, AreApart}
 
 or_left_false : (a b : Bool) → (a || b) ≡ false → a ≡ false
 or_left_false true b h = absurd cc

@@ -15,7 +15,7 @@ use Rattle.page_action.specs.Order.{with_changed}
 use Rattle.page_action.specs.Room.{KeepsRoom, HasNoRoomFor}
 use Rattle.page_action.specs.Reuse.{IsFresh, IsFull, is_reusable}
 use Rattle.page_action.specs.States.{State, Backing, IsLater}
-use Rattle.descent.specs.Shared.{causes_of_working, causes_of_acting, lacks_room, count_new, frames_for, first_below, fresh_block, any_is_reusable}
+use Rattle.tree_acts.specs.StepEffects.{causes_of_working, causes_of_acting, lacks_room, count_new, frames_for, first_below, fresh_block, any_is_reusable}
 
 or_left : (a b c : Bool) → (a ≡ true → c ≡ true) → (a || b) ≡ true → (c || b) ≡ true
 or_left true b c f h = rw (f refl) refl
@@ -77,7 +77,7 @@ read_cause st first second third session images frames takes splits block LogFul
 read_cause st first second third session images frames takes splits block TooTall le alive honest used some h = absurd cc
 read_cause st first second third session images frames takes splits block fault le alive honest used some h = h
 
--- a lack of room behind some calls is one from before these
+-- a lack of room after some calls is one from before these
 pub no_room_later : (first second third : Backing) (images : List ℕ) → second.promised ≡ first.promised → lacks_room second third images ≡ true → lacks_room first third images ≡ true
 no_room_later first second third images promised h = subst (λ (n : ℕ). (nat_le n (length images) && nat_lt third.room (count_new third.waiting images)) ≡ true) promised h
 
@@ -107,7 +107,7 @@ fewer_new waiting b (block ∷ blocks) =
     by false true on le = omega (arith, le)
     by false false on le = omega (arith, le)
 
--- an act puts no more blocks behind those that wait than are new
+-- an act puts no more blocks after those that wait than are new
 few_wait : (waiting : List ℕ) (changed : List Page) → length (with_changed waiting changed) ≤ length waiting + count_new waiting (map (λ (page : Page). page.block) changed)
 few_wait waiting [] = omega arith
 few_wait waiting (page ∷ changed) = by (list_any (λ b. b == page.block) waiting) (few_wait waiting changed) (few_wait (waiting ++ page.block ∷ []) changed)

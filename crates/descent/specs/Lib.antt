@@ -1,6 +1,3 @@
 pub mod Causes
-pub mod Steps
-pub mod Ways
-pub mod Onward
-pub mod Shared
+pub mod NextPage
 pub mod Splitting

@@ -6,6 +6,6 @@ mod reading;
 mod splitting;
 mod way;
 
-pub use reading::{ask_for, look, look_at_both, look_to_change};
+pub use reading::{check_latch, read_both, read_exclusive, read_shared};
 pub use splitting::{act_on, read_right, take_block};
-pub use way::{Onward, Way, lead, way_down};
+pub use way::{NextPage, Position, lead, way_down};

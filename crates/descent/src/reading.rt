@@ -7,7 +7,7 @@ ghost use Rattle.page_action.specs.States.{State, Continues};
 ghost use Rattle.page_action.specs.Room.{KeepsRoom};
 ghost use Rattle.page_action.specs.Stored.{IsStored};
 ghost use Rattle.descent.specs.Causes.{causes_of_looked};
-ghost use Rattle.descent.specs.Shared.{causes_of_working, causes_of_reading_any};
+ghost use Rattle.tree_acts.specs.StepEffects.{causes_of_working, causes_of_reading_any};
 
 use index_model::{Fault, Session};
 use latch_table::Mode;
@@ -16,7 +16,7 @@ use page_codec::Page;
 
 /// Brings a page into memory that the session may latch shared, and latches nothing: [`PageStore::view`] shows it. Refused with
 /// `Stopped`, `Blocked`, and with the faults of [`PageStore::fetch`].
-pub fn look<S: PageStore>(store: &mut S, session: Session, block: u32) -> Result<(), Fault>
+pub fn read_shared<S: PageStore>(store: &mut S, session: Session, block: u32) -> Result<(), Fault>
     ensures steps { Continues S.follows store.old store.new }
     ensures state { S.state store.new ≡ S.state store.old }
     ensures has { OnOk result (S.has store.new block) }
@@ -41,13 +41,13 @@ pub fn look<S: PageStore>(store: &mut S, session: Session, block: u32) -> Result
     if store.is_stopped() {
         return Err(Fault::Stopped);
     }
-    ask_for(store, session, block, Mode::Shared)?;
+    check_latch(store, session, block, Mode::Shared)?;
     store.fetch(block)
 }
 
 /// Asks whether another session's hold on the page conflicts, and takes nothing: a step is one moment, so what it latched for
 /// itself alone it would let go at once. Refused with `Blocked` (4).
-pub fn ask_for<S: PageStore>(
+pub fn check_latch<S: PageStore>(
     store: &mut S,
     session: Session,
     block: u32,
@@ -67,7 +67,7 @@ pub fn ask_for<S: PageStore>(
 
 /// Reads a page that the step may change: no other session holds it. Refused with `Stopped`, `Blocked`, and with the faults
 /// of [`PageStore::page`].
-pub fn look_to_change<S: PageStore>(
+pub fn read_exclusive<S: PageStore>(
     store: &mut S,
     session: Session,
     block: u32,
@@ -96,14 +96,14 @@ pub fn look_to_change<S: PageStore>(
     if store.is_stopped() {
         return Err(Fault::Stopped);
     }
-    ask_for(store, session, block, Mode::Exclusive)?;
+    check_latch(store, session, block, Mode::Exclusive)?;
     store.page(block)
 }
 
 /// Reads two pages that the step may change into two that stand ready: no other session holds them. Refused with `Stopped`, then
 /// with `Blocked` for the first page before the second, then with the faults of [`PageStore::fetch`] likewise: what stands in
 /// the two has no meaning then.
-pub fn look_at_both<S: PageStore>(
+pub fn read_both<S: PageStore>(
     store: &mut S,
     session: Session,
     first: u32,
@@ -140,8 +140,8 @@ pub fn look_at_both<S: PageStore>(
     if store.is_stopped() {
         return Err(Fault::Stopped);
     }
-    ask_for(store, session, first, Mode::Exclusive)?;
-    ask_for(store, session, second, Mode::Exclusive)?;
+    check_latch(store, session, first, Mode::Exclusive)?;
+    check_latch(store, session, second, Mode::Exclusive)?;
     store.fetch(first)?;
     store.view(first).copy_to(page);
     match store.fetch(second) {

@@ -8,10 +8,10 @@ ghost use Rattle.page_action.specs.Reuse.{IsFresh};
 ghost use Rattle.page_action.specs.Room.{KeepsRoom};
 ghost use Rattle.page_action.specs.States.{Continues, after_act};
 ghost use Rattle.page_action.specs.Stored.{AreActable};
-ghost use Rattle.descent.specs.Shared.{causes_of_working, causes_of_acting, causes_of_reading_any, causes_of_writing_any, causes_of_splitting_any};
+ghost use Rattle.tree_acts.specs.StepEffects.{causes_of_working, causes_of_acting, causes_of_reading_any, causes_of_writing_any, causes_of_splitting_any};
 ghost use Rattle.descent.specs.Splitting.{RightIsMendable, RightIsStored, RightIsFound, if_read};
 
-use crate::reading::ask_for;
+use crate::reading::check_latch;
 use index_model::{Fault, Session};
 use latch_table::Mode;
 use page_action::{PageStore, find_misplaced};
@@ -19,7 +19,7 @@ use page_codec::Page;
 use tree_shape::may_be_mended;
 
 /// Reads the page to the right of one that is split, if there is one, into a page that stands ready, to mend its left link, and
-/// answers whether there is one. Refused as [`look_to_change`](crate::look_to_change), and with `PageDamaged` for a page that has
+/// answers whether there is one. Refused as [`read_exclusive`](crate::look_to_change), and with `PageDamaged` for a page that has
 /// no left link to mend: the metapage, or a deleted page. Where none was read, what stands in the page has no meaning.
 pub fn read_right<S: PageStore>(
     store: &mut S,
@@ -49,7 +49,7 @@ pub fn read_right<S: PageStore>(
     if store.is_stopped() {
         return Err(Fault::Stopped);
     }
-    ask_for(store, session, block, Mode::Exclusive)?;
+    check_latch(store, session, block, Mode::Exclusive)?;
     store.fetch(block)?;
     let seen = store.view(block);
     if !may_be_mended(seen) {
@@ -76,7 +76,7 @@ pub fn take_block<S: PageStore>(store: &mut S, session: Session) -> Result<u32, 
 {
     let _limits = store.limits();
     match store.fresh() {
-        Ok(block) => match ask_for(store, session, block, Mode::Exclusive) {
+        Ok(block) => match check_latch(store, session, block, Mode::Exclusive) {
             Ok(()) => Ok(block),
             Err(fault) => Err(fault),
         },
@@ -85,7 +85,7 @@ pub fn take_block<S: PageStore>(store: &mut S, session: Session) -> Result<u32, 
 }
 
 /// Changes one to four pages at once, which may be any, and answers the number of the act. Refused with `PageDamaged` for a
-/// page that may not be changed beside those behind it, and with the faults of [`PageStore::act`].
+/// page that may not be changed beside those after it, and with the faults of [`PageStore::act`].
 pub fn act_on<S: PageStore>(store: &mut S, pages: &[Page]) -> Result<u64, Fault>
     requires some { 1 ≤ length pages.now }
     requires few { length pages.now ≤ 4 }

@@ -6,15 +6,15 @@ ghost use Rattle.tree_shape.specs.Aims.{aim_of};
 ghost use Rattle.tree_shape.specs.Tree.{IsMetaOf};
 ghost use Rattle.tree_shape.specs.Walks.{is_within};
 ghost use Rattle.tree_acts.specs.Trees.{HasTree, HasCover};
-ghost use Rattle.tree_acts.specs.Ways.{AreWhole};
-ghost use Rattle.descent.specs.Onward.{IsOnWay, LeadsOnward, LeavesLess, LeadsStraight, IsArrived, way_from, right_of, going, DownTo};
+ghost use Rattle.tree_acts.specs.Ways.{NoneIsIncomplete};
+ghost use Rattle.descent.specs.NextPage.{IsOnDescent, LeadsToNext, DescentIsShorter, LeadsStraight, IsArrived, way_from, right_of, going, DownTo};
 
 use page_codec::{Items, Page, PageState};
-use tree_shape::{Aim, child_toward};
+use tree_shape::{SearchKey, child_toward};
 
 /// The page that a call reads next.
 #[derive(Clone, Copy)]
-pub struct Way {
+pub struct Position {
     /// Its block.
     pub block: u32,
     /// The level that it is to be on, 0 to 31.
@@ -25,15 +25,15 @@ pub struct Way {
 
 /// Where a page leads a call that has read it.
 #[derive(Clone, Copy)]
-pub enum Onward {
+pub enum NextPage {
     /// To this page.
-    Going(Way),
+    Going(Position),
     /// Nowhere: it is the page of the level that covers what is looked for.
     Here,
 }
 
 /// The way from the metapage to the root; None where the page names none.
-pub fn way_down(meta: &Page) -> Option<Way>
+pub fn way_down(meta: &Page) -> Option<Position>
     ensures named { (root : ℕ) → IsMetaOf meta.now root meta.now.level
         → result ≡ Some (way_from root meta.now.level) }
     ensures level { IfSome result (λ way. way.level ≡ meta.now.level) }
@@ -42,7 +42,7 @@ pub fn way_down(meta: &Page) -> Option<Way>
         return None;
     }
     match meta.right {
-        Some(block) => Some(Way {
+        Some(block) => Some(Position {
             block,
             level: meta.level,
             moves: 0,
@@ -58,7 +58,7 @@ fn is_live(state: PageState) -> bool
 }
 
 // Whether it is a live page of another level than it is to be.
-fn is_astray(page: &Page, way: &Way) -> bool
+fn is_astray(page: &Page, way: &Position) -> bool
     ensures live { result ≡ true → page.now.state ≡ PageState.Live }
     ensures level { result ≡ true → page.now.level ≢ way.now.level }
     ensures in_place { result ≡ false → page.now.state ≡ PageState.Live
@@ -68,7 +68,7 @@ fn is_astray(page: &Page, way: &Way) -> bool
 }
 
 // Whether the page is not live, or what is looked for lies beyond its high key.
-fn is_passed(page: &Page, aim: &Aim) -> bool
+fn is_passed(page: &Page, aim: &SearchKey) -> bool
     ensures passed { result ≡ true → (page.now.state ≢ PageState.Live)
         ⊎ (is_within (aim_of aim.now) page.now.high ≡ false) }
     ensures live { result ≡ false → page.now.state ≡ PageState.Live }
@@ -78,11 +78,11 @@ fn is_passed(page: &Page, aim: &Aim) -> bool
 }
 
 // The page to the right, unless so many moves were made.
-fn go_right(page: &Page, way: &Way, most: u32) -> Option<Way>
+fn go_right(page: &Page, way: &Position, most: u32) -> Option<Position>
     ensures { result ≡ right_of page.now way.now most }
 {
     match page.right {
-        Some(block) if way.moves < most => Some(Way {
+        Some(block) if way.moves < most => Some(Position {
             block,
             level: way.level,
             moves: way.moves + 1,
@@ -92,7 +92,7 @@ fn go_right(page: &Page, way: &Way, most: u32) -> Option<Way>
 }
 
 // The child that leads to what is looked for.
-fn go_down(page: &Page, way: &Way, aim: &Aim) -> Option<Way>
+fn go_down(page: &Page, way: &Position, aim: &SearchKey) -> Option<Position>
     requires { 0 < way.now.level }
     ensures { DownTo page.now way.now aim.now result }
 {
@@ -100,7 +100,7 @@ fn go_down(page: &Page, way: &Way, aim: &Aim) -> Option<Way>
         return None;
     };
     match child_toward(links.as_slice(), aim) {
-        Some(block) => Some(Way {
+        Some(block) => Some(Position {
             block,
             level: way.level - 1,
             moves: 0,
@@ -112,20 +112,20 @@ fn go_down(page: &Page, way: &Way, aim: &Aim) -> Option<Way>
 /// Where the page of this way leads a call on its way to the level `to`: right, where it is not live or what is looked for
 /// lies beyond its high key; else down, to a page that is one level lower; or it is the page sought. None where the page is
 /// on another level than it is to be, where a link or a child is missing, or where `most` moves right were made.
-pub fn lead(page: &Page, way: &Way, aim: &Aim, to: u8, most: u32) -> Option<Onward>
+pub fn lead(page: &Page, way: &Position, aim: &SearchKey, to: u8, most: u32) -> Option<NextPage>
     requires { to ≤ way.now.level }
     ensures goes { (st : State) (start : ℕ) (clear : Bool) → HasTree st
         → slice_get st.pages way.now.block ≡ Some page.now
-        → IsOnWay st start (aim_of aim.now) clear to way.now
+        → IsOnDescent st start (aim_of aim.now) clear to way.now
         → (clear ≡ true → page.now.split ≡ false) → length st.pages ≤ most
-        → LeadsOnward st start (aim_of aim.now) clear to way.now result }
-    ensures less { LeavesLess to most way.now result }
-    ensures straight { (st : State) → HasTree st → AreWhole st.pages
+        → LeadsToNext st start (aim_of aim.now) clear to way.now result }
+    ensures less { DescentIsShorter to most way.now result }
+    ensures straight { (st : State) → HasTree st → NoneIsIncomplete st.pages
         → slice_get st.pages way.now.block ≡ Some page.now
         → HasCover st way.now.level (aim_of aim.now) way.now.block
         → LeadsStraight st (aim_of aim.now) to way.now result }
-    ensures here { result ≡ Some Onward.Here → IsArrived page.now (aim_of aim.now) }
-    ensures level { result ≡ Some Onward.Here → page.now.level ≡ to }
+    ensures here { result ≡ Some NextPage.Here → IsArrived page.now (aim_of aim.now) }
+    ensures level { result ≡ Some NextPage.Here → page.now.level ≡ to }
 {
     if is_astray(page, way) {
         return None;
@@ -134,16 +134,16 @@ pub fn lead(page: &Page, way: &Way, aim: &Aim, to: u8, most: u32) -> Option<Onwa
         return going(go_right(page, way, most));
     }
     if way.level == to {
-        return Some(Onward::Here);
+        return Some(NextPage::Here);
     }
     going(go_down(page, way, aim))
 }
 
-fn going(way: Option<Way>) -> Option<Onward>
+fn going(way: Option<Position>) -> Option<NextPage>
     ensures { result ≡ going way }
 {
     match way {
-        Some(way) => Some(Onward::Going(way)),
+        Some(way) => Some(NextPage::Going(way)),
         None => None,
     }
 }

@@ -5,7 +5,7 @@ use Rattle.std.proofs.lemmas.List.{places}
 use Rattle.std.proofs.lemmas.Grind.{common_steps}
 use Rattle.std.proofs.lemmas.Bool.Decides.{nat_tests}
 use Rattle.std.specs.Prelude.{nat_le, if◌then◌else◌, ◌==◌}
-use Rattle.device.specs.Disk.{DiskMoment, Trace, next, first, wrote, synced, put, is_in, MayLeave}
+use Rattle.device.specs.Disk.{DiskMoment, Trace, next, first, wrote, synced, put, is_in, MayCrashTo}
 use Rattle.device.specs.Record.{DeviceCall, Write, Sync, did, done, is_inside, are_inside, written_over, torn, torn_over, synced_calls, synced_over, torn_after_sync}
 use Rattle.device.specs.Memory.{trace_of, left_by}
 use Rattle.device.specs.declared.memory.MemDevice.{MemDevice}
@@ -171,7 +171,7 @@ done-take-drop t zero calls = refl
 done-take-drop t (suc k) [] = refl
 done-take-drop t (suc k) (c ∷ calls) = done-take-drop (did c t) k calls
 
--- behind the last sync there is none
+-- after the last sync there is none
 none_behind : (calls : List DeviceCall) → synced_calls (drop (synced_calls calls) calls) ≡ 0
 none_behind [] = refl
 none_behind (Sync ∷ calls) = none_behind calls
@@ -198,9 +198,9 @@ outside at n i h = elim (cases_lt i at) [
     in_is : (at n i : ℕ) → at ≤ i → i < at + n → is_in at n i ≡ true
     in_is at n i a b = grind (arith, nat_tests)
 
--- what may be left before a write may be left behind it, also with any bytes in its range
-module _ (at : ℕ) (piece image : List ℕ) (m : DiskMoment) (fits : at + length piece ≤ length m.seen) (left : MayLeave m image) where
-  left_alone : MayLeave (wrote at piece m) image
+-- what may be left before a write may be left after it, also with any bytes in its range
+module _ (at : ℕ) (piece image : List ℕ) (m : DiskMoment) (fits : at + length piece ≤ length m.seen) (left : MayCrashTo m image) where
+  left_alone : MayCrashTo (wrote at piece m) image
   left_alone = record {
     same_length = left.same_length ∙ sym (length-put m.seen at piece fits);
     same = λ i firm.
@@ -208,7 +208,7 @@ module _ (at : ℕ) (piece image : List ℕ) (m : DiskMoment) (fits : at + lengt
         left.same i h.0 ∙ sym (put_outside m.seen at piece i fits (outside at (length piece) i h.1));
   }
 
-  left_torn : (q : List ℕ) → length q ≡ length piece → MayLeave (wrote at piece m) (put image at q)
+  left_torn : (q : List ℕ) → length q ≡ length piece → MayCrashTo (wrote at piece m) (put image at q)
   left_torn q same = record {
     same_length = length-put image at q (omega (arith, fits, same, left.same_length)) ∙ (left.same_length ∙ sym (length-put m.seen at piece fits));
     same = λ i firm.
@@ -225,7 +225,7 @@ no_sync zero h = refl
 no_sync (suc n) h = absurd (omega (arith, h, some_more n))
 
 -- with no sync since, a crash may leave what it might have left, and that with each write torn
-left_behind : (t : Trace) (image : List ℕ) (calls : List DeviceCall) → synced_calls calls ≡ 0 → IsTrue (are_inside (length t.now.seen) calls) → MayLeave t.now image → MayLeave (done t calls).now image
+left_behind : (t : Trace) (image : List ℕ) (calls : List DeviceCall) → synced_calls calls ≡ 0 → IsTrue (are_inside (length t.now.seen) calls) → MayCrashTo t.now image → MayCrashTo (done t calls).now image
 left_behind t image [] none inside left = left
 left_behind t image (Sync ∷ calls) none inside left = absurd (omega arith)
 left_behind t image (Write at v ∷ calls) none inside left =
@@ -235,14 +235,14 @@ left_behind t image (Write at v ∷ calls) none inside left =
     (ap (λ (n : ℕ). are_inside n calls) (length-put t.now.seen at v fits) ∙ h.1)
     (left_alone at v image t.now fits left)
 
-left_behind_torn : (t : Trace) (image : List ℕ) (calls : List DeviceCall) → synced_calls calls ≡ 0 → IsTrue (are_inside (length t.now.seen) calls)
-    → MayLeave t.now image → MayLeave (done t calls).now (torn_over image calls)
-left_behind_torn t image [] none inside left = left
-left_behind_torn t image (Sync ∷ calls) none inside left = absurd (omega arith)
-left_behind_torn t image (Write at v ∷ calls) none inside left =
+left_after_torn : (t : Trace) (image : List ℕ) (calls : List DeviceCall) → synced_calls calls ≡ 0 → IsTrue (are_inside (length t.now.seen) calls)
+    → MayCrashTo t.now image → MayCrashTo (done t calls).now (torn_over image calls)
+left_after_torn t image [] none inside left = left
+left_after_torn t image (Sync ∷ calls) none inside left = absurd (omega arith)
+left_after_torn t image (Write at v ∷ calls) none inside left =
     let h = and_true (nat_le (at + length v) (length t.now.seen)) (are_inside (length t.now.seen) calls) inside in
     let fits = inside_is _ at (length v) h.0 in
-    left_behind_torn (did (Write at v) t) (put image at (torn v)) calls (no_sync (synced_calls calls) none)
+    left_after_torn (did (Write at v) t) (put image at (torn v)) calls (no_sync (synced_calls calls) none)
     (ap (λ (n : ℕ). are_inside n calls) (length-put t.now.seen at v fits) ∙ h.1)
     (left_torn at v image t.now fits left (torn v) (length-torn v))
 
@@ -253,8 +253,8 @@ module _ (start : List ℕ) (calls : List DeviceCall) (inside : IsTrue (are_insi
   bytes_at_sync : at_sync.now.seen ≡ synced_over start calls
   bytes_at_sync = seen-done (first start) (take (synced_calls calls) calls)
 
-  behind_inside : IsTrue (are_inside (length at_sync.now.seen) (drop (synced_calls calls) calls))
-  behind_inside =
+  after_inside : IsTrue (are_inside (length at_sync.now.seen) (drop (synced_calls calls) calls))
+  after_inside =
       ap (λ (n : ℕ). are_inside n (drop (synced_calls calls) calls))
       (ap length bytes_at_sync ∙ length-written_over start (take (synced_calls calls) calls) (inside-take (length start) (synced_calls calls) calls inside))
       ∙ inside-drop (length start) (synced_calls calls) calls inside
@@ -263,22 +263,22 @@ module _ (start : List ℕ) (calls : List DeviceCall) (inside : IsTrue (are_insi
   pub since_inside : (firm : List ℕ) (since : List DeviceCall) → firm ≡ synced_over start calls → since ≡ drop (synced_calls calls) calls → IsTrue (are_inside (length firm) since)
   since_inside firm since is from =
       subst (λ (l : List ℕ). IsTrue (are_inside (length l) since)) (bytes_at_sync ∙ sym is)
-      (subst (λ (l : List DeviceCall). IsTrue (are_inside (length at_sync.now.seen) l)) (sym from) behind_inside)
+      (subst (λ (l : List DeviceCall). IsTrue (are_inside (length at_sync.now.seen) l)) (sym from) after_inside)
 
-  stays_at_sync : MayLeave at_sync.now (synced_over start calls)
+  stays_at_sync : MayCrashTo at_sync.now (synced_over start calls)
   stays_at_sync = record { same_length = ap length (sym bytes_at_sync); same = λ i firm. ap (λ (l : List ℕ). get_or l i 0) (sym bytes_at_sync) }
 
-  pub drop_left : MayLeave (done (first start) calls).now (synced_over start calls)
+  pub drop_left : MayCrashTo (done (first start) calls).now (synced_over start calls)
   drop_left =
-      subst (λ (t : Trace). MayLeave t.now (synced_over start calls)) (sym (done-take-drop (first start) (synced_calls calls) calls))
-      (left_behind at_sync (synced_over start calls) (drop (synced_calls calls) calls) (none_behind calls) behind_inside stays_at_sync)
+      subst (λ (t : Trace). MayCrashTo t.now (synced_over start calls)) (sym (done-take-drop (first start) (synced_calls calls) calls))
+      (left_behind at_sync (synced_over start calls) (drop (synced_calls calls) calls) (none_behind calls) after_inside stays_at_sync)
 
-  pub tear_left : MayLeave (done (first start) calls).now (torn_after_sync start calls)
+  pub tear_left : MayCrashTo (done (first start) calls).now (torn_after_sync start calls)
   tear_left =
-      subst (λ (t : Trace). MayLeave t.now (torn_after_sync start calls)) (sym (done-take-drop (first start) (synced_calls calls) calls))
-      (left_behind_torn at_sync (synced_over start calls) (drop (synced_calls calls) calls) (none_behind calls) behind_inside stays_at_sync)
+      subst (λ (t : Trace). MayCrashTo t.now (torn_after_sync start calls)) (sym (done-take-drop (first start) (synced_calls calls) calls))
+      (left_after_torn at_sync (synced_over start calls) (drop (synced_calls calls) calls) (none_behind calls) after_inside stays_at_sync)
 
-pub left_by_a_crash : (m : MemDevice) (image : CrashImage) → MayLeave (trace_of m).now (left_by image m)
+pub left_by_a_crash : (m : MemDevice) (image : CrashImage) → MayCrashTo (trace_of m).now (left_by image m)
 left_by_a_crash m Drop = drop_left m.past.start m.past.calls m.inside
 left_by_a_crash m Keep = seen_stays (trace_of m).now
 left_by_a_crash m Tear = tear_left m.past.start m.past.calls m.inside

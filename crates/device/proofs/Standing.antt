@@ -3,7 +3,7 @@ use Rattle.std.proofs.Common.{◌≡◌, ◌⊎◌, inl, inr, ℕ, suc, ◌+◌,
 use Rattle.std.proofs.lemmas.Bool.{cases_lt}
 use Rattle.std.proofs.lemmas.List.{places, drop_more, get_or-append-add, get_or_append_left}
 use Rattle.std.proofs.lemmas.Bool.Decides.{nat_tests}
-use Rattle.device.specs.Disk.{DiskMoment, MayLeave, put, is_in, wrote, synced}
+use Rattle.device.specs.Disk.{DiskMoment, MayCrashTo, put, is_in, wrote, synced}
 use Rattle.device.specs.Places.{Has, OnDisk, ChangesOnly, IsUntouched}
 
 pub length-put : (file : List ℕ) (at : ℕ) (bytes : List ℕ) → at + length bytes ≤ length file → length (put file at bytes) ≡ length file
@@ -100,17 +100,17 @@ pub synced_on : (at : ℕ) (q : List ℕ) (m : DiskMoment) → Has at q m.seen �
 synced_on at q m h = record { has = h; firm = λ i lt. refl }
 
 -- what is read is one of the images that a crash may leave
-pub seen_stays : (m : DiskMoment) → MayLeave m m.seen
+pub seen_stays : (m : DiskMoment) → MayCrashTo m m.seen
 seen_stays m = record { same_length = refl; same = λ i firm. refl }
 
 -- what stands on the disk is there after a crash
-pub on_image : (at : ℕ) (q : List ℕ) (m : DiskMoment) (c : List ℕ) → OnDisk at q m → MayLeave m c → Has at q c
+pub on_image : (at : ℕ) (q : List ℕ) (m : DiskMoment) (c : List ℕ) → OnDisk at q m → MayCrashTo m c → Has at q c
 on_image at q m c h left = record {
   within = omega (arith, h.has.within, left.same_length);
   each = λ i lt. left.same (at + i) (h.firm i lt) ∙ h.has.each i lt;
 }
 
--- two pieces, one behind the other
+-- two pieces, one after the other
 pub has_front : (at : ℕ) (p q file : List ℕ) → Has at (p ++ q) file → Has at p file
 has_front at p q file h = record {
   within = omega (arith, h.within, length-append p q);
@@ -148,7 +148,7 @@ on_back at p q m h = record {
       ap m.loose e ∙ h.firm (length p + i) (omega (arith, length-append p q));
 }
 
--- the file behind a place where it has these bytes
+-- the file after a place where it has these bytes
 pub has_drop : (at : ℕ) (q file : List ℕ) → Has at q file → drop at file ≡ q ++ drop (at + length q) file
 has_drop at [] file h = let e : at + 0 ≡ at = omega arith in sym (ap (λ (k : ℕ). drop k file) e)
 has_drop at (x ∷ q) file h =

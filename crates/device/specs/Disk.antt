@@ -15,7 +15,7 @@ pub record Trace : Type 0 where
 
 -- what a crash at this moment may leave: any bytes where a range was written since the last sync, the
 -- others as read
-pub record MayLeave (m : DiskMoment) (image : List ℕ) : Type 0 where
+pub record MayCrashTo (m : DiskMoment) (image : List ℕ) : Type 0 where
   pub same_length : length image ≡ length m.seen
   pub same : (i : ℕ) → m.loose i ≡ false → slice_index image i ≡ slice_index m.seen i
 

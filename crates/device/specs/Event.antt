@@ -7,17 +7,17 @@ use Rattle.device.specs.Disk.{Trace, first, next, wrote, synced}
 abbrev pub Event : Type 0
 Event = ℕ × ℕ × ℕ × Bool × List ℕ
 
--- The device behind the call. A write has its effect, also where it failed: a crash may leave any bytes in its range, and no read
+-- The device after the call. A write has its effect, also where it failed: a crash may leave any bytes in its range, and no read
 -- that follows is made. A sync has its effect where it succeeded.
 abbrev pub behind_call : Event → Trace → Trace
 behind_call e t =
     if e.0 == 1 then next (wrote e.1 e.4 t.now) t
     else (if e.0 == 2 && e.3 then next (synced t.now) t else t)
 
--- ... behind all of them
-abbrev pub behind_calls : List ℕ → List Event → Trace
-behind_calls start [] = first start
-behind_calls start (e ∷ events) = behind_call e (behind_calls start events)
+-- ... after all of them
+abbrev pub after_calls : List ℕ → List Event → Trace
+after_calls start [] = first start
+after_calls start (e ∷ events) = behind_call e (after_calls start events)
 
 -- how many of them failed
 abbrev pub failed_in : List Event → ℕ
@@ -35,7 +35,7 @@ same_bytes (x ∷ xs) (y ∷ ys) = x == y && same_bytes xs ys
 abbrev pub is_right : List ℕ → Event → List Event → Bool
 is_right start e events =
     if e.0 == 0 && e.3
-    then same_bytes e.4 (slice_range (behind_calls start events).now.seen e.1 (e.1 + length e.4))
+    then same_bytes e.4 (slice_range (after_calls start events).now.seen e.1 (e.1 + length e.4))
     else true
 
 -- each of them did

@@ -1,6 +1,6 @@
 -- What holds at each moment since an earlier one.
 use Rattle.std.specs.Prelude.{◌≡◌, ◌⊎◌, ℕ, List, [], ◌∷◌, ◌++◌}
-use Rattle.device.specs.Disk.{DiskMoment, Trace, MayLeave}
+use Rattle.device.specs.Disk.{DiskMoment, Trace, MayCrashTo}
 
 -- P holds of each
 abbrev pub Each : (DiskMoment → Type 0) → List DiskMoment → Type 0
@@ -8,7 +8,7 @@ Each P [] = Unit {0}
 Each P (m ∷ ms) = P m × Each P ms
 
 -- from old on, a device came to new, and P held at each moment since (at old itself it need not)
-pub record Goes (P : DiskMoment → Type 0) (old new : Trace) : Type 0 where
+pub record AtEachMoment (P : DiskMoment → Type 0) (old new : Trace) : Type 0 where
   pub since : List DiskMoment
   pub is : new.now ∷ new.past ≡ since ++ old.now ∷ old.past
   pub each : Each P since
@@ -19,7 +19,7 @@ AtSome P [] = ⊥
 AtSome P (m ∷ ms) = P m ⊎ AtSome P ms
 
 -- a crash at old, or at a moment since, may have left this image
-pub record MayHaveLeft (old new : Trace) (image : List ℕ) : Type 0 where
+pub record MayHaveCrashedTo (old new : Trace) (image : List ℕ) : Type 0 where
   pub since : List DiskMoment
   pub is : new.now ∷ new.past ≡ since ++ old.now ∷ old.past
-  pub left : AtSome (λ m. MayLeave m image) (since ++ old.now ∷ [])
+  pub left : AtSome (λ m. MayCrashTo m image) (since ++ old.now ∷ [])

@@ -13,7 +13,7 @@ abbrev pub fate_of : Plan → Fate
 fate_of plan = if plan.stopped then Dead
     else if (plan.fail_in == 1) || (plan.stop_in == 1) then Fails else Runs
 
--- the plan for the calls behind the next one
+-- the plan for the calls after the next one
 abbrev pub after_call : Plan → Plan
 after_call plan = record {
   fail_in = plan.fail_in - 1;

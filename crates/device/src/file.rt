@@ -3,7 +3,7 @@
 
 ghost use Rattle.std.specs.Prelude.{◌≡◌, ◌↔◌, ◌+◌, ◌<◌, ◌≤◌, ◌^◌, ◌∷◌, [], ℕ, List, true, false, IsTrue, Err, length, OnOk, OnErr, IfOk, IfErr};
 ghost use Rattle.device.specs.Disk.{first, next, wrote, Reads, Writes, Syncs, CountsFailures};
-ghost use Rattle.device.specs.Event.{behind_calls, failed_in, are_right};
+ghost use Rattle.device.specs.Event.{after_calls, failed_in, are_right};
 ghost use Rattle.device.specs.Unknown.{some_bytes, length-some_bytes};
 
 use crate::device::Device;
@@ -48,15 +48,15 @@ pub struct FileDevice<S: Start> {
     start: PhantomData<S>,
     events: Events,
     stopped: bool,
-    ghost sized: { length (behind_calls (S.Start.bytes len) events.list).now.seen ≡ len },
-    ghost small: { length (behind_calls (S.Start.bytes len) events.list).now.seen < 2 ^ 63 },
+    ghost sized: { length (after_calls (S.Start.bytes len) events.list).now.seen ≡ len },
+    ghost small: { length (after_calls (S.Start.bytes len) events.list).now.seen < 2 ^ 63 },
 }
 
 impl<S: Start> FileDevice<S> {
     /// A file of so many bytes, before any call.
     fn of_file(file: File, len: u64) -> FileDevice<S>
         requires { len < 2 ^ 63 }
-        ensures held { behind_calls (S.Start.bytes result.len) result.events.list
+        ensures held { after_calls (S.Start.bytes result.len) result.events.list
             ≡ first (S.Start.bytes len) }
         ensures honest { are_right (S.Start.bytes result.len) result.events.list ≡ true }
         ensures failures { failed_in result.events.list ≡ 0 }
@@ -80,7 +80,7 @@ impl<S: Start> FileDevice<S> {
         len: u64,
     ) -> Result<FileDevice<S>, Fault>
         // It holds what S says of so many bytes, all synced, and no call of it was made.
-        ensures held { IfOk result (λ d. behind_calls (S.Start.bytes d.len) d.events.list
+        ensures held { IfOk result (λ d. after_calls (S.Start.bytes d.len) d.events.list
             ≡ first (S.Start.bytes len)) }
         ensures honest { IfOk result
             (λ d. are_right (S.Start.bytes d.len) d.events.list ≡ true) }
@@ -111,7 +111,7 @@ impl<S: Start> FileDevice<S> {
     /// call fails, as where the disk has no room. What the file holds then isn't known. It is closed where it is refused.
     pub fn made(file: File, len: u64, filled: u64) -> Result<FileDevice<S>, Fault>
         // It holds what S says of so many bytes, all synced, and no call of it was made.
-        ensures held { IfOk result (λ d. behind_calls (S.Start.bytes d.len) d.events.list
+        ensures held { IfOk result (λ d. after_calls (S.Start.bytes d.len) d.events.list
             ≡ first (S.Start.bytes len)) }
         ensures honest { IfOk result
             (λ d. are_right (S.Start.bytes d.len) d.events.list ≡ true) }
@@ -129,7 +129,7 @@ impl<S: Start> FileDevice<S> {
     /// A file that is there, for reading and writing, with all its bytes; or a block device. It is synced first, so that what
     /// it holds stands through a crash. Refused with `Io`, and so where another has the file's lock; nothing is changed then.
     pub fn open<R: Files<File = File>>(rt: &R, path: &str) -> Result<FileDevice<S>, Fault>
-        ensures held { IfOk result (λ d. behind_calls (S.Start.bytes d.len) d.events.list
+        ensures held { IfOk result (λ d. after_calls (S.Start.bytes d.len) d.events.list
             ≡ first (S.Start.bytes d.len)) }
         ensures honest { IfOk result
             (λ d. are_right (S.Start.bytes d.len) d.events.list ≡ true) }
@@ -147,7 +147,7 @@ impl<S: Start> FileDevice<S> {
     /// that what it holds stands through a crash. Refused with `Io` where another has the file's lock, where it is neither
     /// a file nor a block device, or a call fails: nothing is changed then, and it is closed.
     pub fn held(file: File) -> Result<FileDevice<S>, Fault>
-        ensures held { IfOk result (λ d. behind_calls (S.Start.bytes d.len) d.events.list
+        ensures held { IfOk result (λ d. after_calls (S.Start.bytes d.len) d.events.list
             ≡ first (S.Start.bytes d.len)) }
         ensures honest { IfOk result
             (λ d. are_right (S.Start.bytes d.len) d.events.list ≡ true) }
@@ -179,7 +179,7 @@ impl<S: Start> FileDevice<S> {
 
     /// Notes a write or a sync that failed: from now on each call answers `Io`.
     fn stop(&mut self, kind: u64, at: u64, bytes: &[u8]) -> Fault
-        requires range { kind ≡ 1 → at + length bytes.now ≤ length (behind_calls
+        requires range { kind ≡ 1 → at + length bytes.now ≤ length (after_calls
             (S.Start.bytes self.old.len) self.old.events.list).now.seen }
         ensures noted { self.new.events.list
             ≡ (kind, at, 0, false, bytes.now) ∷ self.old.events.list }
@@ -275,7 +275,7 @@ fn fill_at(file: &File, at: u64, zeros: &[u8]) -> Result<(), Fault>
     }
 }
 
-/// Syncs the folder of a path: so a name that was given or taken there, by a link, a removal or a new file, is so behind a
+/// Syncs the folder of a path: so a name that was given or taken there, by a link, a removal or a new file, is so after a
 /// crash too. Refused with `Io`, as where the folder isn't there or may not be read.
 pub fn sync_folder<R: Files<File = File>>(rt: &R, path: &str) -> Result<(), Fault>
     ensures fault { IfErr result (λ e. e ≡ Fault.Io) }
@@ -299,7 +299,7 @@ pub fn sync_folder<R: Files<File = File>>(rt: &R, path: &str) -> Result<(), Faul
 }
 
 impl<S: Start> Device for FileDevice<S> {
-    ghost trace = { λ d. behind_calls (S.Start.bytes d.len) d.events.list };
+    ghost trace = { λ d. after_calls (S.Start.bytes d.len) d.events.list };
 
     ghost failures = { λ d. failed_in d.events.list };
 
@@ -312,17 +312,17 @@ impl<S: Start> Device for FileDevice<S> {
     }
 
     fn read_at(&mut self, at: u64, buf: &mut [u8]) -> Result<(), Fault>
-        requires range { at + length buf.old ≤ length (behind_calls
+        requires range { at + length buf.old ≤ length (after_calls
             (S.Start.bytes self.old.len) self.old.events.list).now.seen }
         ensures read { IsTrue (are_right (S.Start.bytes self.new.len) self.new.events.list)
-            → OnOk result (Reads (behind_calls (S.Start.bytes self.old.len) self.old.events.list)
+            → OnOk result (Reads (after_calls (S.Start.bytes self.old.len) self.old.events.list)
             at buf.old buf.new) }
         ensures honest { IsTrue (are_right (S.Start.bytes self.new.len) self.new.events.list)
             ↔ (IsTrue (are_right (S.Start.bytes self.old.len) self.old.events.list)
-            × OnOk result (Reads (behind_calls (S.Start.bytes self.old.len) self.old.events.list)
+            × OnOk result (Reads (after_calls (S.Start.bytes self.old.len) self.old.events.list)
             at buf.old buf.new)) }
-        ensures trace { behind_calls (S.Start.bytes self.new.len) self.new.events.list
-            ≡ behind_calls (S.Start.bytes self.old.len) self.old.events.list }
+        ensures trace { after_calls (S.Start.bytes self.new.len) self.new.events.list
+            ≡ after_calls (S.Start.bytes self.old.len) self.old.events.list }
         ensures failures { CountsFailures result (failed_in self.old.events.list)
             (failed_in self.new.events.list) }
         ensures stopped { self.old.stopped ≡ true → result ≡ Err Fault.Io }
@@ -344,13 +344,13 @@ impl<S: Start> Device for FileDevice<S> {
     }
 
     fn write_at(&mut self, at: u64, bytes: &[u8]) -> Result<(), Fault>
-        requires range { at + length bytes.now ≤ length (behind_calls
+        requires range { at + length bytes.now ≤ length (after_calls
             (S.Start.bytes self.old.len) self.old.events.list).now.seen }
         ensures trace { Writes at bytes.now result
-            (behind_calls (S.Start.bytes self.old.len) self.old.events.list)
-            (behind_calls (S.Start.bytes self.new.len) self.new.events.list) }
-        ensures len { length (behind_calls (S.Start.bytes self.new.len) self.new.events.list).now.seen
-            ≡ length (behind_calls (S.Start.bytes self.old.len) self.old.events.list).now.seen }
+            (after_calls (S.Start.bytes self.old.len) self.old.events.list)
+            (after_calls (S.Start.bytes self.new.len) self.new.events.list) }
+        ensures len { length (after_calls (S.Start.bytes self.new.len) self.new.events.list).now.seen
+            ≡ length (after_calls (S.Start.bytes self.old.len) self.old.events.list).now.seen }
         ensures honest { are_right (S.Start.bytes self.new.len) self.new.events.list
             ≡ are_right (S.Start.bytes self.old.len) self.old.events.list }
         ensures failures { CountsFailures result (failed_in self.old.events.list)
@@ -359,13 +359,13 @@ impl<S: Start> Device for FileDevice<S> {
         ensures stops { OnErr result (self.new.stopped ≡ true) }
         // One that was made and failed leaves any bytes in its range; one that was not made leaves all as it was.
         ensures loose { self.old.stopped ≡ false → OnErr result
-            (behind_calls (S.Start.bytes self.new.len) self.new.events.list
+            (after_calls (S.Start.bytes self.new.len) self.new.events.list
             ≡ next (wrote at bytes.now
-            (behind_calls (S.Start.bytes self.old.len) self.old.events.list).now)
-            (behind_calls (S.Start.bytes self.old.len) self.old.events.list)) }
+            (after_calls (S.Start.bytes self.old.len) self.old.events.list).now)
+            (after_calls (S.Start.bytes self.old.len) self.old.events.list)) }
         ensures not_made { self.old.stopped ≡ true
-            → behind_calls (S.Start.bytes self.new.len) self.new.events.list
-            ≡ behind_calls (S.Start.bytes self.old.len) self.old.events.list }
+            → after_calls (S.Start.bytes self.new.len) self.new.events.list
+            ≡ after_calls (S.Start.bytes self.old.len) self.old.events.list }
     {
         if self.stopped {
             return Err(self.refuse());
@@ -381,10 +381,10 @@ impl<S: Start> Device for FileDevice<S> {
 
     fn sync(&mut self) -> Result<(), Fault>
         ensures trace { Syncs result
-            (behind_calls (S.Start.bytes self.old.len) self.old.events.list)
-            (behind_calls (S.Start.bytes self.new.len) self.new.events.list) }
-        ensures len { length (behind_calls (S.Start.bytes self.new.len) self.new.events.list).now.seen
-            ≡ length (behind_calls (S.Start.bytes self.old.len) self.old.events.list).now.seen }
+            (after_calls (S.Start.bytes self.old.len) self.old.events.list)
+            (after_calls (S.Start.bytes self.new.len) self.new.events.list) }
+        ensures len { length (after_calls (S.Start.bytes self.new.len) self.new.events.list).now.seen
+            ≡ length (after_calls (S.Start.bytes self.old.len) self.old.events.list).now.seen }
         ensures honest { are_right (S.Start.bytes self.new.len) self.new.events.list
             ≡ are_right (S.Start.bytes self.old.len) self.old.events.list }
         ensures failures { CountsFailures result (failed_in self.old.events.list)

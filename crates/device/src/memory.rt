@@ -1,7 +1,7 @@
 //! A device in memory.
 
 ghost use Rattle.std.specs.Prelude.{◌≡◌, ◌⊎◌, ◌↔◌, ◌+◌, ◌<◌, ◌≤◌, ◌^◌, suc, Bool, true, IsTrue, IsOk, OnOk, OnErr, IfOk, IfErr, length, replicate, drop};
-ghost use Rattle.device.specs.Disk.{MayLeave, first, Reads, Writes, IsKeptOrNot, Syncs, CountsFailures};
+ghost use Rattle.device.specs.Disk.{MayCrashTo, first, Reads, Writes, IsKeptOrNot, Syncs, CountsFailures};
 ghost use Rattle.device.specs.Record.{done, are_inside, synced_calls, synced_over};
 ghost use Rattle.device.specs.Past.{writes_of};
 ghost use Rattle.device.specs.Plans.{fate_of, after_call, counted_with};
@@ -104,7 +104,7 @@ impl MemDevice {
     /// made to fail. Without memory for it the call is refused with `NoMemory`.
     pub fn crash(&self, alloc: Global, image: CrashImage) -> Result<MemDevice, Fault>
         ensures bytes { IfOk result (λ d. trace_of d ≡ first (left_by image self.now)) }
-        ensures left { MayLeave (trace_of self.now).now (left_by image self.now) }
+        ensures left { MayCrashTo (trace_of self.now).now (left_by image self.now) }
         ensures plan { IfOk result (λ d. plan_of d ≡ no_plan) }
         ensures calls { IfOk result (λ d. calls_of d ≡ 0) }
         ensures fault { IfErr result (λ e. e ≡ Fault.NoMemory) }

@@ -44,7 +44,7 @@ fn lay(bytes: &mut [u8], at: u64, piece: &[u8])
     bytes[at..at + piece.len()].copy_from_slice(piece);
 }
 
-/// Puts the first half of the piece at its place, and A5 behind it.
+/// Puts the first half of the piece at its place, and A5 after it.
 fn tear(bytes: &mut [u8], at: u64, piece: &[u8])
     requires { at + length piece.now ≤ length bytes.old }
     ensures { bytes.new ≡ put bytes.old at (torn piece.now) }

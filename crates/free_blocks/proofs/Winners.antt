@@ -1,5 +1,5 @@
 -- What the winners say of the blocks below them.
-use Rattle.std.proofs.Common.{◌≡◌, ◌≢◌, ℕ, zero, suc, ◌+◌, ◌*◌, ◌<◌, ◌≤◌, true, false, Some, None, Option, List, length, set, replicate, refl, sym, ap, subst, inl, inr, ◌∙◌, arith}
+use Rattle.std.proofs.Common.{◌≡◌, ◌≢◌, ℕ, zero, suc, ◌+◌, ◌*◌, ◌<◌, ◌≤◌, true, false, Some, None, Option, List, length, set, refl, sym, ap, subst, inl, inr, ◌∙◌, arith}
 use Rattle.std.proofs.lemmas.Bool.{cases_lt, leb-true, leb-false, le-leb, lt-leb}
 use Rattle.std.proofs.lemmas.List.{get_or-set_other, get_or-set_same}
 use Rattle.free_blocks.specs.Numbers.{number_at, lesser, is_at_most}
@@ -104,12 +104,3 @@ winner_put tree node number one inside is =
     get_or-set_same tree node number None inside ∙ is
     ∙ ap (λ (a : Option ℕ). lesser a (number_at tree (2 * node + 1))) (sym (get_or-set_other tree node (2 * node) number None (λ e. omega (arith, e))))
     ∙ ap (λ (b : Option ℕ). lesser (number_at (set tree node number) (2 * node)) b) (sym (get_or-set_other tree node (2 * node + 1) number None (λ e. omega (arith, e))))
-
-none_in : (n node : ℕ) → number_at (replicate n None) node ≡ None
-none_in zero node = refl
-none_in (suc n) zero = refl
-none_in (suc n) (suc node) = none_in n node
-
--- where no node has a number, each is a winner
-pub none_winners : (size n : ℕ) → AreWinners size (replicate n None)
-none_winners size n = λ node one small. none_in n node ∙ sym (ap (λ (a : Option ℕ). lesser a (number_at (replicate n None) (2 * node + 1))) (none_in n (2 * node)) ∙ none_in n (2 * node + 1))

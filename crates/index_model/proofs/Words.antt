@@ -12,8 +12,8 @@ use Rattle.index_model.specs.Padded.{spelled}
 abbrev pub Bytes : List ℕ → Type 0
 Bytes xs = (k : ℕ) → get_or xs k 0 < 256
 
-pub bytes_behind : (n : ℕ) (xs : List ℕ) → Bytes xs → Bytes (drop n xs)
-bytes_behind n xs h k = subst (λ (b : ℕ). b < 256) (sym (get_or-drop n xs k 0)) (h (n + k))
+pub bytes_after : (n : ℕ) (xs : List ℕ) → Bytes xs → Bytes (drop n xs)
+bytes_after n xs h k = subst (λ (b : ℕ). b < 256) (sym (get_or-drop n xs k 0)) (h (n + k))
 
 -- the greater number in front spells the greater number
 rises : (n a b : ℕ) (us vs : List ℕ) → n ≤ length us → n ≤ length vs → Bytes us → a < b → spelled a (take n us) < spelled b (take n vs)
@@ -30,7 +30,7 @@ below x y l = sym (nat_cmp_is x y Less l)
 above : (x y : ℕ) → y < x → nat_cmp x y ≡ Greater
 above x y l = sym (nat_cmp_is x y Greater l)
 
--- n bytes behind one number are ordered as the numbers that they spell
+-- n bytes after one number are ordered as the numbers that they spell
 pub as_spelled : (n a : ℕ) (us vs : List ℕ) → n ≤ length us → n ≤ length vs → Bytes us → Bytes vs
     → slice_cmp nat_cmp (take n us) (take n vs) ≡ nat_cmp (spelled a (take n us)) (spelled a (take n vs))
 as_spelled zero a us vs p q g h = sym (tied_itself nat_cmp_total a)
@@ -48,7 +48,7 @@ as_spelled (suc n) a (u ∷ us) (v ∷ vs) p q g h =
         let t : u ≡ v = l in
         rest ∙ ap (λ (m : ℕ). nat_cmp (spelled (a * 256 + u) (take n us)) (spelled (a * 256 + m) (take n vs))) t
 
--- the first n decide, and else what is behind them does
+-- the first n decide, and else what is after them does
 pub in_two : (n : ℕ) (xs ys : List ℕ) → n ≤ length xs → n ≤ length ys
     → slice_cmp nat_cmp xs ys ≡ ordering_then (slice_cmp nat_cmp (take n xs) (take n ys)) (slice_cmp nat_cmp (drop n xs) (drop n ys))
 in_two zero xs ys p q = refl
@@ -62,7 +62,7 @@ in_two (suc n) (x ∷ xs) (y ∷ ys) p q =
     regroup Equal s t = refl
     regroup Greater s t = refl
 
--- the next eight bytes decide, and else what is behind them does
+-- the next eight bytes decide, and else what is after them does
 pub next_word : (n : ℕ) (xs ys : List ℕ) → n + 8 ≤ length xs → n + 8 ≤ length ys → Bytes xs → Bytes ys
     → slice_cmp nat_cmp (drop n xs) (drop n ys)
     ≡ ordering_then (nat_cmp (spelled 0 (take 8 (drop n xs))) (spelled 0 (take 8 (drop n ys)))) (slice_cmp nat_cmp (drop (n + 8) xs) (drop (n + 8) ys))
@@ -70,5 +70,5 @@ next_word n xs ys p q g h =
     let long : (zs : List ℕ) → n + 8 ≤ length zs → 8 ≤ length (drop n zs) = λ zs l. omega (arith, length-drop n zs) in
     in_two 8 (drop n xs) (drop n ys) (long xs p) (long ys q)
     ∙ (λ i. ordering_then
-    (as_spelled 8 0 (drop n xs) (drop n ys) (long xs p) (long ys q) (bytes_behind n xs g) (bytes_behind n ys h) i)
+    (as_spelled 8 0 (drop n xs) (drop n ys) (long xs p) (long ys q) (bytes_after n xs g) (bytes_after n ys h) i)
     (slice_cmp nat_cmp (drop-drop 8 n xs i) (drop-drop 8 n ys i)))

@@ -7,7 +7,7 @@ use Rattle.std.proofs.lemmas.Cmp.{nat_list_cmp_total, tied_itself}
 use Rattle.std.specs.declared.cmp.Ordering.{Ordering}
 use Rattle.std.specs.declared.cmp.Ordering.TheVariants.{Less, Equal, Greater}
 
--- the list, and zeros behind it up to n
+-- the list, and zeros after it up to n
 abbrev ending : ℕ → List ℕ → List ℕ
 ending n [] = replicate n 0
 ending zero (x ∷ xs) = x ∷ xs
@@ -33,10 +33,10 @@ zeros_before (suc n) (y ∷ ys) le = by (zeros_before n ys (omega arith)) (nat_c
     by rest Equal l = rest
     by rest Greater l = let t : y < 0 = l in absurd (omega arith)
 
-zeros_behind : (n : ℕ) (xs : List ℕ) → length xs ≤ n → ordering_then (slice_cmp nat_cmp (ending n xs) (replicate n 0)) Greater ≡ Greater
-zeros_behind n [] le = ap (λ (o : Ordering). ordering_then o Greater) (tied_itself nat_list_cmp_total (replicate n 0))
-zeros_behind zero (x ∷ xs) le = absurd (omega arith)
-zeros_behind (suc n) (x ∷ xs) le = by (zeros_behind n xs (omega arith)) (nat_cmp x 0) (ranks x 0)
+zeros_after : (n : ℕ) (xs : List ℕ) → length xs ≤ n → ordering_then (slice_cmp nat_cmp (ending n xs) (replicate n 0)) Greater ≡ Greater
+zeros_after n [] le = ap (λ (o : Ordering). ordering_then o Greater) (tied_itself nat_list_cmp_total (replicate n 0))
+zeros_after zero (x ∷ xs) le = absurd (omega arith)
+zeros_after (suc n) (x ∷ xs) le = by (zeros_after n xs (omega arith)) (nat_cmp x 0) (ranks x 0)
   where
     by : ordering_then (slice_cmp nat_cmp (ending n xs) (replicate n 0)) Greater ≡ Greater
         → (o : Ordering) → MatchOrdering o (x < 0) (x ≡ 0) (0 < x)
@@ -48,8 +48,8 @@ zeros_behind (suc n) (x ∷ xs) le = by (zeros_behind n xs (omega arith)) (nat_c
 none_before : (n : ℕ) → nat_cmp 0 (suc n) ≡ Less
 none_before n = sym (nat_cmp_is 0 (suc n) Less (omega arith))
 
-some_behind : (n : ℕ) → nat_cmp (suc n) 0 ≡ Greater
-some_behind n = sym (nat_cmp_is (suc n) 0 Greater (omega arith))
+some_after : (n : ℕ) → nat_cmp (suc n) 0 ≡ Greater
+some_after n = sym (nat_cmp_is (suc n) 0 Greater (omega arith))
 
 one_more : (a b : ℕ) → nat_cmp a b ≡ nat_cmp (suc a) (suc b)
 one_more a b = nat_cmp_is (suc a) (suc b) (nat_cmp a b) (by (nat_cmp a b) (ranks a b))
@@ -65,7 +65,7 @@ by_ending n [] [] p q = ap (λ (o : Ordering). ordering_then o (nat_cmp 0 0)) (s
 by_ending n [] (y ∷ ys) p q =
     sym (ap (λ (o : Ordering). ordering_then (slice_cmp nat_cmp (replicate n 0) (ending n (y ∷ ys))) o) (none_before (length ys)) ∙ zeros_before n (y ∷ ys) q)
 by_ending n (x ∷ xs) [] p q =
-    sym (ap (λ (o : Ordering). ordering_then (slice_cmp nat_cmp (ending n (x ∷ xs)) (replicate n 0)) o) (some_behind (length xs)) ∙ zeros_behind n (x ∷ xs) p)
+    sym (ap (λ (o : Ordering). ordering_then (slice_cmp nat_cmp (ending n (x ∷ xs)) (replicate n 0)) o) (some_after (length xs)) ∙ zeros_after n (x ∷ xs) p)
 by_ending zero (x ∷ xs) (y ∷ ys) p q = absurd (omega arith)
 by_ending (suc n) (x ∷ xs) (y ∷ ys) p q =
     ap (λ (o : Ordering). ordering_then (nat_cmp x y) o) (by_ending n xs ys (omega arith) (omega arith)
@@ -77,7 +77,7 @@ by_ending (suc n) (x ∷ xs) (y ∷ ys) p q =
     regroup Equal s t = refl
     regroup Greater s t = refl
 
--- two lists with zeros behind them decide, and else their lengths do
+-- two lists with zeros after them decide, and else their lengths do
 pub with_zeros : (n : ℕ) (xs ys : List ℕ) → length xs ≤ n → length ys ≤ n
     → slice_cmp nat_cmp xs ys ≡ ordering_then (slice_cmp nat_cmp (xs ++ replicate (n - length xs) 0) (ys ++ replicate (n - length ys) 0)) (nat_cmp (length xs) (length ys))
 with_zeros n xs ys p q =

@@ -23,20 +23,20 @@ use Rattle.page_action.specs.declared.page_store.PageStore.{Ghosts}
 use Rattle.tree_shape.specs.Walks.{entry_aim, is_within}
 use Rattle.tree_acts.specs.Acts.{EntryIsPut, KeyMayEnter}
 use Rattle.tree_acts.specs.Flags.{FlagsMove}
-use Rattle.tree_acts.specs.Trees.{HasTree, HasPlace, HasCover}
+use Rattle.tree_acts.specs.Trees.{HasTree, LeadsTo, HasCover}
 use Rattle.tree_acts.proofs.Entering.{putting_lasts}
 use Rattle.tree_acts.proofs.Leaving.{putting_leaves}
 use Rattle.tree_acts.proofs.Flagging.{putting_flags}
 use Rattle.tree_acts.proofs.Weighed.{putting_weighs}
-use Rattle.tree_acts.proofs.Telling.{live_tells, leaf_tells}
-use Rattle.tree_acts.proofs.Uniques.{key_tells}
-use Rattle.descent.specs.Shared.{IsInOrder, Does, is_flagged, causes_of_working}
-use Rattle.descent.specs.Steps.{HoldsAlone}
+use Rattle.tree_acts.proofs.Meanings.{live_shows, leaf_shows}
+use Rattle.tree_acts.proofs.Uniques.{key_shows}
+use Rattle.tree_acts.specs.StepEffects.{IsInOrder, StepEffect, is_incomplete, causes_of_working}
+use Rattle.tree_acts.specs.Steps.{HoldsAlone}
 use Rattle.descent.proofs.Acting.{does_add, one_act}
 use Rattle.descent.proofs.Tables.{any_excluded}
 use Rattle.descent.proofs.Working.{working_later, read_pinned_cause}
 use Rattle.std.specs.Prelude.{IfOk, IfErr, OnErr}
-use Rattle.split_finish.specs.Targets.{OnlyTargetsAreFlagged, is_among_targets}
+use Rattle.split_finish.specs.Targets.{OnlyTargetsAreIncomplete, is_among_targets}
 use Rattle.insert_split.specs.Inserts.{leaf_held, IsLeafFor, InsertInvariant, InsertStands, InsertSteps, IsToCome, blocks_halved, images_at, frames_at, takes_block_at, targets_at, IsLeft, causes_of_inserting}
 use Rattle.insert_split.specs.Straight.{straight_steps}
 use Rattle.insert_split.specs.Turns.{EntryPut, PutsEntry, PlaceRefused}
@@ -60,9 +60,9 @@ leaf_there st op block at_is fits = subst (InsertStands st op.session fits.start
 pub none_added : (op : InsertOp) (block : ℕ) → op.at ≡ Coming (Holds block) → IsToCome op.at op.added → op.added ≡ None
 none_added op block at_is h = subst (λ (a : InsertAt). IsToCome a op.added) at_is h
 
-pub no_targets : (op : InsertOp) (block : ℕ) (st : State) → op.at ≡ Coming (Holds block) → OnlyTargetsAreFlagged st (targets_at op.at) → (b : ℕ) → is_flagged st b ≡ true → ⊥
-no_targets op block st at_is only b flagged =
-    (let k : false ≡ true = subst (λ (a : InsertAt). is_among_targets (targets_at a) b ≡ true) at_is (only b flagged) in true_false (sym k))
+pub no_targets : (op : InsertOp) (block : ℕ) (st : State) → op.at ≡ Coming (Holds block) → OnlyTargetsAreIncomplete st (targets_at op.at) → (b : ℕ) → is_incomplete st b ≡ true → ⊥
+no_targets op block st at_is only b incomplete =
+    (let k : false ≡ true = subst (λ (a : InsertAt). is_among_targets (targets_at a) b ≡ true) at_is (only b incomplete) in true_false (sym k))
 
 -- the leaf as it was read
 pub same_leaf : (st : State) (start : ℕ) (e : Entry) (block : ℕ) (page : Page) → slice_get st.pages block ≡ Some page → (leaf : IsLeafFor st start e block) → leaf.page ≡ page
@@ -148,8 +148,8 @@ pub covers_there : (st : State) (start : ℕ) (e : Entry) (block : ℕ) (page : 
 covers_there st start e block page tree block_is found leaf =
     let same = same_leaf st start e block page found leaf in
     let there : slice_get st.pages page.block ≡ Some page = subst (λ (b : ℕ). slice_get st.pages b ≡ Some page) (sym block_is) found in
-    let place = subst (HasPlace st start 0 (entry_aim e) true) (sym block_is) leaf.place in
-    (live_tells st start 0 (entry_aim e) true page tree there place (subst (λ (p : Page). p.state ≡ Live) same leaf.alive)).covers
+    let place = subst (LeadsTo st start 0 (entry_aim e) true) (sym block_is) leaf.place in
+    (live_shows st start 0 (entry_aim e) true page tree there place (subst (λ (p : Page). p.state ≡ Live) same leaf.alive)).covers
     (subst (λ (p : Page). is_within (entry_aim e) p.high ≡ true) same leaf.within)
 
 -- a step that puts the entry
@@ -181,7 +181,7 @@ puts g op old mid new block page (Ok (Added action unfinished)) steps same alive
         found = at_page;
         alive = live;
         leaf = subst (λ (p : Page). p.level ≡ 0) same_page leaf.leaf;
-        place = subst (HasPlace st fits.start 0 (entry_aim op.entry) true) (sym block_is) leaf.place;
+        place = subst (LeadsTo st fits.start 0 (entry_aim op.entry) true) (sym block_is) leaf.place;
         within = subst (λ (p : Page). is_within (entry_aim op.entry) p.high ≡ true) same_page leaf.within;
         put = put.put;
         after_is = put.node_is;
@@ -194,10 +194,10 @@ puts g op old mid new block page (Ok (Added action unfinished)) steps same alive
       let moves = putting_flags st fits.start op.entry page put.after order.tree is_put in
       let weighs = putting_weighs st fits.start op.entry page put.after order.tree is_put in
       let was : entry_on_live_leaf st.pages op.entry ≡ false =
-      leaf_tells st op.entry page order.tree at_page (covers_there st fits.start op.entry block page order.tree block_is (found honest) leaf) ∙ absent in
+      leaf_shows st op.entry page order.tree at_page (covers_there st fits.start op.entry block page order.tree block_is (found honest) leaf) ∙ absent in
       record {
         effect = Some (Add op.entry);
-        does = subst (λ (s : State). Does op.session (Some (Add op.entry)) st s) (sym now)
+        does = subst (λ (s : State). StepEffect op.session (Some (Add op.entry)) st s) (sym now)
             (does_add st op.session op.entry (put.after ∷ []) st.table order is_put.may lasts.0 lasts.1 (putting_leaves st fits.start op.entry page put.after order.tree is_put) was
             (record { raised = None; leaf = tt; moves = moves; most = omega (arith, weighs) })
             (λ other b differ alone. ((λ is_b. not_the_leaf st op.session other block order there.0 differ (subst (HoldsAlone st.table other) (sym is_b ∙ put.block_is ∙ block_is) alone)), tt))
@@ -218,11 +218,11 @@ puts g op old mid new block page (Ok (Added action unfinished)) steps same alive
     now : g.state new ≡ after_act (put.after ∷ []) st
     now = put.state ∙ ap (after_act (put.after ∷ [])) same
 
-    whole : OnlyTargetsAreFlagged st (targets_at op.at) → FlagsMove None None st (after_act (put.after ∷ []) st) → (b : ℕ) → is_flagged (g.state new) b ≡ false
+    whole : OnlyTargetsAreIncomplete st (targets_at op.at) → FlagsMove None None st (after_act (put.after ∷ []) st) → (b : ℕ) → is_incomplete (g.state new) b ≡ false
     whole only moves b =
-        elim (cases_Bool (is_flagged st b)) [
-          | inl flagged ↦ absurd (no_targets op block st at_is only b flagged)
-          | inr clear ↦ ap (λ (s : State). is_flagged s b) now ∙ moves b ∙ clear
+        elim (cases_Bool (is_incomplete st b)) [
+          | inl incomplete ↦ absurd (no_targets op block st at_is only b incomplete)
+          | inr clear ↦ ap (λ (s : State). is_incomplete s b) now ∙ moves b ∙ clear
         ]
 puts g op old mid new block page (Err fault) steps same alive at_is block_is found le later promised absent alone room told refused cause =
     refuses g op old new fault steps (refused ∙ same) alive
@@ -275,7 +275,7 @@ no_place st old new op block page fault order at_is fits found block_is admitted
     let there = leaf_there st op block at_is fits in
     let at_page : slice_get st.pages page.block ≡ Some page = subst (λ (b : ℕ). slice_get st.pages b ≡ Some page) (sym block_is) found in
     let is_there : entry_on_live_leaf st.pages op.entry ≡ true =
-    leaf_tells st op.entry page order.tree at_page (covers_there st fits.start op.entry block page order.tree block_is found there.1) ∙ exists.1 in
+    leaf_shows st op.entry page order.tree at_page (covers_there st fits.start op.entry block page order.tree block_is found there.1) ∙ exists.1 in
     subst (HasCause (causes_of_inserting st old new op.session op.entry op.at)) (sym exists.0)
     (subst (λ (a : InsertAt). HasCause (causes_of_inserting st old new op.session op.entry a) Exists) (sym at_is) is_there)
 no_place st old new op block page fault order at_is fits found block_is admitted (inr (inr key)) =
@@ -283,7 +283,7 @@ no_place st old new op block page fault order at_is fits found block_is admitted
     let at_page : slice_get st.pages page.block ≡ Some page = subst (λ (b : ℕ). slice_get st.pages b ≡ Some page) (sym block_is) found in
     let x : Entry = record { key = op.entry.key; row = key.row } in
     let is_there : entry_on_live_leaf st.pages x ≡ true =
-    key_tells st op.entry x page order.tree key.asked at_page (covers_there st fits.start op.entry block page order.tree block_is found there.1) refl ∙ key.there in
+    key_shows st op.entry x page order.tree key.asked at_page (covers_there st fits.start op.entry block page order.tree block_is found there.1) refl ∙ key.there in
     subst (HasCause (causes_of_inserting st old new op.session op.entry op.at)) (sym key.is)
     (subst (λ (a : InsertAt). HasCause (causes_of_inserting st old new op.session op.entry a) (KeyExists key.row)) (sym at_is)
     (rw key.asked (rw (apart_rows op.entry key.row (key.other admitted)) is_there)))

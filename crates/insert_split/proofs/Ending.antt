@@ -10,16 +10,16 @@ use Rattle.index_model.specs.declared.format.Format.{Format}
 use Rattle.page_action.specs.Causes.{is_at_end}
 use Rattle.page_action.specs.States.{State, Backing}
 use Rattle.page_action.specs.declared.page_store.PageStore.{Ghosts}
-use Rattle.descent.specs.Shared.{IsInOrder, Does, is_flagged}
+use Rattle.tree_acts.specs.StepEffects.{IsInOrder, StepEffect, is_incomplete}
 use Rattle.descent.proofs.Acting.{nothing_else, one_nothing}
 use Rattle.split_finish.specs.Finishes.{FinishSteps, OnlyShapes, finish_blocks, frames_of, takes_block_of, causes_of_finishing}
-use Rattle.split_finish.specs.Targets.{OnlyTargetsAreFlagged, FinishInvariant, finish_left}
+use Rattle.split_finish.specs.Targets.{OnlyTargetsAreIncomplete, FinishInvariant, finish_left}
 use Rattle.split_finish.specs.Turns.{splits_root_of}
 use Rattle.split_finish.specs.declared.finish.FinishOp.{FinishOp}
 use Rattle.split_finish.specs.declared.finish.FinishStep.TheVariants.{Going as FinishGoing, Done}
 use Rattle.insert_split.specs.Inserts.{InsertInvariant, InsertStands, InsertSteps, IsNoted, IsToCome, AnswersStopped, insert_left, targets_at, causes_of_inserting, causes_of_left}
 use Rattle.insert_split.specs.Straight.{IsStraight}
-use Rattle.insert_split.specs.Turns.{GoesOn, GoesOnFrom, Leaves, LeavesBy, FinishesSplits, IsRefusedRightly, is_blocked}
+use Rattle.insert_split.specs.Turns.{ContinuesAs, ContinuesFrom, Leaves, EndsBy, FinishesSplits, IsRefusedRightly, is_blocked}
 use Rattle.insert_split.specs.declared.insert.InsertAt.{InsertAt}
 use Rattle.insert_split.specs.declared.insert.InsertAt.TheVariants.{Coming, Finishing}
 use Rattle.insert_split.specs.declared.insert.Stage.TheVariants.{Start}
@@ -47,7 +47,7 @@ finishing_cause st old new op splits fault at_is session h =
     (takes_block_of st splits.target splits.at) (splits_root_of st splits.target splits.at) fault refl
     (subst (λ (s : ℕ). HasCause (causes_of_finishing st old new s splits.target splits.at) fault) session h))
 
--- ... and, but for a page that is blocked, once the entry is logged
+-- ... and, except for a page that is blocked, once the entry is logged
 finishing_left : (st : State) (old new : Backing) (op : InsertOp) (splits : FinishOp) (fault : Fault) → op.at ≡ Finishing splits → splits.session ≡ op.session → is_blocked fault ≡ false
     → HasCause (causes_of_finishing st old new splits.session splits.target splits.at) fault → HasCause (causes_of_left st old new op.session op.entry op.at) fault
 finishing_left st old new op splits fault at_is session free h =
@@ -77,7 +77,7 @@ finish_goes g before splits then_splits old new at_is alive h = record {
       let on = h.stepped honest order there.1 in
       record {
         effect = on.effect;
-        does = subst (λ (s : ℕ). Does s on.effect (g.state old) (g.state new)) there.0 on.does;
+        does = subst (λ (s : ℕ). StepEffect s on.effect (g.state old) (g.state new)) there.0 on.does;
         noted = notes_nothing on.effect (g.state old).acts before.entry before.added on.shapes;
         fits = record {
           session = fits.session;
@@ -86,7 +86,7 @@ finish_goes g before splits then_splits old new at_is alive h = record {
           stands = (h.session ∙ there.0, on.fits);
           to_come = tt;
         };
-        flags = λ only. on.flags (subst (λ (a : InsertAt). OnlyTargetsAreFlagged (g.state old) (targets_at a)) at_is only);
+        flags = λ only. on.flags (subst (λ (a : InsertAt). OnlyTargetsAreIncomplete (g.state old) (targets_at a)) at_is only);
       };
   straight = λ honest order fits whole on room. absurd (subst (IsStraight (g.state old) before.entry) at_is on);
 }
@@ -94,19 +94,19 @@ finish_goes g before splits then_splits old new at_is alive h = record {
 -- ... that is the last
 pub finish_done : {S : Type 0} (g : Ghosts S) (before after : InsertOp) (splits then_splits : FinishOp) (step : InsertStep) (old new : S)
     → before.at ≡ Finishing splits → (g.backing old).stopped ≡ false
-    → FinishSteps g splits then_splits old new (Ok Done) → GoesOn (record before { at = Finishing then_splits }) after step → InsertSteps g before after old new (Ok step)
+    → FinishSteps g splits then_splits old new (Ok Done) → ContinuesAs (record before { at = Finishing then_splits }) after step → InsertSteps g before after old new (Ok step)
 finish_done g before after splits then_splits step old new at_is alive h on = by before.added refl on
   where
-    none_flagged : IsInOrder (g.state old) → (fits : InsertInvariant (g.state old) before) → (g.backing new).honest ≡ true → OnlyTargetsAreFlagged (g.state old) (targets_at before.at)
-        → (b : ℕ) → is_flagged (g.state new) b ≡ false
-    none_flagged order fits honest only =
+    none_incomplete : IsInOrder (g.state old) → (fits : InsertInvariant (g.state old) before) → (g.backing new).honest ≡ true → OnlyTargetsAreIncomplete (g.state old) (targets_at before.at)
+        → (b : ℕ) → is_incomplete (g.state new) b ≡ false
+    none_incomplete order fits honest only =
         let there = finishing_there (g.state old) before splits at_is fits in
-        (h.stepped honest order there.1).flags (subst (λ (a : InsertAt). OnlyTargetsAreFlagged (g.state old) (targets_at a)) at_is only)
+        (h.stepped honest order there.1).flags (subst (λ (a : InsertAt). OnlyTargetsAreIncomplete (g.state old) (targets_at a)) at_is only)
 
     true_false : true ≡ false → ⊥
     true_false k = cc
 
-    by : (added : Option ℕ) → before.added ≡ added → GoesOnFrom added (record before { at = Finishing then_splits }) after step → InsertSteps g before after old new (Ok step)
+    by : (added : Option ℕ) → before.added ≡ added → ContinuesFrom added (record before { at = Finishing then_splits }) after step → InsertSteps g before after old new (Ok step)
     by None is on = subst (λ (s : InsertStep). InsertSteps g before after old new (Ok s)) (sym on.0) (subst (λ (o : InsertOp). InsertSteps g before o old new (Ok Going)) (sym on.1) (record {
       steps = h.steps;
       session = refl;
@@ -122,7 +122,7 @@ finish_done g before after splits then_splits step old new at_is alive h on = by
           let last = h.stepped honest order there.1 in
           record {
             effect = last.effect;
-            does = subst (λ (s : ℕ). Does s last.effect (g.state old) (g.state new)) there.0 last.does;
+            does = subst (λ (s : ℕ). StepEffect s last.effect (g.state old) (g.state new)) there.0 last.does;
             noted = notes_nothing last.effect (g.state old).acts before.entry before.added last.shapes;
             fits = record {
               session = fits.session;
@@ -131,7 +131,7 @@ finish_done g before after splits then_splits step old new at_is alive h on = by
               stands = ap (λ (t : Table). holding_of t before.session) last.table ∙ subst (λ (s : ℕ). holding_of (g.state old).table s ≡ nothing_held) there.0 there.1.free;
               to_come = is;
             };
-            flags = λ only b flagged. absurd (true_false (sym flagged ∙ none_flagged order fits honest only b));
+            flags = λ only b incomplete. absurd (true_false (sym incomplete ∙ none_incomplete order fits honest only b));
           };
       straight = λ honest order fits whole on room. absurd (subst (IsStraight (g.state old) before.entry) at_is on);
     }))
@@ -149,10 +149,10 @@ finish_done g before after splits then_splits step old new at_is alive h on = by
               let last = h.stepped honest order there.1 in
               record {
                 effect = last.effect;
-                does = subst (λ (s : ℕ). Does s last.effect (g.state old) (g.state new)) there.0 last.does;
+                does = subst (λ (s : ℕ). StepEffect s last.effect (g.state old) (g.state new)) there.0 last.does;
                 noted = subst (λ (a : Option ℕ). IsNoted last.effect (g.state old).acts before.entry before.added a) is
                     (notes_nothing last.effect (g.state old).acts before.entry before.added last.shapes);
-                left = none_flagged order fits honest;
+                left = none_incomplete order fits honest;
               };
           straight = λ honest order fits whole on room. absurd (subst (IsStraight (g.state old) before.entry) at_is on);
         }))
@@ -199,7 +199,7 @@ finish_refused g before splits then_splits fault result old new at_is alive h le
       straight = λ honest order fits whole on room. absurd (subst (IsStraight (g.state old) before.entry) at_is on);
     })
 
-    by : (blocked : Bool) → is_blocked fault ≡ blocked → (added : Option ℕ) → before.added ≡ added → LeavesBy blocked added fault result
+    by : (blocked : Bool) → is_blocked fault ≡ blocked → (added : Option ℕ) → before.added ≡ added → EndsBy blocked added fault result
         → InsertSteps g before (record before { at = Finishing then_splits }) old new result
     by blocked held None is leaves = subst (λ (r : Result InsertStep Fault). InsertSteps g before (record before { at = Finishing then_splits }) old new r) (sym leaves) refusal
     by true held (Some action) is leaves = subst (λ (r : Result InsertStep Fault). InsertSteps g before (record before { at = Finishing then_splits }) old new r) (sym leaves) refusal
@@ -210,7 +210,7 @@ pub refused_rightly : (added : Option ℕ) (fault : Fault) (result : Result Inse
 refused_rightly None fault result leaves = tt
 refused_rightly (Some action) fault result leaves = by (is_blocked fault) refl leaves
   where
-    by : (blocked : Bool) → is_blocked fault ≡ blocked → LeavesBy blocked (Some action) fault result → IsRefusedRightly (Some action) result
+    by : (blocked : Bool) → is_blocked fault ≡ blocked → EndsBy blocked (Some action) fault result → IsRefusedRightly (Some action) result
     by true is h = subst (λ (r : Result InsertStep Fault). IsRefusedRightly (Some action) r) (sym h) is
     by false is h = subst (λ (r : Result InsertStep Fault). IsRefusedRightly (Some action) r) (sym h) refl
 

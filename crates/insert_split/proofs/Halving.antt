@@ -21,7 +21,7 @@ use Rattle.page_action.specs.Causes.{pinned_blocks, count_apart}
 use Rattle.descent.proofs.Mended.{fresh_apart, RightMay, right_may}
 use Rattle.descent.proofs.Working.{apart_pinned}
 use Rattle.tree_acts.proofs.Overlays.{inside}
-use Rattle.descent.specs.Shared.{sibling}
+use Rattle.tree_acts.specs.StepEffects.{sibling}
 use Rattle.descent.specs.Splitting.{RightIsStored, mended_to}
 use Rattle.insert_split.specs.Turns.{IsSplittable}
 

@@ -8,9 +8,9 @@ use Rattle.tree_shape.specs.Walks.{entry_aim, bound_aim}
 use Rattle.tree_shape.proofs.Fits.{bound_falls}
 use Rattle.tree_acts.specs.Trees.{HasTree}
 use Rattle.tree_acts.proofs.Sizes.{low_level}
-use Rattle.descent.specs.Onward.{IsOnWay}
-use Rattle.descent.specs.Shared.{MayRely, NumbersStay}
-use Rattle.descent.specs.declared.way.Way.{Way}
+use Rattle.descent.specs.NextPage.{IsOnDescent}
+use Rattle.tree_acts.specs.StepEffects.{MayRely, NumbersStay}
+use Rattle.descent.specs.declared.way.Position.{Position}
 use Rattle.split_finish.specs.Targets.{IsTarget, FinishStands, FinishInvariant}
 use Rattle.split_finish.proofs.Bounds.{finish_bounded}
 use Rattle.descent.proofs.Shortening.{walk_is_long}
@@ -25,7 +25,7 @@ use Rattle.insert_split.specs.declared.insert.InsertAt.TheVariants.{Coming, Fini
 use Rattle.insert_split.specs.declared.insert.Stage.TheVariants.{Start, At, Holding as Holds}
 use Rattle.insert_split.proofs.Adding.{holds_leaf}
 
-way_still : (old new : State) (start to : ℕ) (e : Bound) (way : Way) → NumbersStay start old new → IsOnWay old start (bound_aim e) true to way → IsOnWay new start (bound_aim e) true to way
+way_still : (old new : State) (start to : ℕ) (e : Bound) (way : Position) → NumbersStay start old new → IsOnDescent old start (bound_aim e) true to way → IsOnDescent new start (bound_aim e) true to way
 way_still old new start to e way stay on = record {
   not_below = on.not_below;
   place = stay.places way.level (bound_aim e) true way.block (bound_falls e) on.place;

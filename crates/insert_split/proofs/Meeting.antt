@@ -13,12 +13,12 @@ use Rattle.page_action.specs.States.{State, Continues}
 use Rattle.page_action.specs.declared.page_store.PageStore.{Ghosts}
 use Rattle.tree_shape.specs.Nodes.{node_of, node_from, nodes_of}
 use Rattle.tree_shape.specs.Walks.{entry_aim, bound_aim}
-use Rattle.tree_acts.specs.Trees.{HasTree, HasPlace}
-use Rattle.tree_acts.proofs.Telling.{live_tells, high_tells}
-use Rattle.descent.specs.Shared.{IsInOrder}
-use Rattle.descent.specs.declared.way.Way.{Way}
+use Rattle.tree_acts.specs.Trees.{HasTree, LeadsTo}
+use Rattle.tree_acts.proofs.Meanings.{live_shows, high_key_shows}
+use Rattle.tree_acts.specs.StepEffects.{IsInOrder}
+use Rattle.descent.specs.declared.way.Position.{Position}
 use Rattle.latch_table.specs.Holdings.{holding_of, nothing_held}
-use Rattle.descent.specs.Onward.{walk_length}
+use Rattle.descent.specs.NextPage.{walk_length}
 use Rattle.split_finish.specs.Targets.{is_as_read, finish_left, is_among_targets, IsTarget, FinishStands, FinishInvariant}
 use Rattle.split_finish.specs.declared.finish.FinishOp.{FinishOp}
 use Rattle.split_finish.specs.declared.finish.FinishAt.TheVariants.{Start as FinishStart}
@@ -32,7 +32,7 @@ use Rattle.insert_split.specs.declared.insert.InsertOp.{InsertOp}
 use Rattle.insert_split.specs.declared.insert.InsertStep.{InsertStep}
 use Rattle.insert_split.specs.declared.insert.InsertStep.TheVariants.{Going, Added}
 use Rattle.insert_split.proofs.Steps.{refuses, goes_on, StandsNow}
-use Rattle.insert_split.proofs.Walking.{on_way, flagged_ends}
+use Rattle.insert_split.proofs.Walking.{on_way, incomplete_ends}
 
 -- a page as it was read
 pub read_at : (pages : List Page) (block : ℕ) (page : Page) → slice_get pages block ≡ Some page → nodes_of pages block ≡ node_of page
@@ -46,9 +46,9 @@ bound_same b = rw (tied_itself bounds_total b) refl
 pub one_target_left : (most : ℕ) (pages : List Page) (target : Target) (op : FinishOp) (page : Page) → op.target ≡ target → op.below.items ≡ [] → op.at ≡ FinishStart
     → slice_get pages target.block ≡ Some page → page.split ≡ true → page.high ≡ Some target.separator
     → finish_left most pages op ≡ 32 * suc (walk_length most) + walk_length most
-one_target_left most pages target op page is below at found flagged high =
+one_target_left most pages target op page is below at found incomplete high =
     let node = read_at pages target.block page found in
-    let read : is_as_read (nodes_of pages) target ≡ true = rw (node, flagged, high) (bound_same target.separator) in
+    let read : is_as_read (nodes_of pages) target ≡ true = rw (node, incomplete, high) (bound_same target.separator) in
     rw (below, at, is) (rw read refl)
 
 none_got : (i : ℕ) (t : Target) → slice_get [] i ≡ Some t → ⊥
@@ -59,17 +59,17 @@ true_false : true ≡ false → ⊥
 true_false h = cc
 
 -- what an insert knows that has one target
-pub one_target_fits : (st : State) (start session : ℕ) (aim : Bound → Bool) (way : Way) (page : Page) (target : Target) (op : FinishOp) → HasTree st → session < 64
+pub one_target_fits : (st : State) (start session : ℕ) (aim : Bound → Bool) (way : Position) (page : Page) (target : Target) (op : FinishOp) → HasTree st → session < 64
     → holding_of st.table session ≡ nothing_held → slice_get st.running session ≡ Some (Some start)
-    → slice_get st.pages way.block ≡ Some page → page.block ≡ way.block → HasPlace st start way.level aim true way.block → page.state ≡ Live
+    → slice_get st.pages way.block ≡ Some page → page.block ≡ way.block → LeadsTo st start way.level aim true way.block → page.state ≡ Live
     → target.block ≡ way.block → target.level ≡ way.level → page.high ≡ Some target.separator
     → op.session ≡ session → op.target ≡ target → op.below.items ≡ [] → op.at ≡ FinishStart → FinishInvariant st op
 one_target_fits st start session aim way page target op tree low free runs found block_is place alive t_block t_level high s_is t_is below at =
-    let own : HasPlace st start way.level (bound_aim target.separator) true page.block = high_tells st start way.level aim true page target.separator tree
-    (subst (λ (b : ℕ). slice_get st.pages b ≡ Some page) (sym block_is) found) (subst (HasPlace st start way.level aim true) (sym block_is) place) alive high in
-    let there : HasPlace st start target.level (bound_aim target.separator) true target.block =
-    subst (λ (l : ℕ). HasPlace st start l (bound_aim target.separator) true target.block) (sym t_level)
-    (subst (HasPlace st start way.level (bound_aim target.separator) true) (block_is ∙ sym t_block) own) in
+    let own : LeadsTo st start way.level (bound_aim target.separator) true page.block = high_key_shows st start way.level aim true page target.separator tree
+    (subst (λ (b : ℕ). slice_get st.pages b ≡ Some page) (sym block_is) found) (subst (LeadsTo st start way.level aim true) (sym block_is) place) alive high in
+    let there : LeadsTo st start target.level (bound_aim target.separator) true target.block =
+    subst (λ (l : ℕ). LeadsTo st start l (bound_aim target.separator) true target.block) (sym t_level)
+    (subst (LeadsTo st start way.level (bound_aim target.separator) true) (block_is ∙ sym t_block) own) in
     record {
       session = subst (λ (s : ℕ). s < 64) (sym s_is) low;
       free = subst (λ (s : ℕ). holding_of st.table s ≡ nothing_held) (sym s_is) free;
@@ -82,16 +82,16 @@ one_target_fits st start session aim way page target op tree low free runs found
     }
 
 -- a step that meets such a page
-pub meets : {S : Type 0} (g : Ghosts S) (before after : InsertOp) (old new : S) (page : Page) (way : Way) (result : Result InsertStep Fault) → Continues g.follows old new → g.state new ≡ g.state old
+pub meets : {S : Type 0} (g : Ghosts S) (before after : InsertOp) (old new : S) (page : Page) (way : Position) (result : Result InsertStep Fault) → Continues g.follows old new → g.state new ≡ g.state old
     → (g.backing old).stopped ≡ false → before.at ≡ Coming (At way) → MeetsPage page way before after result
     → page.state ≡ Live → page.split ≡ true → IsPage page → page.block ≡ way.block
     → ((g.backing new).honest ≡ true → slice_get (g.state old).pages way.block ≡ Some page)
     → InsertSteps g before after old new result
-meets g before after old new page way (Ok Going) steps same alive at_is h live flagged admitted block_is found =
+meets g before after old new page way (Ok Going) steps same alive at_is h live incomplete admitted block_is found =
     goes_on g before after old new steps same (ap (λ (o : InsertOp). o.session) h.finishes.after_is) (ap (λ (o : InsertOp). o.entry) h.finishes.after_is) alive
     (λ honest. less (found honest))
     (λ honest order fits. now (found honest) order fits)
-    (λ honest order whole on. absurd (true_false (sym flagged ∙ whole way.block page (found honest))))
+    (λ honest order whole on. absurd (true_false (sym incomplete ∙ whole way.block page (found honest))))
   where
     st : State
     st = g.state old
@@ -110,7 +110,7 @@ meets g before after old new page way (Ok Going) steps same alive at_is h live f
 
     less : slice_get st.pages way.block ≡ Some page → insert_left st.limits.pages st.pages after.at < insert_left st.limits.pages st.pages before.at
     less there =
-        let left = one_target_left st.limits.pages st.pages target op page h.finishes.target_is h.finishes.below h.finishes.at (at_target there) flagged h.high_is in
+        let left = one_target_left st.limits.pages st.pages target op page h.finishes.target_is h.finishes.below h.finishes.at (at_target there) incomplete h.high_is in
         subst (λ (a : InsertAt). insert_left st.limits.pages st.pages a < insert_left st.limits.pages st.pages before.at) (sym after_at)
         (subst (λ (a : InsertAt). finish_left st.limits.pages st.pages op < insert_left st.limits.pages st.pages a) (sym at_is) (omega (arith, left)))
 
@@ -134,8 +134,8 @@ meets g before after old new page way (Ok Going) steps same alive at_is h live f
               absurd (let none : is_among_targets (targets_at before.at) b ≡ true = only b is in let k : false ≡ true =
               subst (λ (a : InsertAt). is_among_targets (targets_at a) b ≡ true) at_is none in true_false (sym k));
         }
-meets g before after old new page way (Ok (Added action unfinished)) steps same alive at_is h live flagged admitted block_is found = absurd h
-meets g before after old new page way (Err fault) steps same alive at_is h live flagged admitted block_is found =
+meets g before after old new page way (Ok (Added action unfinished)) steps same alive at_is h live incomplete admitted block_is found = absurd h
+meets g before after old new page way (Err fault) steps same alive at_is h live incomplete admitted block_is found =
     subst (λ (o : InsertOp). InsertSteps g before o old new (Err fault)) (sym h.stays)
     (refuses g before old new fault steps same alive (λ honest order fits. absurd (never honest order fits)))
   where
@@ -143,6 +143,6 @@ meets g before after old new page way (Err fault) steps same alive at_is h live 
     never honest order fits =
         let stands = on_way (g.state old) before way at_is fits in
         let there : slice_get (g.state old).pages page.block ≡ Some page = subst (λ (b : ℕ). slice_get (g.state old).pages b ≡ Some page) (sym block_is) (found honest) in
-        let place = subst (HasPlace (g.state old) fits.start way.level (entry_aim before.entry) true) (sym block_is) stands.1.place in
-        let arrival = live_tells (g.state old) fits.start way.level (entry_aim before.entry) true page order.tree there place live in
-        flagged_ends page admitted live flagged (h.astray arrival.level_is)
+        let place = subst (LeadsTo (g.state old) fits.start way.level (entry_aim before.entry) true) (sym block_is) stands.1.place in
+        let arrival = live_shows (g.state old) fits.start way.level (entry_aim before.entry) true page order.tree there place live in
+        incomplete_ends page admitted live incomplete (h.astray arrival.level_is)

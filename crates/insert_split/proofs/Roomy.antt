@@ -2,7 +2,7 @@
 use Rattle.std.proofs.Common.{◌≡◌, ℕ, false, Some, slice_get, refl, sym, subst}
 use Rattle.page_action.proofs.StoredPages.{stored_page}
 use Rattle.page_action.specs.States.{State}
-use Rattle.descent.specs.Shared.{IsInOrder}
+use Rattle.tree_acts.specs.StepEffects.{IsInOrder}
 use Rattle.insert_split.specs.Inserts.{InsertInvariant, takes_block_at, splits_root_at}
 use Rattle.insert_split.specs.Straight.{IsStraight, HasRoomFor}
 use Rattle.insert_split.specs.declared.insert.InsertAt.{InsertAt}

@@ -23,19 +23,19 @@ use Rattle.tree_shape.specs.Nodes.{Node}
 use Rattle.tree_shape.specs.Walks.{entry_aim, is_within}
 use Rattle.tree_acts.specs.Acts.{LeafIsSplit, KeyMayEnter}
 use Rattle.tree_acts.specs.Flags.{FlagsMove, flag_after}
-use Rattle.tree_acts.specs.Trees.{HasTree, HasPlace}
+use Rattle.tree_acts.specs.Trees.{HasTree, LeadsTo}
 use Rattle.tree_acts.proofs.Entering.{leaf_split_lasts}
 use Rattle.tree_acts.proofs.Leaving.{leaf_split_leaves}
 use Rattle.tree_acts.proofs.Flagging.{leaf_split_flags}
 use Rattle.tree_acts.proofs.Weighed.{leaf_split_weighs}
 use Rattle.tree_acts.proofs.Overlays.{pages_first}
-use Rattle.tree_acts.proofs.Telling.{leaf_tells, neighbour_tells}
-use Rattle.descent.specs.Shared.{Does, is_flagged, level_in, causes_of_working}
+use Rattle.tree_acts.proofs.Meanings.{leaf_shows, neighbour_shows}
+use Rattle.tree_acts.specs.StepEffects.{StepEffect, is_incomplete, level_in, causes_of_working}
 use Rattle.descent.specs.Splitting.{RightIsMendable, RightIsStored, RightIsFound, mended_to}
-use Rattle.descent.specs.Steps.{HoldsAlone, AreApart}
+use Rattle.tree_acts.specs.Steps.{HoldsAlone, AreApart}
 use Rattle.descent.proofs.Acting.{does_add, one_act_else, apart_from_held}
 use Rattle.descent.proofs.Working.{working_later}
-use Rattle.split_finish.specs.Targets.{OnlyTargetsAreFlagged, is_among_targets, targets_of}
+use Rattle.split_finish.specs.Targets.{OnlyTargetsAreIncomplete, is_among_targets, targets_of}
 use Rattle.split_finish.specs.declared.finish.FinishOp.{FinishOp}
 use Rattle.split_finish.specs.declared.finish.Target.{Target}
 use Rattle.split_finish.proofs.Parting.{mends_right}
@@ -143,7 +143,7 @@ splits g before after old mid new block page (Ok Going) steps same alive at_is b
         alive = live;
         leaf = ground;
         whole = subst (λ (p : Page). p.split ≡ false) same_page leaf.whole;
-        place = subst (HasPlace st fits.start 0 (entry_aim before.entry) true) (sym block_is) leaf.place;
+        place = subst (LeadsTo st fits.start 0 (entry_aim before.entry) true) (sym block_is) leaf.place;
         within = subst (λ (p : Page). is_within (entry_aim before.entry) p.high ≡ true) same_page leaf.within;
         halves = h.halves;
         cut = λ asked. h.cut;
@@ -159,7 +159,7 @@ splits g before after old mid new block page (Ok Going) steps same alive at_is b
       let moves = leaf_split_flags st fits.start before.entry page h.left h.half (mended_to h.half.block h.right) order.tree is_split in
       let weighs = leaf_split_weighs st fits.start before.entry page h.left h.half (mended_to h.half.block h.right) order.tree is_split in
       let was : entry_on_live_leaf st.pages before.entry ≡ false =
-      leaf_tells st before.entry page order.tree at_page (covers_there st fits.start before.entry block page order.tree block_is (found honest) leaf) ∙ absent in
+      leaf_shows st before.entry page order.tree at_page (covers_there st fits.start before.entry block page order.tree block_is (found honest) leaf) ∙ absent in
       let low : before.session < length st.table = (let m = order.holdings in let l = fits.session in omega arith) in
       let held_page : holding_of st.table before.session ≡ leaf_held page.block = subst (λ (b : ℕ). holding_of st.table before.session ≡ leaf_held b) (sym block_is) there.0 in
       let free = none_held st.table before.session page.block low held_page in
@@ -169,12 +169,12 @@ splits g before after old mid new block page (Ok Going) steps same alive at_is b
       (pages_first st.limits (length st.pages) st.pages h.left (h.half ∷ mended_to h.half.block h.right) may (omega arith)) in
       let left_live : h.left.state ≡ Live = ap (λ (n : Node). n.state) h.halves.left_is in
       let left_ground : h.left.level ≡ 0 = ap (λ (n : Node). n.level) h.halves.left_is ∙ ground in
-      let place : HasPlace added_to fits.start 0 (entry_aim before.entry) true page.block =
+      let place : LeadsTo added_to fits.start 0 (entry_aim before.entry) true page.block =
       lasts.0.places fits.start 0 (entry_aim before.entry) true page.block (record { session = before.session; is = fits.running }) (bound_falls (bound_of before.entry)) is_split.place in
       let gone : State = with_table added_to table in
       record {
         effect = Some (Add before.entry);
-        does = subst (λ (s : State). Does before.session (Some (Add before.entry)) st s) (sym now)
+        does = subst (λ (s : State). StepEffect before.session (Some (Add before.entry)) st s) (sym now)
             (does_add st before.session before.entry changed table order may lasts.0 lasts.1
             (leaf_split_leaves st fits.start before.entry page h.left h.half (mended_to h.half.block h.right) order.tree is_split) was
             (record { raised = Some page.block; leaf = (is_split_whole at_page is_split.whole, raised_level left_there left_ground); moves = moves; most = omega (arith, weighs) })
@@ -206,8 +206,8 @@ splits g before after old mid new block page (Ok Going) steps same alive at_is b
           );
           to_come = tt;
         }));
-        flags = λ only b flagged. subst (λ (a : InsertAt). is_among_targets (targets_at a) b ≡ true) (sym (ap (λ (o : InsertOp). o.at) h.finishes.after_is))
-            (only_target b (only_leaf only moves b (subst (λ (s : State). is_flagged s b ≡ true) now flagged)));
+        flags = λ only b incomplete. subst (λ (a : InsertAt). is_among_targets (targets_at a) b ≡ true) (sym (ap (λ (o : InsertOp). o.at) h.finishes.after_is))
+            (only_target b (only_leaf only moves b (subst (λ (s : State). is_incomplete s b ≡ true) now incomplete)));
       };
   straight = λ honest order fits whole_pages on room.
       let leaf = (leaf_there st before block at_is fits).1 in
@@ -243,18 +243,18 @@ splits g before after old mid new block page (Ok Going) steps same alive at_is b
       right_free st before.session h.half.block other b page.right h.right differ alone right_stored,
     )
 
-    is_split_whole : slice_get st.pages page.block ≡ Some page → page.split ≡ false → is_flagged st page.block ≡ false
+    is_split_whole : slice_get st.pages page.block ≡ Some page → page.split ≡ false → is_incomplete st page.block ≡ false
     is_split_whole there whole = ap (λ (n : Node). n.split) (read_at st.pages page.block page there) ∙ whole
 
     raised_level : slice_get (after_act changed st).pages page.block ≡ Some h.left → h.left.level ≡ 0 → level_in (after_act changed st) page.block ≡ 0
     raised_level there ground = ap (λ (n : Node). n.level) (read_at (after_act changed st).pages page.block h.left there) ∙ ground
 
-    only_leaf : OnlyTargetsAreFlagged st (targets_at before.at) → FlagsMove (Some page.block) None st (after_act changed st) → (b : ℕ)
-        → is_flagged (with_table (after_act changed st) table) b ≡ true → b ≡ page.block
-    only_leaf only moves b flagged = elim (cases_eq b page.block) [
+    only_leaf : OnlyTargetsAreIncomplete st (targets_at before.at) → FlagsMove (Some page.block) None st (after_act changed st) → (b : ℕ)
+        → is_incomplete (with_table (after_act changed st) table) b ≡ true → b ≡ page.block
+    only_leaf only moves b incomplete = elim (cases_eq b page.block) [
       | inl is ↦ is
       | inr differ ↦ absurd (no_targets before block st at_is only b
-          (sym (moves b ∙ flag_other b page.block (is_flagged st b) differ) ∙ flagged))
+          (sym (moves b ∙ flag_other b page.block (is_incomplete st b) differ) ∙ incomplete))
     ]
 
     only_target : (b : ℕ) → b ≡ page.block → is_among_targets (targets_of h.finishes.op) b ≡ true
@@ -270,7 +270,7 @@ splits g before after old mid new block page (Err fault) steps same alive at_is 
     let same_page = same_leaf st fits.start before.entry block page (found honest) leaf in
     let at_page : slice_get st.pages page.block ≡ Some page = subst (λ (b : ℕ). slice_get st.pages b ≡ Some page) (sym block_is) (found honest) in
     let live : page.state ≡ Live = subst (λ (p : Page). p.state ≡ Live) same_page leaf.alive in
-    let place = subst (HasPlace st fits.start 0 (entry_aim before.entry) true) (sym block_is) leaf.place in
+    let place = subst (LeadsTo st fits.start 0 (entry_aim before.entry) true) (sym block_is) leaf.place in
     let right = right_of page.right refl at_page live fits.start (entry_aim before.entry) place order.tree in
     let fits_split : IsSplittable st page = record { found = at_page; stored = stored; few = few; mendable = right.0; apart = right.1 } in
     let pin : has_pin (pinned_blocks st.table) page.block ≡ true = subst (λ (b : ℕ). has_pin (pinned_blocks st.table) b ≡ true) (sym block_is) (pinned_leaf st.table before.session block there.0) in
@@ -288,14 +288,14 @@ splits g before after old mid new block page (Err fault) steps same alive at_is 
     st = g.state old
 
     right_of : (link : Option ℕ) → page.right ≡ link → slice_get st.pages page.block ≡ Some page → page.state ≡ Live
-        → (start : ℕ) (aim : Bound → Bool) → HasPlace st start 0 aim true page.block → HasTree st
+        → (start : ℕ) (aim : Bound → Bool) → LeadsTo st start 0 aim true page.block → HasTree st
         → RightIsMendable st page.right × (page.right ≢ Some page.block)
     right_of None is there live start aim place tree = (subst (RightIsMendable st) (sym is) tt, λ k. some_is_none (sym is ∙ k))
       where
         some_is_none : None ≡ Some page.block → ⊥
         some_is_none k = cc
     right_of (Some r) is there live start aim place tree =
-        let n = neighbour_tells st start 0 aim true page r tree there place live is in (
+        let n = neighbour_shows st start 0 aim true page r tree there place live is in (
           subst (RightIsMendable st) (sym is) (record { page = n.page; found = n.found; mends = n.mends }),
           λ k. n.apart (some_same (sym is ∙ k)),
         )

@@ -5,10 +5,10 @@ use Rattle.index_model.specs.Faults.{HasCause}
 use Rattle.index_model.specs.declared.fault.Fault.{Fault}
 use Rattle.page_action.specs.States.{State, Continues}
 use Rattle.page_action.specs.declared.page_store.PageStore.{Ghosts}
-use Rattle.descent.specs.Shared.{IsInOrder}
+use Rattle.tree_acts.specs.StepEffects.{IsInOrder}
 use Rattle.descent.proofs.Acting.{one_nothing, nothing_else}
-use Rattle.tree_acts.specs.Ways.{AreWhole}
-use Rattle.split_finish.specs.Targets.{OnlyTargetsAreFlagged}
+use Rattle.tree_acts.specs.Ways.{NoneIsIncomplete}
+use Rattle.split_finish.specs.Targets.{OnlyTargetsAreIncomplete}
 use Rattle.insert_split.specs.Straight.{IsStraight, CountsDown}
 use Rattle.insert_split.specs.Inserts.{InsertInvariant, InsertSteps, insert_left, targets_at, causes_of_inserting}
 use Rattle.insert_split.specs.declared.insert.InsertOp.{InsertOp}
@@ -40,14 +40,14 @@ refuses g op old new fault steps same alive cause = record {
 pub record StandsNow (st : State) (before after : InsertOp) : Type 0 where
   pub fits : InsertInvariant st after
   pub added : after.added ≡ before.added
-  pub flags : OnlyTargetsAreFlagged st (targets_at before.at) → OnlyTargetsAreFlagged st (targets_at after.at)
+  pub flags : OnlyTargetsAreIncomplete st (targets_at before.at) → OnlyTargetsAreIncomplete st (targets_at after.at)
 
 -- a step that reads, and goes on
 pub goes_on : {S : Type 0} (g : Ghosts S) (before after : InsertOp) (old new : S) → Continues g.follows old new → g.state new ≡ g.state old
     → after.session ≡ before.session → after.entry ≡ before.entry → (g.backing old).stopped ≡ false
     → ((g.backing new).honest ≡ true → insert_left (g.state old).limits.pages (g.state old).pages after.at < insert_left (g.state old).limits.pages (g.state old).pages before.at)
     → ((g.backing new).honest ≡ true → IsInOrder (g.state old) → InsertInvariant (g.state old) before → StandsNow (g.state old) before after)
-    → ((g.backing new).honest ≡ true → IsInOrder (g.state old) → AreWhole (g.state old).pages → IsStraight (g.state old) before.entry before.at
+    → ((g.backing new).honest ≡ true → IsInOrder (g.state old) → NoneIsIncomplete (g.state old).pages → IsStraight (g.state old) before.entry before.at
     → CountsDown (g.state old) (g.state old) before after (Ok Going))
     → InsertSteps g before after old new (Ok Going)
 goes_on g before after old new steps same session entry alive less stands straight = record {
@@ -65,7 +65,7 @@ goes_on g before after old new steps same session entry alive less stands straig
         does = nothing_else before.session (g.state old) (g.state new) same order;
         noted = now.added;
         fits = subst (λ (st : State). InsertInvariant st after) (sym same) now.fits;
-        flags = λ only. subst (λ (st : State). OnlyTargetsAreFlagged st (targets_at after.at)) (sym same) (now.flags only);
+        flags = λ only. subst (λ (st : State). OnlyTargetsAreIncomplete st (targets_at after.at)) (sym same) (now.flags only);
       };
   straight = λ honest order fits whole on room. subst (λ (st : State). CountsDown (g.state old) st before after (Ok Going)) (sym same) (straight honest order whole on);
 }

@@ -13,16 +13,16 @@ use Rattle.page_action.specs.States.{State, Continues, with_table}
 use Rattle.page_action.specs.declared.page_store.PageStore.{Ghosts}
 use Rattle.tree_shape.specs.Walks.{entry_aim, is_within}
 use Rattle.tree_shape.specs.Leaf.{MayHold}
-use Rattle.tree_acts.specs.Trees.{HasPlace}
-use Rattle.tree_acts.proofs.Telling.{live_tells}
-use Rattle.descent.specs.Shared.{IsInOrder, Does}
-use Rattle.descent.specs.Steps.{AreApart}
-use Rattle.descent.specs.declared.way.Way.{Way}
+use Rattle.tree_acts.specs.Trees.{LeadsTo}
+use Rattle.tree_acts.proofs.Meanings.{live_shows}
+use Rattle.tree_acts.specs.StepEffects.{IsInOrder, StepEffect}
+use Rattle.tree_acts.specs.Steps.{AreApart}
+use Rattle.descent.specs.declared.way.Position.{Position}
 use Rattle.descent.proofs.Acting.{holds_else, one_table, place_held_else}
 use Rattle.descent.proofs.Tables.{apart_latched, apart_pins}
 use Rattle.descent.proofs.Working.{held_cause}
 use Rattle.split_finish.specs.Targets.{is_among_targets}
-use Rattle.descent.specs.Shared.{is_flagged}
+use Rattle.tree_acts.specs.StepEffects.{is_incomplete}
 use Rattle.insert_split.specs.Inserts.{leaf_held, IsLeafFor, InsertInvariant, InsertSteps, insert_left, targets_at, causes_of_inserting}
 use Rattle.insert_split.specs.Straight.{IsStraight, straight_steps}
 use Rattle.insert_split.specs.Turns.{IsNotTaken, Takes}
@@ -41,7 +41,7 @@ held_of was block = record { latches = record { block = block; mode = Exclusive 
 
 -- taking a leaf that nobody else holds changes nothing else
 pub takes_leaf : (old new : State) (session block : ℕ) → session < 64 → IsInOrder old → holding_of old.table session ≡ nothing_held → is_held_by_another old.table session block Exclusive ≡ false
-    → new ≡ with_table old (pinned (latched old.table session block Exclusive) session block) → Does session None old new × (holding_of new.table session ≡ leaf_held block)
+    → new ≡ with_table old (pinned (latched old.table session block Exclusive) session block) → StepEffect session None old new × (holding_of new.table session ≡ leaf_held block)
 takes_leaf old new session block low order nothing free is =
     let many : length old.table ≡ 64 = order.holdings in
     let below : session < length old.table = omega arith in
@@ -65,7 +65,7 @@ true_false : true ≡ false → ⊥
 true_false h = cc
 
 -- a step that takes the leaf, or doesn't
-pub takes : {S : Type 0} (g : Ghosts S) (before after : InsertOp) (old mid new : S) (page : Page) (way : Way) (result : Result InsertStep Fault)
+pub takes : {S : Type 0} (g : Ghosts S) (before after : InsertOp) (old mid new : S) (page : Page) (way : Position) (result : Result InsertStep Fault)
     → Continues g.follows old new → g.state mid ≡ g.state old → g.backing new ≡ g.backing mid
     → (g.backing old).stopped ≡ false → before.at ≡ Coming (At way)
     → (InsertInvariant (g.state old) before → Takes page.block before after (g.state mid) (g.state new) result)
@@ -91,11 +91,11 @@ takes g before after old mid new page way (Ok Going) steps same backing alive at
       let free : is_held_by_another st.table before.session page.block Exclusive ≡ false =
       subst (λ (s : State). is_held_by_another s.table before.session page.block Exclusive ≡ false) same (told fits).free in
       let taken = takes_leaf st (g.state new) before.session page.block fits.session order stands.0 free now in
-      let place : HasPlace st fits.start 0 (entry_aim before.entry) true page.block =
-      subst (λ (l : ℕ). HasPlace st fits.start l (entry_aim before.entry) true page.block) (ground honest order fits)
-      (subst (HasPlace st fits.start way.level (entry_aim before.entry) true) (sym block_is) stands.1.place) in
+      let place : LeadsTo st fits.start 0 (entry_aim before.entry) true page.block =
+      subst (λ (l : ℕ). LeadsTo st fits.start l (entry_aim before.entry) true page.block) (ground honest order fits)
+      (subst (LeadsTo st fits.start way.level (entry_aim before.entry) true) (sym block_is) stands.1.place) in
       let there : slice_get st.pages page.block ≡ Some page = subst (λ (b : ℕ). slice_get st.pages b ≡ Some page) (sym block_is) (found honest) in
-      let arrival = live_tells st fits.start 0 (entry_aim before.entry) true page order.tree there place live in
+      let arrival = live_shows st fits.start 0 (entry_aim before.entry) true page order.tree there place live in
       record {
         effect = None;
         does = taken.0;
@@ -118,8 +118,8 @@ takes g before after old mid new page way (Ok Going) steps same backing alive at
           );
           to_come = to_come_there before way at_is fits.to_come;
         });
-        flags = λ only b flagged. absurd (
-            let was : is_among_targets (targets_at before.at) b ≡ true = only b (subst (λ (s : State). is_flagged s b ≡ true) now flagged) in
+        flags = λ only b incomplete. absurd (
+            let was : is_among_targets (targets_at before.at) b ≡ true = only b (subst (λ (s : State). is_incomplete s b ≡ true) now incomplete) in
             let k : false ≡ true = subst (λ (a : InsertAt). is_among_targets (targets_at a) b ≡ true) at_is was in true_false (sym k));
       };
   straight = λ honest order fits whole_pages on room. (
@@ -167,17 +167,17 @@ takes g before after old mid new page way (Err fault) steps same backing alive a
         (subst (λ (s : State). is_held_by_another s.table before.session page.block Exclusive ≡ true) same held.1)))
 
 -- the page that a search ends at may hold the entry
-pub may_be_held : (st : State) (before : InsertOp) (page : Page) (way : Way) → before.at ≡ Coming (At way) → (order : IsInOrder st) → (fits : InsertInvariant st before)
+pub may_be_held : (st : State) (before : InsertOp) (page : Page) (way : Position) → before.at ≡ Coming (At way) → (order : IsInOrder st) → (fits : InsertInvariant st before)
     → page.block ≡ way.block → IsPage page → page.state ≡ Live → page.split ≡ false → is_within (entry_aim before.entry) page.high ≡ true → slice_get st.pages way.block ≡ Some page → way.level ≡ 0
     → MayHold page before.entry
 may_be_held st before page way at_is order fits block_is admitted live whole within found ground =
     let stands = on_way st before way at_is fits in
     let used = place_in_use st order.tree fits.start way.level (entry_aim before.entry) true way.block stands.1.place in
-    let place : HasPlace st fits.start 0 (entry_aim before.entry) true page.block =
-    subst (λ (l : ℕ). HasPlace st fits.start l (entry_aim before.entry) true page.block) ground
-    (subst (HasPlace st fits.start way.level (entry_aim before.entry) true) (sym block_is) stands.1.place) in
+    let place : LeadsTo st fits.start 0 (entry_aim before.entry) true page.block =
+    subst (λ (l : ℕ). LeadsTo st fits.start l (entry_aim before.entry) true page.block) ground
+    (subst (LeadsTo st fits.start way.level (entry_aim before.entry) true) (sym block_is) stands.1.place) in
     let there : slice_get st.pages page.block ≡ Some page = subst (λ (b : ℕ). slice_get st.pages b ≡ Some page) (sym block_is) found in
-    let arrival = live_tells st fits.start 0 (entry_aim before.entry) true page order.tree there place live in
+    let arrival = live_shows st fits.start 0 (entry_aim before.entry) true page order.tree there place live in
     record {
       leaf = leaf_items page admitted arrival.level_is (subst (λ (b : ℕ). 0 < b) (sym block_is) used.0);
       alive = live;

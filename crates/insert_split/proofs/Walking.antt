@@ -18,14 +18,14 @@ use Rattle.page_codec.specs.declared.page.PageState.TheVariants.{Live, HalfDead,
 use Rattle.page_action.specs.States.{State, Backing}
 use Rattle.tree_shape.specs.Nodes.{nodes_of}
 use Rattle.tree_shape.specs.Walks.{entry_aim, bound_aim, is_within, is_fit}
-use Rattle.tree_shape.proofs.Told.{places_keep_their_level}
-use Rattle.tree_acts.specs.Trees.{HasTree, HasPlace}
+use Rattle.tree_shape.proofs.Shown.{places_keep_their_level}
+use Rattle.tree_acts.specs.Trees.{HasTree, LeadsTo}
 use Rattle.tree_acts.proofs.Lasting.{deleted_in_use}
 use Rattle.tree_acts.proofs.Words.{place_in}
-use Rattle.descent.specs.Onward.{IsOnWay, LeadsOnward}
-use Rattle.descent.specs.declared.way.Onward.{Onward}
-use Rattle.descent.specs.Shared.{IsInOrder, causes_of_working}
-use Rattle.descent.specs.declared.way.Way.{Way}
+use Rattle.descent.specs.NextPage.{IsOnDescent, LeadsToNext}
+use Rattle.descent.specs.declared.way.NextPage.{NextPage}
+use Rattle.tree_acts.specs.StepEffects.{IsInOrder, causes_of_working}
+use Rattle.descent.specs.declared.way.Position.{Position}
 use Rattle.insert_split.specs.Inserts.{InsertInvariant, InsertStands, IsToCome, causes_of_inserting}
 use Rattle.insert_split.specs.declared.insert.InsertAt.{InsertAt}
 use Rattle.insert_split.specs.declared.insert.InsertAt.TheVariants.{Coming}
@@ -33,7 +33,7 @@ use Rattle.insert_split.specs.declared.insert.Stage.TheVariants.{At}
 use Rattle.insert_split.specs.declared.insert.InsertOp.{InsertOp}
 
 -- a place is a block in use
-pub place_in_use : (st : State) (tree : HasTree st) (start level : ℕ) (aim : Bound → Bool) (clear : Bool) (block : ℕ) → HasPlace st start level aim clear block
+pub place_in_use : (st : State) (tree : HasTree st) (start level : ℕ) (aim : Bound → Bool) (clear : Bool) (block : ℕ) → LeadsTo st start level aim clear block
     → (0 < block) × (block < length st.pages)
 place_in_use st tree start level aim clear block place =
     let p = place_in st tree.tree start level aim clear block place in
@@ -89,14 +89,14 @@ up_to_within None e h = tt
 up_to_within (Some high) e h = not_true (entry_aim e high) h
 
 -- where an insert on its way stands
-pub on_way : (st : State) (op : InsertOp) (way : Way) → op.at ≡ Coming (At way) → (fits : InsertInvariant st op)
-    → (holding_of st.table op.session ≡ nothing_held) × IsOnWay st fits.start (entry_aim op.entry) true 0 way
+pub on_way : (st : State) (op : InsertOp) (way : Position) → op.at ≡ Coming (At way) → (fits : InsertInvariant st op)
+    → (holding_of st.table op.session ≡ nothing_held) × IsOnDescent st fits.start (entry_aim op.entry) true 0 way
 on_way st op way at_is fits = subst (InsertStands st op.session fits.start op.entry) at_is fits.stands
 
-pub to_come_there : (op : InsertOp) (way : Way) → op.at ≡ Coming (At way) → IsToCome op.at op.added → op.added ≡ None
+pub to_come_there : (op : InsertOp) (way : Position) → op.at ≡ Coming (At way) → IsToCome op.at op.added → op.added ≡ None
 to_come_there op way at_is h = subst (λ (a : InsertAt). IsToCome a op.added) at_is h
 
-pub reading_cause : (st : State) (old new : Backing) (op : InsertOp) (way : Way) (fault : Fault) → op.at ≡ Coming (At way)
+pub reading_cause : (st : State) (old new : Backing) (op : InsertOp) (way : Position) (fault : Fault) → op.at ≡ Coming (At way)
     → HasCause (causes_of_working st old new op.session [] 1 false false) fault → HasCause (causes_of_inserting st old new op.session op.entry op.at) fault
 reading_cause st old new op way fault at_is h = rw at_is (as_inserting st old new op.session op.entry (Coming (At way)) [] 1 false false fault refl h)
 
@@ -107,16 +107,16 @@ some_none : {A : Type 0} (x : Option A) → x ≡ None → IsSome x → ⊥
 some_none None h s = cc
 some_none (Some x) h s = cc
 
--- a live page that is flagged has a high key
-pub flagged_ends : (page : Page) → IsPage page → page.state ≡ Live → page.split ≡ true → page.high ≡ None → ⊥
-flagged_ends page admitted alive flagged none = by page.items admitted.kind
+-- a live page that has an incomplete split has a high key
+pub incomplete_ends : (page : Page) → IsPage page → page.state ≡ Live → page.split ≡ true → page.high ≡ None → ⊥
+incomplete_ends page admitted alive incomplete none = by page.items admitted.kind
   where
     by : (items : Items) → IsOfKind page items → ⊥
-    by Meta h = true_false (sym flagged ∙ h.split)
-    by (Entries v) h = (let rest = subst (λ (s : PageState). IsLeafIn s page v.items) alive h.rest in some_none page.high none (rest.high.1 (rest.split flagged)))
-    by (Downlinks v) h = some_none page.high none (h.high.1 (h.split flagged))
+    by Meta h = true_false (sym incomplete ∙ h.split)
+    by (Entries v) h = (let rest = subst (λ (s : PageState). IsLeafIn s page v.items) alive h.rest in some_none page.high none (rest.high.1 (rest.split incomplete)))
+    by (Downlinks v) h = some_none page.high none (h.high.1 (h.split incomplete))
 
--- a page that isn't live isn't flagged
+-- a page that isn't live has no incomplete split
 pub whole_page : (page : Page) → IsPage page → (page.state ≡ Live → page.split ≡ false) → page.split ≡ false
 whole_page page admitted whole = by page.items admitted.kind
   where
@@ -131,12 +131,12 @@ whole_page page admitted whole = by page.items admitted.kind
     by (Downlinks v) h = whole h.state
 
 -- where a page leads an insert on its way
-pub led : (st : State) (op : InsertOp) (way : Way) (page : Page) (bound : Bound) (most : ℕ) (result : Option Onward) → op.at ≡ Coming (At way) → IsInOrder st → (fits : InsertInvariant st op)
+pub led : (st : State) (op : InsertOp) (way : Position) (page : Page) (bound : Bound) (most : ℕ) (result : Option NextPage) → op.at ≡ Coming (At way) → IsInOrder st → (fits : InsertInvariant st op)
     → slice_get st.pages way.block ≡ Some page → IsPage page → (page.state ≡ Live → page.split ≡ false) → bound ≡ bound_of op.entry → length st.pages ≤ most
-    → ((s : State) (start : ℕ) (clear : Bool) → HasTree s → slice_get s.pages way.block ≡ Some page → IsOnWay s start (bound_aim bound) clear 0 way → (clear ≡ true → page.split ≡ false)
-    → length s.pages ≤ most → LeadsOnward s start (bound_aim bound) clear 0 way result)
-    → LeadsOnward st fits.start (entry_aim op.entry) true 0 way result
+    → ((s : State) (start : ℕ) (clear : Bool) → HasTree s → slice_get s.pages way.block ≡ Some page → IsOnDescent s start (bound_aim bound) clear 0 way → (clear ≡ true → page.split ≡ false)
+    → length s.pages ≤ most → LeadsToNext s start (bound_aim bound) clear 0 way result)
+    → LeadsToNext st fits.start (entry_aim op.entry) true 0 way result
 led st op way page bound most result at_is order fits found admitted whole is few goes =
     let stands = on_way st op way at_is fits in
-    subst (λ (b : Bound). LeadsOnward st fits.start (bound_aim b) true 0 way result) is
-    (goes st fits.start true order.tree found (subst (λ (b : Bound). IsOnWay st fits.start (bound_aim b) true 0 way) (sym is) stands.1) (λ clear. whole_page page admitted whole) few)
+    subst (λ (b : Bound). LeadsToNext st fits.start (bound_aim b) true 0 way result) is
+    (goes st fits.start true order.tree found (subst (λ (b : Bound). IsOnDescent st fits.start (bound_aim b) true 0 way) (sym is) stands.1) (λ clear. whole_page page admitted whole) few)

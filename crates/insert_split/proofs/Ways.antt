@@ -8,11 +8,11 @@ use Rattle.page_codec.specs.declared.page.Page.{Page}
 use Rattle.page_action.specs.States.{State}
 use Rattle.tree_shape.specs.Tree.{IsMetaOf}
 use Rattle.tree_acts.specs.Trees.{HasTree, HasCover}
-use Rattle.tree_acts.specs.Ways.{AreWhole}
-use Rattle.descent.specs.Ways.{root_level, level_of, level_with}
-use Rattle.tree_acts.proofs.Telling.{metapage_tells, trail_begins_here, root_covers_all}
-use Rattle.descent.specs.Onward.{IsOnWay, way_from}
-use Rattle.descent.specs.declared.way.Way.{Way}
+use Rattle.tree_acts.specs.Ways.{NoneIsIncomplete}
+use Rattle.tree_acts.specs.Levels.{root_level, level_of, level_with}
+use Rattle.tree_acts.proofs.Meanings.{metapage_shows, trail_begins_here, root_covers_all}
+use Rattle.descent.specs.NextPage.{IsOnDescent, way_from}
+use Rattle.descent.specs.declared.way.Position.{Position}
 
 -- a page of the format is on a level up to 31
 pub level_low : (page : Page) → IsPage page → page.level ≤ 31
@@ -24,23 +24,23 @@ level_low page admitted = by page.items admitted.kind
     by (Downlinks v) h = h.level.1
 
 -- the root is on the way, whatever is looked for
-pub on_way_from_root : (st : State) (start : ℕ) (aim : Bound → Bool) (clear : Bool) (to : ℕ) (meta : Page) (way : Way) → HasTree st → slice_get st.pages 0 ≡ Some meta → to ≤ meta.level
-    → ((root : ℕ) → IsMetaOf meta root meta.level → Some way ≡ Some (way_from root meta.level)) → IsOnWay st start aim clear to way
+pub on_way_from_root : (st : State) (start : ℕ) (aim : Bound → Bool) (clear : Bool) (to : ℕ) (meta : Page) (way : Position) → HasTree st → slice_get st.pages 0 ≡ Some meta → to ≤ meta.level
+    → ((root : ℕ) → IsMetaOf meta root meta.level → Some way ≡ Some (way_from root meta.level)) → IsOnDescent st start aim clear to way
 on_way_from_root st start aim clear to meta way tree found le named =
-    let there = metapage_tells st start aim clear meta tree found in
+    let there = metapage_shows st start aim clear meta tree found in
     let is : way ≡ way_from there.root meta.level = (let k = named there.root there.names in cc) in
-    subst (IsOnWay st start aim clear to) (sym is) (record {
+    subst (IsOnDescent st start aim clear to) (sym is) (record {
       not_below = le;
       place = there.place;
       trail = trail_begins_here st start meta.level aim clear there.root tree there.place;
     })
 
--- where no page is flagged, the root covers whatever is looked for
-pub root_covers_there : (st : State) (aim : Bound → Bool) (meta : Page) (way : Way) → HasTree st → AreWhole st.pages → slice_get st.pages 0 ≡ Some meta
+-- where no page has an incomplete split, the root covers whatever is looked for
+pub root_covers_there : (st : State) (aim : Bound → Bool) (meta : Page) (way : Position) → HasTree st → NoneIsIncomplete st.pages → slice_get st.pages 0 ≡ Some meta
     → ((root : ℕ) → IsMetaOf meta root meta.level → Some way ≡ Some (way_from root meta.level)) → HasCover st way.level aim way.block × (way.level ≡ root_level st.pages)
 root_covers_there st aim meta way h whole found named =
-    let r = metapage_tells st 0 aim false meta h found in
+    let r = metapage_shows st 0 aim false meta h found in
     let is : way ≡ way_from r.root meta.level = (let k = named r.root r.names in cc) in (
-      subst (λ (w : Way). HasCover st w.level aim w.block) (sym is) (root_covers_all st aim meta r.root h whole found r.names),
-      ap (λ (w : Way). w.level) is ∙ sym (ap level_of found ∙ ap (λ (items : Items). level_with items meta.level) r.names.kind),
+      subst (λ (w : Position). HasCover st w.level aim w.block) (sym is) (root_covers_all st aim meta r.root h whole found r.names),
+      ap (λ (w : Position). w.level) is ∙ sym (ap level_of found ∙ ap (λ (items : Items). level_with items meta.level) r.names.kind),
     )

@@ -15,12 +15,12 @@ use Rattle.page_action.specs.Causes.{other_row_is_there}
 use Rattle.page_action.specs.States.{State, Backing, Continues}
 use Rattle.page_action.specs.declared.page_store.PageStore.{Ghosts}
 use Rattle.tree_shape.specs.Walks.{entry_aim, is_within}
-use Rattle.tree_acts.specs.Trees.{HasPlace}
-use Rattle.tree_acts.specs.Ways.{AreWhole}
-use Rattle.descent.specs.Onward.{IsOnWay, walk_length, way_left}
-use Rattle.descent.specs.Shared.{IsInOrder, Does, IsOneStep, is_flagged, fresh_block, sibling, causes_of_working, causes_of_splitting_any}
+use Rattle.tree_acts.specs.Trees.{LeadsTo}
+use Rattle.tree_acts.specs.Ways.{NoneIsIncomplete}
+use Rattle.descent.specs.NextPage.{IsOnDescent, walk_length, way_left}
+use Rattle.tree_acts.specs.StepEffects.{IsInOrder, StepEffect, IsOneActAtMost, is_incomplete, fresh_block, sibling, causes_of_working, causes_of_splitting_any}
 use Rattle.split_finish.specs.Finishes.{finish_blocks, frames_of, takes_block_of}
-use Rattle.split_finish.specs.Targets.{targets_of, OnlyTargetsAreFlagged, FinishInvariant, finish_left}
+use Rattle.split_finish.specs.Targets.{targets_of, OnlyTargetsAreIncomplete, FinishInvariant, finish_left}
 use Rattle.split_finish.specs.Turns.{splits_root_of}
 use Rattle.split_finish.specs.declared.finish.Target.{Target}
 use Rattle.insert_split.specs.Straight.{IsStraight, HasRoomFor, CountsDown}
@@ -38,21 +38,21 @@ leaf_held block = record {
   pins = block ∷ [];
 }
 
--- the block is the live leaf that covers the entry, not flagged nor right behind a flagged one
+-- the block is the live leaf that covers the entry, without an incomplete split nor right after one with an incomplete split
 pub record IsLeafFor (st : State) (start : ℕ) (e : Entry) (block : ℕ) : Type 0 where
   pub page : Page
   pub found : slice_get st.pages block ≡ Some page
   pub alive : page.state ≡ Live
   pub leaf : page.level ≡ 0
   pub whole : page.split ≡ false
-  pub place : HasPlace st start 0 (entry_aim e) true block
+  pub place : LeadsTo st start 0 (entry_aim e) true block
   pub within : is_within (entry_aim e) page.high ≡ true
 
 -- what it holds, and where it stands: before its first step, on its way to its leaf, with its leaf, or with splits to finish
 abbrev pub InsertStands : State → ℕ → ℕ → Entry → InsertAt → Type 0
 InsertStands st session start e (Coming Start) = holding_of st.table session ≡ nothing_held
 InsertStands st session start e (Coming (At way)) =
-    (holding_of st.table session ≡ nothing_held) × IsOnWay st start (entry_aim e) true 0 way
+    (holding_of st.table session ≡ nothing_held) × IsOnDescent st start (entry_aim e) true 0 way
 InsertStands st session start e (Coming (Holds block)) =
     (holding_of st.table session ≡ leaf_held block) × IsLeafFor st start e block
 InsertStands st session start e (Finishing op) = (op.session ≡ session) × FinishInvariant st op
@@ -154,11 +154,11 @@ abbrev pub causes_of_left_any : Circumstances
 causes_of_left_any = record causes_of_splitting_any { is_held_by_another = λ b. false }
 
 -- this holds of the fault that an insert ends with, if it ends with one
-abbrev pub IfUnfinished : Result InsertStep Fault → (Fault → Type 0) → Type 0
-IfUnfinished (Ok Going) P = Unit {0}
-IfUnfinished (Ok (Added action None)) P = Unit {0}
-IfUnfinished (Ok (Added action (Some fault))) P = P fault
-IfUnfinished (Err fault) P = Unit {0}
+abbrev pub IfLeftIncomplete : Result InsertStep Fault → (Fault → Type 0) → Type 0
+IfLeftIncomplete (Ok Going) P = Unit {0}
+IfLeftIncomplete (Ok (Added action None)) P = Unit {0}
+IfLeftIncomplete (Ok (Added action (Some fault))) P = P fault
+IfLeftIncomplete (Err fault) P = Unit {0}
 
 -- what the insert notes of a step: the number of the action that adds its entry
 abbrev pub IsNoted : Option Effect → ℕ → Entry → Option ℕ → Option ℕ → Type 0
@@ -168,22 +168,22 @@ IsNoted (Some (Add x)) acts e before after =
 IsNoted (Some (Remove es)) acts e before after = ⊥
 IsNoted (Some Shape) acts e before after = after ≡ before
 
--- a step that goes on: where only pages were flagged whose splits it was to finish, only such are
-pub record InsertGoesOn (old new : State) (before after : InsertOp) : Type 0 where
+-- a step that goes on: where only pages had incomplete splits that it was to finish, only such are
+pub record InsertContinues (old new : State) (before after : InsertOp) : Type 0 where
   pub effect : Option Effect
-  pub does : Does before.session effect old new
+  pub does : StepEffect before.session effect old new
   pub noted : IsNoted effect old.acts before.entry before.added after.added
   pub fits : InsertInvariant new after
-  pub flags : OnlyTargetsAreFlagged old (targets_at before.at)
-      → OnlyTargetsAreFlagged new (targets_at after.at)
+  pub flags : OnlyTargetsAreIncomplete old (targets_at before.at)
+      → OnlyTargetsAreIncomplete new (targets_at after.at)
 
--- what the end of an insert leaves unfinished: nothing, and then no page is flagged if only those were that it was to finish;
+-- what the end of an insert leaves unfinished: nothing, and then no page has an incomplete split if only those were that it was to finish;
 -- or a fault, which has its cause
 abbrev pub IsLeft : State → Backing → State → Backing → InsertOp → Option Effect → Option Fault
     → Type 0
 IsLeft old old_backing new new_backing before effect None =
-    OnlyTargetsAreFlagged old (targets_at before.at)
-    → (block : ℕ) → is_flagged new block ≡ false
+    OnlyTargetsAreIncomplete old (targets_at before.at)
+    → (block : ℕ) → is_incomplete new block ≡ false
 IsLeft old old_backing new new_backing before effect (Some fault) = (effect ≡ None)
     × HasCause (causes_of_left old old_backing new_backing before.session before.entry before.at) fault
 
@@ -191,7 +191,7 @@ IsLeft old old_backing new new_backing before effect (Some fault) = (effect ≡ 
 pub record InsertEnds (old : State) (old_backing : Backing) (new : State) (new_backing : Backing)
     (before : InsertOp) (action : ℕ) (unfinished : Option Fault) : Type 0 where
   pub effect : Option Effect
-  pub does : Does before.session effect old new
+  pub does : StepEffect before.session effect old new
   pub noted : IsNoted effect old.acts before.entry before.added (Some action)
   pub left : IsLeft old old_backing new new_backing before effect unfinished
 
@@ -199,7 +199,7 @@ pub record InsertEnds (old : State) (old_backing : Backing) (new : State) (new_b
 abbrev pub InsertStepped : State → Backing → State → Backing → InsertOp → InsertOp
     → Result InsertStep Fault → Type 0
 InsertStepped old old_backing new new_backing before after (Ok Going) =
-    InsertGoesOn old new before after
+    InsertContinues old new before after
 InsertStepped old old_backing new new_backing before after (Ok (Added action unfinished)) =
     InsertEnds old old_backing new new_backing before action unfinished
 InsertStepped old old_backing new new_backing before after (Err fault) = HasCause
@@ -223,7 +223,7 @@ pub record InsertSteps {S : Type 0} (g : Ghosts S) (before after : InsertOp) (ol
   pub steps : Continues g.follows old new
   pub session : after.session ≡ before.session
   pub entry : after.entry ≡ before.entry
-  pub kept : IsOneStep (g.state old) (g.state new)
+  pub kept : IsOneActAtMost (g.state old) (g.state new)
   pub refused : OnErr result (InsertStays (g.state old) (g.state new) before after)
   pub stopped : (g.backing old).stopped ≡ true → AnswersStopped before.added result
   pub less : (g.backing new).honest ≡ true → result ≡ Ok Going
@@ -233,8 +233,8 @@ pub record InsertSteps {S : Type 0} (g : Ghosts S) (before after : InsertOp) (ol
   pub stepped : (g.backing new).honest ≡ true → IsInOrder (g.state old)
       → InsertInvariant (g.state old) before
       → InsertStepped (g.state old) (g.backing old) (g.state new) (g.backing new) before after result
-  -- where no page is flagged and its leaf has room, each step is one nearer to the last
+  -- where no page has an incomplete split and its leaf has room, each step is one nearer to the last
   pub straight : (g.backing new).honest ≡ true → IsInOrder (g.state old)
-      → InsertInvariant (g.state old) before → AreWhole (g.state old).pages
+      → InsertInvariant (g.state old) before → NoneIsIncomplete (g.state old).pages
       → IsStraight (g.state old) before.entry before.at → HasRoomFor (g.state old) before.entry
       → CountsDown (g.state old) (g.state new) before after result

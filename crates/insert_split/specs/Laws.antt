@@ -2,7 +2,7 @@
 use Rattle.std.specs.Prelude.{ℕ, ◌<◌, ◌≤◌, List}
 use Rattle.page_codec.specs.declared.page.Page.{Page}
 use Rattle.page_action.specs.States.{State}
-use Rattle.descent.specs.Shared.{IsInOrder, MayRely}
+use Rattle.tree_acts.specs.StepEffects.{IsInOrder, MayRely}
 use Rattle.insert_split.specs.Inserts.{InsertInvariant, insert_left}
 use Rattle.insert_split.specs.declared.insert.InsertAt.TheVariants.{Coming}
 use Rattle.insert_split.specs.declared.insert.Stage.TheVariants.{Start}

@@ -20,7 +20,7 @@ use Rattle.tree_shape.specs.Nodes.{node_of}
 use Rattle.tree_shape.specs.Separators.{IsCutOf}
 use Rattle.descent.specs.Splitting.{RightIsMendable, RightIsStored, RightIsFound, mended_to}
 use Rattle.tree_shape.specs.Leaf.{MayHold}
-use Rattle.descent.specs.declared.way.Way.{Way}
+use Rattle.descent.specs.declared.way.Position.{Position}
 use Rattle.split_finish.specs.declared.finish.FinishAt.TheVariants.{Start as FinishStart}
 use Rattle.split_finish.specs.declared.finish.FinishOp.{FinishOp}
 use Rattle.split_finish.specs.declared.finish.Target.{Target}
@@ -41,7 +41,7 @@ pub record FinishesOne (target : Target) (before after : InsertOp) : Type 0 wher
   pub at : op.at ≡ FinishStart
 
 -- the split of a page that it met on this way is to be finished
-pub record MeetsSplit (page : Page) (way : Way) (before after : InsertOp) : Type 0 where
+pub record MeetsSplit (page : Page) (way : Position) (before after : InsertOp) : Type 0 where
   pub target : Target
   pub block_is : target.block ≡ way.block
   pub level_is : target.level ≡ way.level
@@ -50,13 +50,13 @@ pub record MeetsSplit (page : Page) (way : Way) (before after : InsertOp) : Type
   pub finishes : FinishesOne target before after
 
 -- ... or isn't: the page is on another level, or has no high key
-pub record MeetsNone (page : Page) (way : Way) (before after : InsertOp) (fault : Fault)
+pub record MeetsNone (page : Page) (way : Position) (before after : InsertOp) (fault : Fault)
     : Type 0 where
   pub fault_is : fault ≡ PageDamaged way.block
   pub stays : after ≡ before
   pub astray : page.level ≡ way.level → page.high ≡ None
 
-abbrev pub MeetsPage : Page → Way → InsertOp → InsertOp → Result InsertStep Fault → Type 0
+abbrev pub MeetsPage : Page → Position → InsertOp → InsertOp → Result InsertStep Fault → Type 0
 MeetsPage page way before after (Ok Going) = MeetsSplit page way before after
 MeetsPage page way before after (Ok (Added action unfinished)) = ⊥
 MeetsPage page way before after (Err fault) = MeetsNone page way before after fault
@@ -173,26 +173,26 @@ FinishesSplits (Coming stage) = ⊥
 FinishesSplits (Finishing op) = Unit {0}
 
 -- an insert whose entry is logged is over; one whose entry isn't starts again
-abbrev pub GoesOnFrom : Option ℕ → InsertOp → InsertOp → InsertStep → Type 0
-GoesOnFrom None before after step =
+abbrev pub ContinuesFrom : Option ℕ → InsertOp → InsertOp → InsertStep → Type 0
+ContinuesFrom None before after step =
     (step ≡ Going) × (after ≡ record before { at = Coming Start })
-GoesOnFrom (Some action) before after step = (step ≡ Added action None) × (after ≡ before)
+ContinuesFrom (Some action) before after step = (step ≡ Added action None) × (after ≡ before)
 
-abbrev pub GoesOn : InsertOp → InsertOp → InsertStep → Type 0
-GoesOn before after step = GoesOnFrom before.added before after step
+abbrev pub ContinuesAs : InsertOp → InsertOp → InsertStep → Type 0
+ContinuesAs before after step = ContinuesFrom before.added before after step
 
 abbrev pub is_blocked : Fault → Bool
 is_blocked (Blocked b) = true
 is_blocked fault = false
 
 -- an insert whose entry is logged is over with the fault, but where a page is blocked; any other is refused
-abbrev pub LeavesBy : Bool → Option ℕ → Fault → Result InsertStep Fault → Type 0
-LeavesBy blocked None fault result = result ≡ Err fault
-LeavesBy true (Some action) fault result = result ≡ Err fault
-LeavesBy false (Some action) fault result = result ≡ Ok (Added action (Some fault))
+abbrev pub EndsBy : Bool → Option ℕ → Fault → Result InsertStep Fault → Type 0
+EndsBy blocked None fault result = result ≡ Err fault
+EndsBy true (Some action) fault result = result ≡ Err fault
+EndsBy false (Some action) fault result = result ≡ Ok (Added action (Some fault))
 
 abbrev pub Leaves : Option ℕ → Fault → Result InsertStep Fault → Type 0
-Leaves added fault result = LeavesBy (is_blocked fault) added fault result
+Leaves added fault result = EndsBy (is_blocked fault) added fault result
 
 -- once the entry is logged, only a page that is blocked refuses a step, and the insert ends with the number of that action
 abbrev pub IsRefusedRightly : Option ℕ → Result InsertStep Fault → Type 0

@@ -4,24 +4,24 @@ ghost use Rattle.std.specs.Prelude.{◌≡◌, Err, Ok, Some, None, IfSome, IfNo
 ghost use Rattle.index_model.specs.Faults.{HasCause};
 ghost use Rattle.latch_table.specs.Holdings.{HasRoom, latched, pinned};
 ghost use Rattle.page_action.specs.States.{Continues, with_table};
-ghost use Rattle.insert_split.specs.Inserts.{InsertSteps, IfUnfinished, AnswersStopped, causes_of_inserting_any, causes_of_left_any};
-ghost use Rattle.insert_split.specs.Turns.{MeetsPage, Takes, FinishesSplits, GoesOn, Leaves, IsRefusedRightly};
+ghost use Rattle.insert_split.specs.Inserts.{InsertSteps, IfLeftIncomplete, AnswersStopped, causes_of_inserting_any, causes_of_left_any};
+ghost use Rattle.insert_split.specs.Turns.{MeetsPage, Takes, FinishesSplits, ContinuesAs, Leaves, IsRefusedRightly};
 
 use crate::leaf_act::place_in;
-use descent::{Onward, Way, lead, look, way_down};
+use descent::{NextPage, Position, lead, read_shared, way_down};
 use index_model::{Entry, Fault, Session};
 use latch_table::Mode;
 use page_action::PageStore;
 use page_codec::{Page, PageState};
 use split_finish::{FinishOp, FinishStep, Target};
-use tree_shape::{Aim, entries_on, may_hold};
+use tree_shape::{SearchKey, entries_on, may_hold};
 
 /// Where an insert is between its steps.
 #[derive(Drop)]
 pub enum InsertAt {
     /// Its entry isn't on its leaf yet.
     Coming(Stage),
-    /// It finishes splits: its own, behind which it is over, or one that it met, behind which it starts again.
+    /// It finishes splits: its own, after which it is over, or one that it met, after which it starts again.
     Finishing(FinishOp),
 }
 
@@ -31,7 +31,7 @@ pub enum Stage {
     /// Before its first step.
     Start,
     /// On its way to the leaf of its entry.
-    At(Way),
+    At(Position),
     /// It holds this leaf latched, and pinned.
     Holding(u32),
 }
@@ -100,7 +100,7 @@ impl InsertOp {
     /// (17) on pages that are no tree. A refused step changes nothing. Once the entry is logged, each of these but `Blocked`
     /// stands in `unfinished` of `Added`.
     ///
-    /// `draft` is room for a leaf, and `pages` for the pages of a split: what they hold has no meaning, neither before nor behind.
+    /// `draft` is room for a leaf, and `pages` for the pages of a split: what they hold has no meaning, neither before nor after.
     pub fn step<S: PageStore>(
         &mut self,
         store: &mut S,
@@ -109,8 +109,8 @@ impl InsertOp {
     ) -> Result<InsertStep, Fault>
         ensures all { InsertSteps S.PageStore self.old self.new store.old store.new result }
         ensures faults { IfErr result (HasCause causes_of_inserting_any) }
-        ensures quiet { IfUnfinished result (λ fault. S.state store.new ≡ S.state store.old) }
-        ensures left { IfUnfinished result (HasCause causes_of_left_any) }
+        ensures quiet { IfLeftIncomplete result (λ fault. S.state store.new ≡ S.state store.old) }
+        ensures left { IfLeftIncomplete result (HasCause causes_of_left_any) }
         ensures logged { IsRefusedRightly self.old.added result }
     {
         if store.is_stopped() {
@@ -144,10 +144,10 @@ impl InsertOp {
         requires alive { (S.backing store.old).stopped ≡ false }
         ensures all { InsertSteps S.PageStore self.old self.new store.old store.new result }
         ensures faults { IfErr result (HasCause causes_of_inserting_any) }
-        ensures quiet { IfUnfinished result (λ fault. S.state store.new ≡ S.state store.old) }
-        ensures left { IfUnfinished result (HasCause causes_of_left_any) }
+        ensures quiet { IfLeftIncomplete result (λ fault. S.state store.new ≡ S.state store.old) }
+        ensures left { IfLeftIncomplete result (HasCause causes_of_left_any) }
     {
-        match look(store, self.session, 0) {
+        match read_shared(store, self.session, 0) {
             Ok(()) => {}
             Err(fault) => return Err(fault),
         }
@@ -159,29 +159,29 @@ impl InsertOp {
     }
 
     // Reads a page on its way.
-    fn walk<S: PageStore>(&mut self, store: &mut S, way: Way) -> Result<InsertStep, Fault>
+    fn walk<S: PageStore>(&mut self, store: &mut S, way: Position) -> Result<InsertStep, Fault>
         requires at { self.old.at ≡ InsertAt.Coming (Stage.At way) }
         requires alive { (S.backing store.old).stopped ≡ false }
         ensures all { InsertSteps S.PageStore self.old self.new store.old store.new result }
         ensures faults { IfErr result (HasCause causes_of_inserting_any) }
-        ensures quiet { IfUnfinished result (λ fault. S.state store.new ≡ S.state store.old) }
-        ensures left { IfUnfinished result (HasCause causes_of_left_any) }
+        ensures quiet { IfLeftIncomplete result (λ fault. S.state store.new ≡ S.state store.old) }
+        ensures left { IfLeftIncomplete result (HasCause causes_of_left_any) }
     {
-        match look(store, self.session, way.block) {
+        match read_shared(store, self.session, way.block) {
             Ok(()) => {}
             Err(fault) => return Err(fault),
         }
         let page = store.view(way.block);
-        if is_unfinished(page) {
+        if has_incomplete_split(page) {
             return self.meet(page, way);
         }
-        let aim = Aim::Below(self.entry.bound());
+        let aim = SearchKey::Below(self.entry.bound());
         match lead(page, &way, &aim, 0, store.limits().pages) {
-            Some(Onward::Going(on)) => {
+            Some(NextPage::Going(on)) => {
                 come_to(&mut self.at, Stage::At(on));
                 Ok(InsertStep::Going)
             }
-            Some(Onward::Here) => {
+            Some(NextPage::Here) => {
                 if !may_hold(page, &self.entry) {
                     return Err(Fault::PageDamaged(way.block));
                 }
@@ -192,7 +192,7 @@ impl InsertOp {
     }
 
     // Finishes the split of a page that it met on its way.
-    fn meet(&mut self, page: &Page, way: Way) -> Result<InsertStep, Fault>
+    fn meet(&mut self, page: &Page, way: Position) -> Result<InsertStep, Fault>
         ensures meets { MeetsPage page.now way self.old self.new result }
         ensures faults { IfErr result (HasCause causes_of_inserting_any) }
     {
@@ -242,8 +242,8 @@ impl InsertOp {
         requires alive { (S.backing store.old).stopped ≡ false }
         ensures all { InsertSteps S.PageStore self.old self.new store.old store.new result }
         ensures faults { IfErr result (HasCause causes_of_inserting_any) }
-        ensures quiet { IfUnfinished result (λ fault. S.state store.new ≡ S.state store.old) }
-        ensures left { IfUnfinished result (HasCause causes_of_left_any) }
+        ensures quiet { IfLeftIncomplete result (λ fault. S.state store.new ≡ S.state store.old) }
+        ensures left { IfLeftIncomplete result (HasCause causes_of_left_any) }
     {
         match store.fetch(block) {
             Ok(()) => {}
@@ -274,8 +274,8 @@ impl InsertOp {
         requires alive { (S.backing store.old).stopped ≡ false }
         ensures all { InsertSteps S.PageStore self.old self.new store.old store.new result }
         ensures faults { IfErr result (HasCause causes_of_inserting_any) }
-        ensures quiet { IfUnfinished result (λ fault. S.state store.new ≡ S.state store.old) }
-        ensures left { IfUnfinished result (HasCause causes_of_left_any) }
+        ensures quiet { IfLeftIncomplete result (λ fault. S.state store.new ≡ S.state store.old) }
+        ensures left { IfLeftIncomplete result (HasCause causes_of_left_any) }
         ensures logged { IsRefusedRightly self.old.added result }
     {
         let InsertAt::Finishing(op) = &mut self.at else {
@@ -290,7 +290,7 @@ impl InsertOp {
 
     // Nothing is left to finish: the insert is over, or starts again.
     fn go_on(&mut self) -> InsertStep
-        ensures { GoesOn self.old self.new result }
+        ensures { ContinuesAs self.old self.new result }
     {
         match self.added {
             Some(action) => InsertStep::Added {
@@ -304,7 +304,7 @@ impl InsertOp {
         }
     }
 
-    // A split can't be finished: where the entry is logged, the insert is over all the same, but for a page that is blocked.
+    // A split can't be finished: where the entry is logged, the insert is over all the same, except for a page that is blocked.
     fn leave(&self, fault: Fault) -> Result<InsertStep, Fault>
         ensures { Leaves self.now.added fault result }
     {
@@ -336,16 +336,16 @@ fn start_at(at: &mut InsertAt, stage: Stage)
 }
 
 // Whether it is a live page whose split is to be finished.
-fn is_unfinished(page: &Page) -> bool
+fn has_incomplete_split(page: &Page) -> bool
     ensures live { result ≡ true → page.now.state ≡ PageState.Live }
-    ensures flagged { result ≡ true → page.now.split ≡ true }
+    ensures incomplete { result ≡ true → page.now.split ≡ true }
     ensures whole { result ≡ false → page.now.state ≡ PageState.Live → page.now.split ≡ false }
 {
     matches!(page.state, PageState::Live) && page.split
 }
 
 // What is to be finished of a page, met on this way; None where it is on another level, or has no high key.
-fn target_of(page: &Page, way: Way) -> Option<Target>
+fn target_of(page: &Page, way: Position) -> Option<Target>
     ensures target { IfSome result (λ t. (t.block ≡ way.block) × (t.level ≡ way.level)
         × (page.now.level ≡ way.level) × (page.now.high ≡ Some t.separator)) }
     ensures none { page.now.level ≡ way.level → IfNone result (page.now.high ≡ None) }

@@ -12,7 +12,7 @@ ghost use Rattle.page_action.specs.States.{Continues, after_act};
 ghost use Rattle.page_action.specs.Stored.{AreActable, IsStored};
 ghost use Rattle.tree_shape.specs.KeyPages.{IsKeyFree};
 ghost use Rattle.tree_shape.specs.Leaf.{IsPlaceOf, MayHold};
-ghost use Rattle.descent.specs.Shared.{causes_of_acting, causes_of_working};
+ghost use Rattle.tree_acts.specs.StepEffects.{causes_of_acting, causes_of_working};
 ghost use Rattle.descent.specs.Splitting.{if_read, mended_to};
 ghost use Rattle.insert_split.specs.Inserts.{causes_of_inserting_any, blocks_halved};
 ghost use Rattle.page_codec.specs.Grammar.{IsBlock};

@@ -45,7 +45,7 @@ and_false : (b : Bool) → (b && false) ≡ false
 and_false true = refl
 and_false false = refl
 
--- whether the holdings from this number on exclude, by the one there and those behind it
+-- whether the holdings from this number on exclude, by the one there and those after it
 others_exclude-drop : (table : Table) (number session block : ℕ) (asked : Mode) (any : Holding) → number < length table
     → others_exclude number (drop number table) session block asked
     ≡ ((not (number == session) && holding_excludes (get_or table number any) block asked) || others_exclude (number + 1) (drop (number + 1) table) session block asked)

@@ -1,6 +1,6 @@
 -- What a table holds after a latch, a pin or their release, and who excludes whom.
 use Rattle.std.proofs.Common.{◌≡◌, ◌≢◌, ℕ, zero, suc, ◌+◌, ◌<◌, Bool, true, false, not, ◌&&◌, ◌||◌, ◌==◌, cond, [], ◌∷◌, length, refl, ap, sym, ◌∙◌, arith, ◌⊎◌, inl, inr, ⊎_elim}
-use Rattle.std.proofs.lemmas.Bool.{ne_eqb, eq-eqb, eqb-false, lt-ltb, not-true, false_from_ne_true, true≢false}
+use Rattle.std.proofs.lemmas.Bool.{ne_eqb, eqb-false, lt-ltb, not-true, false_from_ne_true, true≢false}
 use Rattle.std.proofs.lemmas.List.{length-set, get_or-set_same, get_or-set_other, set-set, set-get_or}
 use Rattle.std.proofs.lemmas.Option.{unwrap_or-slice_get}
 use Rattle.latch_table.specs.declared.mode.Mode.{Mode}
@@ -95,14 +95,6 @@ put_back : (table : Table) (session : ℕ) (between again : Holding) → again �
     → with_holding (with_holding table session between) session again ≡ table
 put_back table session between again same =
     with_holding-again table session between again ∙ ap (with_holding table session) same ∙ with_holding-own table session
-
-pub unpinned-pinned : (table : Table) (session block : ℕ) → session < length table → length (holding_of table session).pins < 2
-    → unpinned (pinned table session block) session block ≡ table
-unpinned-pinned table session block below room =
-    let held : Holding = holding_of table session in
-    put_back table session _ _
-    (ap (λ now. record { latches = now.latches; pins = without_pin now.pins block }) (holding_of-pinned table session block below room)
-    ∙ ap (λ test. record { latches = held.latches; pins = cond test held.pins (block ∷ without_pin held.pins block) }) (eq-eqb block block refl))
 
 -- who excludes whom
 

@@ -103,7 +103,7 @@ impl Held {
         }
     }
 
-    /// Puts its pins, the newest first, behind these blocks, which have room for two more.
+    /// Puts its pins, the newest first, after these blocks, which have room for two more.
     pub fn add_pins(&self, blocks: &mut ArrayVec<u32, 128>)
         requires room { array_vec_len blocks.old ≤ 126 }
         ensures added { blocks.new.items ≡ blocks.old.items ++ self.now.pins }

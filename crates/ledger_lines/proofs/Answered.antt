@@ -1,9 +1,9 @@
 -- The lines of an input that were answered so far, and those that are left.
 use Rattle.std.specs.Prelude.{◌≢◌, Bool, true, false, cond, Option, Some, None, IfSome, ⊤}
-use Rattle.std.proofs.Common.{◌≡◌, ℕ, List, [], ◌∷◌, ◌++◌, eqb, refl, sym, ap, subst, ◌∙◌, append-nil, append_assoc}
+use Rattle.std.proofs.Common.{◌≡◌, ℕ, List, [], ◌∷◌, ◌++◌, eqb, refl, sym, ap, subst, ◌∙◌, append_assoc}
 use Rattle.std.proofs.KnownBytes.{Appends-kept}
 use Rattle.std.specs.Io.BufRead.{take_through, drop_through, DropsThrough}
-use Rattle.std.specs.Io.KnownBytes.{Keeps, IsAtEnd}
+use Rattle.std.specs.Io.KnownBytes.{Keeps}
 use Rattle.access_method.specs.declared.index.Index.{Index}
 use Rattle.device.specs.declared.device.Device.{Ghosts as DeviceGhosts}
 use Rattle.index_model.specs.Row.{Row}
@@ -16,7 +16,7 @@ use Rattle.ledger_lines.specs.declared.dead.Dead.{Dead}
 
 -- ---- the first line of a text
 
--- a text's first line, which a read up to a newline gives, and the lines behind it
+-- a text's first line, which a read up to a newline gives, and the lines after it
 record HasFirst (bytes : List ℕ) : Type 0 where
   pub text : List ℕ
   pub first : lines_of (take_through 10 bytes) ≡ text ∷ []
@@ -65,10 +65,6 @@ AreBefore texts None left = ⊤
 AreBefore texts (Some bytes) None = ⊥
 AreBefore texts (Some bytes) (Some rest) = lines_of bytes ≡ texts ++ lines_of rest
 
-before_none : (a : Option (List ℕ)) → AreBefore [] a a
-before_none None = tt
-before_none (Some bytes) = refl
-
 -- what was read up to a newline has the next of them
 before_more : (texts : List (List ℕ)) (text line rest : List ℕ) (a b c : Option (List ℕ)) → AreBefore texts a b
     → IfSome b (λ bytes. line ≡ take_through 10 bytes) → DropsThrough b c 10 → line ≢ [] → lines_of line ≡ text ∷ lines_of rest
@@ -83,13 +79,6 @@ before_more texts text line rest (Some bytes) (Some (x ∷ xs)) c before took dr
     subst (AreBefore (texts ++ text ∷ []) (Some bytes)) (sym drops)
     (before ∙ ap (λ (ls : List (List ℕ)). texts ++ ls) (h.rest ∙ ap (λ (t : List ℕ). t ∷ left) same) ∙ sym (append_assoc texts (text ∷ []) left))
 
--- at its end all lines come before
-before_all : (texts : List (List ℕ)) (a b : Option (List ℕ)) → AreBefore texts a b → IsAtEnd b → IfSome a (λ bytes. texts ≡ lines_of bytes)
-before_all texts None b before end = tt
-before_all texts (Some bytes) None before end = absurd before
-before_all texts (Some bytes) (Some rest) before end =
-    sym (before ∙ ap (λ (left : List ℕ). texts ++ lines_of left) end ∙ append-nil texts)
-
 -- ---- answers
 
 -- these lines were answered, and this is left of the input
@@ -100,10 +89,6 @@ pub record HasAnswered {D : Type 0} (d : DeviceGhosts D) (g : Ghosts (Store D d)
   pub answers : AnswersEach d g is_in texts old new before after
 
 module _ {D : Type 0} (d : DeviceGhosts D) (g : Ghosts (Store D d)) (is_in : Dead → Row → Bool) where
-  -- none yet
-  pub none_answered : (input : Option (List ℕ)) (index : Index (Store D d)) (printed : Option (List ℕ)) → HasAnswered d g is_in input input index index printed printed
-  none_answered input index printed = record { texts = []; lines = before_none input; answers = (refl, refl) }
-
   -- one more is answered
   each_more : (texts : List (List ℕ)) (text : List ℕ) (old mid new : Index (Store D d)) (a b c : Option (List ℕ))
       → AnswersEach d g is_in texts old mid a b → Answers d g is_in text mid new b c → AnswersEach d g is_in (texts ++ text ∷ []) old new a c

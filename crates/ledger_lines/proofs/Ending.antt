@@ -6,7 +6,7 @@ use Rattle.access_method.specs.declared.index.Index.{Index}
 use Rattle.device.specs.declared.device.Device.{Ghosts as DeviceGhosts}
 use Rattle.index_model.specs.Row.{Row}
 use Rattle.index_model.specs.declared.fault.Fault.{Fault}
-use Rattle.page_action.specs.Room.{HasWholeRoom}
+use Rattle.page_action.specs.Room.{LogIsClosed}
 use Rattle.page_action.specs.declared.page_store.PageStore.{Ghosts}
 use Rattle.page_store.specs.Stores.{state_of}
 use Rattle.page_store.specs.declared.store.Store.{Store}
@@ -24,7 +24,7 @@ where_both (Err x) written answered C A S w t c a both = tt
 module _ {D : Type 0} (d : DeviceGhosts D) (g : Ghosts (Store D d)) (last : Index (Store D d)) (device : D) where
   -- a closing that answered how many actions there were left all of them on the disk
   pub closed_on : (written : Result ℕ Fault) → IfOk written (λ n. n ≡ (state_of d last.store).acts) → IfOk written (λ n. StaysOnDevice d g n last device)
-      → OnOk written (IsLastOver d device (λ store. HasWholeRoom (state_of d last.store).limits (g.backing store))) → OnOk written (IsClosed d g last device)
+      → OnOk written (IsLastOver d device (λ store. LogIsClosed (state_of d last.store).limits (g.backing store))) → OnOk written (IsClosed d g last device)
   closed_on (Ok n) number stands empties = record {
     stands = subst (λ (m : ℕ). StaysOnDevice d g m last device) number stands;
     empties = empties;

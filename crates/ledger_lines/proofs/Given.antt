@@ -3,7 +3,7 @@ use Rattle.std.specs.Prelude.{Result, Ok, flat_map}
 use Rattle.std.proofs.KnownBytes.{Appends-trans}
 use Rattle.std.proofs.Common.{◌≡◌, ℕ, ◌+◌, false, Option, Some, List, [], ◌∷◌, ◌++◌, length, refl, sym, ap, subst, ◌∙◌, append-nil, append_assoc, length-append, arith}
 use Rattle.std.specs.Io.KnownBytes.{Appends}
-use Rattle.access_method.specs.Indexes.{KeepsTokens, TokenAfter, seat_with}
+use Rattle.access_method.specs.Indexes.{SameTokens, TokenAfter, seat_with}
 use Rattle.access_method.specs.Tokens.{seat_of}
 use Rattle.access_method.specs.declared.index.Index.{Index}
 use Rattle.access_method.specs.declared.token.ScanToken.{ScanToken}
@@ -35,7 +35,7 @@ module _ {S : Type 0} (g : Ghosts S) (token : ScanToken) where
   pub stays_open : (r : Result (Option Entry) Fault) (o : Option Entry) (old new : Index S) → r ≡ Ok o → TokenAfter token r old new → seat_of old.seats token ≡ seat_with token false
       → seat_of new.seats token ≡ seat_with token false
   stays_open r o old new same after seat =
-      let kept : KeepsTokens old new = subst (λ (x : Result (Option Entry) Fault). TokenAfter token x old new) same after in
+      let kept : SameTokens old new = subst (λ (x : Result (Option Entry) Fault). TokenAfter token x old new) same after in
       ap (λ (seats : List (Option Seat)). seat_of seats token) kept.seats_is ∙ seat
 
 lines_more : (given : List Entry) (entry : Entry) → flat_map listed_line given ++ listed_line entry ≡ flat_map listed_line (given ++ entry ∷ [])

@@ -1,7 +1,7 @@
 -- The calls of an index that a ledger's lines make, each with what it answered.
 use Rattle.std.specs.Prelude.{◌≡◌, ◌≢◌, ◌⊎◌, ℕ, Bool, Option, Some, None, Result, Ok, Err, List, [], ◌∷◌, ◌++◌, length, flat_map, map}
 use Rattle.std.specs.Io.KnownBytes.{Appends}
-use Rattle.access_method.specs.Indexes.{AnswersScan, InsertsOrKeeps, IsCleanedUp, IsSweptOrLess, ForEachIndexHistory, IndexGoes, IndexMakes, NotOpenedFor, slots_with}
+use Rattle.access_method.specs.Indexes.{AnswersScan, InsertsOrKeeps, IsCleanedUp, IsBulkDeletedOrLess, ForEachIndexHistory, IndexIsRun, IndexMakes, NotOpenedFor, slots_with}
 use Rattle.access_method.specs.Counted.{upkeep_outcome}
 use Rattle.access_method.specs.declared.index.Index.{Index}
 use Rattle.access_method.specs.declared.token.ScanToken.{ScanToken}
@@ -22,8 +22,8 @@ use Rattle.text_forms.specs.Printing.{given_text}
 use Rattle.text_forms.specs.Spelling.{row_text}
 use Rattle.whole_calls.specs.Giving.{given_outcome}
 use Rattle.whole_calls.specs.Made.{IsMadeOf, ComesTo, InsertComesTo}
-use Rattle.whole_calls.specs.Sweeping.{sweep_outcome}
-use Rattle.whole_calls.specs.Telling.{HasBegun, IsSilent}
+use Rattle.whole_calls.specs.Vacuuming.{vacuum_outcome}
+use Rattle.whole_calls.specs.Meanings.{HasBegun, IsSameHistory}
 use Rattle.whole_calls.specs.declared.inserted.Inserted.{Inserted}
 use Rattle.ledger_lines.specs.declared.dead.Dead.{Dead}
 use Rattle.ledger_lines.specs.declared.line.Line.{Line}
@@ -38,12 +38,12 @@ pub record IsInsert {S : Type 0} (g : Ghosts S) (entry : Entry) (result : Result
 
 -- ... a bulk delete of these rows
 pub record IsDelete {S : Type 0} (g : Ghosts S) (dead : Row → Bool) (result : Result VacuumStats Fault) (old new : Index S) : Type 0 where
-  pub made : IsMadeOf g 63 5 (ComesTo (sweep_outcome result)) (slots_with dead old) (slots_with dead new)
-  pub deletes : ForEachIndexHistory g old new (λ start history calls. IsSweptOrLess g dead result old.store new.store)
+  pub made : IsMadeOf g 63 5 (ComesTo (vacuum_outcome result)) (slots_with dead old) (slots_with dead new)
+  pub deletes : ForEachIndexHistory g old new (λ start history calls. IsBulkDeletedOrLess g dead result old.store new.store)
 
 -- ... a cleanup
 pub record IsCleanup {S : Type 0} (g : Ghosts S) (result : Result VacuumStats Fault) (old new : Index S) : Type 0 where
-  pub made : IndexMakes g 63 (ComesTo (sweep_outcome result)) old new
+  pub made : IndexMakes g 63 (ComesTo (vacuum_outcome result)) old new
   pub cleans : ForEachIndexHistory g old new (λ start history calls. IsCleanedUp g result old.store new.store)
 
 -- what an insert is replied with is what it answered
@@ -77,17 +77,17 @@ VacuumReplies g old new reply = ⊥
 
 -- all actions were made durable, by such a call, and so many there are
 pub record IsCommitted {S : Type 0} (g : Ghosts S) (came : Option Answer) (actions : ℕ) (old new : Index S) : Type 0 where
-  pub runs : IndexGoes g 0 IsSilent came old new
+  pub runs : IndexIsRun g 0 IsSameHistory came old new
   pub number : actions ≡ (g.state old.store).acts
 
 abbrev pub CommitReplies : {S : Type 0} → Ghosts S → Index S → Index S → Reply → Type 0
 CommitReplies g old new (Committed actions) = IsCommitted g (upkeep_outcome Forces (Ok actions)) actions old new
-CommitReplies g old new (Refused fault) = IndexGoes g 0 IsSilent (upkeep_outcome Forces (Err fault)) old new
+CommitReplies g old new (Refused fault) = IndexIsRun g 0 IsSameHistory (upkeep_outcome Forces (Err fault)) old new
 CommitReplies g old new reply = ⊥
 
 abbrev pub CheckpointReplies : {S : Type 0} → Ghosts S → Index S → Index S → Reply → Type 0
 CheckpointReplies g old new (Checkpointed actions) = IsCommitted g (upkeep_outcome Checkpoints (Ok actions)) actions old new
-CheckpointReplies g old new (Refused fault) = IndexGoes g 0 IsSilent (upkeep_outcome Checkpoints (Err fault)) old new
+CheckpointReplies g old new (Refused fault) = IndexIsRun g 0 IsSameHistory (upkeep_outcome Checkpoints (Err fault)) old new
 CheckpointReplies g old new reply = ⊥
 
 -- an open scan was asked for its next entry, and answered so
@@ -120,7 +120,7 @@ pub record PrintsScan {S : Type 0} (g : Ghosts S) (token : ScanToken) (result : 
 
 -- a scan of this range was opened, which runs then
 pub record OpensScan {S : Type 0} (g : Ghosts S) (range : Range) (token : ScanToken) (old opened : Index S) : Type 0 where
-  pub runs : IndexGoes g token.session (HasBegun token.session (ToScan range)) (Some Begun) old opened
+  pub runs : IndexIsRun g token.session (HasBegun token.session (ToScan range)) (Some Begun) old opened
   pub begins : op_of opened.calls token.session ≡ Some (op_before token.session (ToScan range))
 
 -- ... and what was printed is what it gave

@@ -10,7 +10,7 @@ use Rattle.index_model.specs.Row.{Row}
 use Rattle.index_model.specs.declared.fault.Fault.{Fault}
 use Rattle.index_model.specs.declared.format.Format.{Format}
 use Rattle.page_action.specs.Causes.{causes_of_forced}
-use Rattle.page_action.specs.Room.{HasWholeRoom}
+use Rattle.page_action.specs.Room.{LogIsClosed}
 use Rattle.page_action.specs.declared.page_store.PageStore.{Ghosts}
 use Rattle.page_codec.specs.declared.page.Page.{Page}
 use Rattle.page_store.specs.Stores.{state_of, device_of}
@@ -52,7 +52,7 @@ abbrev pub RepliesTo : {S : Type 0} → Ghosts S → (Dead → Row → Bool) →
 RepliesTo g is_in text old new before after reply =
     IsReplied g is_in (words_of text) old new before after reply ⊎ IsNotDone (words_of text) old new before after reply
 
--- The text of a line was answered: the reply's line was printed behind what a list gave. Where the reply says how many actions are
+-- The text of a line was answered: the reply's line was printed after what a list gave. Where the reply says how many actions are
 -- durable, so many are, and they are on the disk.
 pub record Answers {D : Type 0} (d : DeviceGhosts D) (g : Ghosts (Store D d)) (is_in : Dead → Row → Bool) (text : List ℕ) (old new : Index (Store D d)) (before after : Option (List ℕ)) : Type 0 where
   pub reply : Reply
@@ -86,7 +86,7 @@ BeginsFrom d g bytes index =
 -- The device of an index that was closed: whatever a crash leaves of it has all of the actions, and none of them waits in the log.
 pub record IsClosed {D : Type 0} (d : DeviceGhosts D) (g : Ghosts (Store D d)) (last : Index (Store D d)) (device : D) : Type 0 where
   pub stands : StaysOnDevice d g (state_of d last.store).acts last device
-  pub empties : IsLastOver d device (λ store. HasWholeRoom (state_of d last.store).limits (g.backing store))
+  pub empties : IsLastOver d device (λ store. LogIsClosed (state_of d last.store).limits (g.backing store))
 
 -- ... whose last checkpoint was refused with this fault, which has its cause
 abbrev pub IsClosingRefused : {D : Type 0} (d : DeviceGhosts D) → Ghosts (Store D d) → Fault → Index (Store D d) → D → Type 0

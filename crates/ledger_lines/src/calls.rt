@@ -21,8 +21,8 @@ use std::alloc::Global;
 use std::io::{self, Write};
 use text_forms::{Rows, print_entry};
 
-/// Does what a line says. `Committed` and `Checkpointed` are replied only where so many actions are durable: whatever a crash leaves
-/// of the device, a file or memory, has them.
+/// Does what a line says. `Committed` and `Checkpointed` are replied only where so many actions are durable: whatever a crash
+/// leaves of the device, a file or memory, has them.
 pub fn call<D: Device, W: Write>(
     alloc: Global,
     index: &mut Index<Store<D>>,
@@ -111,7 +111,7 @@ fn commit<D: Device>(index: &mut Index<Store<D>>) -> Reply
     }
 }
 
-// Prints the entries of a range in order, `entry KEY ROW` for each. Where it is refused behind some of them, these are printed.
+// Prints the entries of a range in order, `entry KEY ROW` for each. Where it is refused after some of them, these are printed.
 fn list<D: Device, W: Write>(
     index: &mut Index<Store<D>>,
     range: Range,

@@ -11,7 +11,7 @@ ghost use Rattle.tree_acts.specs.TheoremKeys.{IsTreeFor};
 
 use access_method::in_file::{self, InFile};
 use device::{Device, FileDevice, Start};
-use index_model::{Fault, Limits};
+use index_model::{Fault, Limits, NoProgress};
 use page_action::PageStore;
 use page_store::Store;
 use std::alloc::Global;
@@ -55,6 +55,6 @@ pub fn open<F: Files<File = File>, S: Start>(
 
 // Makes an empty index in a new file, and closes that.
 fn make<F: Files<File = File>, S: Start>(rt: &F, path: &str) -> Result<(), Fault> {
-    let _device: FileDevice<S> = in_file::create(rt, path, &LIMITS)?;
+    let _device: FileDevice<S> = in_file::create(rt, path, &LIMITS, &NoProgress)?;
     Ok(())
 }

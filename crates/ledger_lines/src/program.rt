@@ -32,8 +32,8 @@ pub struct Ended<D> {
     pub device: Option<D>,
 }
 
-/// Runs the program of these words, its own name first. Its status is 0 behind the last line, 2 where the words, the file or a
-/// stream wasn't as it must be, which is said on `err`. `out` is flushed behind each answer.
+/// Runs the program of these words, its own name first. Its status is 0 after the last line, 2 where the words, the file or a
+/// stream wasn't as it must be, which is said on `err`. `out` is flushed after each answer.
 ///
 /// The file held what `S` says when it was opened: that is proved for all bytes, and `main` names some.
 pub fn ledger<F: Files<File = File>, S: Start, T: AsStr, R: BufRead, W: Write, E: Write>(
@@ -45,7 +45,7 @@ pub fn ledger<F: Files<File = File>, S: Start, T: AsStr, R: BufRead, W: Write, E
     err: &mut E,
 ) -> Ended<FileDevice<S>>
     ensures status { result.status ≤ 2 }
-    // Each line was answered, and behind the last all is on the disk.
+    // Each line was answered, and after the last all is on the disk.
     ensures serves { result.status ≡ 0 → IsSomeAnd result.device
         (Serves ⟦<FileDevice<S> as Device>⟧ ⟦<Store<FileDevice<S>> as PageStore>⟧
         ⟦<Dead as DeadRows>⟧.is_in S.Start.bytes
@@ -65,7 +65,7 @@ pub fn ledger<F: Files<File = File>, S: Start, T: AsStr, R: BufRead, W: Write, E
     }
 }
 
-// The path, which is the only word behind the program's name; a word with a dash in front is none.
+// The path, which is the only word after the program's name; a word with a dash in front is none.
 fn path_of<T: AsStr>(words: &[T]) -> Option<&str>
     ensures word { IfSome result (λ path. slice_get (map T.text words.now) 1 ≡ Some path.now) }
     ensures alone { OnSome result (length words.now ≡ 2) }

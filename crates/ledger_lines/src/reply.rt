@@ -53,7 +53,7 @@ fn added(inserted: &Inserted) -> Answer
     }
 }
 
-/// Prints `refused N NAME`, with the block or the row that the fault names behind it.
+/// Prints `refused N NAME`, with the block or the row that the fault names after it.
 pub fn print_refused<W: Write>(out: &mut W, fault: Fault) -> io::Result<()>
     ensures { PrintsLine (W.contents out.old) (W.contents out.new) result (refusal_text fault) }
 {

@@ -17,7 +17,7 @@ use Rattle.page_store.specs.declared.store.Store.{Store}
 use Rattle.recovery.specs.Index.{HasIndex}
 use Rattle.recovery.specs.Opening.{IsSameIndex}
 use Rattle.tree_acts.specs.TheoremKeys.{IsTreeFor}
-use Rattle.nardsill.specs.Telling.{page_of}
+use Rattle.nardsill.specs.Meanings.{page_of}
 use Rattle.nardsill.specs.declared.checking.Checked.{Checked}
 
 -- the check was refused with this fault
@@ -26,7 +26,7 @@ pub record IsCheckRefusal (fault : Fault) (checked : Checked) : Type 0 where
   pub page : checked.page ≡ page_of fault
   pub no_damage : checked.damage ≡ 0
 
-pub record CheckTellsReport (report : Report) (checked : Checked) : Type 0 where
+pub record CheckHasReport (report : Report) (checked : Checked) : Type 0 where
   pub status : checked.status ≡ 0
   pub no_damage : checked.damage ≡ 0
   pub entries : checked.entries ≡ report.entries
@@ -36,16 +36,16 @@ pub record CheckTellsReport (report : Report) (checked : Checked) : Type 0 where
   pub deleted : checked.deleted ≡ report.deleted
   pub unfinished : checked.unfinished ≡ report.unfinished
 
-pub record CheckTellsDamage (number block : ℕ) (checked : Checked) : Type 0 where
+pub record CheckHasDamage (number block : ℕ) (checked : Checked) : Type 0 where
   pub status : checked.status ≡ 0
   pub damage : checked.damage ≡ number
   pub at : checked.block ≡ block
 
 -- what the verifier answered is told: the report, the damage, or the refusal
-abbrev pub TellsCheck : Result Report CheckFault → Checked → Type 0
-TellsCheck (Ok report) checked = CheckTellsReport report checked
-TellsCheck (Err (Damage number block)) checked = CheckTellsDamage number block checked
-TellsCheck (Err (Refused fault)) checked = IsCheckRefusal fault checked
+abbrev pub AnswersCheck : Result Report CheckFault → Checked → Type 0
+AnswersCheck (Ok report) checked = CheckHasReport report checked
+AnswersCheck (Err (Damage number block)) checked = CheckHasDamage number block checked
+AnswersCheck (Err (Refused fault)) checked = IsCheckRefusal fault checked
 
 -- a file, which held these bytes for each length that it might have, is opened with the pages of its index
 abbrev pub IsOpenedForCheck : {D : Type 0} (d : DeviceGhosts D) → (ℕ → List ℕ) → Store D d → Type 0
@@ -60,7 +60,7 @@ pub record IsJudged {D : Type 0} (d : DeviceGhosts D) (g : Ghosts (Store D d)) (
   pub steps : Continues g.follows store last
   pub state_is : g.state last ≡ g.state store
   pub outcome : Result Report CheckFault
-  pub told : TellsCheck outcome checked
+  pub told : AnswersCheck outcome checked
   pub answer : (g.backing last).honest ≡ true → IsAnswer true (g.state store).limits.unique (g.state store).pages outcome
   pub tree : (g.backing last).honest ≡ true → OnOk outcome (IsTreeFor (g.state store).limits (g.state store).pages)
 

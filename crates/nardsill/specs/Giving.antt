@@ -1,6 +1,6 @@
 -- What an open scan gives to C.
 use Rattle.std.specs.Prelude.{◌≡◌, ◌≢◌, true, false, Option, Some, None, IsSome, Result, Ok, Err}
-use Rattle.access_method.specs.Indexes.{AnswersScan, ForEachIndexHistory, IndexGoes, IndexMakes, TokenAfter, seat_with}
+use Rattle.access_method.specs.Indexes.{AnswersScan, ForEachIndexHistory, IndexIsRun, IndexMakes, TokenAfter, seat_with}
 use Rattle.access_method.specs.Refusals.{GiveHasCause}
 use Rattle.access_method.specs.Tokens.{seat_of}
 use Rattle.access_method.specs.declared.index.Index.{Index}
@@ -11,10 +11,10 @@ use Rattle.index_model.specs.declared.fault.Fault.TheVariants.{NoSession}
 use Rattle.page_action.specs.States.{Continues}
 use Rattle.page_action.specs.declared.page_store.PageStore.{Ghosts}
 use Rattle.schedule.specs.Sessions.{op_of}
-use Rattle.whole_calls.specs.Giving.{TellsGiven as TellsCall, given_outcome}
+use Rattle.whole_calls.specs.Giving.{SessionGivenMeans as TellsCall, given_outcome}
 use Rattle.whole_calls.specs.Made.{ComesTo}
 use Rattle.nardsill.specs.Serving.{OfBoth}
-use Rattle.nardsill.specs.Telling.{GivesNone, SpellsGiven}
+use Rattle.nardsill.specs.Meanings.{GivesNone, SpellsGiven}
 use Rattle.nardsill.specs.declared.answer.Given.{Given}
 
 -- What is given is what the scan of this token answers, with all that the index promises of that: an entry is right, and so is that none
@@ -24,7 +24,7 @@ pub record Gives {S : Type 0} (g : Ghosts S) (token : ScanToken) (given : Given)
   pub told : SpellsGiven outcome given
   pub does : ForEachIndexHistory g old new (AnswersScan token.session outcome)
   pub runs : seat_of old.seats token ≡ seat_with token false → op_of old.calls token.session ≢ None
-      → IndexGoes g token.session (TellsCall token.session outcome) (given_outcome outcome) old new
+      → IndexIsRun g token.session (TellsCall token.session outcome) (given_outcome outcome) old new
   pub made : seat_of old.seats token ≡ seat_with token false → op_of old.calls token.session ≢ None
       → IndexMakes g token.session (ComesTo (given_outcome outcome)) old new
   pub cause : seat_of old.seats token ≡ seat_with token false → ForEachIndexHistory g old new (GiveHasCause g token.session outcome old new.store)

@@ -1,5 +1,5 @@
 pub mod Asking
-pub mod Telling
+pub mod Meanings
 pub mod Naming
 pub mod Serving
 pub mod Giving

@@ -1,7 +1,7 @@
 -- What a call of C's does, and what its answer means.
 use Rattle.std.specs.Prelude.{◌≡◌, ◌≢◌, ◌⊎◌, ◌||◌, ℕ, true, false, Option, Some, None, IsSome, Result, Ok, Err, IfOk, IfErr, OnOk, OnErr, ⊤}
 use Rattle.access_method.specs.Counted.{upkeep_outcome}
-use Rattle.access_method.specs.Indexes.{ForEachIndexHistory, IndexGoes, IndexInserts, IndexMakes, InsertsOrKeeps, IsCleanedUp, IsNewToken, IsSweptOrLess, KeepsTokens, NotOpenedFor, NotRescannedFor, RescanTold, SeatBecomes, SweepRuns, seat_with, slots_with}
+use Rattle.access_method.specs.Indexes.{ForEachIndexHistory, IndexIsRun, IndexInserts, IndexMakes, InsertsOrKeeps, IsCleanedUp, IsNewToken, IsBulkDeletedOrLess, SameTokens, NotOpenedFor, NotRescannedFor, RescanMeans, SeatBecomes, BulkDeleteRuns, seat_with, slots_with}
 use Rattle.access_method.specs.Refusals.{InsertHasCause, causes_of_run}
 use Rattle.access_method.specs.Tokens.{seat_of}
 use Rattle.access_method.specs.declared.index.Index.{Index}
@@ -22,12 +22,12 @@ use Rattle.session_calls.specs.Ops.{op_before}
 use Rattle.session_calls.specs.declared.answer.Answer.TheVariants.{Begun}
 use Rattle.session_calls.specs.declared.request.Request.TheVariants.{Scan as ToScan, Cleanup as ToCleanup}
 use Rattle.whole_calls.specs.Made.{ComesTo, InsertComesTo, IsMadeOf}
-use Rattle.whole_calls.specs.Sweeping.{SweepTold, sweep_outcome}
-use Rattle.whole_calls.specs.Telling.{HasBegun, IsSilent, TellsEnd}
+use Rattle.whole_calls.specs.Vacuuming.{VacuumMeans, vacuum_outcome}
+use Rattle.whole_calls.specs.Meanings.{HasBegun, IsSameHistory, EndMeans}
 use Rattle.whole_calls.specs.declared.inserted.Inserted.{Inserted}
 use Rattle.nardsill.specs.Asking.{SpellsNoEntry, SpellsNoRange, SpellsEntry, SpellsRange, row_asked, token_asked}
 use Rattle.nardsill.specs.Naming.{is_dead_row, same_row}
-use Rattle.nardsill.specs.Telling.{AnswersFault, Tells, TellsDurable, TellsInserted, SpellsStats, TellsToken}
+use Rattle.nardsill.specs.Meanings.{AnswersFault, Tells, AnswersDurable, AnswersInserted, SpellsStats, AnswersToken}
 use Rattle.nardsill.specs.declared.answer.Answer.{Answer}
 use Rattle.nardsill.specs.declared.ask.Ask.{Ask}
 use Rattle.nardsill.specs.declared.dead.Dead.{Dead}
@@ -44,36 +44,36 @@ pub record Inserts {S : Type 0} (g : Ghosts S) (ask : Ask) (answer : Answer) (ol
   pub entry : Entry
   pub spelled : SpellsEntry ask entry
   pub outcome : Result Inserted Fault
-  pub told : Tells TellsInserted outcome answer
+  pub told : Tells AnswersInserted outcome answer
   pub runs : IndexInserts g 63 entry outcome old new
   pub made : IndexMakes g 63 (InsertComesTo outcome) old new
   pub does : ForEachIndexHistory g old new (λ start history calls. InsertsOrKeeps g entry outcome old.store new.store)
   pub cause : ForEachIndexHistory g old new (λ start history calls. InsertHasCause g entry outcome old new.store)
-  pub tokens : KeepsTokens old new
+  pub tokens : SameTokens old new
 
 -- a scan of the range that is spelled was asked for
 pub record BeginsScan {S : Type 0} (g : Ghosts S) (ask : Ask) (answer : Answer) (old new : Index S) : Type 0 where
   pub range : Range
   pub spelled : SpellsRange ask range
   pub outcome : Result ScanToken Fault
-  pub told : Tells TellsToken outcome answer
-  pub runs : IfOk outcome (λ token. IndexGoes g token.session (HasBegun token.session (ToScan range)) (Some Begun) old new)
+  pub told : Tells AnswersToken outcome answer
+  pub runs : IfOk outcome (λ token. IndexIsRun g token.session (HasBegun token.session (ToScan range)) (Some Begun) old new)
   pub begins : IfOk outcome (λ token. op_of new.calls token.session ≡ Some (op_before token.session (ToScan range)))
   pub tokens : IfOk outcome (IsNewToken old new)
   pub same : OnErr outcome (new ≡ old)
   pub cause : IfErr outcome (NotOpenedFor g old)
 
 -- nothing more is told
-abbrev pub TellsNothing : Unit {0} → Answer → Type 0
-TellsNothing done answer = ⊤
+abbrev pub AnswersNothing : Unit {0} → Answer → Type 0
+AnswersNothing done answer = ⊤
 
 -- the scan of the token that is named was to begin anew, over the range that is spelled
 pub record BeginsAgain {S : Type 0} (g : Ghosts S) (ask : Ask) (answer : Answer) (old new : Index S) : Type 0 where
   pub range : Range
   pub spelled : SpellsRange ask range
   pub outcome : Result (Unit {0}) Fault
-  pub told : Tells TellsNothing outcome answer
-  pub runs : OnOk outcome (IndexGoes g ask.session (RescanTold ask.session range) (Some Begun) old new)
+  pub told : Tells AnswersNothing outcome answer
+  pub runs : OnOk outcome (IndexIsRun g ask.session (RescanMeans ask.session range) (Some Begun) old new)
   pub begins : OnOk outcome (op_of new.calls ask.session ≡ Some (op_before ask.session (ToScan range)))
   pub tokens : OnOk outcome (SeatBecomes (token_asked ask) (seat_with (token_asked ask) false) old new)
   pub same : OnErr outcome (new ≡ old)
@@ -82,8 +82,8 @@ pub record BeginsAgain {S : Type 0} (g : Ghosts S) (ask : Ask) (answer : Answer)
 -- ... was to be closed: refused only where it isn't open
 pub record ClosesHandle {S : Type 0} (g : Ghosts S) (ask : Ask) (answer : Answer) (old new : Index S) : Type 0 where
   pub outcome : Result (Unit {0}) Fault
-  pub told : Tells TellsNothing outcome answer
-  pub runs : OnOk outcome (IndexGoes g ask.session (TellsEnd ask.session) None old new)
+  pub told : Tells AnswersNothing outcome answer
+  pub runs : OnOk outcome (IndexIsRun g ask.session (EndMeans ask.session) None old new)
   pub tokens : OnOk outcome (SeatBecomes (token_asked ask) None old new)
   pub refused : OnErr outcome (seat_of old.seats (token_asked ask) ≡ None)
   pub closed : seat_of old.seats (token_asked ask) ≡ None → (outcome ≡ Err NoSession) × (new ≡ old)
@@ -99,31 +99,31 @@ Names ask answer old new =
 pub record Deletes {S : Type 0} (g : Ghosts S) (dead : Dead) (answer : Answer) (old new : Index S) : Type 0 where
   pub outcome : Result VacuumStats Fault
   pub told : Tells SpellsStats outcome answer
-  pub runs : ForEachIndexHistory g old new (SweepRuns g (is_dead_row dead) outcome old new)
-  pub made : IsMadeOf g 63 5 (ComesTo (sweep_outcome outcome)) (slots_with (is_dead_row dead) old) (slots_with (is_dead_row dead) new)
-  pub does : ForEachIndexHistory g old new (λ start history calls. IsSweptOrLess g (is_dead_row dead) outcome old.store new.store)
+  pub runs : ForEachIndexHistory g old new (BulkDeleteRuns g (is_dead_row dead) outcome old new)
+  pub made : IsMadeOf g 63 5 (ComesTo (vacuum_outcome outcome)) (slots_with (is_dead_row dead) old) (slots_with (is_dead_row dead) new)
+  pub does : ForEachIndexHistory g old new (λ start history calls. IsBulkDeletedOrLess g (is_dead_row dead) outcome old.store new.store)
   pub cause : ForEachIndexHistory g old new (λ start history calls. IfErr outcome (HasCause (causes_of_run g 63 old new.store)))
-  pub tokens : KeepsTokens old new
+  pub tokens : SameTokens old new
 
 -- empty leaves were to be deleted
 pub record CleansIndex {S : Type 0} (g : Ghosts S) (answer : Answer) (old new : Index S) : Type 0 where
   pub outcome : Result VacuumStats Fault
   pub told : Tells SpellsStats outcome answer
-  pub runs : IndexGoes g 63 (SweepTold 63 ToCleanup outcome) (sweep_outcome outcome) old new
-  pub made : IndexMakes g 63 (ComesTo (sweep_outcome outcome)) old new
+  pub runs : IndexIsRun g 63 (VacuumMeans 63 ToCleanup outcome) (vacuum_outcome outcome) old new
+  pub made : IndexMakes g 63 (ComesTo (vacuum_outcome outcome)) old new
   pub does : ForEachIndexHistory g old new (λ start history calls. IsCleanedUp g outcome old.store new.store)
   pub cause : ForEachIndexHistory g old new (λ start history calls. IfErr outcome (HasCause (causes_of_run g 63 old new.store)))
-  pub tokens : KeepsTokens old new
+  pub tokens : SameTokens old new
 
 -- all actions were to be made durable, by a commit or a checkpoint
 pub record MakesDurable {S : Type 0} (g : Ghosts S) (upkeep : Upkeep) (answer : Answer) (old new : Index S) : Type 0 where
   pub outcome : Result ℕ Fault
-  pub told : Tells TellsDurable outcome answer
-  pub runs : IndexGoes g 0 IsSilent (upkeep_outcome upkeep outcome) old new
+  pub told : Tells AnswersDurable outcome answer
+  pub runs : IndexIsRun g 0 IsSameHistory (upkeep_outcome upkeep outcome) old new
   pub number : IfOk outcome (λ n. n ≡ (g.state old.store).acts)
   pub durable : OnOk outcome ((g.backing new.store).durable ≡ (g.state old.store).acts)
   pub cause : IfErr outcome (HasCause (causes_of_forced (g.backing old.store) (g.backing new.store)))
-  pub tokens : KeepsTokens old new
+  pub tokens : SameTokens old new
 
 -- no call has this number
 abbrev pub IsUnknown : ℕ → Type 0

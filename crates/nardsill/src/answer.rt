@@ -1,7 +1,7 @@
 //! What C is answered.
 
 ghost use Rattle.std.specs.Prelude.{◌≡◌, false};
-ghost use Rattle.nardsill.specs.Telling.{GivesNone, AnswersFault, SpellsStats, page_of, row_named, unfinished_number};
+ghost use Rattle.nardsill.specs.Meanings.{GivesNone, AnswersFault, SpellsStats, page_of, row_named, unfinished_number};
 
 use index_model::{Fault, VacuumStats};
 

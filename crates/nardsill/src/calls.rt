@@ -4,8 +4,8 @@ ghost use Rattle.std.specs.Prelude.{◌≡◌, ◌⊎◌, ◌≢◌, None, false
 ghost use Rattle.page_action.specs.States.{Continues};
 ghost use Rattle.schedule.specs.TheoremKinds.{Forces, Checkpoints};
 ghost use Rattle.nardsill.specs.Asking.{SpellsNoEntry, SpellsNoRange};
-ghost use Rattle.nardsill.specs.Serving.{BeginsScan, BeginsAgain, CleansIndex, ClosesHandle, Deletes, Inserts, IsMisspelled, IsServed, IsUnknown, MakesDurable, Names, ServesCall, TellsNothing};
-ghost use Rattle.nardsill.specs.Telling.{AnswersFault, Tells, TellsDurable, TellsInserted, SpellsStats, TellsToken};
+ghost use Rattle.nardsill.specs.Serving.{BeginsScan, BeginsAgain, CleansIndex, ClosesHandle, Deletes, Inserts, IsMisspelled, IsServed, IsUnknown, MakesDurable, Names, ServesCall, AnswersNothing};
+ghost use Rattle.nardsill.specs.Meanings.{AnswersFault, Tells, AnswersDurable, AnswersInserted, SpellsStats, AnswersToken};
 
 use crate::answer::{Answer, DONE, counted, refused, unfinished};
 use crate::ask::Ask;
@@ -67,7 +67,7 @@ fn insert<S: PageStore>(index: &mut Index<S>, ask: &Ask) -> Answer
 }
 
 fn inserted(outcome: Result<Inserted, Fault>) -> Answer
-    ensures told { Tells TellsInserted outcome result }
+    ensures told { Tells AnswersInserted outcome result }
     ensures quiet { result.is_durable ≡ false }
 {
     match outcome {
@@ -94,7 +94,7 @@ fn begin<S: PageStore>(index: &mut Index<S>, ask: &Ask) -> Answer
 }
 
 fn begun(outcome: Result<ScanToken, Fault>) -> Answer
-    ensures told { Tells TellsToken outcome result }
+    ensures told { Tells AnswersToken outcome result }
     ensures quiet { result.is_durable ≡ false }
 {
     match outcome {
@@ -121,7 +121,7 @@ fn again<S: PageStore>(index: &mut Index<S>, ask: &Ask) -> Answer
 }
 
 fn done(outcome: Result<(), Fault>) -> Answer
-    ensures told { Tells TellsNothing outcome result }
+    ensures told { Tells AnswersNothing outcome result }
     ensures quiet { result.is_durable ≡ false }
 {
     match outcome {
@@ -163,10 +163,10 @@ fn delete<S: PageStore>(index: &mut Index<S>, dead: &mut Dead) -> Answer
 {
     let outcome = index.ambulkdelete(&*dead);
     dead.rows = None;
-    swept(outcome)
+    stats_answer(outcome)
 }
 
-fn swept(outcome: Result<VacuumStats, Fault>) -> Answer
+fn stats_answer(outcome: Result<VacuumStats, Fault>) -> Answer
     ensures told { Tells SpellsStats outcome result }
     ensures quiet { result.is_durable ≡ false }
 {
@@ -182,7 +182,7 @@ fn clean_up<S: PageStore>(index: &mut Index<S>) -> Answer
     ensures means { CleansIndex S.PageStore result index.old index.new }
     ensures quiet { result.is_durable ≡ false }
 {
-    swept(index.amvacuumcleanup())
+    stats_answer(index.amvacuumcleanup())
 }
 
 // Makes all that was done durable.
@@ -206,7 +206,7 @@ fn checkpoint<S: PageStore>(index: &mut Index<S>) -> Answer
 }
 
 fn durable(outcome: Result<u64, Fault>) -> Answer
-    ensures { Tells TellsDurable outcome result }
+    ensures { Tells AnswersDurable outcome result }
 {
     match outcome {
         Ok(number) => Answer {

@@ -1,14 +1,14 @@
 //! Checking the index in a file that C has open.
 
 ghost use Rattle.std.specs.Prelude.{◌≡◌, IfOk};
-ghost use Rattle.nardsill.specs.Checking.{IsCheckRefusal, IsChecked, IsOpenedForCheck, TellsCheck};
+ghost use Rattle.nardsill.specs.Checking.{IsCheckRefusal, IsChecked, IsOpenedForCheck, AnswersCheck};
 
 use crate::answer::page_of;
 use crate::handle::Handle;
 use crate::opening::own;
 use amcheck::{CheckFault, Report, check_parents_one};
 use device::{Device, FileDevice, Start, Unknown};
-use index_model::Fault;
+use index_model::{Fault, NoProgress};
 use page_action::PageStore;
 use page_store::Store;
 use std::alloc::Global;
@@ -54,9 +54,9 @@ const NOTHING: Checked = Checked {
     unfinished: 0,
 };
 
-/// Judges the index in a file that C has open, by another handle of the open file: its levels and links, its parents and children, in
-/// this thread. Refused with `BadVersion` (15) where the file isn't stored as the number that C told; and else as the opening and
-/// `check_parents_one` are. What the handle has stays.
+/// Judges the index in a file that C has open, by another handle of the open file: its levels and links, its parents and children,
+/// in this thread. Refused with `BadVersion` (15) where the file isn't stored as the number that C told; and else as the opening
+/// and `check_parents_one` are. What the handle has stays.
 pub fn check(handle: &mut Handle, file: &mut File, ask: CheckAsk) -> Checked
     ensures { (file.new ≡ file.old) × (handle.new ≡ handle.old)
         × IsChecked ⟦<FileDevice<Unknown> as Device>⟧ ⟦<Store<FileDevice<Unknown>> as PageStore>⟧
@@ -66,18 +66,18 @@ pub fn check(handle: &mut Handle, file: &mut File, ask: CheckAsk) -> Checked
         return refused(Fault::BadVersion);
     }
     match own(file) {
-        Ok(own) => look::<Unknown>(handle.alloc, own, ask.frames),
+        Ok(own) => check_opened::<Unknown>(handle.alloc, own, ask.frames),
         Err(fault) => refused(fault),
     }
 }
 
 // Opens the index in a file, whatever it held, and judges it.
-fn look<S: Start>(alloc: Global, file: File, frames: u32) -> Checked
+fn check_opened<S: Start>(alloc: Global, file: File, frames: u32) -> Checked
     ensures { IsChecked ⟦<FileDevice<S> as Device>⟧ ⟦<Store<FileDevice<S>> as PageStore>⟧
         S.Start.bytes result }
 {
     match opened::<S>(alloc, file, frames) {
-        Ok(mut store) => told(check_parents_one(alloc, &mut store)),
+        Ok(mut store) => told(check_parents_one(alloc, &mut store, &NoProgress)),
         Err(fault) => refused(fault),
     }
 }
@@ -93,7 +93,7 @@ fn opened<S: Start>(alloc: Global, file: File, frames: u32) -> Result<Store<File
 }
 
 fn told(outcome: Result<Report, CheckFault>) -> Checked
-    ensures { TellsCheck outcome result }
+    ensures { AnswersCheck outcome result }
 {
     match outcome {
         Ok(report) => Checked {

@@ -3,7 +3,7 @@
 ghost use Rattle.std.specs.Prelude.{◌≡◌};
 ghost use Rattle.nardsill.specs.Asking.{token_of};
 ghost use Rattle.nardsill.specs.Giving.{Gives, GivesNext};
-ghost use Rattle.nardsill.specs.Telling.{SpellsGiven};
+ghost use Rattle.nardsill.specs.Meanings.{SpellsGiven};
 
 use crate::answer::{Given, none_given};
 use crate::ask::Token;

@@ -10,6 +10,6 @@ module _ (limits : Format) (used : ℕ) (pages : List Page) (k : ℕ) (page : Pa
   pub first_here : (IsActableBeside limits used page (drop (k + 1) pages) → ⊥) → IsFirstMisplaced limits used (drop k pages) page.block
   first_here wrong = subst (λ (ps : List Page). IsFirstMisplaced limits used ps page.block) (sym (drop_at_item pages k page within is)) (inl (refl, wrong))
 
-  -- it is behind this page, which may be changed
+  -- it is after this page, which may be changed
   pub first_behind : (block : ℕ) → IsActableBeside limits used page (drop (k + 1) pages) → IsFirstMisplaced limits used (drop (k + 1) pages) block → IsFirstMisplaced limits used (drop k pages) block
   first_behind block placed rest = subst (λ (ps : List Page). IsFirstMisplaced limits used ps block) (sym (drop_at_item pages k page within is)) (inr (placed, rest))

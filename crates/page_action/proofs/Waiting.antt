@@ -155,16 +155,6 @@ least_decides number from (None ∷ running) = least_decides number (suc from) r
 least_decides number from (Some call ∷ running) =
     both_at_most (Some call) (least_start running) number ∙ ap (λ (rest : Bool). is_at_most (Some call) (Some number) && rest) (least_decides number (suc from) running)
 
-pub lesser_none : (a : Option ℕ) → lesser a None ≡ a
-lesser_none None = refl
-lesser_none (Some a) = refl
-
-pub lesser_assoc : (a b c : Option ℕ) → lesser (lesser a b) c ≡ lesser a (lesser b c)
-lesser_assoc None b c = refl
-lesser_assoc (Some a) None c = refl
-lesser_assoc (Some a) (Some b) None = refl
-lesser_assoc (Some a) (Some b) (Some c) = ap Some (omega arith)
-
 deleted_in_use : (pages : List Page) (block : ℕ) → is_deleted pages block ≡ true → block < length pages
 deleted_in_use [] block h = absurd cc
 deleted_in_use (page ∷ pages) zero h = omega arith

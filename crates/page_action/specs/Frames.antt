@@ -32,9 +32,9 @@ pub record CostsNothing (m m' : Memory) (old new : Backing) : Type 0 where
   pub changed : new.changed ≡ old.changed
   pub unwritten : (block : ℕ) → m'.unwritten block ≡ m.unwritten block
 
--- behind the first ones of the order the next was written, and some right behind it, of which none is pinned and each is durable: at
+-- after the first ones of the order the next was written, and some right after it, of which none is pinned and each is durable: at
 -- most a quarter of what there are frames
-pub record AreWrittenBehind (frames : ℕ) (pinned front behind : List ℕ) (m : Memory) (new : Backing) : Type 0 where
+pub record AreWrittenAfter (frames : ℕ) (pinned front behind : List ℕ) (m : Memory) (new : Backing) : Type 0 where
   pub more : List ℕ
   pub rest : List ℕ
   pub was : behind ≡ more ++ rest
@@ -43,7 +43,7 @@ pub record AreWrittenBehind (frames : ℕ) (pinned front behind : List ℕ) (m :
   pub each : All (λ b. (is_block_among pinned b ≡ false) × (m.unwritten b ≤ new.durable)) more
 
 -- No frame is free: all are in use, and each clean page is pinned. So the first changed page that isn't pinned is written, and some
--- behind it; or none is, since a call of the device failed. The log is forced for that first page alone, if its act isn't durable.
+-- after it; or none is, since a call of the device failed. The log is forced for that first page alone, if its act isn't durable.
 pub record IsWrittenFor (frames : ℕ) (pinned : List ℕ) (m m' : Memory) (old new : Backing) : Type 0 where
   pub full : length m.held ≡ frames
   pub clean : All (λ b. is_block_among old.changed b ≡ false → is_block_among pinned b ≡ true) m.held
@@ -54,7 +54,7 @@ pub record IsWrittenFor (frames : ℕ) (pinned : List ℕ) (m m' : Memory) (old 
   pub passed : All (λ b. is_block_among pinned b ≡ true) front
   pub unpinned : is_block_among pinned block ≡ false
   pub forced : m.unwritten block ≤ old.durable → LogStays old new
-  pub left : (new.changed ≡ old.changed) ⊎ AreWrittenBehind frames pinned front behind m new
+  pub left : (new.changed ≡ old.changed) ⊎ AreWrittenAfter frames pinned front behind m new
   pub others : (b : ℕ) → is_block_among new.changed b ≡ true → m'.unwritten b ≡ m.unwritten b
 
 -- what a frame costs: nothing where one is free; else changed pages are written for it
@@ -98,8 +98,8 @@ abbrev pub TakesActFrames : State → List Page → Memory → Memory → Backin
 TakesActFrames st pages m m' old new =
     TakesFrames st.frames (blocks_of pages ++ pinned_blocks st.table) (blocks_of pages) m m' old new
 
--- the images of these pages wait in the log, and the pages to be written, behind those that did; nothing is forced or written
-pub record WaitBehind (pages : List Page) (old new : Backing) : Type 0 where
+-- the images of these pages wait in the log, and the pages to be written, after those that did; nothing is forced or written
+pub record WaitAfter (pages : List Page) (old new : Backing) : Type 0 where
   pub changed : new.changed ≡ with_changed old.changed pages
   pub waiting : new.waiting ≡ with_changed old.waiting pages
   pub durable : new.durable ≡ old.durable
@@ -116,4 +116,4 @@ pub record ActsInMemory (st : State) (pages : List Page) (m : Memory) (old new :
   pub taken : Memory
   pub between : Backing
   pub frames : TakesActFrames st pages m taken old between
-  pub done : WaitBehind pages between new ⊎ AreWrittenAtOnce st.acts between new
+  pub done : WaitAfter pages between new ⊎ AreWrittenAtOnce st.acts between new

@@ -38,7 +38,7 @@ IsApartFrom block (page ∷ pages) = (page.block ≢ block) × IsApartFrom block
 abbrev pub IsPlaceable : Format → ℕ → ℕ → Type 0
 IsPlaceable limits used block = (block ≤ used) × (block < limits.pages)
 
--- an act may change the page beside those behind it: it may be written, at a block that is in use or the next unused one, which none
+-- an act may change the page beside those after it: it may be written, at a block that is in use or the next unused one, which none
 -- of them names
 pub record IsActableBeside (limits : Format) (used : ℕ) (page : Page) (behind : List Page) : Type 0 where
   pub writable : IsWritable limits page
@@ -52,7 +52,7 @@ AreActable limits used (page ∷ pages) =
     IsWritable limits page × IsPlaceable limits used page.block × IsApartFrom page.block pages
     × AreActable limits used pages
 
--- the first of these pages that an act may not change beside those behind it is of this block
+-- the first of these pages that an act may not change beside those after it is of this block
 abbrev pub IsFirstMisplaced : Format → ℕ → List Page → ℕ → Type 0
 IsFirstMisplaced limits used [] block = ⊥
 IsFirstMisplaced limits used (page ∷ pages) block =

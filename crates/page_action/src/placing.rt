@@ -40,7 +40,7 @@ fn is_placeable(block: u32, used: u32, limits: Format) -> bool
     block <= used && block < limits.pages
 }
 
-/// The block of the first of these pages that an act may not change beside those behind it: the page may not be written, its
+/// The block of the first of these pages that an act may not change beside those after it: the page may not be written, its
 /// block is neither in use nor the next unused one, or a later page is of the same block. None: the act may be done.
 pub fn find_misplaced(pages: &[Page], used: u32, limits: Format) -> Option<u32>
     ensures none { IfNone result (AreActable limits used pages.now) }

@@ -21,10 +21,6 @@ up_to_before (Some b) e x before h = is_past-falls b e x h before
 pub no_entries : (high : Option Bound) → AreEntries high []
 no_entries high = record { valid = tt; ascends = tt; within = tt }
 
-pub entries_first : (high : Option Bound) (e : Entry) (es : List Entry) → AreEntries high (e ∷ es) → EntryInPlace high e es
-entries_first high e [] h = h.within.0
-entries_first high e (x ∷ xs) h = h.ascends.1.0
-
 pub entries_rest : (high : Option Bound) (e : Entry) (es : List Entry) → AreEntries high (e ∷ es) → AreEntries high es
 entries_rest high e [] h = no_entries high
 entries_rest high e (x ∷ xs) h = record { valid = h.valid.1; ascends = (tt, h.ascends.1.1); within = h.within.1 }
@@ -49,10 +45,6 @@ below_before (Some b) d x before h = ap is_lt ((options_total bounds_total).tran
 
 pub no_links : (layout : Layout) (high : Option Bound) → AreLinks layout high []
 no_links layout high = record { valid = tt; ascends = tt; within = tt }
-
-pub links_first : (layout : Layout) (high : Option Bound) (d : Downlink) (ds : List Downlink) → AreLinks layout high (d ∷ ds) → IsDownlink layout d × LinkInPlace high d ds
-links_first layout high d [] h = (h.valid.0, h.within.0)
-links_first layout high d (x ∷ xs) h = (h.valid.0, h.ascends.0)
 
 pub links_rest : (layout : Layout) (high : Option Bound) (d : Downlink) (ds : List Downlink) → AreLinks layout high (d ∷ ds) → AreLinks layout high ds
 links_rest layout high d [] h = no_links layout high

@@ -15,12 +15,12 @@ use Rattle.page_codec.specs.Grammar.{IsRowIn, IsBoundIn, IsDownlink}
 use Rattle.page_codec.specs.Spelling.{row_bytes, bound_bytes, slot_bytes, entry_bytes, downlink_bytes}
 use Rattle.page_codec.specs.declared.page.Downlink.{Downlink}
 use Rattle.page_codec.proofs.Again.{length-slot}
-use Rattle.page_codec.proofs.Pieces.{begins_front, begins_behind, begins_both, begins_one}
+use Rattle.page_codec.proofs.Pieces.{begins_front, begins_after, begins_both, begins_one}
 
 length_key : (key : List ℕ) → length key ≤ 64 → length (length key ∷ padded key) ≡ 65
 length_key key fits = omega (arith, length-padded key fits)
 
--- a key, and a row behind it
+-- a key, and a row after it
 pub entry_of_parts : (e : Entry) (bytes : List ℕ) → IsEntry e → Begins (length e.key ∷ padded e.key) bytes → Begins (row_bytes (Some e.row)) (drop 65 bytes)
     → Begins (entry_bytes e) bytes
 unfolding entry_bytes bound_bytes
@@ -32,7 +32,7 @@ key_of_entry e bytes h = begins_front (length e.key ∷ padded e.key) (row_bytes
 
 pub row_of_entry : (e : Entry) (bytes : List ℕ) → IsEntry e → Begins (entry_bytes e) bytes → Begins (row_bytes (Some e.row)) (drop 65 bytes)
 unfolding entry_bytes bound_bytes
-row_of_entry e bytes h b = begins_behind (length e.key ∷ padded e.key) (row_bytes (Some e.row)) bytes 65 (length_key e.key h.key) b
+row_of_entry e bytes h b = begins_after (length e.key ∷ padded e.key) (row_bytes (Some e.row)) bytes 65 (length_key e.key h.key) b
 
 -- bytes of a row are not zeros: no row has the offset 0
 row_is_no_zeros : (r : Row) (bytes : List ℕ) → IsRow r → Begins (row_bytes (Some r)) bytes → Begins (replicate 6 0) bytes → ⊥
@@ -78,10 +78,10 @@ unfolding slot_bytes bound_bytes
 parts_of_bound b bytes h begins = record {
   valid = h;
   key = begins_front (length b.key ∷ padded b.key) (row_bytes b.row) bytes begins;
-  row = begins_behind (length b.key ∷ padded b.key) (row_bytes b.row) bytes 65 (length_key b.key h.key) begins;
+  row = begins_after (length b.key ∷ padded b.key) (row_bytes b.row) bytes 65 (length_key b.key h.key) begins;
 }
 
--- behind a key that isn't empty there are not 71 zeros
+-- after a key that isn't empty there are not 71 zeros
 key_is_no_zeros : (key bytes : List ℕ) → 0 < length key → length key ≤ 64 → Begins (length key ∷ padded key) bytes → Begins (replicate 71 0) bytes → ⊥
 key_is_no_zeros key bytes some fits b zeros =
     let long = begins_one (length key) 64 (padded key) bytes (length-padded key fits) b in
@@ -93,7 +93,7 @@ pub key_is_some : (key bytes : List ℕ) → Begins (length key ∷ padded key) 
 key_is_some [] bytes key row zeros = absurd (zeros (begins_both (0 ∷ padded []) (replicate 6 0) bytes 65 refl key row))
 key_is_some (x ∷ xs) bytes key row zeros = omega arith
 
--- a bound or none, and a child behind it
+-- a bound or none, and a child after it
 pub downlink_of_parts : (d : Downlink) (bytes : List ℕ) → HasSlot d → Begins (slot_bytes d.bound) bytes → take 4 (drop 71 bytes) ≡ little_bytes 4 d.child
     → Begins (downlink_bytes d) bytes
 unfolding downlink_bytes
@@ -106,7 +106,7 @@ slot_of_downlink d bytes h = begins_front (slot_bytes d.bound) (little_bytes 4 d
 pub child_of_downlink : (d : Downlink) (bytes : List ℕ) → IsDownlink Two d → Begins (downlink_bytes d) bytes → little_number 4 (drop 71 bytes) ≡ d.child
 unfolding downlink_bytes
 child_of_downlink d bytes h b =
-    let begins = begins_behind (slot_bytes d.bound) (little_bytes 4 d.child) bytes 71 (length-slot d.bound h.bound) b in
+    let begins = begins_after (slot_bytes d.bound) (little_bytes 4 d.child) bytes 71 (length-slot d.bound h.bound) b in
     sym (little_from-take 0 4 4 (drop 71 bytes) (omega arith))
     ∙ ap (λ (xs : List ℕ). little_number 4 xs) begins.front
     ∙ ap (λ (xs : List ℕ). little_number 4 xs) (sym (append-nil (little_bytes 4 d.child)))
@@ -119,7 +119,7 @@ length_of_downlink d h = omega (arith, length-slot d.bound h, length-append (slo
 bound_is_no_zeros : (key : List ℕ) (r : Option Row) (bytes : List ℕ) → length key ≤ 64 → IsRowIn Two key r → Begins (length key ∷ padded key) bytes
     → Begins (row_bytes r) (drop 65 bytes) → Begins (replicate 71 0) bytes → ⊥
 bound_is_no_zeros key None bytes fits h front behind zeros = key_is_no_zeros key bytes h fits front zeros
-bound_is_no_zeros key (Some r) bytes fits h front behind zeros = row_is_no_zeros r (drop 65 bytes) h behind (begins_behind (replicate 65 0) (replicate 6 0) bytes 65 refl zeros)
+bound_is_no_zeros key (Some r) bytes fits h front behind zeros = row_is_no_zeros r (drop 65 bytes) h behind (begins_after (replicate 65 0) (replicate 6 0) bytes 65 refl zeros)
 
 -- where zeros stand there is no bound
 pub none_there : (b : Option Bound) (bytes : List ℕ) → IfSome b (IsBoundIn Two) → Begins (slot_bytes b) bytes → Begins (replicate 71 0) bytes → None ≡ b

@@ -10,7 +10,7 @@ use Rattle.page_codec.proofs.PageAgain.{are_items, length-head}
 use Rattle.page_codec.proofs.Laws.{length-items, size_fits}
 use Rattle.page_codec.proofs.Pieces.{begins_itself, split_at}
 
--- head, high key, items and the zeros behind them
+-- head, high key, items and the zeros after them
 pub record HasPieces (p : Page) (bytes : List ℕ) : Type 0 where
   pub head : Begins (head_bytes p) bytes
   pub slot : Begins (slot_bytes p.high) (drop 36 bytes)

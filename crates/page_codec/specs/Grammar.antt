@@ -20,7 +20,7 @@ use Rattle.page_codec.specs.declared.page.Page.{Page}
 abbrev pub IsBlock : ℕ → Type 0
 IsBlock n = (0 < n) × (n < 65536)
 
--- what may stand behind the key of a bound in this layout: a valid row; in layout 2 also none, behind a key that isn't
+-- what may stand after the key of a bound in this layout: a valid row; in layout 2 also none, after a key that isn't
 -- empty, for the place before all its rows
 abbrev pub IsRowIn : Layout → List ℕ → Option Row → Type 0
 IsRowIn One key None = ⊥
@@ -62,12 +62,12 @@ pub record IsDownlink (layout : Layout) (d : Downlink) : Type 0 where
   pub bound : IfSome d.bound (IsBoundIn layout)
   pub child : IsBlock d.child
 
--- the entry is less than the first of those behind it, or, where it is the last, at most the high key
+-- the entry is less than the first of those after it, or, where it is the last, at most the high key
 abbrev pub EntryInPlace : Option Bound → Entry → List Entry → Type 0
 EntryInPlace high e [] = IsUpTo high e
 EntryInPlace high e (x ∷ xs) = EntryBefore e x
 
--- the downlink's bound is less than that of the first of those behind it, or, where it is the last, than the high key
+-- the downlink's bound is less than that of the first of those after it, or, where it is the last, than the high key
 abbrev pub LinkInPlace : Option Bound → Downlink → List Downlink → Type 0
 LinkInPlace high d [] = Below high d
 LinkInPlace high d (x ∷ xs) = LinkBefore d x

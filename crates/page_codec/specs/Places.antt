@@ -1,4 +1,4 @@
--- Where the parts of an index lie on a device: the superblock, the log, and behind it the pages.
+-- Where the parts of an index lie on a device: the superblock, the log, and after it the pages.
 use Rattle.std.specs.Prelude.{ℕ, ◌+◌, ◌*◌, Bool, true, false, List, [], ◌∷◌, ◌++◌, replicate}
 use Rattle.std.specs.Int.{w32, to_le_bytes}
 use Rattle.index_model.specs.declared.format.Format.{Format}
@@ -26,7 +26,7 @@ superblock limits =
     ++ to_le_bytes w32 (layout_number limits.layout) ++ to_le_bytes w32 limits.items ++ to_le_bytes w32 limits.pages
     ++ to_le_bytes w32 limits.log_bytes ++ to_le_bytes w32 (unique_number limits.unique) ++ replicate 4068 0
 
--- where the log begins: behind the superblock
+-- where the log begins: after the superblock
 abbrev pub log_start : ℕ
 log_start = 4096
 

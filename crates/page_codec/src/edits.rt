@@ -110,7 +110,7 @@ pub fn add_entry(page: &mut Page, at: usize, entry: Entry)
     }
 }
 
-/// Keeps the first `at` entries of a leaf, and gives those behind them.
+/// Keeps the first `at` entries of a leaf, and gives those after them.
 pub fn cut_entries(page: &mut Page, at: usize) -> ArrayVec<Entry, 50>
     requires leaf { HasEntries page.old.items }
     requires place { at ≤ length (entries_of page.old.items) }

@@ -1,4 +1,4 @@
-//! Where the parts of an index lie on a device: the superblock, the log, and behind it the pages.
+//! Where the parts of an index lie on a device: the superblock, the log, and after it the pages.
 
 ghost use Rattle.std.specs.Prelude.{◌≡◌};
 ghost use Rattle.index_model.specs.Formats.{made};
@@ -6,10 +6,10 @@ ghost use Rattle.page_codec.specs.Places.{place, needed_length};
 
 use index_model::{Format, Limits};
 
-/// Where the log begins: behind the superblock.
+/// Where the log begins: after the superblock.
 pub const LOG_START: u64 = 4_096;
 
-/// Where the page of a block lies: 4,096 bytes for each block, behind the log.
+/// Where the page of a block lies: 4,096 bytes for each block, after the log.
 pub fn page_place(limits: &Format, block: u32) -> u64
     ensures { result ≡ place limits.now block }
 {

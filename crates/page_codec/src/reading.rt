@@ -49,7 +49,7 @@ fn u64_at(bytes: &[u8], at: usize) -> u64
     LittleEndian::read_u64(tail(bytes, at))
 }
 
-// The key in the first 65 bytes: its length, its bytes, and zeros behind them.
+// The key in the first 65 bytes: its length, its bytes, and zeros after them.
 fn key_at(bytes: &[u8]) -> Option<Key>
     requires { 65 ≤ length bytes.now }
     ensures found { IfSome result (λ k. (length k ≤ 64) × Begins (length k ∷ padded k) bytes.now) }
@@ -123,7 +123,7 @@ fn downlink(bytes: &[u8]) -> Option<Downlink>
     Some(Downlink { bound, child })
 }
 
-// Puts an entry in the place of another, or behind the last one.
+// Puts an entry in the place of another, or after the last one.
 fn put(list: &mut ArrayVec<Entry, 50>, at: usize, entry: Entry)
     requires place { at ≤ length list.old.items }
     requires room { at < 50 }

@@ -1,4 +1,4 @@
--- What a cleanup has counted and cleaned, behind each step.
+-- What a cleanup has counted and cleaned, after each step.
 use Rattle.std.proofs.Common.{◌≡◌, ◌≢◌, ℕ, zero, suc, ◌+◌, ◌<◌, ◌≤◌, inl, inr, length, slice_get, Option, Some, List, [], ◌∷◌, refl, sym, ap, ap₂, subst, ◌∙◌, arith}
 use Rattle.std.proofs.lemmas.Bool.{cases_eq}
 use Rattle.page_codec.specs.Edits.{HasEntries}
@@ -13,16 +13,16 @@ use Rattle.vacuum.specs.Counts.{entry_count, entries_below}
 use Rattle.vacuum.proofs.Counting.{counted_beyond, no_leaf_count}
 use Rattle.page_delete.specs.Counts.{IsEmptyAt, IsFoundEmpty, come_to, IsCleaned, AllIsCleaned}
 use Rattle.page_delete.specs.Laws.{NothingIsCleaned}
-use Rattle.page_delete.specs.Ops.{turned_to, gone_past, gone_past_deleted, TurnsAt, unlinks, tries, passes}
-use Rattle.page_delete.specs.Parts.{MovesState, LeafDies, PageGoes}
+use Rattle.page_delete.specs.Ops.{turned_to, moved_past, moved_past_deleted, TurnsAt, unlinks, tries, passes}
+use Rattle.page_delete.specs.Parts.{MovesState, LeafDies, PageIsDeleted}
 use Rattle.page_delete.specs.declared.steps.CleanupAt.{CleanupAt}
 use Rattle.page_delete.specs.declared.steps.CleanupAt.TheVariants.{Start, Unlink}
 use Rattle.page_delete.specs.declared.steps.CleanupOp.{CleanupOp}
 use Rattle.page_delete.proofs.Moving.{leaf_count, dead_count}
 
--- behind a page that has so many entries and isn't half-dead
+-- after a page that has so many entries and isn't half-dead
 pub cleaned_past : (st : State) (op : CleanupOp) (count : ℕ) → IsCleaned st op → suc op.cursor ≤ length st.pages
-    → entry_count (slice_get st.pages op.cursor) ≡ count → state_in st op.cursor ≢ HalfDead → IsCleaned st (gone_past op count)
+    → entry_count (slice_get st.pages op.cursor) ≡ count → state_in st op.cursor ≢ HalfDead → IsCleaned st (moved_past op count)
 cleaned_past st op count h inside is alive = record {
   counted = (let a = h.counted in let b = is in omega (arith, a, b));
   none_dead = λ block lt. elim (cases_eq block op.cursor) [
@@ -42,7 +42,7 @@ counts_alike : (old new : State) (n : ℕ) → ((b : ℕ) → entry_count (slice
 counts_alike old new zero same = refl
 counts_alike old new (suc n) same = ap₂ (λ (a b : ℕ). a + b) (same n) (counts_alike old new n same)
 
--- behind an act that moves the state of the page at the cursor
+-- after an act that moves the state of the page at the cursor
 moved_counts : (old new : State) (op : CleanupOp) (was is : PageState) → IsCleaned old op → MovesState op.cursor was is old new
     → (op.left ≡ entries_below new.pages op.cursor) × ((block : ℕ) → block < op.cursor → state_in new block ≢ HalfDead)
 moved_counts old new op was is h moves = (
@@ -57,7 +57,7 @@ cleaned_dying old new op h inside used moves empty =
     record { counted = m.0; none_dead = m.1; empty = moves.counts op.cursor ∙ empty; within = subst (λ (n : ℕ). suc op.cursor ≤ n) (sym used) inside; fewer = h.fewer }
 
 pub cleaned_deleted : (old new : State) (op : CleanupOp) → IsCleaned old op → suc op.cursor ≤ length old.pages → length new.pages ≡ length old.pages
-    → PageGoes op.cursor old new → IsEmptyAt old op.cursor → IsCleaned new (gone_past_deleted op)
+    → PageIsDeleted op.cursor old new → IsEmptyAt old op.cursor → IsCleaned new (moved_past_deleted op)
 cleaned_deleted old new op h inside used moves empty =
     let m = moved_counts old new op HalfDead Deleted h moves in
     let none = moves.counts op.cursor ∙ empty in
@@ -75,7 +75,7 @@ cleaned_deleted old new op h inside used moves empty =
     clash : Deleted ≡ HalfDead → ⊥
     clash e = cc
 
--- behind the look at a page
+-- after the look at a page
 pub cleaned_looking : (st : State) (before after : CleanupOp) (page : Page) → slice_get st.pages before.cursor ≡ Some page
     → suc before.cursor ≤ length st.pages → IsCleaned st before → TurnsAt page before after → IsCleaned st after
 cleaned_looking st before after page found inside h (unlinks dead is) = rw is (cleaned_at st before Unlink h inside (ap entry_count found ∙ dead_count page dead))

@@ -19,9 +19,9 @@ use Rattle.page_action.proofs.Writable.{writable}
 use Rattle.tree_shape.specs.Deletion.{as_deleted}
 use Rattle.tree_shape.proofs.Deleting.{is_dead}
 use Rattle.tree_acts.specs.Deletions.{PageIsUnlinked, IsLinkedTo, leftmost, neighbour, StartsAreBelow}
-use Rattle.tree_acts.proofs.Unlinking.{edit as unlink_edit, unlink_lasts, unlink_flags, unlink_goes, unlink_links}
+use Rattle.tree_acts.proofs.Unlinking.{edit as unlink_edit, unlink_lasts, unlink_flags, unlink_deletes, unlink_links}
 use Rattle.tree_acts.proofs.Overlays.{page_length}
-use Rattle.descent.specs.Shared.{IsInOrder}
+use Rattle.tree_acts.specs.StepEffects.{IsInOrder}
 use Rattle.descent.proofs.Acting.{AreFree, numbers_stay, does_delete}
 use Rattle.page_delete.specs.Parts.{IsTakenToChange, IsTakenLeft, IsTakenRight, DeletesOn, SiblingsLink, unlinked}
 use Rattle.page_delete.specs.Spares.{goes as goes_edit}
@@ -176,7 +176,7 @@ module _ (st : State) (session : ℕ) (page right : Page) (order : IsInOrder st)
               (after_act (mended ++ as_deleted page st.begun ∷ record right { layout = Two; left = page.left } ∷ []) st) session start runs lasts.0.places lasts.0.trails;
           does = does_delete st session (mended ++ as_deleted page st.begun ∷ record right { layout = Two; left = page.left } ∷ []) order is.may lasts.0 lasts.1
               (record {
-                leaf = inr (unlink_goes st page right (as_deleted page st.begun) (record right { layout = Two; left = page.left }) mended order.tree is);
+                leaf = inr (unlink_deletes st page right (as_deleted page st.begun) (record right { layout = Two; left = page.left }) mended order.tree is);
                 flags = unlink_flags st page right (as_deleted page st.begun) (record right { layout = Two; left = page.left }) mended order.tree is;
                 links = λ within. unlink_links st page right (as_deleted page st.begun) (record right { layout = Two; left = page.left }) mended order.tree within is;
               }) free;
@@ -213,7 +213,7 @@ module _ (st : State) (session : ℕ) (page right : Page) (order : IsInOrder st)
           may = may;
         }) (subst (λ (k : ℕ). is_held_by_another st.table session k Exclusive ≡ false) (sym t.0.stored.block_is) t.0.free, (taken.free, (right_taken.taken.free, tt)))
 
--- as many blocks are in use behind it
+-- as many blocks are in use after it
 pub used_unlinking : (st : State) (session : ℕ) (honest : Bool) (page right : Page) (number : ℕ) (left : Option Page) → page.block < length st.pages → right.block < length st.pages
     → IsTakenLeft st honest session page page.left left → length (after_act (unlinked left page right number) st).pages ≡ length st.pages
 used_unlinking st session honest page right number left in_page in_right taken = by page.left left taken

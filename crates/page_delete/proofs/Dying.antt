@@ -24,7 +24,7 @@ use Rattle.tree_acts.specs.Deletions.{LeafIsHalfDead}
 use Rattle.tree_acts.proofs.Dying.{edit as half_death_edit, half_death_lasts, half_death_flags, half_death_dies, half_death_links}
 use Rattle.tree_acts.proofs.Overlays.{inside, page_length}
 use Rattle.tree_acts.proofs.Removing.{leaf_is}
-use Rattle.descent.specs.Shared.{IsInOrder}
+use Rattle.tree_acts.specs.StepEffects.{IsInOrder}
 use Rattle.descent.proofs.Acting.{numbers_stay, does_delete}
 use Rattle.vacuum.proofs.Holding.{free_for_all}
 use Rattle.page_delete.specs.Judging.{IsHandingOn}
@@ -116,7 +116,7 @@ may_die_so st session leaf parent leaf_after parent_after right at few candidate
         let one : leaf ≡ parent = some_page leaf parent (sym (candidate.found refl) ∙ ap (λ (b : ℕ). slice_get st.pages b) same ∙ taken.found refl) in
         links_no_leaf leaf.items candidate.may_die.leaf (subst (λ (p : Page). HasLinks p.items) (sym one) place.internal)
 
--- as many blocks are in use behind it
+-- as many blocks are in use after it
 pub used_dying : (st : State) (a b : Page) → a.block < length st.pages → b.block < length st.pages → length (after_act (a ∷ b ∷ []) st).pages ≡ length st.pages
 used_dying st a b in_a in_b =
     let one = page_length st.pages a (omega (arith, in_a)) in

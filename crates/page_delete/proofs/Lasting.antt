@@ -5,9 +5,9 @@ use Rattle.page_action.specs.States.{State}
 use Rattle.tree_shape.specs.Walks.{bound_aim}
 use Rattle.tree_shape.proofs.Fits.{bound_falls}
 use Rattle.tree_acts.proofs.Sizes.{low_level, pages_few}
-use Rattle.descent.specs.Onward.{IsOnWay}
-use Rattle.descent.specs.Shared.{IsInOrder, NumbersStay}
-use Rattle.descent.specs.declared.way.Way.{Way}
+use Rattle.descent.specs.NextPage.{IsOnDescent}
+use Rattle.tree_acts.specs.StepEffects.{IsInOrder, NumbersStay}
+use Rattle.descent.specs.declared.way.Position.{Position}
 use Rattle.page_delete.specs.Cleanups.{CleanupIsUnderway}
 use Rattle.page_delete.specs.Laws.{CleanupsAreUndisturbed, CleanupsAreBounded}
 use Rattle.page_delete.specs.Work.{steps_for_page, turn_left, pages_left}
@@ -15,7 +15,7 @@ use Rattle.page_delete.specs.declared.steps.CleanupAt.{CleanupAt}
 use Rattle.page_delete.specs.declared.steps.CleanupAt.TheVariants.{Look, Start, Down, Judge, Unlink}
 use Rattle.page_delete.proofs.Measuring.{mul_le, bounded}
 
-way_stays : (old new : State) (start : ℕ) (high : Bound) (way : Way) → NumbersStay start old new → IsOnWay old start (bound_aim high) false 1 way → IsOnWay new start (bound_aim high) false 1 way
+way_stays : (old new : State) (start : ℕ) (high : Bound) (way : Position) → NumbersStay start old new → IsOnDescent old start (bound_aim high) false 1 way → IsOnDescent new start (bound_aim high) false 1 way
 way_stays old new start high way stay w = record {
   not_below = w.not_below;
   place = stay.places way.level (bound_aim high) false way.block (bound_falls high) w.place;

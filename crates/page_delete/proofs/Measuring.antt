@@ -1,8 +1,8 @@
--- How much is left to do behind a step.
+-- How much is left to do after a step.
 use Rattle.std.proofs.Common.{◌≡◌, ℕ, zero, suc, ◌+◌, ◌-◌, ◌*◌, ◌<◌, ◌≤◌, inl, inr, refl, sym, ap, subst, ◌∙◌, arith}
 use Rattle.index_model.specs.declared.bound.Bound.{Bound}
-use Rattle.descent.specs.Onward.{IsShorter}
-use Rattle.descent.specs.declared.way.Way.{Way}
+use Rattle.descent.specs.NextPage.{IsShorter}
+use Rattle.descent.specs.declared.way.Position.{Position}
 use Rattle.page_delete.specs.Work.{steps_for_page, turn_left, pages_left, cleanup_left}
 use Rattle.page_delete.specs.declared.steps.CleanupAt.{CleanupAt}
 use Rattle.page_delete.specs.declared.steps.CleanupAt.TheVariants.{Look, Start, Down, Judge, Unlink}
@@ -41,14 +41,14 @@ module _ (most used cursor : ℕ) where
   pub start_passes : (high : Bound) → cleanup_left most used (suc cursor) Look < cleanup_left most used cursor (Start high)
   start_passes high = more ((used - suc cursor) * steps_for_page most) 0 (32 * (most + 2) + 3) (omega arith)
 
-  pub start_goes_down : (high : Bound) (way : Way) → way.level ≤ 31 → cleanup_left most used cursor (Down high way) < cleanup_left most used cursor (Start high)
+  pub start_goes_down : (high : Bound) (way : Position) → way.level ≤ 31 → cleanup_left most used cursor (Down high way) < cleanup_left most used cursor (Start high)
   start_goes_down high way low = more ((used - suc cursor) * steps_for_page most) (way.level * (most + 2) + ((suc most - way.moves) + 2)) (32 * (most + 2) + 3)
       (let m = mul_le way.level 31 (most + 2) low in omega (arith, m))
 
   down_less : (level' level k x y : ℕ) → (level' < level) → x < k + y → level' * k + x < level * k + y
   down_less level' level k x y lt few = (let m = mul_le (suc level') level k (omega (arith, lt)) in omega (arith, m, few))
 
-  pub down_goes_on : (high : Bound) (way on : Way) → IsShorter 1 most way on → cleanup_left most used cursor (Down high on) < cleanup_left most used cursor (Down high way)
+  pub down_goes_on : (high : Bound) (way on : Position) → IsShorter 1 most way on → cleanup_left most used cursor (Down high on) < cleanup_left most used cursor (Down high way)
   down_goes_on high way on shorter = elim shorter.shorter [
     | inl lower ↦ more ((used - suc cursor) * steps_for_page most) _ _ (down_less on.level way.level (most + 2) ((suc most - on.moves) + 2) ((suc most - way.moves) + 2) lower (omega arith))
     | inr same ↦ more ((used - suc cursor) * steps_for_page most) _ _
@@ -56,7 +56,7 @@ module _ (most used cursor : ℕ) where
         (let a = same.1.0 in let b = same.1.1 in omega (arith, a, b)))
   ]
 
-  pub down_judges : (high : Bound) (way : Way) (parent : ℕ) → 0 < way.level → cleanup_left most used cursor (Judge high parent) < cleanup_left most used cursor (Down high way)
+  pub down_judges : (high : Bound) (way : Position) (parent : ℕ) → 0 < way.level → cleanup_left most used cursor (Judge high parent) < cleanup_left most used cursor (Down high way)
   down_judges high way parent some = more ((used - suc cursor) * steps_for_page most) 2 (way.level * (most + 2) + ((suc most - way.moves) + 2))
       (let m = mul_le 1 way.level (most + 2) some in omega (arith, m))
 

@@ -15,7 +15,7 @@ use Rattle.tree_acts.proofs.Overlays.{pages_other, pages_first, pages_second, pa
 use Rattle.vacuum.specs.Counts.{entry_count}
 use Rattle.vacuum.proofs.Counting.{no_leaf_count}
 use Rattle.vacuum.proofs.Removing.{live_is}
-use Rattle.page_delete.specs.Parts.{IsTakenLeft, LeafDies, PageGoes, unlinked}
+use Rattle.page_delete.specs.Parts.{IsTakenLeft, LeafDies, PageIsDeleted, unlinked}
 use Rattle.page_delete.proofs.Dying.{links_no_leaf}
 
 -- the state of a page that is there
@@ -108,11 +108,11 @@ module _ (st : State) (page right : Page) (number : ℕ) (found : slice_get st.p
   )
 
   pub unlinking_moves : (session : ℕ) (left : Option Page) → IsTakenLeft st true session page page.left left → AreActable st.limits (length st.pages) (unlinked left page right number)
-      → PageGoes page.block st (after_act (unlinked left page right number) st)
+      → PageIsDeleted page.block st (after_act (unlinked left page right number) st)
   unlinking_moves session left taken may = by page.left left taken may
     where
       by : (link : Option ℕ) (left : Option Page) → IsTakenLeft st true session page link left → AreActable st.limits (length st.pages) (unlinked left page right number)
-          → PageGoes page.block st (after_act (unlinked left page right number) st)
+          → PageIsDeleted page.block st (after_act (unlinked left page right number) st)
       by None None t may =
           let there = pages_first st.limits (length st.pages) st.pages gone (right_after ∷ []) may (omega arith) in
           let m = moved (with_pages st.pages (gone ∷ right_after ∷ [])) there (pages_second st.limits (length st.pages) st.pages gone right_after [] may (omega arith))

@@ -3,7 +3,7 @@ use Rattle.std.proofs.Common.{◌≡◌, ℕ, Bool, Option, Some, None, ◌∷�
 use Rattle.page_codec.specs.declared.page.Page.{Page}
 use Rattle.page_codec.specs.declared.page.PageState.TheVariants.{HalfDead}
 use Rattle.page_action.specs.States.{State}
-use Rattle.descent.specs.Shared.{sibling}
+use Rattle.tree_acts.specs.StepEffects.{sibling}
 use Rattle.page_delete.specs.Needs.{blocks_unlinked_at}
 use Rattle.page_delete.specs.Parts.{IsTakenLeft, unlinked}
 

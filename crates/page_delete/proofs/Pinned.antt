@@ -1,4 +1,4 @@
--- Leaves that others have pinned stay behind the acts of a cleanup.
+-- Leaves that others have pinned stay after the acts of a cleanup.
 use Rattle.std.proofs.Common.{◌≡◌, ◌≢◌, ℕ, inl, inr, true, false, List, [], ◌∷◌, length, slice_get, Option, Some, None, refl, sym, ap, subst, ◌∙◌, arith}
 use Rattle.std.proofs.lemmas.Bool.{cases_eq}
 use Rattle.latch_table.specs.Holdings.{is_held_by_another}
@@ -14,7 +14,7 @@ use Rattle.tree_shape.specs.LinkPlaces.{HasLinks}
 use Rattle.tree_acts.specs.Leaves.{IsLeafAt, WasLeaf}
 use Rattle.tree_acts.proofs.Overlays.{pages_other, pages_first, pages_second, pages_third}
 use Rattle.vacuum.proofs.Holding.{pinned_is_held}
-use Rattle.page_delete.specs.Parts.{IsTakenLeft, PinnedLeavesStay, unlinked}
+use Rattle.page_delete.specs.Parts.{IsTakenLeft, PinnedLeafPagesStay, unlinked}
 use Rattle.page_delete.proofs.Dying.{links_no_leaf}
 use Rattle.vacuum.proofs.Lasting.{same_page}
 
@@ -39,7 +39,7 @@ leaf_same pages pages2 b page at same = record { page = page; was = record { fou
 pub pinned_dying : (st : State) (session : ℕ) (leaf parent leaf_after parent_after : Page)
     → is_held_by_another st.table session leaf.block Cleanup ≡ false → slice_get st.pages parent.block ≡ Some parent
     → HasLinks parent.items → AreActable st.limits (length st.pages) (leaf_after ∷ parent_after ∷ []) → leaf_after.block ≡ leaf.block → parent_after.block ≡ parent.block
-    → PinnedLeavesStay session st (after_act (leaf_after ∷ parent_after ∷ []) st)
+    → PinnedLeafPagesStay session st (after_act (leaf_after ∷ parent_after ∷ []) st)
 pinned_dying st session leaf parent leaf_after parent_after free parent_found internal may leaf_is parent_is other b page differ at pin = elim (cases_eq b leaf.block) [
   | inl is_leaf ↦ absurd (pinned_is_held st.table session other b differ pin (subst (λ (k : ℕ). is_held_by_another st.table session k Cleanup ≡ false) (sym is_leaf) free))
   | inr not_leaf ↦ elim (cases_eq b parent.block) [
@@ -78,7 +78,7 @@ module _ (st : State) (page right : Page) (number : ℕ) (found : slice_get st.p
   ]
 
   pub pinned_unlinking : (session : ℕ) (left : Option Page) → IsTakenLeft st true session page page.left left → AreActable st.limits (length st.pages) (unlinked left page right number)
-      → PinnedLeavesStay session st (after_act (unlinked left page right number) st)
+      → PinnedLeafPagesStay session st (after_act (unlinked left page right number) st)
   pinned_unlinking session left taken may other b p differ at pin = by page.left left taken may
     where
       by : (link : Option ℕ) (left : Option Page) → IsTakenLeft st true session page link left → AreActable st.limits (length st.pages) (unlinked left page right number)

@@ -5,7 +5,7 @@ use Rattle.page_codec.specs.declared.page.Page.{Page}
 use Rattle.page_codec.specs.declared.page.PageState.TheVariants.{HalfDead, Deleted}
 use Rattle.page_action.specs.States.{State}
 use Rattle.tree_shape.specs.Nodes.{Node, node_of, nodes_of}
-use Rattle.tree_shape.specs.Chains.{IsRunOf, Spot, past, spot_after, first_spot, IsIn, AreDistinct}
+use Rattle.tree_shape.specs.Chains.{IsRunOf, LeftContext, past, spot_after, first_spot, IsIn, AreDistinct}
 use Rattle.tree_shape.proofs.Deleting.{is_dead}
 use Rattle.tree_shape.proofs.LeafSplit.{first_in}
 use Rattle.tree_shape.proofs.Members.{apart_sides, apart_back, not_in_apart, in_append_left, in_append_right}
@@ -28,7 +28,7 @@ pub some_is : (a b : ℕ) → Some a ≡ Some b → a ≡ b
 some_is a b e = cc
 
 -- the page right before some page leads to it
-last_right : (at : ℕ → Node) (level : ℕ) (s : Spot) (x : ℕ) (xs : List ℕ) (l b : ℕ) → IsRunOf at level s (x ∷ xs) (Some b) → (spot_after at s (x ∷ xs)).left ≡ Some l → (at l).right ≡ Some b
+last_right : (at : ℕ → Node) (level : ℕ) (s : LeftContext) (x : ℕ) (xs : List ℕ) (l b : ℕ) → IsRunOf at level s (x ∷ xs) (Some b) → (spot_after at s (x ∷ xs)).left ≡ Some l → (at l).right ≡ Some b
 last_right at level s x [] l b run is = ap (λ (c : ℕ). (at c).right) (sym (some_is x l is)) ∙ run.0.right_is
 last_right at level s x (y ∷ ys) l b run is = last_right at level (past x (at x) s) y ys l b run.1 is
 
@@ -36,8 +36,8 @@ left_leads : (at : ℕ → Node) (level : ℕ) (xs : List ℕ) (l b : ℕ) → I
 left_leads at level [] l b run is = cc
 left_leads at level (x ∷ xs) l b run is = last_right at level first_spot x xs l b run is
 
--- the page right behind some page leads back to it
-next_left : (at : ℕ → Node) (level : ℕ) (s : Spot) (b : ℕ) (xs : List ℕ) (r : ℕ) → IsRunOf at level s (b ∷ xs) None → (at b).right ≡ Some r → (at r).left ≡ Some b
+-- the page right after some page leads back to it
+next_left : (at : ℕ → Node) (level : ℕ) (s : LeftContext) (b : ℕ) (xs : List ℕ) (r : ℕ) → IsRunOf at level s (b ∷ xs) None → (at b).right ≡ Some r → (at r).left ≡ Some b
 next_left at level s b [] r run is = absurd (no_link (sym run.0.right_is ∙ is))
   where
     no_link : None ≡ Some r → ⊥

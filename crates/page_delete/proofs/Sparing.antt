@@ -1,4 +1,4 @@
--- Which empty leaves a cleanup leaves in the tree, behind each step.
+-- Which empty leaves a cleanup leaves in the tree, after each step.
 use Rattle.std.proofs.Common.{◌≡◌, ◌≢◌, ◌⊎◌, ℕ, suc, ◌+◌, take, All, ◌<◌, ◌≤◌, inl, inr, Bool, true, false, not, ◌&&◌, ◌||◌, ◌==◌, eq-eqb, List, [], ◌∷◌, ◌++◌, length, slice_get, Option, Some, None, IsSome, IsNone, refl, sym, ap, subst, ◌∙◌, arith}
 use Rattle.std.proofs.lemmas.Bool.{cases_eq}
 use Rattle.std.specs.Prelude.{slice_index_or}
@@ -20,21 +20,21 @@ use Rattle.tree_shape.specs.Deletion.{MayDie}
 use Rattle.tree_shape.specs.Edits.{IsHalfDeath, IsUnlink}
 use Rattle.tree_shape.specs.LinkPlaces.{HasLinks}
 use Rattle.tree_shape.specs.Nodes.{Node, node_of, nodes_of, links_of}
-use Rattle.tree_shape.specs.Staying.{MustStay, rightmost, flagged, behind, IsWholeLeaf, HasBothLinks}
+use Rattle.tree_shape.specs.Staying.{MustStay, rightmost, incomplete, behind, IsCompleteLeaf, HasBothLinks}
 use Rattle.tree_shape.proofs.Links.{link_cases}
 use Rattle.tree_shape.proofs.Members.{member, in_append_right}
 use Rattle.tree_shape.proofs.Places.{cover_at}
-use Rattle.tree_shape.proofs.Staying.{whole_leaf_has_both_links, root_leaf_is_not_whole, half_death_spares, unlink_spares}
-use Rattle.tree_acts.specs.Deletions.{IsWholeAt, state_in}
+use Rattle.tree_shape.proofs.Staying.{complete_leaf_has_both_links, root_leaf_is_not_complete, half_death_spares, unlink_spares}
+use Rattle.tree_acts.specs.Deletions.{IsCompleteAt, state_in}
 use Rattle.tree_acts.specs.Trees.{HasTree}
 use Rattle.tree_acts.proofs.Dying.{whole_from}
 use Rattle.tree_acts.proofs.Overlays.{node_there, inside}
 use Rattle.tree_acts.proofs.Removing.{leaf_is}
-use Rattle.descent.specs.Shared.{IsInOrder}
+use Rattle.tree_acts.specs.StepEffects.{IsInOrder}
 use Rattle.page_delete.specs.Judging.{IsToDie, IsHandingPlace}
 use Rattle.page_delete.specs.Laws.{NothingIsSpared}
-use Rattle.page_delete.specs.Ops.{turned_to, gone_past, gone_past_deleted, TurnsAt, unlinks, tries, passes}
-use Rattle.page_delete.specs.Parts.{LeafDies, PageGoes, LinksLeft}
+use Rattle.page_delete.specs.Ops.{turned_to, moved_past, moved_past_deleted, TurnsAt, unlinks, tries, passes}
+use Rattle.page_delete.specs.Parts.{LeafDies, PageIsDeleted, LinksLeft}
 use Rattle.page_delete.specs.Spares.{IsAlone, IsEmptyLeaf, HasToStay, MayGo, MayGoFrom, IsSought, IsSparing, OnlyNeededStay, EditsALeaf, dies, goes}
 use Rattle.page_delete.proofs.Siblings.{some_at, siblings}
 use Rattle.page_delete.specs.declared.steps.CleanupAt.{CleanupAt}
@@ -82,8 +82,8 @@ high_there page admitted may none = by page.items may.leaf admitted.kind
     by (Downlinks v) has kind = has
 
 -- a deleted page has no left link
-gone_left : (page : Page) (b : ℕ) → IsPage page → page.state ≡ Deleted → page.left ≡ Some b → ⊥
-gone_left page b admitted gone left = by page.items admitted.kind
+moved_left : (page : Page) (b : ℕ) → IsPage page → page.state ≡ Deleted → page.left ≡ Some b → ⊥
+moved_left page b admitted gone left = by page.items admitted.kind
   where
     no_left : (o : Option ℕ) → o ≡ Some b → IsNone o → ⊥
     no_left None e i = cc
@@ -102,7 +102,7 @@ looked_stays st block page has found none e = by page.split refl page.right refl
     here = node_there st.pages block page found
 
     by : (w : Bool) → page.split ≡ w → (o : Option ℕ) → page.right ≡ o → HasToStay st block
-    by true split o right = flagged (ap (λ (n : Node). n.split) here ∙ split)
+    by true split o right = incomplete (ap (λ (n : Node). n.split) here ∙ split)
     by false split None right = rightmost (ap (λ (n : Node). n.right) here ∙ right)
     by false split (Some r) right = absurd (high_there page (admitted_at st block page has found) may (none may))
       where
@@ -115,7 +115,7 @@ looked_stays st block page has found none e = by page.split refl page.right refl
           empty = sym (ap (λ (n : Node). n.entries) here) ∙ e.empty;
         }
 
--- places behind some downlinks
+-- places after some downlinks
 place_behind : (before : List Downlink) (x : Downlink) (ys : List Downlink) (d : Downlink) → slice_index_or (before ++ x ∷ ys) (length before) d ≡ x
 place_behind [] x ys d = refl
 place_behind (b ∷ bs) x ys d = place_behind bs x ys d
@@ -184,7 +184,7 @@ judged_stays st session block parent order alone none m not_to_die = with_right 
     above : 0 < block
     above = subst (λ (b : ℕ). 0 < b) block_is stands.0
 
-    whole_left : (o : Option ℕ) → m.leaf.leaf.left ≡ o → IsWholeAt st.pages o ⊎ HasToStay st block
+    whole_left : (o : Option ℕ) → m.leaf.leaf.left ≡ o → IsCompleteAt st.pages o ⊎ HasToStay st block
     whole_left None is = inl tt
     whole_left (Some l) is = by (slice_get st.pages l) refl
       where
@@ -194,11 +194,11 @@ judged_stays st session block parent order alone none m not_to_die = with_right 
         same : (a b : Page) → Some a ≡ Some b → a ≡ b
         same a b e = cc
 
-        by : (o : Option Page) → slice_get st.pages l ≡ o → IsWholeAt st.pages (Some l) ⊎ HasToStay st block
+        by : (o : Option Page) → slice_get st.pages l ≡ o → IsCompleteAt st.pages (Some l) ⊎ HasToStay st block
         by None gone = inl (λ page found. none_there page (sym gone ∙ found))
         by (Some p) there = flag p.split refl
           where
-            flag : (w : Bool) → p.split ≡ w → IsWholeAt st.pages (Some l) ⊎ HasToStay st block
+            flag : (w : Bool) → p.split ≡ w → IsCompleteAt st.pages (Some l) ⊎ HasToStay st block
             flag true split = inr (behind l (ap (λ (n : Node). n.left) here ∙ is) (ap (λ (n : Node). n.split) (node_there st.pages l p there) ∙ split))
             flag false split = inl (λ page found. ap (λ (q : Page). q.split) (same page p (sym found ∙ there)) ∙ split)
 
@@ -206,8 +206,8 @@ judged_stays st session block parent order alone none m not_to_die = with_right 
     with_right None is some = cc
     with_right (Some r) is some = elim (whole_left m.leaf.leaf.left refl) [ inr stays ↦ stays | inl whole ↦ beside whole ]
       where
-        beside : IsWholeAt st.pages m.leaf.leaf.left → HasToStay st block
-        beside whole = elim (whole_leaf_has_both_links (nodes_of st.pages) (length st.pages) m.above.tree.root m.above.tree.meta.level m.above.tree.chain block r parent m.high m.above.tree.is
+        beside : IsCompleteAt st.pages m.leaf.leaf.left → HasToStay st block
+        beside whole = elim (complete_leaf_has_both_links (nodes_of st.pages) (length st.pages) m.above.tree.root m.above.tree.meta.level m.above.tree.chain block r parent m.high m.above.tree.is
             (let a = m.above.in_tree in omega (arith, a)) above (inside st.pages block m.leaf.leaf m.leaf.found) whole_leaf m.above.covers) [
               | inl both ↦ absurd (not_to_die (dying both))
               | inr stays ↦ stays
@@ -223,9 +223,9 @@ judged_stays st session block parent order alone none m not_to_die = with_right 
                 by : (s : PageState) → link.page.state ≡ s → link.page.state ≡ Live
                 by Live e = e
                 by HalfDead e = absurd (none r (ap (λ (n : Node). n.state) (node_there st.pages r link.page link.found) ∙ e))
-                by Deleted e = absurd (gone_left link.page m.leaf.leaf.block (admitted_at st r link.page order.tree link.found) e link.links)
+                by Deleted e = absurd (moved_left link.page m.leaf.leaf.block (admitted_at st r link.page order.tree link.found) e link.links)
 
-            whole_leaf : IsWholeLeaf (nodes_of st.pages) block r m.high
+            whole_leaf : IsCompleteLeaf (nodes_of st.pages) block r m.high
             whole_leaf = record {
               alive = ap (λ (n : Node). n.state) here ∙ m.leaf.may_die.alive;
               leaf = ap (λ (n : Node). n.level) here ∙ stands.1;
@@ -291,7 +291,7 @@ no_root_leaf st block high has low m = by m.leaf.right refl m.may_die.right
 
     by : (o : Option ℕ) → m.leaf.right ≡ o → IsSome o → ⊥
     by None is some = cc
-    by (Some r) is some = root_leaf_is_not_whole (nodes_of st.pages) (length st.pages) has.tree.root has.tree.chain block r
+    by (Some r) is some = root_leaf_is_not_complete (nodes_of st.pages) (length st.pages) has.tree.root has.tree.chain block r
         (subst (λ (top : ℕ). IsTreeOf (nodes_of st.pages) (length st.pages) has.tree.root top has.tree.chain) low has.tree.is)
         (subst (λ (b : ℕ). 0 < b) (block_at st block m.leaf has m.found) stands.0) (inside st.pages block m.leaf m.found)
         (ap (λ (n : Node). n.state) here ∙ m.may_die.alive) (ap (λ (n : Node). n.level) here ∙ stands.1) (ap (λ (n : Node). n.split) here ∙ m.may_die.whole) (ap (λ (n : Node). n.right) here ∙ is)
@@ -308,9 +308,9 @@ spared_at st op at h not_unlink sought = record {
   stays = h.stays;
 }
 
--- behind the page
+-- after the page
 pub spared_past : (st : State) (op : CleanupOp) (count : ℕ) → IsSparing st op → ((b : ℕ) → state_in st b ≢ HalfDead)
-    → (IsEmptyLeaf st op.cursor → HasToStay st op.cursor) → IsSparing st (gone_past op count)
+    → (IsEmptyLeaf st op.cursor → HasToStay st op.cursor) → IsSparing st (moved_past op count)
 spared_past st op count h none here = record {
   none_dead = λ b dead. absurd (none b dead);
   sought = tt;
@@ -320,7 +320,7 @@ spared_past st op count h none here = record {
   ];
 }
 
--- behind the look at a page
+-- after the look at a page
 pub spared_looking : (st : State) (before after : CleanupOp) (page : Page) → HasTree st → slice_get st.pages before.cursor ≡ Some page
     → before.at ≡ Look → IsSparing st before → TurnsAt page before after → IsSparing st after
 spared_looking st before after page has found at h turn = by turn
@@ -339,9 +339,9 @@ spared_looking st before after page has found at h turn = by turn
     by (tries high may is_high is) = rw is (spared_at st before (Start high) h not_unlink (record { leaf = page; found = found; may_die = may; high_is = is_high }))
     by (passes alive empty is) = rw is (spared_past st before _ h none (looked_stays st before.cursor page has found empty))
 
--- behind the test of the leaf, which is passed
+-- after the test of the leaf, which is passed
 pub spared_judged : (st : State) (before : CleanupOp) (high : Bound) (parent : ℕ) → IsInOrder st → IsAlone st before.session → before.at ≡ Judge high parent → IsSparing st before
-    → (IsToDie st before.session before.cursor parent → ⊥) → IsSparing st (gone_past before 0)
+    → (IsToDie st before.session before.cursor parent → ⊥) → IsSparing st (moved_past before 0)
 spared_judged st before high parent order alone at h spared =
     spared_past st before 0 h none (λ e. judged_stays st before.session before.cursor parent order alone none (subst (IsSought st before.cursor) at h.sought) spared)
   where
@@ -423,7 +423,7 @@ spared_dying old new op high parent at used h moves edit = record {
 
 -- ... or was deleted
 pub spared_deleted : (old new : State) (op : CleanupOp) → HasTree old → op.at ≡ Unlink → length new.pages ≡ length old.pages → IsSparing old op
-    → PageGoes op.cursor old new → EditsALeaf old new → IsSparing new (gone_past_deleted op)
+    → PageIsDeleted op.cursor old new → EditsALeaf old new → IsSparing new (moved_past_deleted op)
 spared_deleted old new op has at used h moves edit = record {
   none_dead = λ b dead. absurd (none b dead);
   sought = tt;

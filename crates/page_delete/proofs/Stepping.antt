@@ -20,23 +20,23 @@ use Rattle.tree_shape.specs.Nodes.{node_from, nodes_of}
 use Rattle.tree_shape.specs.Tree.{IsMetaOf}
 use Rattle.tree_shape.specs.Walks.{bound_aim}
 use Rattle.tree_acts.specs.Deletions.{state_in}
-use Rattle.tree_acts.specs.Trees.{HasPlace, HasTrail}
+use Rattle.tree_acts.specs.Trees.{LeadsTo, HasTrail}
 use Rattle.tree_acts.specs.Ways.{RootIsThere}
 use Rattle.tree_acts.proofs.Removing.{leaf_begins_trail}
-use Rattle.tree_acts.proofs.Telling.{metapage_tells, trail_begins_here}
-use Rattle.descent.specs.Shared.{IsInOrder}
-use Rattle.descent.specs.Onward.{IsOnWay, LeadsOnward, LeavesLess, way_from}
-use Rattle.descent.specs.declared.way.Onward.{Onward}
-use Rattle.descent.specs.declared.way.Onward.TheVariants.{Going as LeadsOn, Here}
-use Rattle.descent.specs.declared.way.Way.{Way}
+use Rattle.tree_acts.proofs.Meanings.{metapage_shows, trail_begins_here}
+use Rattle.tree_acts.specs.StepEffects.{IsInOrder}
+use Rattle.descent.specs.NextPage.{IsOnDescent, LeadsToNext, DescentIsShorter, way_from}
+use Rattle.descent.specs.declared.way.NextPage.{NextPage}
+use Rattle.descent.specs.declared.way.NextPage.TheVariants.{Going as LeadsOn, Here}
+use Rattle.descent.specs.declared.way.Position.{Position}
 use Rattle.descent.proofs.Acting.{one_nothing, cleans_nothing}
 use Rattle.vacuum.proofs.Lasting.{same_page}
 use Rattle.vacuum.proofs.Causes.{or_more}
 use Rattle.page_delete.specs.Cleanups.{CleanupIsUnderway, CleanupInvariant, CleanupSteps, causes_of_cleaning}
 use Rattle.page_delete.specs.Counts.{IsEmptyAt, IsFoundEmpty, come_to, IsCleaned, AllIsCleaned, deleted_in}
-use Rattle.page_delete.specs.Ops.{cleanup_counted_out, cleanup_stats, turned_to, gone_past, gone_past_deleted, TurnsAt, unlinks, tries, passes}
+use Rattle.page_delete.specs.Ops.{cleanup_counted_out, cleanup_stats, turned_to, moved_past, moved_past_deleted, TurnsAt, unlinks, tries, passes}
 use Rattle.page_delete.specs.Needs.{blocks_judged, blocks_unlinked_at, blocks_written, causes_of_trying}
-use Rattle.page_delete.specs.Parts.{IsTried, DeletesOn, BlocksAreInUse, LeafDies, IsSpared, IsInUse, PageGoes, IsNotDead, left_to, left_root, left_page, left_answer}
+use Rattle.page_delete.specs.Parts.{IsTried, DeletesOn, BlocksAreInUse, LeafDies, IsSpared, IsInUse, PageIsDeleted, IsNotDead, left_to, left_root, left_page, left_answer}
 use Rattle.page_delete.specs.Spares.{IsAlone, IsSought, IsSparing, EditsALeaf}
 use Rattle.page_delete.specs.Turns.{TurnsFrom}
 use Rattle.page_delete.specs.Work.{cleanup_left}
@@ -52,7 +52,7 @@ use Rattle.page_delete.specs.declared.steps.CleanupOp.{CleanupOp}
 use Rattle.page_delete.specs.declared.steps.CleanupStep.{CleanupStep}
 use Rattle.page_delete.specs.declared.steps.CleanupStep.TheVariants.{Going, Finished}
 
--- behind the look at it the page at the cursor is in use
+-- after the look at it the page at the cursor is in use
 come_within : (st : State) (op : CleanupOp) (at : CleanupAt) → op.at ≡ at → IsCleaned st op → come_to op.cursor at ≤ length st.pages
 come_within st op at is h = subst (λ (a : CleanupAt). come_to op.cursor a ≤ length st.pages) is h.within
 
@@ -66,9 +66,6 @@ pub working_cause : (st : State) (old new : Backing) (op : CleanupOp) (fault : F
     → HasCause (causes_of_trying st old new op.session (blocks_written op.at op.cursor st)) fault → HasCause (causes_of_cleaning st old new op) fault
 working_cause st old new op Stopped h = or_more old.stopped (is_at_end st.acts) (cleanup_counted_out op) h
 working_cause st old new op fault h = h
-
-pub counted_cause : (st : State) (old new : Backing) (op : CleanupOp) → cleanup_counted_out op ≡ true → HasCause (causes_of_cleaning st old new op) Stopped
-counted_cause st old new op h = or_there old.stopped (is_at_end st.acts) (cleanup_counted_out op) h
 
 runs_no_more : (b : Bool) {A : Type 0} → b ≡ false → b ≡ true → A
 runs_no_more b alive stopped = absurd cc
@@ -255,12 +252,12 @@ module _ {S : Type 0} (g : Ghosts S) (before : CleanupOp) (high : Bound) (parent
       (λ order h moved edit. spared_dying (g.state old) (g.state new) before high parent at tried.used h moved edit)
 
   pub leaf_spared : IsTried g before.session (blocks_judged before.cursor parent) (BlocksAreInUse before.cursor parent) (LeafDies before.cursor)
-      (IsSpared before.session before.cursor parent) old new (Ok false) → CleanupSteps g before (gone_past before 0) old new (Ok Going)
+      (IsSpared before.session before.cursor parent) old new (Ok false) → CleanupSteps g before (moved_past before 0) old new (Ok Going)
   leaf_spared tried =
-      moves g before (gone_past before 0) old new tried.steps (tried.stays refl) refl refl alive
+      moves g before (moved_past before 0) old new tried.steps (tried.stays refl) refl refl alive
       (subst (λ (a : CleanupAt). cleanup_left most used (suc before.cursor) Look < cleanup_left most used before.cursor a) (sym at) (judge_passes most used before.cursor high parent))
       (λ honest order fits.
-      (subst (λ (a : CleanupAt). TurnsFrom a (g.state old) before None (gone_past before 0)) (sym at) (inr (refl, refl, tried.passes honest (has_room (g.state old) before fits) refl)), tt))
+      (subst (λ (a : CleanupAt). TurnsFrom a (g.state old) before None (moved_past before 0)) (sym at) (inr (refl, refl, tried.passes honest (has_room (g.state old) before fits) refl)), tt))
       (λ honest fits h. cleaned_past (g.state old) before 0 h (come_within (g.state old) before (Judge high parent) at h) (found_empty h).0 (found_empty h).1)
       (λ honest order fits alone h. spared_judged (g.state old) before high parent order alone at h (tried.passes honest (has_room (g.state old) before fits) refl))
 
@@ -283,28 +280,28 @@ module _ {S : Type 0} (g : Ghosts S) (before : CleanupOp) (old new : S) (at : be
   not_dead : IsNotDead before.cursor (g.state old) → state_in (g.state old) before.cursor ≢ HalfDead
   not_dead none = never_dead (g.state old).pages before.cursor none
 
-  pub page_goes : IsTried g before.session (blocks_unlinked_at before.cursor) (IsInUse before.cursor) (PageGoes before.cursor)
-      (IsNotDead before.cursor) old new (Ok true) → CleanupSteps g before (gone_past_deleted before) old new (Ok Going)
+  pub page_goes : IsTried g before.session (blocks_unlinked_at before.cursor) (IsInUse before.cursor) (PageIsDeleted before.cursor)
+      (IsNotDead before.cursor) old new (Ok true) → CleanupSteps g before (moved_past_deleted before) old new (Ok Going)
   page_goes tried =
-      acts g (blocks_unlinked_at before.cursor) (IsInUse before.cursor) (PageGoes before.cursor) (IsNotDead before.cursor) before (gone_past_deleted before) old new tried refl alive
+      acts g (blocks_unlinked_at before.cursor) (IsInUse before.cursor) (PageIsDeleted before.cursor) (IsNotDead before.cursor) before (moved_past_deleted before) old new tried refl alive
       (subst (λ (a : CleanupAt).
       cleanup_left (g.state old).limits.pages (length (g.state old).pages) (suc before.cursor) Look < cleanup_left (g.state old).limits.pages
       (length (g.state old).pages) before.cursor a) (sym at) (unlink_passes (g.state old).limits.pages (length (g.state old).pages) before.cursor))
-      (subst (λ (a : CleanupAt). TurnsFrom a (g.state old) before (Some Shape) (gone_past_deleted before)) (sym at) (inl (refl, refl)))
+      (subst (λ (a : CleanupAt). TurnsFrom a (g.state old) before (Some Shape) (moved_past_deleted before)) (sym at) (inl (refl, refl)))
       (λ order fits d. tt)
       (λ same moved. let one = one_deleted (g.state old) (g.state new) before.cursor same moved in omega (arith, one))
       (λ h moved. cleaned_deleted (g.state old) (g.state new) before h (come_within (g.state old) before Unlink at h) tried.used moved (subst (IsFoundEmpty (g.state old) before.cursor) at h.empty))
       (λ order h moved edit. spared_deleted (g.state old) (g.state new) before order.tree at tried.used h moved edit)
 
-  pub page_stays : IsTried g before.session (blocks_unlinked_at before.cursor) (IsInUse before.cursor) (PageGoes before.cursor)
-      (IsNotDead before.cursor) old new (Ok false) → CleanupSteps g before (gone_past before 0) old new (Ok Going)
+  pub page_stays : IsTried g before.session (blocks_unlinked_at before.cursor) (IsInUse before.cursor) (PageIsDeleted before.cursor)
+      (IsNotDead before.cursor) old new (Ok false) → CleanupSteps g before (moved_past before 0) old new (Ok Going)
   page_stays tried =
-      moves g before (gone_past before 0) old new tried.steps (tried.stays refl) refl refl alive
+      moves g before (moved_past before 0) old new tried.steps (tried.stays refl) refl refl alive
       (subst (λ (a : CleanupAt).
       cleanup_left (g.state old).limits.pages (length (g.state old).pages) (suc before.cursor) Look < cleanup_left (g.state old).limits.pages
       (length (g.state old).pages) before.cursor a) (sym at) (unlink_passes (g.state old).limits.pages (length (g.state old).pages) before.cursor))
       (λ honest order fits.
-      (subst (λ (a : CleanupAt). TurnsFrom a (g.state old) before None (gone_past before 0)) (sym at) (inr (refl, refl, tried.passes honest (has_room (g.state old) before fits) refl)), tt))
+      (subst (λ (a : CleanupAt). TurnsFrom a (g.state old) before None (moved_past before 0)) (sym at) (inr (refl, refl, tried.passes honest (has_room (g.state old) before fits) refl)), tt))
       (λ honest fits h. cleaned_past (g.state old) before 0 h (come_within (g.state old) before Unlink at h)
       (subst (IsFoundEmpty (g.state old) before.cursor) at h.empty) (not_dead (tried.passes honest (has_room (g.state old) before fits) refl)))
       (λ honest order fits alone h. absurd (not_dead (tried.passes honest (has_room (g.state old) before fits) refl) (subst (IsSought (g.state old) before.cursor) at h.sought)))
@@ -365,11 +362,11 @@ page_low page h = by page.items h.kind
 start_differs : {high : Bound} → Start high ≡ Unlink → ⊥
 start_differs e = cc
 
-down_differs : {high : Bound} {way : Way} → Down high way ≡ Unlink → ⊥
+down_differs : {high : Bound} {way : Position} → Down high way ≡ Unlink → ⊥
 down_differs e = cc
 
 -- the metapage is read
-pub starts : {S : Type 0} (g : Ghosts S) (before after : CleanupOp) (high : Bound) (old new : S) (meta : Page) (way : Way) → before.at ≡ Start high
+pub starts : {S : Type 0} (g : Ghosts S) (before after : CleanupOp) (high : Bound) (old new : S) (meta : Page) (way : Position) → before.at ≡ Start high
     → (g.backing old).stopped ≡ false → Continues g.follows old new
     → g.state new ≡ g.state old → IsPage meta → ((g.backing new).honest ≡ true → slice_get (g.state old).pages 0 ≡ Some meta) → way.level ≡ meta.level
     → ((root : ℕ) → IsMetaOf meta root meta.level → Some way ≡ Some (way_from root meta.level)) → after ≡ left_root before way high → CleanupSteps g before after old new (Ok Going)
@@ -378,14 +375,14 @@ starts g before after high old new meta way at alive steps same admitted found l
     found_empty : IsCleaned (g.state old) before → IsEmptyAt (g.state old) before.cursor × (state_in (g.state old) before.cursor ≢ HalfDead)
     found_empty h = subst (IsFoundEmpty (g.state old) before.cursor) at h.empty
 
-    some_is : (a b : Way) → Some a ≡ Some b → a ≡ b
+    some_is : (a b : Position) → Some a ≡ Some b → a ≡ b
     some_is a b e = cc
 
     no_zero : (n l : ℕ) → l ≡ suc n → l ≢ 0
     no_zero n l is z = omega (arith, is, z)
 
     tells : (g.backing new).honest ≡ true → IsInOrder (g.state old) → (start : ℕ) → RootIsThere (g.state old) start (bound_aim high) false meta
-    tells honest order start = metapage_tells (g.state old) start (bound_aim high) false meta order.tree (found honest)
+    tells honest order start = metapage_shows (g.state old) start (bound_aim high) false meta order.tree (found honest)
 
     root_is : (honest : (g.backing new).honest ≡ true) (order : IsInOrder (g.state old)) (start : ℕ) → way ≡ way_from (tells honest order start).root meta.level
     root_is honest order start = let t = tells honest order start in some_is way (way_from t.root meta.level) (named t.root t.names)
@@ -416,12 +413,12 @@ starts g before after high old new meta way at alive steps same admitted found l
             (λ m there. let one = same_page (g.state old).pages 0 meta m (found honest) there in
                 inr (
                   (λ z. no_zero n way.level some (level ∙ ap (λ (p : Page). p.level) one ∙ z)),
-                  (t.root, ap (λ (p : Page). p.right) (sym one) ∙ t.names.root_is, is1 ∙ ap (λ (k : Way). turned_to before (Down high k)) (w ∙ ap (λ (p : Page). way_from t.root p.level) one)),
+                  (t.root, ap (λ (p : Page). p.right) (sym one) ∙ t.names.root_is, is1 ∙ ap (λ (k : Position). turned_to before (Down high k)) (w ∙ ap (λ (p : Page). way_from t.root p.level) one)),
                 )),
           ),
           rw is1 (
             subst (CleanupIsUnderway (g.state old) fits.start before.cursor) at fits.at,
-            subst (λ (k : Way). IsOnWay (g.state old) fits.start (bound_aim high) false 1 k) (sym w) (record {
+            subst (λ (k : Position). IsOnDescent (g.state old) fits.start (bound_aim high) false 1 k) (sym w) (record {
               not_below = (let a = level in let b = some in omega (arith, a, b));
               place = t.place;
               trail = trail_begins_here (g.state old) fits.start meta.level (bound_aim high) false t.root order.tree t.place;
@@ -432,11 +429,11 @@ starts g before after high old new meta way at alive steps same admitted found l
         (λ honest order fits alone h. rw is1 (spared_at (g.state old) before (Down high way) h (λ e. start_differs (sym at ∙ e)) (subst (IsSought (g.state old) before.cursor) at h.sought)))
 
 -- a page on the way is read
-pub descends : {S : Type 0} (g : Ghosts S) (before after : CleanupOp) (high : Bound) (way : Way) (old new : S) (onward : Option Onward) (result : Result CleanupStep Fault) → before.at ≡ Down high way
-    → (g.backing old).stopped ≡ false → Continues g.follows old new → g.state new ≡ g.state old → way.level ≢ 0 → LeavesLess 1 (g.state old).limits.pages way onward
-    → ((g.backing new).honest ≡ true → (start : ℕ) → IsInOrder (g.state old) → IsOnWay (g.state old) start (bound_aim high) false 1 way
-    → LeadsOnward (g.state old) start (bound_aim high) false 1 way onward)
-    → after ≡ left_page before onward way.block high → result ≡ left_answer onward way.block → CleanupSteps g before after old new result
+pub descends : {S : Type 0} (g : Ghosts S) (before after : CleanupOp) (high : Bound) (way : Position) (old new : S) (next_page : Option NextPage) (result : Result CleanupStep Fault) → before.at ≡ Down high way
+    → (g.backing old).stopped ≡ false → Continues g.follows old new → g.state new ≡ g.state old → way.level ≢ 0 → DescentIsShorter 1 (g.state old).limits.pages way next_page
+    → ((g.backing new).honest ≡ true → (start : ℕ) → IsInOrder (g.state old) → IsOnDescent (g.state old) start (bound_aim high) false 1 way
+    → LeadsToNext (g.state old) start (bound_aim high) false 1 way next_page)
+    → after ≡ left_page before next_page way.block high → result ≡ left_answer next_page way.block → CleanupSteps g before after old new result
 descends g before after high way old new None result at alive steps same some less leads op is =
     subst (CleanupSteps g before after old new) (sym is) (subst (λ (a : CleanupOp). CleanupSteps g before a old new (Err (PageDamaged way.block))) (sym op)
     (refuses g before old new (PageDamaged way.block) steps same (λ h. runs_no_more (g.backing old).stopped alive h)
@@ -464,7 +461,7 @@ descends g before after high way old new (Some Here) result at alive steps same 
       subst (λ (a : CleanupAt). TurnsFrom a (g.state old) before None after) (sym at) (refl, inr op),
       rw op (
         u.0,
-        subst (λ (k : ℕ). HasPlace (g.state old) fits.start k (bound_aim high) false way.block) here.0 u.1.place,
+        subst (λ (k : ℕ). LeadsTo (g.state old) fits.start k (bound_aim high) false way.block) here.0 u.1.place,
       ),
     ))
     (λ honest fits h. rw op

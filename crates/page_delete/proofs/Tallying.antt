@@ -1,4 +1,4 @@
--- How many pages are deleted behind a step of a cleanup.
+-- How many pages are deleted after a step of a cleanup.
 use Rattle.std.proofs.Common.{◌≡◌, ◌≢◌, ℕ, zero, suc, ◌+◌, ◌<◌, inl, inr, Bool, true, false, if◌then◌else◌, Option, Some, None, List, length, slice_get, refl, sym, ap, ◌∙◌, arith}
 use Rattle.std.proofs.lemmas.Bool.{cases_eq}
 use Rattle.page_codec.specs.declared.page.Page.{Page}
@@ -9,7 +9,7 @@ use Rattle.tree_shape.specs.Nodes.{node_from, nodes_of}
 use Rattle.tree_acts.proofs.Overlays.{inside}
 use Rattle.vacuum.specs.Counts.{deleted_count}
 use Rattle.page_delete.specs.Counts.{deleted_in}
-use Rattle.page_delete.specs.Parts.{LeafDies, PageGoes}
+use Rattle.page_delete.specs.Parts.{LeafDies, PageIsDeleted}
 
 -- the state of a page tells whether it is deleted
 told_by_state : (pages : List Page) (b : ℕ) → is_deleted pages b ≡ is_deleted_state (nodes_of pages b).state
@@ -75,7 +75,7 @@ none_deleted old new block used moves =
     ])
 
 -- a half-dead page that is deleted is one more
-pub one_deleted : (old new : State) (block : ℕ) → length new.pages ≡ length old.pages → PageGoes block old new → deleted_in new ≡ suc (deleted_in old)
+pub one_deleted : (old new : State) (block : ℕ) → length new.pages ≡ length old.pages → PageIsDeleted block old new → deleted_in new ≡ suc (deleted_in old)
 one_deleted old new block used moves =
     ap (λ (n : ℕ). deleted_count new n) used
     ∙ one_more old new block (length old.pages) (dead_inside old.pages block moves.before)

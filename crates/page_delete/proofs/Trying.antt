@@ -9,11 +9,11 @@ use Rattle.page_action.specs.States.{State, Continues, IsLater, after_act}
 use Rattle.page_action.specs.declared.page_store.PageStore.{Ghosts}
 use Rattle.tree_acts.specs.Deletions.{StartsAreBelow}
 use Rattle.tree_acts.specs.Leaves.{WasLeaf}
-use Rattle.descent.specs.Shared.{IsInOrder, IsOneStep, frames_for}
+use Rattle.tree_acts.specs.StepEffects.{IsInOrder, IsOneActAtMost, frames_for}
 use Rattle.descent.proofs.Acting.{one_act, one_nothing}
 use Rattle.descent.proofs.Working.{working_later}
 use Rattle.page_delete.specs.Needs.{causes_of_trying}
-use Rattle.page_delete.specs.Parts.{IsCandidate, IsTakenToChange, IsTakenLeft, DeletesOn, PinnedLeavesStay, IsTried}
+use Rattle.page_delete.specs.Parts.{IsCandidate, IsTakenToChange, IsTakenLeft, DeletesOn, PinnedLeafPagesStay, IsTried}
 
 -- two answers are the same
 abbrev Path_result : Result Bool Fault → Result Bool Fault → Type 0
@@ -28,7 +28,7 @@ if_err_map (Ok b) P Q f h = h
 if_err_map (Err e) P Q f h = f e h
 
 -- where nothing was changed, leaves are as they were
-pub pinned_same : (session : ℕ) (old new : State) → new ≡ old → PinnedLeavesStay session old new
+pub pinned_same : (session : ℕ) (old new : State) → new ≡ old → PinnedLeafPagesStay session old new
 pinned_same session old new same other block page differ at pin =
     subst (λ (st : State). WasLeaf st.pages block) (sym same) (record { page = page; was = at })
 
@@ -53,12 +53,12 @@ module _ {S : Type 0} (g : Ghosts S) (session : ℕ) where
       (subst (λ (st : State). HasCause (causes_of_trying st (g.backing mid) (g.backing new) session written) fault) r.state h)
 
   module _ (written : State → List ℕ) (sure : State → Type 0) (change : State → State → Type 0) (reason : State → Type 0) where
-    -- ... behind a reading
+    -- ... after a reading
     pub tried_later : (old mid new : S) (result : Result Bool Fault) → HasRead g old mid → IsTried g session written sure change reason mid new result
         → IsTried g session written sure change reason old new result
     tried_later old mid new result r t = record {
       steps = λ first h. t.steps first (r.steps first h);
-      kept = subst (λ (st : State). IsOneStep st (g.state new)) r.state t.kept;
+      kept = subst (λ (st : State). IsOneActAtMost st (g.state new)) r.state t.kept;
       table = t.table ∙ ap (λ (st : State). st.table) r.state;
       cycle = t.cycle ∙ ap (λ (st : State). st.cycle) r.state;
       used = t.used ∙ ap (λ (st : State). length st.pages) r.state;
@@ -66,7 +66,7 @@ module _ {S : Type 0} (g : Ghosts S) (session : ℕ) where
       stays = λ is. t.stays is ∙ r.state;
       passes = λ honest room is. subst reason r.state (t.passes honest (subst (λ (st : State). HasRoom st.table session) (sym r.state) room) is);
       changed = λ honest is. subst (λ (st : State). change st (g.state new)) r.state (t.changed honest is);
-      pins = λ honest. subst (λ (st : State). PinnedLeavesStay session st (g.state new)) r.state (t.pins honest);
+      pins = λ honest. subst (λ (st : State). PinnedLeafPagesStay session st (g.state new)) r.state (t.pins honest);
       does = λ honest order below is. subst (λ (st : State). DeletesOn session st (g.state new)) r.state
           (t.does honest (subst IsInOrder (sym r.state) order) (subst StartsAreBelow (sym r.state) below) is);
       cause = λ honest order room there. if_err_map result _ _ (λ fault h.
@@ -120,7 +120,7 @@ module _ {S : Type 0} (g : Ghosts S) (session : ℕ) where
 
     -- one act was done
     pub tried_acted : (old new : S) (changed : List Page) → Continues g.follows old new → g.state new ≡ after_act changed (g.state old) → length (g.state new).pages ≡ length (g.state old).pages
-        → ((g.backing new).honest ≡ true → change (g.state old) (g.state new)) → ((g.backing new).honest ≡ true → PinnedLeavesStay session (g.state old) (g.state new))
+        → ((g.backing new).honest ≡ true → change (g.state old) (g.state new)) → ((g.backing new).honest ≡ true → PinnedLeafPagesStay session (g.state old) (g.state new))
         → ((g.backing new).honest ≡ true → IsInOrder (g.state old) → StartsAreBelow (g.state old) → DeletesOn session (g.state old) (g.state new))
         → IsTried g session written sure change reason old new (Ok true)
     tried_acted old new changed steps done used changes pins does = record {

@@ -11,13 +11,13 @@ use Rattle.page_action.specs.States.{State, Backing, Continues}
 use Rattle.page_action.specs.declared.page_store.PageStore.{Ghosts}
 use Rattle.tree_shape.specs.Walks.{bound_aim}
 use Rattle.tree_acts.specs.Deletions.{StartsAreBelow}
-use Rattle.tree_acts.specs.Trees.{HasPlace, HasTrail}
-use Rattle.descent.specs.Onward.{IsOnWay}
-use Rattle.descent.specs.Shared.{IsInOrder, CleansUp, IsOneStep}
+use Rattle.tree_acts.specs.Trees.{LeadsTo, HasTrail}
+use Rattle.descent.specs.NextPage.{IsOnDescent}
+use Rattle.tree_acts.specs.StepEffects.{IsInOrder, CleanupEffect, IsOneActAtMost}
 use Rattle.page_delete.specs.Counts.{IsCleaned, CleansOn, CountsDeleted}
 use Rattle.page_delete.specs.Needs.{blocks_written, causes_of_trying}
 use Rattle.page_delete.specs.Ops.{cleanup_counted_out, cleanup_stats}
-use Rattle.page_delete.specs.Parts.{PinnedLeavesStay}
+use Rattle.page_delete.specs.Parts.{PinnedLeafPagesStay}
 use Rattle.page_delete.specs.Spares.{IsAlone, IsSparing, SparesOn}
 use Rattle.page_delete.specs.Turns.{TurnsFrom}
 use Rattle.page_delete.specs.Work.{cleanup_left}
@@ -33,9 +33,9 @@ abbrev pub CleanupIsUnderway : State → ℕ → ℕ → CleanupAt → Type 0
 CleanupIsUnderway st start cursor Look = Unit {0}
 CleanupIsUnderway st start cursor (Start high) = HasTrail st start 0 cursor 0
 CleanupIsUnderway st start cursor (Down high way) =
-    HasTrail st start 0 cursor 0 × IsOnWay st start (bound_aim high) false 1 way
+    HasTrail st start 0 cursor 0 × IsOnDescent st start (bound_aim high) false 1 way
 CleanupIsUnderway st start cursor (Judge high parent) =
-    HasTrail st start 0 cursor 0 × HasPlace st start 1 (bound_aim high) false parent
+    HasTrail st start 0 cursor 0 × LeadsTo st start 1 (bound_aim high) false parent
 CleanupIsUnderway st start cursor Unlink = HasTrail st start 0 cursor 0
 
 -- it tests the leaf, and this page, which may be its parent
@@ -60,9 +60,9 @@ causes_of_cleaning st old new op = record (causes_of_trying st old new op.sessio
     }
 
 -- a step is made, with one act at most, which is of one leaf on its way out of the tree
-pub record CleanupGoesOn (old new : State) (before after : CleanupOp) : Type 0 where
+pub record CleanupContinues (old new : State) (before after : CleanupOp) : Type 0 where
   pub effect : Option Effect
-  pub does : CleansUp before.session effect old new
+  pub does : CleanupEffect before.session effect old new
   pub turns : TurnsFrom before.at old before effect after
   pub fits : CleanupInvariant new after
 
@@ -77,7 +77,7 @@ pub record CleanupEnds (old new : State) (before after : CleanupOp) : Type 0 whe
 abbrev pub CleanupStepped : State → Backing → State → Backing → CleanupOp → CleanupOp
     → Result CleanupStep Fault → Type 0
 CleanupStepped old old_backing new new_backing before after (Ok Going) =
-    CleanupGoesOn old new before after
+    CleanupContinues old new before after
 CleanupStepped old old_backing new new_backing before after (Ok (Finished stats)) =
     CleanupEnds old new before after
 CleanupStepped old old_backing new new_backing before after (Err fault) =
@@ -89,38 +89,38 @@ pub record CleanupStays (old new : State) (before after : CleanupOp) : Type 0 wh
   pub op : after ≡ before
 
 -- the statistics are those of the call and of the pages
-abbrev pub CleanupStatsAreTold : State → CleanupOp → Result CleanupStep Fault → Type 0
-CleanupStatsAreTold st op (Ok Going) = Unit {0}
-CleanupStatsAreTold st op (Ok (Finished stats)) = stats ≡ cleanup_stats st op
-CleanupStatsAreTold st op (Err fault) = Unit {0}
+abbrev pub CleanupStatsAreRight : State → CleanupOp → Result CleanupStep Fault → Type 0
+CleanupStatsAreRight st op (Ok Going) = Unit {0}
+CleanupStatsAreRight st op (Ok (Finished stats)) = stats ≡ cleanup_stats st op
+CleanupStatsAreRight st op (Err fault) = Unit {0}
 
 -- each step that goes on leaves less to do
-abbrev pub CleanupLeavesLess : State → State → CleanupOp → CleanupOp → Result CleanupStep Fault
+abbrev pub CleanupHasLessLeft : State → State → CleanupOp → CleanupOp → Result CleanupStep Fault
     → Type 0
-CleanupLeavesLess old new before after (Ok Going) =
+CleanupHasLessLeft old new before after (Ok Going) =
     cleanup_left new.limits.pages (length new.pages) after.cursor after.at
     < cleanup_left old.limits.pages (length old.pages) before.cursor before.at
-CleanupLeavesLess old new before after (Ok (Finished stats)) = Unit {0}
-CleanupLeavesLess old new before after (Err fault) = Unit {0}
+CleanupHasLessLeft old new before after (Ok (Finished stats)) = Unit {0}
+CleanupHasLessLeft old new before after (Err fault) = Unit {0}
 
--- A step of a cleanup. On any pages: it does one act at most and holds nothing behind it, a refused one changes nothing, a
+-- A step of a cleanup. On any pages: it does one act at most and holds nothing after it, a refused one changes nothing, a
 -- stopped log refuses it, each that goes on leaves less to do, and the statistics are told as they are. Over a device that
 -- keeps its model: live leaves that others have pinned stay; it counts the pages that it deletes; where nobody else acts, it
--- counts the entries, and leaves no half-dead page behind it; on pages in order: what it does, where it goes on, why it is
+-- counts the entries, and leaves no half-dead page after it; on pages in order: what it does, where it goes on, why it is
 -- refused, and, where nobody else holds a page, which empty leaves stay.
 pub record CleanupSteps {S : Type 0} (g : Ghosts S) (before after : CleanupOp) (old new : S)
     (result : Result CleanupStep Fault) : Type 0 where
   pub steps : Continues g.follows old new
   pub session : after.session ≡ before.session
-  pub kept : IsOneStep (g.state old) (g.state new)
+  pub kept : IsOneActAtMost (g.state old) (g.state new)
   pub table : (g.state new).table ≡ (g.state old).table
   pub cycle : (g.state new).cycle ≡ (g.state old).cycle
   pub refused : OnErr result (CleanupStays (g.state old) (g.state new) before after)
   pub stopped : (g.backing old).stopped ≡ true → result ≡ Err Stopped
-  pub stats : CleanupStatsAreTold (g.state old) before result
-  pub less : CleanupLeavesLess (g.state old) (g.state new) before after result
+  pub stats : CleanupStatsAreRight (g.state old) before result
+  pub less : CleanupHasLessLeft (g.state old) (g.state new) before after result
   pub pins : (g.backing new).honest ≡ true
-      → PinnedLeavesStay before.session (g.state old) (g.state new)
+      → PinnedLeafPagesStay before.session (g.state old) (g.state new)
   pub deletes : (g.backing new).honest ≡ true
       → CountsDeleted (g.state old) (g.state new) before after result
   pub counts : (g.backing new).honest ≡ true → CleanupInvariant (g.state old) before

@@ -15,7 +15,7 @@ use Rattle.page_delete.specs.declared.steps.CleanupStep.TheVariants.{Going, Fini
 abbrev pub IsEmptyAt : State → ℕ → Type 0
 IsEmptyAt st block = entry_count (slice_get st.pages block) ≡ 0
 
--- behind the look at it the page at the cursor has no entries; it isn't half-dead, unless it is unlinked next
+-- after the look at it the page at the cursor has no entries; it isn't half-dead, unless it is unlinked next
 abbrev pub IsFoundEmpty : State → ℕ → CleanupAt → Type 0
 IsFoundEmpty st cursor Look = Unit {0}
 IsFoundEmpty st cursor (Start high) = IsEmptyAt st cursor × (state_in st cursor ≢ HalfDead)
@@ -55,7 +55,7 @@ CleansOn new after (Err fault) = IsCleaned new after
 abbrev pub deleted_in : State → ℕ
 deleted_in st = deleted_count st (length st.pages)
 
--- as many more pages are deleted behind a step as it has counted more; at the end it tells as many as it has counted
+-- as many more pages are deleted after a step as it has counted more; at the end it tells as many as it has counted
 abbrev pub CountsDeleted : State → State → CleanupOp → CleanupOp → Result CleanupStep Fault → Type 0
 CountsDeleted old new before after (Ok Going) =
     deleted_in new + before.deleted ≡ deleted_in old + after.deleted

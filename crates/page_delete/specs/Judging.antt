@@ -9,7 +9,7 @@ use Rattle.page_action.specs.States.{State}
 use Rattle.tree_shape.specs.Deletion.{MayDie}
 use Rattle.tree_shape.specs.LinkPlaces.{HasLinks, child_at}
 use Rattle.tree_shape.specs.Nodes.{links_of}
-use Rattle.tree_acts.specs.Deletions.{IsWholeAt}
+use Rattle.tree_acts.specs.Deletions.{IsCompleteAt}
 
 -- the first downlink to the leaf stands at this place, and the next one leads to its right sibling
 pub record IsHandingPlace (links : List Downlink) (leaf right at : ℕ) : Type 0 where
@@ -24,15 +24,15 @@ pub record IsHandingOn (parent : Page) (leaf right at : ℕ) : Type 0 where
   pub level : parent.level ≡ 1
   pub place : IsHandingPlace (links_of parent.items) leaf right at
 
--- The leaf of this block is to be made half-dead: nobody else holds a latch or a pin of it; it is live and empty, not flagged
--- and not right behind a flagged page; its right sibling is live, and in this parent the downlink behind its own leads to
+-- The leaf of this block is to be made half-dead: nobody else holds a latch or a pin of it; it is live and empty, without an incomplete split
+-- and not right after a page with an incomplete split; its right sibling is live, and in this parent the downlink after its own leads to
 -- that.
 pub record IsToDie (st : State) (session block parent : ℕ) : Type 0 where
   pub free : is_held_by_another st.table session block Cleanup ≡ false
   pub leaf : Page
   pub found : slice_get st.pages block ≡ Some leaf
   pub may_die : MayDie leaf
-  pub left_whole : IsWholeAt st.pages leaf.left
+  pub left_whole : IsCompleteAt st.pages leaf.left
   pub right : ℕ
   pub right_is : leaf.right ≡ Some right
   pub right_page : Page

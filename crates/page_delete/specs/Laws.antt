@@ -3,7 +3,7 @@ use Rattle.std.specs.Prelude.{◌≢◌, ℕ, ◌≤◌, ◌<◌, length}
 use Rattle.page_codec.specs.declared.page.PageState.TheVariants.{HalfDead}
 use Rattle.page_action.specs.States.{State}
 use Rattle.tree_acts.specs.Deletions.{state_in}
-use Rattle.descent.specs.Shared.{IsInOrder, MayRely}
+use Rattle.tree_acts.specs.StepEffects.{IsInOrder, MayRely}
 use Rattle.page_delete.specs.Cleanups.{CleanupInvariant}
 use Rattle.page_delete.specs.Counts.{IsCleaned}
 use Rattle.page_delete.specs.Ops.{fresh_cleanup}
@@ -28,7 +28,7 @@ abbrev pub NothingIsCleaned : Type 0
 NothingIsCleaned =
     (st : State) (session : ℕ) → IsInOrder st → IsCleaned st (fresh_cleanup session)
 
--- ... and where no page is half-dead, no other empty leaf is left behind than has to stay
+-- ... and where no page is half-dead, no other empty leaf is left after than has to stay
 abbrev pub NothingIsSpared : Type 0
 NothingIsSpared =
     (st : State) (session : ℕ) → IsInOrder st → ((block : ℕ) → state_in st block ≢ HalfDead)

@@ -26,13 +26,13 @@ fresh_cleanup session = record {
 abbrev pub turned_to : CleanupOp → CleanupAt → CleanupOp
 turned_to op at = record op { at = at }
 
--- the cleanup behind the page at the cursor, on which it counted so many entries
-abbrev pub gone_past : CleanupOp → ℕ → CleanupOp
-gone_past op count = record op { cursor = suc op.cursor; at = Look; left = op.left + count }
+-- the cleanup after the page at the cursor, on which it counted so many entries
+abbrev pub moved_past : CleanupOp → ℕ → CleanupOp
+moved_past op count = record op { cursor = suc op.cursor; at = Look; left = op.left + count }
 
 -- ... which it has unlinked
-abbrev pub gone_past_deleted : CleanupOp → CleanupOp
-gone_past_deleted op = record op { cursor = suc op.cursor; at = Look; deleted = suc op.deleted }
+abbrev pub moved_past_deleted : CleanupOp → CleanupOp
+moved_past_deleted op = record op { cursor = suc op.cursor; at = Look; deleted = suc op.deleted }
 
 -- a counter of 32 bits is at its end
 abbrev pub is_last_number : ℕ → Bool
@@ -49,7 +49,7 @@ pub data TurnsAt (page : Page) (before after : CleanupOp) : Type 0 where
   tries : (high : Bound) → MayDie page → page.high ≡ Some high → after ≡ turned_to before (Start high)
       → TurnsAt page before after
   passes : page.state ≢ HalfDead → (MayDie page → page.high ≡ None)
-      → after ≡ gone_past before (entry_count (Some page))
+      → after ≡ moved_past before (entry_count (Some page))
       → TurnsAt page before after
 
 -- the statistics of a cleanup that ends

@@ -15,16 +15,16 @@ use Rattle.page_action.specs.States.{State, Continues}
 use Rattle.page_action.specs.Stored.{IsStored}
 use Rattle.page_action.specs.declared.page_store.PageStore.{Ghosts}
 use Rattle.tree_shape.specs.Deletion.{MayDie, as_deleted}
-use Rattle.tree_acts.specs.Deletions.{IsWholeAt, StartsAreBelow, state_in}
+use Rattle.tree_acts.specs.Deletions.{IsCompleteAt, StartsAreBelow, state_in}
 use Rattle.tree_acts.specs.Leaves.{IsLeafAt, WasLeaf}
-use Rattle.descent.specs.Shared.{IsInOrder, CleansUp, IsOneStep, NumbersStay}
-use Rattle.descent.specs.declared.way.Onward.{Onward}
-use Rattle.descent.specs.declared.way.Onward.TheVariants.{Going as LeadsOn, Here}
-use Rattle.descent.specs.declared.way.Way.{Way}
+use Rattle.tree_acts.specs.StepEffects.{IsInOrder, CleanupEffect, IsOneActAtMost, NumbersStay}
+use Rattle.descent.specs.declared.way.NextPage.{NextPage}
+use Rattle.descent.specs.declared.way.NextPage.TheVariants.{Going as LeadsOn, Here}
+use Rattle.descent.specs.declared.way.Position.{Position}
 use Rattle.vacuum.specs.Counts.{entry_count}
 use Rattle.page_delete.specs.Judging.{IsToDie}
 use Rattle.page_delete.specs.Needs.{causes_of_trying}
-use Rattle.page_delete.specs.Ops.{turned_to, gone_past}
+use Rattle.page_delete.specs.Ops.{turned_to, moved_past}
 use Rattle.page_delete.specs.Spares.{EditsALeaf}
 use Rattle.page_delete.specs.declared.looking.Seen.{Seen}
 use Rattle.page_delete.specs.declared.steps.CleanupAt.TheVariants.{Down, Judge}
@@ -32,23 +32,23 @@ use Rattle.page_delete.specs.declared.steps.CleanupOp.{CleanupOp}
 use Rattle.page_delete.specs.declared.steps.CleanupStep.{CleanupStep}
 use Rattle.page_delete.specs.declared.steps.CleanupStep.TheVariants.{Going}
 
--- the cleanup behind the metapage, with this way to the root
-abbrev pub left_to : CleanupOp → ℕ → Way → Bound → CleanupOp
-left_to op zero way high = gone_past op 0
+-- the cleanup after the metapage, with this way to the root
+abbrev pub left_to : CleanupOp → ℕ → Position → Bound → CleanupOp
+left_to op zero way high = moved_past op 0
 left_to op (suc level) way high = turned_to op (Down high way)
 
-abbrev pub left_root : CleanupOp → Way → Bound → CleanupOp
+abbrev pub left_root : CleanupOp → Position → Bound → CleanupOp
 left_root op way high = left_to op way.level way high
 
--- ... behind a page on the way, that leads it on, or nowhere
-abbrev pub left_page : CleanupOp → Option Onward → ℕ → Bound → CleanupOp
+-- ... after a page on the way, that leads it on, or nowhere
+abbrev pub left_page : CleanupOp → Option NextPage → ℕ → Bound → CleanupOp
 left_page op None block high = op
 left_page op (Some (LeadsOn on)) block high = turned_to op (Down high on)
 left_page op (Some Here) block high = turned_to op (Judge high block)
 
-abbrev pub left_answer : Option Onward → ℕ → Result CleanupStep Fault
+abbrev pub left_answer : Option NextPage → ℕ → Result CleanupStep Fault
 left_answer None block = Err (PageDamaged block)
-left_answer (Some onward) block = Ok Going
+left_answer (Some next_page) block = Ok Going
 
 -- what the page of the block shows
 pub record IsSeen (pages : List Page) (block : ℕ) (seen : Seen) : Type 0 where
@@ -78,7 +78,7 @@ pub record SiblingsLink (pages : List Page) (page : Page) : Type 0 where
 
 -- the siblings of a leaf allow that it is made half-dead
 pub record SiblingsAllow (pages : List Page) (leaf : Page) (right : ℕ) : Type 0 where
-  pub left_whole : IsWholeAt pages leaf.left
+  pub left_whole : IsCompleteAt pages leaf.left
   pub right_is : leaf.right ≡ Some right
   pub page : Page
   pub found : slice_get pages right ≡ Some page
@@ -117,14 +117,14 @@ pub record IsTakenToChange (st : State) (honest : Bool) (session block : ℕ) (p
 
 -- an act by which a leaf goes on its way out of the tree; the numbers that the session's own call keeps stay good too
 pub record DeletesOn (session : ℕ) (old new : State) : Type 0 where
-  pub does : CleansUp session (Some Shape) old new
+  pub does : CleanupEffect session (Some Shape) old new
   pub own : (start : ℕ) → slice_get old.running session ≡ Some (Some start)
       → NumbersStay start old new
   pub edit : EditsALeaf old new
 
 -- a live leaf that another session has pinned stays one
-abbrev pub PinnedLeavesStay : ℕ → State → State → Type 0
-PinnedLeavesStay session old new =
+abbrev pub PinnedLeafPagesStay : ℕ → State → State → Type 0
+PinnedLeafPagesStay session old new =
     (other block : ℕ) (page : Page) → other ≢ session → IsLeafAt old.pages block page
     → has_pin (holding_of old.table other).pins block ≡ true → WasLeaf new.pages block
 
@@ -135,7 +135,7 @@ pub record IsTried {S : Type 0} (g : Ghosts S) (session : ℕ) (written : State 
     (sure : State → Type 0) (change : State → State → Type 0) (reason : State → Type 0)
     (old new : S) (result : Result Bool Fault) : Type 0 where
   pub steps : Continues g.follows old new
-  pub kept : IsOneStep (g.state old) (g.state new)
+  pub kept : IsOneActAtMost (g.state old) (g.state new)
   pub table : (g.state new).table ≡ (g.state old).table
   pub cycle : (g.state new).cycle ≡ (g.state old).cycle
   pub used : length (g.state new).pages ≡ length (g.state old).pages
@@ -145,7 +145,7 @@ pub record IsTried {S : Type 0} (g : Ghosts S) (session : ℕ) (written : State 
       → result ≡ Ok false → reason (g.state old)
   pub changed : (g.backing new).honest ≡ true → result ≡ Ok true
       → change (g.state old) (g.state new)
-  pub pins : (g.backing new).honest ≡ true → PinnedLeavesStay session (g.state old) (g.state new)
+  pub pins : (g.backing new).honest ≡ true → PinnedLeafPagesStay session (g.state old) (g.state new)
   pub does : (g.backing new).honest ≡ true → IsInOrder (g.state old)
       → StartsAreBelow (g.state old) → result ≡ Ok true
       → DeletesOn session (g.state old) (g.state new)
@@ -215,5 +215,5 @@ abbrev pub LeafDies : ℕ → State → State → Type 0
 LeafDies block = MovesState block Live HalfDead
 
 -- the half-dead page is deleted
-abbrev pub PageGoes : ℕ → State → State → Type 0
-PageGoes block = MovesState block HalfDead Deleted
+abbrev pub PageIsDeleted : ℕ → State → State → Type 0
+PageIsDeleted block = MovesState block HalfDead Deleted

@@ -31,7 +31,7 @@ pub record IsEmptyLeaf (st : State) (block : ℕ) : Type 0 where
   pub leaf : (nodes_of st.pages block).level ≡ 0
   pub empty : (nodes_of st.pages block).entries ≡ []
 
--- it is the rightmost leaf, or flagged, or right behind a flagged one, or the last child of its parent
+-- it is the rightmost leaf, or with an incomplete split, or right after one with an incomplete split, or the last child of its parent
 abbrev pub HasToStay : State → ℕ → Type 0
 HasToStay st block = MustStay (nodes_of st.pages) (length st.pages) block
 

@@ -7,7 +7,7 @@ use Rattle.page_delete.specs.declared.steps.CleanupAt.TheVariants.{Look, Start, 
 abbrev pub steps_for_page : ℕ → ℕ
 steps_for_page most = 33 * (most + 2) + 4
 
--- the steps for the page at the cursor, behind the first
+-- the steps for the page at the cursor, after the first
 abbrev pub turn_left : ℕ → CleanupAt → ℕ
 turn_left most Look = 0
 turn_left most (Start high) = 32 * (most + 2) + 3

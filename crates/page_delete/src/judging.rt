@@ -5,15 +5,15 @@ ghost use Rattle.index_model.specs.Faults.{HasCause};
 ghost use Rattle.latch_table.specs.Holdings.{HasRoom};
 ghost use Rattle.page_action.specs.States.{Continues};
 ghost use Rattle.tree_shape.specs.LinkPlaces.{child_at};
-ghost use Rattle.tree_acts.specs.Deletions.{IsWholeAt};
-ghost use Rattle.descent.specs.Shared.{causes_of_working, causes_of_writing_any};
+ghost use Rattle.tree_acts.specs.Deletions.{IsCompleteAt};
+ghost use Rattle.tree_acts.specs.StepEffects.{causes_of_working, causes_of_writing_any};
 ghost use Rattle.page_delete.specs.Judging.{IsHandingOn};
 ghost use Rattle.page_delete.specs.Needs.{blocks_judged};
 ghost use Rattle.page_delete.specs.Parts.{SiblingsLink, SiblingsAllow, SiblingsAnswer, CandidateAnswers, IsCandidate, IsTakenToChange, IsTried, BlocksAreInUse, LeafDies, IsSpared, LinksRight, LinksLeft, IsLiveAt};
 
-use crate::looking::glance;
+use crate::looking::read_state;
 use crate::steps::CleanupOp;
-use descent::{act_on, ask_for, look_to_change};
+use descent::{act_on, check_latch, read_exclusive};
 use index_model::{Fault, Session};
 use latch_table::Mode;
 use page_action::PageStore;
@@ -40,7 +40,7 @@ fn candidate<S: PageStore>(
         (S.backing store.old) (S.backing store.new) session (first ∷ second ∷ [])
         2 false false)) }
 {
-    match ask_for(store, session, block, Mode::Cleanup) {
+    match check_latch(store, session, block, Mode::Cleanup) {
         Ok(()) => {}
         Err(_) => return Ok(None),
     }
@@ -51,13 +51,13 @@ fn candidate<S: PageStore>(
     }
 }
 
-// Whether the page to the left of a leaf, if there is one, is not flagged. Refused with `PageDamaged` for one that does not
-// link to the leaf.
+// Whether the page to the left of a leaf, if there is one, has no incomplete split. Refused with `PageDamaged` for one that does
+// not link to the leaf.
 fn left_is_whole<S: PageStore>(store: &mut S, session: Session, leaf: &Page) -> Result<bool, Fault>
     ensures steps { Continues S.follows store.old store.new }
     ensures state { S.state store.new ≡ S.state store.old }
     ensures whole { (S.backing store.new).honest ≡ true
-        → IfOk result (λ yes. IsTrue yes ↔ IsWholeAt (S.state store.old).pages leaf.now.left) }
+        → IfOk result (λ yes. IsTrue yes ↔ IsCompleteAt (S.state store.old).pages leaf.now.left) }
     ensures alive { OnOk result
         ((S.backing store.new).stopped ≡ true → (S.backing store.old).stopped ≡ true) }
     ensures promised { (S.backing store.new).promised ≡ (S.backing store.old).promised }
@@ -73,7 +73,7 @@ fn left_is_whole<S: PageStore>(store: &mut S, session: Session, leaf: &Page) -> 
     let Some(left) = leaf.left else {
         return Ok(true);
     };
-    match glance(store, session, left) {
+    match read_state(store, session, left) {
         Ok(seen) if seen.right == Some(leaf.block) => Ok(!seen.split),
         Ok(_) => Err(Fault::PageDamaged(left)),
         Err(fault) => Err(fault),
@@ -108,7 +108,7 @@ fn right_is_live<S: PageStore>(
         (S.backing store.old) (S.backing store.new) session (first ∷ second ∷ [])
         2 false false)) }
 {
-    match glance(store, session, right) {
+    match read_state(store, session, right) {
         Ok(seen) if seen.left == Some(leaf.block) => Ok(is_live(seen.state)),
         Ok(_) => Err(Fault::PageDamaged(right)),
         Err(fault) => Err(fault),
@@ -154,7 +154,7 @@ fn siblings_allow<S: PageStore>(
     if is_live { Ok(Some(right)) } else { Ok(None) }
 }
 
-// Whether the downlink behind this place leads to the page.
+// Whether the downlink after this place leads to the page.
 fn next_leads(links: &[Downlink], at: usize, right: u32) -> bool
     requires { at < length links.now }
     ensures { IsTrue result
@@ -229,7 +229,7 @@ fn try_parent<S: PageStore>(
         (BlocksAreInUse leaf.block parent) (LeafDies leaf.block) (IsSpared session leaf.block parent) store.old store.new result }
     ensures faults { IfErr result (HasCause causes_of_writing_any) }
 {
-    let page = match look_to_change(store, session, parent) {
+    let page = match read_exclusive(store, session, parent) {
         Ok(page) => page,
         Err(fault) => return Err(fault),
     };

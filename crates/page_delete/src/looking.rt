@@ -4,10 +4,10 @@ ghost use Rattle.std.specs.Prelude.{◌≡◌, ◌<◌, ℕ, [], ◌∷◌, true
 ghost use Rattle.index_model.specs.Faults.{HasCause};
 ghost use Rattle.latch_table.specs.Holdings.{HasRoom};
 ghost use Rattle.page_action.specs.States.{Continues};
-ghost use Rattle.descent.specs.Shared.{causes_of_working, causes_of_writing_any};
+ghost use Rattle.tree_acts.specs.StepEffects.{causes_of_working, causes_of_writing_any};
 ghost use Rattle.page_delete.specs.Parts.{IsSeen};
 
-use descent::look;
+use descent::read_shared;
 use index_model::{Fault, Session};
 use page_action::PageStore;
 use page_codec::PageState;
@@ -25,8 +25,8 @@ pub struct Seen {
     pub state: PageState,
 }
 
-/// Looks at a page. Refused as [`look`].
-pub fn glance<S: PageStore>(store: &mut S, session: Session, block: u32) -> Result<Seen, Fault>
+/// Looks at a page. Refused as [`read_shared`].
+pub fn read_state<S: PageStore>(store: &mut S, session: Session, block: u32) -> Result<Seen, Fault>
     ensures steps { Continues S.follows store.old store.new }
     ensures state { S.state store.new ≡ S.state store.old }
     ensures seen { (S.backing store.new).honest ≡ true
@@ -41,7 +41,7 @@ pub fn glance<S: PageStore>(store: &mut S, session: Session, block: u32) -> Resu
         (S.backing store.old) (S.backing store.new) session (first ∷ second ∷ [])
         2 false false)) }
 {
-    match look(store, session, block) {
+    match read_shared(store, session, block) {
         Ok(()) => {}
         Err(fault) => return Err(fault),
     }

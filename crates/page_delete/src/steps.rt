@@ -2,13 +2,13 @@
 
 ghost use Rattle.std.specs.Prelude.{◌≡◌, ◌<◌, ◌||◌, false, IfErr, length};
 ghost use Rattle.index_model.specs.Faults.{HasCause};
-ghost use Rattle.descent.specs.Shared.{causes_of_writing_any};
+ghost use Rattle.tree_acts.specs.StepEffects.{causes_of_writing_any};
 
 use crate::turns::stats;
-use descent::{Way, lead, look, way_down};
+use descent::{Position, lead, read_shared, way_down};
 use index_model::{Bound, Fault, Session, VacuumStats};
 use page_action::PageStore;
-use tree_shape::Aim;
+use tree_shape::SearchKey;
 
 /// What the next step of a cleanup does.
 #[derive(Clone, Copy)]
@@ -18,7 +18,7 @@ pub enum CleanupAt {
     /// It reads the metapage, on the way to the parent of the empty leaf at the cursor, whose high key this is.
     Start(Bound),
     /// It reads a page on that way.
-    Down(Bound, Way),
+    Down(Bound, Position),
     /// It tests the leaf at the cursor, its siblings and this page, which may be its parent, and makes the leaf half-dead
     /// if it may. The page was found on the way to this high key.
     Judge(Bound, u32),
@@ -81,7 +81,7 @@ impl CleanupOp {
             return Err(Fault::Stopped);
         }
         match self.at {
-            CleanupAt::Look if self.cursor < store.used() => self.look_at_page(store),
+            CleanupAt::Look if self.cursor < store.used() => self.read_at_cursor(store),
             CleanupAt::Look => Ok(CleanupStep::Finished(stats(self, store))),
             CleanupAt::Start(high) => self.read_metapage(store, high),
             CleanupAt::Down(high, way) => self.read_page(store, high, way),
@@ -98,7 +98,7 @@ impl CleanupOp {
     }
 
     // Looks at the page at the cursor.
-    fn look_at_page<S: PageStore>(&mut self, store: &mut S) -> Result<CleanupStep, Fault>
+    fn read_at_cursor<S: PageStore>(&mut self, store: &mut S) -> Result<CleanupStep, Fault>
         requires at { self.old.at ≡ CleanupAt.Look }
         requires alive { (S.backing store.old).stopped ≡ false }
         requires room { cleanup_counted_out self.old ≡ false }
@@ -106,7 +106,7 @@ impl CleanupOp {
         ensures all { CleanupSteps S.PageStore self.old self.new store.old store.new result }
         ensures faults { IfErr result (HasCause causes_of_writing_any) }
     {
-        match look(store, self.session, self.cursor) {
+        match read_shared(store, self.session, self.cursor) {
             Ok(()) => {}
             Err(fault) => return Err(fault),
         }
@@ -126,7 +126,7 @@ impl CleanupOp {
         ensures all { CleanupSteps S.PageStore self.old self.new store.old store.new result }
         ensures faults { IfErr result (HasCause causes_of_writing_any) }
     {
-        match look(store, self.session, 0) {
+        match read_shared(store, self.session, 0) {
             Ok(()) => {}
             Err(fault) => return Err(fault),
         }
@@ -142,7 +142,7 @@ impl CleanupOp {
         &mut self,
         store: &mut S,
         high: Bound,
-        way: Way,
+        way: Position,
     ) -> Result<CleanupStep, Fault>
         requires at { self.old.at ≡ CleanupAt.Down high way }
         requires alive { (S.backing store.old).stopped ≡ false }
@@ -153,14 +153,14 @@ impl CleanupOp {
         if way.level == 0 {
             return Err(Fault::PageDamaged(way.block));
         }
-        match look(store, self.session, way.block) {
+        match read_shared(store, self.session, way.block) {
             Ok(()) => {}
             Err(fault) => return Err(fault),
         }
         let most = store.limits().pages;
-        let aim = Aim::Below(high);
-        let onward = lead(store.view(way.block), &way, &aim, 1, most);
-        self.turn_from_page(onward, way.block, &high)
+        let aim = SearchKey::Below(high);
+        let next_page = lead(store.view(way.block), &way, &aim, 1, most);
+        self.turn_from_page(next_page, way.block, &high)
     }
 
     // Makes the leaf at the cursor half-dead, or passes it.

@@ -2,13 +2,13 @@
 
 ghost use Rattle.std.specs.Prelude.{◌≡◌, ◌≤◌, ◌↔◌, IsTrue, false, Some, length};
 ghost use Rattle.page_codec.specs.declared.page.PageState.TheVariants.{HalfDead};
-ghost use Rattle.page_delete.specs.Ops.{cleanup_counted_out, turned_to, gone_past, gone_past_deleted, TurnsAt, cleanup_stats};
+ghost use Rattle.page_delete.specs.Ops.{cleanup_counted_out, turned_to, moved_past, moved_past_deleted, TurnsAt, cleanup_stats};
 ghost use Rattle.page_delete.specs.Parts.{left_root, left_page, left_answer};
 ghost use Rattle.vacuum.specs.Counts.{entry_count};
 ghost use Rattle.page_action.specs.Contents.{live_entries};
 
 use crate::steps::{CleanupAt, CleanupOp, CleanupStep};
-use descent::{Onward, Way};
+use descent::{NextPage, Position};
 use index_model::{Bound, Fault, VacuumStats};
 use page_action::PageStore;
 use page_codec::{Items, Page, PageState};
@@ -48,21 +48,21 @@ fn count_entries(page: &Page) -> u64
 }
 
 impl CleanupOp {
-    // Goes on behind the page at the cursor, on which it counted so many entries, at most 50.
+    // Goes on after the page at the cursor, on which it counted so many entries, at most 50.
     pub fn pass(&mut self, count: u64)
         requires room { cleanup_counted_out self.old ≡ false }
         requires few { count ≤ 50 }
-        ensures { self.new ≡ gone_past self.old count }
+        ensures { self.new ≡ moved_past self.old count }
     {
         self.cursor += 1;
         self.at = CleanupAt::Look;
         self.left += count;
     }
 
-    // Goes on behind the page at the cursor, which it has unlinked.
+    // Goes on after the page at the cursor, which it has unlinked.
     pub fn pass_deleted(&mut self)
         requires room { cleanup_counted_out self.old ≡ false }
-        ensures { self.new ≡ gone_past_deleted self.old }
+        ensures { self.new ≡ moved_past_deleted self.old }
     {
         self.cursor += 1;
         self.at = CleanupAt::Look;
@@ -89,7 +89,7 @@ impl CleanupOp {
     }
 
     // Goes to the root, unless that is a leaf.
-    pub fn turn_from_root(&mut self, way: Way, high: Bound)
+    pub fn turn_from_root(&mut self, way: Position, high: Bound)
         requires room { cleanup_counted_out self.old ≡ false }
         ensures { self.new ≡ left_root self.old way high }
     {
@@ -103,20 +103,20 @@ impl CleanupOp {
     // Goes on where the page of this block, on the way to the parent, leads it. Refused with `PageDamaged` where it leads nowhere.
     pub fn turn_from_page(
         &mut self,
-        onward: Option<Onward>,
+        next_page: Option<NextPage>,
         block: u32,
         high: &Bound,
     ) -> Result<CleanupStep, Fault>
-        ensures op { self.new ≡ left_page self.old onward block high.now }
-        ensures answer { result ≡ left_answer onward block }
+        ensures op { self.new ≡ left_page self.old next_page block high.now }
+        ensures answer { result ≡ left_answer next_page block }
     {
-        match onward {
+        match next_page {
             None => Err(Fault::PageDamaged(block)),
-            Some(Onward::Going(on)) => {
+            Some(NextPage::Going(on)) => {
                 self.at = CleanupAt::Down(*high, on);
                 Ok(CleanupStep::Going)
             }
-            Some(Onward::Here) => {
+            Some(NextPage::Here) => {
                 self.at = CleanupAt::Judge(*high, block);
                 Ok(CleanupStep::Going)
             }

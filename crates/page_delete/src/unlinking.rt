@@ -7,13 +7,13 @@ ghost use Rattle.page_action.specs.States.{Continues, after_act};
 ghost use Rattle.page_action.specs.Stored.{AreActable};
 ghost use Rattle.page_codec.specs.declared.page.PageState.TheVariants.{HalfDead};
 ghost use Rattle.tree_shape.specs.Deletion.{as_deleted};
-ghost use Rattle.descent.specs.Shared.{causes_of_acting, causes_of_writing_any};
+ghost use Rattle.tree_acts.specs.StepEffects.{causes_of_acting, causes_of_writing_any};
 ghost use Rattle.page_delete.specs.Needs.{causes_of_trying, blocks_unlinked_at};
-ghost use Rattle.page_delete.specs.Parts.{HalfDeadAnswers, IsTakenToChange, IsTakenLeft, IsTakenRight, IsTried, IsInUse, PageGoes, IsNotDead, LinksRight, LinksLeft, unlinked};
+ghost use Rattle.page_delete.specs.Parts.{HalfDeadAnswers, IsTakenToChange, IsTakenLeft, IsTakenRight, IsTried, IsInUse, PageIsDeleted, IsNotDead, LinksRight, LinksLeft, unlinked};
 
 use crate::steps::CleanupOp;
 use crate::turns::is_half_dead;
-use descent::{act_on, look_to_change};
+use descent::{act_on, read_exclusive};
 use index_model::{Fault, Session};
 use page_action::PageStore;
 use page_codec::Page;
@@ -51,7 +51,7 @@ fn take_left<S: PageStore>(
     let Some(block) = page.left else {
         return Ok(None);
     };
-    match look_to_change(store, session, block) {
+    match read_exclusive(store, session, block) {
         Ok(left) if left.right == Some(page.block) => Ok(Some(left)),
         Ok(_) => Err(Fault::PageDamaged(block)),
         Err(fault) => Err(fault),
@@ -81,7 +81,7 @@ fn take_right<S: PageStore>(
         → (written : List ℕ) → IfErr result (HasCause (causes_of_trying (S.state store.old)
         (S.backing store.old) (S.backing store.new) session written)) }
 {
-    match look_to_change(store, session, block) {
+    match read_exclusive(store, session, block) {
         Ok(right) if right.left == Some(page.block) => Ok(right),
         Ok(_) => Err(Fault::PageDamaged(block)),
         Err(fault) => Err(fault),
@@ -140,7 +140,7 @@ fn unlink_between<S: PageStore>(
         right.block right }
     requires inside { length (S.state store.old).pages ≤ (S.state store.old).limits.pages }
     ensures all { IsTried S.PageStore session (blocks_unlinked_at page.block) (IsInUse page.block)
-        (PageGoes page.block) (IsNotDead page.block) store.old store.new result }
+        (PageIsDeleted page.block) (IsNotDead page.block) store.old store.new result }
     ensures faults { IfErr result (HasCause causes_of_writing_any) }
 {
     let number = store.begun();
@@ -150,7 +150,7 @@ fn unlink_between<S: PageStore>(
     }
 }
 
-// ... behind the reading of its left sibling.
+// ... after the reading of its left sibling.
 fn unlink_right<S: PageStore>(
     store: &mut S,
     session: Session,
@@ -165,7 +165,7 @@ fn unlink_right<S: PageStore>(
     requires left { IsTakenLeft (S.state store.old) (S.backing store.old).honest session page
         page.left left }
     ensures all { IsTried S.PageStore session (blocks_unlinked_at page.block) (IsInUse page.block)
-        (PageGoes page.block) (IsNotDead page.block) store.old store.new result }
+        (PageIsDeleted page.block) (IsNotDead page.block) store.old store.new result }
     ensures faults { IfErr result (HasCause causes_of_writing_any) }
 {
     match take_right(store, session, &page, right) {
@@ -174,7 +174,7 @@ fn unlink_right<S: PageStore>(
     }
 }
 
-// ... behind its own reading.
+// ... after its own reading.
 fn unlink_dead<S: PageStore>(
     store: &mut S,
     session: Session,
@@ -186,7 +186,7 @@ fn unlink_dead<S: PageStore>(
     requires dead { page.state ≡ HalfDead }
     requires right_is { page.right ≡ Some right }
     ensures all { IsTried S.PageStore session (blocks_unlinked_at page.block) (IsInUse page.block)
-        (PageGoes page.block) (IsNotDead page.block) store.old store.new result }
+        (PageIsDeleted page.block) (IsNotDead page.block) store.old store.new result }
     ensures faults { IfErr result (HasCause causes_of_writing_any) }
 {
     match take_left(store, session, &page) {
@@ -199,11 +199,11 @@ impl CleanupOp {
     // Unlinks the page at the cursor, if it is half-dead: whether it did.
     pub fn try_unlink<S: PageStore>(&self, store: &mut S) -> Result<bool, Fault>
         ensures all { IsTried S.PageStore self.now.session (blocks_unlinked_at self.now.cursor)
-            (IsInUse self.now.cursor) (PageGoes self.now.cursor) (IsNotDead self.now.cursor)
+            (IsInUse self.now.cursor) (PageIsDeleted self.now.cursor) (IsNotDead self.now.cursor)
             store.old store.new result }
         ensures faults { IfErr result (HasCause causes_of_writing_any) }
     {
-        let page = match look_to_change(store, self.session, self.cursor) {
+        let page = match read_exclusive(store, self.session, self.cursor) {
             Ok(page) => page,
             Err(fault) => return Err(fault),
         };

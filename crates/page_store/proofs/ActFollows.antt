@@ -11,12 +11,12 @@ use Rattle.page_codec.specs.Spelling.{page_bytes}
 use Rattle.page_codec.specs.declared.page.Page.{Page}
 use Rattle.page_action.specs.Stored.{AreStored, AreActable}
 use Rattle.redo_log.specs.Images.{last_image, later_of, images_of}
-use Rattle.redo_log.specs.Kept.{Keeps, limits_of, is_stopped}
+use Rattle.redo_log.specs.Kept.{LogHolds, limits_of, is_stopped}
 use Rattle.redo_log.specs.declared.log.Log.{Log}
 use Rattle.redo_log.proofs.ImageLists.{last_image-append, images_of-push}
 use Rattle.page_store.specs.Histories.{with_act, after_acts, pages_after, pages_now, AreActs}
 use Rattle.page_codec.specs.Places.{superblock, place}
-use Rattle.page_store.specs.Restart.{LeavesPart}
+use Rattle.page_store.specs.Restart.{CrashesToPart}
 use Rattle.page_store.specs.Logged.{Held, pages_held, is_named, AreHome, IsKept, IsOwn}
 use Rattle.page_store.specs.Following.{Follows}
 use Rattle.page_store.specs.declared.history.History.{History}
@@ -24,7 +24,7 @@ use Rattle.page_store.proofs.Images.{acts-append, after_acts-append, get-with_pa
 use Rattle.page_store.specs.Crashing.{part_of_more}
 
 module _ (old : Held) (log : Log) (changed : List Page) (room promised : ℕ) (limits : limits_of log ≡ limits_of old.log) (stopped : is_stopped log ≡ is_stopped old.log)
-    (keeps : (m : DiskMoment) (acts : List (List Page)) (forced : ℕ) → Keeps old.log m acts forced → Keeps log m (acts ++ changed ∷ []) forced)
+    (keeps : (m : DiskMoment) (acts : List (List Page)) (forced : ℕ) → LogHolds old.log m acts forced → LogHolds log m (acts ++ changed ∷ []) forced)
     (actable : AreActable (limits_of old.log) (length (pages_held old)) changed) (unwritten : ℕ → ℕ) (order : List ℕ)
     (acted : (block : ℕ) → is_some (last_image changed block) ≡ true → unwritten block ≡ suc old.acts)
     (others : (block : ℕ) → last_image changed block ≡ None → unwritten block ≡ old.unwritten block) where
@@ -50,7 +50,7 @@ module _ (old : Held) (log : Log) (changed : List Page) (room promised : ℕ) (l
     acts_more : AreActs (limits_of old.log) h.start (h.acts ++ one)
     acts_more = acts-append (limits_of old.log) h.start h.acts one own.acts_are (actable, tt)
 
-    leaves_more : LeavesPart (limits_of old.log) (with_act changed h) old.durable old.trace.now
+    leaves_more : CrashesToPart (limits_of old.log) (with_act changed h) old.durable old.trace.now
     leaves_more image left = part_of_more (limits_of old.log) h (with_act changed h) one old.durable old.durable image refl refl (omega arith) (own.leaves image left)
 
     -- an image among the acts is one of the act's, or one of those before
@@ -79,7 +79,7 @@ module _ (old : Held) (log : Log) (changed : List Page) (room promised : ℕ) (l
           forced = k.forced;
           base_few = omega (arith, k.base_few, length-append h.acts one);
           durable_is = k.durable_is;
-          log_keeps = subst (λ (as' : List (List Page)). Keeps log old.trace.now as' k.forced) (sym longer) (keeps old.trace.now since k.forced k.log_keeps);
+          log_keeps = subst (λ (as' : List (List Page)). LogHolds log old.trace.now as' k.forced) (sym longer) (keeps old.trace.now since k.forced k.log_keeps);
           home = subst (λ (l : Format). AreHome l (images_of (take k.forced (drop k.base (h.acts ++ one)))) (pages_after (with_act changed h) k.base) old.trace.now) (sym limits)
               (subst (λ (as' : List (List Page)). AreHome (limits_of old.log) (images_of as') (pages_after (with_act changed h) k.base) old.trace.now) (sym front)
               (subst (λ (as' : List (List Page)). AreHome (limits_of old.log) (images_of (take k.forced since)) (after_acts h.start as') old.trace.now) (sym at_base) k.home));
@@ -108,7 +108,7 @@ module _ (old : Held) (log : Log) (changed : List Page) (room promised : ℕ) (l
           ];
         }
       where
-        -- what no act behind the first so many names isn't named with one more that doesn't name it
+        -- what no act after the first so many names isn't named with one more that doesn't name it
         none_behind : (block n : ℕ) → last_image changed block ≡ None → last_image (images_of (drop n h.acts)) block ≡ None → last_image (images_of (drop n (h.acts ++ one))) block ≡ None
         none_behind block n none before = elim (cases_lt (length h.acts) n) [
           | inl past ↦ ap (λ (as' : List (List Page)). last_image (images_of as') block) (all_dropped (h.acts ++ one) n (omega (arith, length-append h.acts one)))
@@ -122,7 +122,7 @@ module _ (old : Held) (log : Log) (changed : List Page) (room promised : ℕ) (l
       long = subst (λ (l : Format). place l l.pages ≤ length old.trace.now.seen) (sym limits) own.long;
       acts_are = subst (λ (l : Format). AreActs l h.start (h.acts ++ one)) (sym limits) acts_more;
       counted = omega (arith, own.counted, length-append h.acts one);
-      leaves = subst (λ (l : Format). LeavesPart l (with_act changed h) old.durable old.trace.now) (sym limits) leaves_more;
+      leaves = subst (λ (l : Format). CrashesToPart l (with_act changed h) old.durable old.trace.now) (sym limits) leaves_more;
       kept = λ alive. kept_more (own.kept (sym stopped ∙ alive));
     }
 

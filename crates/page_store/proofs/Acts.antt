@@ -72,19 +72,6 @@ pub acted_next : (old mid new : Pool) (pages : List Page) (k : ℕ) (page : Page
 acted_next old mid new pages k page act at a c =
     subst (λ (xs : List Page). AreActed old new xs act) (sym (take_next pages k page at)) (acted_more old mid new (take k pages) page act a c)
 
-pub acted_none : (pool : Pool) (act : ℕ) → AreActed pool pool [] act
-acted_none pool act = record {
-  most = refl;
-  reach = refl;
-  count = refl;
-  places = λ b. refl;
-  held = λ b p named. absurd cc;
-  others = λ b none. refl;
-  acted = λ b named. absurd cc;
-  before = λ b none. refl;
-  order = refl;
-}
-
 -- the pages are as many as the next unused block is
 pub length_acted : (limits : Format) (used : ℕ) (pages changed : List Page) → AreActable limits used changed → used ≤ length pages
     → length (with_pages pages changed) ≡ used_after (length pages) changed

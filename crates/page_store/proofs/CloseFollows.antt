@@ -3,7 +3,7 @@ use Rattle.std.proofs.Common.{◌≡◌, ⊎_elim, ℕ, ◌+◌, ◌<◌, ◌≤
 use Rattle.std.proofs.lemmas.List.{append-nil}
 use Rattle.std.proofs.lemmas.Option.{slice_get_past}
 use Rattle.device.specs.Disk.{DiskMoment, Trace}
-use Rattle.device.specs.Moments.{Goes}
+use Rattle.device.specs.Moments.{AtEachMoment}
 use Rattle.device.specs.Places.{Has, OnDisk, ChangesOnly}
 use Rattle.device.proofs.Going.{goes_weaker, goes_both, goes_now}
 use Rattle.device.proofs.Standing.{same_only}
@@ -12,11 +12,11 @@ use Rattle.page_codec.specs.Spelling.{page_bytes}
 use Rattle.page_codec.specs.declared.page.Page.{Page}
 use Rattle.page_action.specs.Stored.{AreStored}
 use Rattle.redo_log.specs.Images.{last_image, later_of, images_of}
-use Rattle.redo_log.specs.Kept.{Keeps, RestartsOrEmpty, RestartsOrEmptyThroughout, ChangesItsRange, limits_of, is_stopped}
+use Rattle.redo_log.specs.Kept.{LogHolds, RestartsOrEmpty, RestartsOrEmptyThroughout, ChangesItsRange, limits_of, is_stopped}
 use Rattle.redo_log.specs.declared.log.Log.{Log}
 use Rattle.page_store.specs.Histories.{after_acts, pages_after, pages_now, AreActs}
 use Rattle.page_codec.specs.Places.{superblock, place}
-use Rattle.page_store.specs.Restart.{RestartsToPart, LeavesPart}
+use Rattle.page_store.specs.Restart.{RestartsToPart, CrashesToPart}
 use Rattle.page_store.specs.Logged.{Held, pages_held, is_named, AreHome, IsKept, IsOwn}
 use Rattle.page_store.specs.Following.{Follows}
 use Rattle.page_store.specs.declared.history.History.{History}
@@ -83,7 +83,7 @@ module _ (old : Held) (own : IsOwn old) (alive : is_stopped old.log ≡ false) (
   }
 
   -- while the log is closed, the acts it held or nothing
-  leaves_closing : (m : DiskMoment) → AreHome l [] (pages_now h) old.trace.now → RestartsOrEmpty l (take k.forced since) m × ChangesOnly 4096 l.log_bytes old.trace.now m → LeavesPart l h old.durable m
+  leaves_closing : (m : DiskMoment) → AreHome l [] (pages_now h) old.trace.now → RestartsOrEmpty l (take k.forced since) m × ChangesOnly 4096 l.log_bytes old.trace.now m → CrashesToPart l h old.durable m
   leaves_closing m home both image left =
       let superblock_on = superblock_kept l 4096 l.log_bytes old.trace.now m (omega arith) both.1 k.superblock_on in
       let long = long_at m both.1.same_length in
@@ -95,7 +95,7 @@ module _ (old : Held) (own : IsOwn old) (alive : is_stopped old.log ≡ false) (
       (home_restarts l h own.start_stored own.start_few own.acts_are (pages_now h) m image refl left superblock_on (home_kept l [] (pages_now h) old.trace.now m both.1 home) long holds))
       (both.0 image left)
 
-  kept_closed : (log : Log) (m : DiskMoment) → limits_of log ≡ l → ChangesOnly 4096 l.log_bytes old.trace.now m → AreHome l [] (pages_now h) old.trace.now → Keeps log m [] 0
+  kept_closed : (log : Log) (m : DiskMoment) → limits_of log ≡ l → ChangesOnly 4096 l.log_bytes old.trace.now m → AreHome l [] (pages_now h) old.trace.now → LogHolds log m [] 0
       → ((block : ℕ) → old.unwritten block ≡ 0) → IsKept log m old.unwritten h old.durable
   kept_closed log m limits only home keeps clean =
       let none = nothing_left h.acts in
@@ -105,7 +105,7 @@ module _ (old : Held) (own : IsOwn old) (alive : is_stopped old.log ≡ false) (
         forced = 0;
         base_few = omega arith;
         durable_is = omega (arith, all, own.counted);
-        log_keeps = subst (λ (as' : List (List Page)). Keeps log m as' 0) (sym none) keeps;
+        log_keeps = subst (λ (as' : List (List Page)). LogHolds log m as' 0) (sym none) keeps;
         home = subst (λ (x : Format). AreHome x [] (pages_after h (length h.acts)) m) (sym limits)
             (subst (λ (ps : List Page). AreHome l [] ps m) same (home_kept l [] (pages_now h) old.trace.now m only home));
         superblock_on = subst (λ (x : Format). OnDisk 0 (superblock x) m) (sym limits) (superblock_kept l 4096 l.log_bytes old.trace.now m (omega arith) only k.superblock_on);
@@ -128,14 +128,14 @@ pub record IsClosing (old : Held) (log : Log) (trace : Trace) (honest : Bool) (f
 
 module _ (old : Held) (log : Log) (trace : Trace) (honest : Bool) (failures : ℕ) (r : IsClosing old log trace honest failures) (room promised : ℕ)
     (clean : is_stopped log ≡ false → (block : ℕ) → old.unwritten block ≡ 0)
-    (keeps : is_stopped log ≡ false → (acts : List (List Page)) (forced : ℕ) → Keeps old.log old.trace.now acts forced → Keeps log trace.now [] 0) where
+    (keeps : is_stopped log ≡ false → (acts : List (List Page)) (forced : ℕ) → LogHolds old.log old.trace.now acts forced → LogHolds log trace.now [] 0) where
   abbrev closed : Held
   closed = record old { log = log; trace = trace; honest = honest; failures = failures; room = room; promised = promised }
 
   only_now : ChangesOnly 4096 (limits_of old.log).log_bytes old.trace.now trace.now
   only_now = goes_now _ old.trace trace r.outside (same_only 4096 (limits_of old.log).log_bytes old.trace.now)
 
-  leaves_between : (own : IsOwn old) → Goes (LeavesPart (limits_of old.log) old.history old.durable) old.trace trace
+  leaves_between : (own : IsOwn old) → AtEachMoment (CrashesToPart (limits_of old.log) old.history old.durable) old.trace trace
   leaves_between own = goes_weaker _ _ old.trace trace (λ m both. leaves_closing old own r.alive r.all m (r.home own) both)
       (goes_both _ _ old.trace trace (r.moments (drop (own.kept r.alive).base old.history.acts) (own.kept r.alive).forced (own.kept r.alive).log_keeps) r.outside)
 
@@ -146,7 +146,7 @@ module _ (old : Held) (log : Log) (trace : Trace) (honest : Bool) (failures : �
     long = subst (λ (x : Format). place x x.pages ≤ length trace.now.seen) (sym r.limits) (long_at old own r.alive r.all trace.now only_now.same_length);
     acts_are = subst (λ (x : Format). AreActs x old.history.start old.history.acts) (sym r.limits) own.acts_are;
     counted = own.counted;
-    leaves = subst (λ (x : Format). LeavesPart x old.history old.durable trace.now) (sym r.limits) (goes_now _ old.trace trace (leaves_between own) own.leaves);
+    leaves = subst (λ (x : Format). CrashesToPart x old.history old.durable trace.now) (sym r.limits) (goes_now _ old.trace trace (leaves_between own) own.leaves);
     kept = λ still. kept_closed old own r.alive r.all log trace.now r.limits only_now (r.home own)
         (keeps still (drop (own.kept r.alive).base old.history.acts) (own.kept r.alive).forced (own.kept r.alive).log_keeps) (clean still);
   }

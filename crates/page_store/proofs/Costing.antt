@@ -25,13 +25,13 @@ use Rattle.page_store.specs.declared.logged_pages.LoggedPages.{LoggedPages}
 use Rattle.page_store.proofs.Evicting.{put_back, has_between, has_wide}
 use Rattle.page_store.proofs.Pooling.{bool_cases, unchanged}
 
--- the block at a place, with those before and behind it
+-- the block at a place, with those before and after it
 split_at : (xs : List ℕ) (k b : ℕ) → slice_get xs k ≡ Some b → xs ≡ take k xs ++ b ∷ drop (suc k) xs
 split_at [] k b at = absurd cc
 split_at (x ∷ xs) zero b at = (let same : x ≡ b = cc in ap (λ (y : ℕ). y ∷ xs) same)
 split_at (x ∷ xs) (suc k) b at = ap (λ (l : List ℕ). x ∷ l) (split_at xs k b at)
 
--- the first that passes stands behind some that don't
+-- the first that passes stands after some that don't
 passed_before : (p : ℕ → Bool) (xs front rest : List ℕ) (place : ℕ) → position p xs ≡ Some place → xs ≡ front ++ rest → length front ≡ place → All (λ b. p b ≡ false) front
 passed_before p xs front rest place first is many = λ k d less.
     ap p (sym (get_or_append_left front rest d k less) ∙ ap (λ (l : List ℕ). get_or l k d) (sym is))
@@ -65,7 +65,7 @@ blocks_next pages i page at = ap (λ (n : ℕ). map (λ (p : Page). p.block) (ta
     by (p ∷ pages) zero at = (let same : p ≡ page = cc in ap (λ (x : Page). x.block ∷ []) same)
     by (p ∷ pages) (suc i) at = ap (λ (l : List ℕ). p.block ∷ l) (by pages i at)
 
--- ... with those behind
+-- ... with those after
 pub blocks_split : (pages : List Page) (i : ℕ) (page : Page) → slice_get pages i ≡ Some page
     → map (λ (p : Page). p.block) pages ≡ (map (λ (p : Page). p.block) (take i pages) ++ page.block ∷ []) ++ map (λ (p : Page). p.block) (drop (suc i) pages)
 blocks_split [] i page at = absurd cc
@@ -91,10 +91,6 @@ module _ {D : Type 0} (g : Ghosts D) where
     stopped = s.stopped ∙ f.stopped;
     waiting = s.waiting ∙ f.waiting;
   }
-
-  -- nothing was written or forced
-  pub costs_nothing : (pinned : List ℕ) (a b : LoggedPages D g) → HasSameChanges a.pool b.pool → IsUnforced g a b → b.promised ≡ a.promised → CostsFrame g pinned a b
-  costs_nothing pinned a b changes same promised = inl (record { log = stays a b same promised; changed = changes.order; unwritten = changes.acts })
 
   -- ... and nothing more
   pub costs_on : (pinned : List ℕ) (a b c : LoggedPages D g) → CostsFrame g pinned a b → HasSameChanges b.pool c.pool → IsUnforced g b c → c.promised ≡ b.promised → CostsFrame g pinned a c
@@ -168,7 +164,7 @@ module _ {D : Type 0} (g : Ghosts D) where
           others = λ b among. acts b ∙ changes.acts b;
         })
 
-    -- it was, and some behind it
+    -- it was, and some after it
     pub over_written : (mid : LoggedPages D g) → changed_of mid.pool ≡ remove (changed_of chosen.pool) place → most_of mid.pool ≡ most_of chosen.pool
         → ((b : ℕ) → has_block (changed_of mid.pool) b ≡ true → act_of mid.pool b ≡ act_of chosen.pool b)
         → AreWrittenAhead pinned mid.durable place mid.pool new.pool → new.durable ≡ mid.durable → CostsFrame g pinned old new
@@ -232,10 +228,6 @@ module _ {D : Type 0} (g : Ghosts D) where
       subst (λ (m : Memory). TakesFrame (most_of a.pool) pinned block (memory_in a.pool) m (backing_of (held_of g a)) (backing_of (held_of g b))) (sym memory)
       (subst (λ (x : Backing). TakesFrame (most_of a.pool) pinned block (memory_in a.pool) (memory_in a.pool) (backing_of (held_of g a)) x) (sym backing)
       (takes_nothing (most_of a.pool) pinned block (memory_in a.pool) (backing_of (held_of g a))))
-
-  -- a page that is there, or for which nothing is done
-  pub gets_nothing : (pinned : List ℕ) (block : ℕ) (a : LoggedPages D g) → GetsFrame g pinned block a a
-  gets_nothing pinned block a = takes_nothing (most_of a.pool) pinned block (memory_in a.pool) (backing_of (held_of g a))
 
   -- a page that isn't there, and isn't brought in
   pub gets_none : (pinned : List ℕ) (block : ℕ) (old new : LoggedPages D g) → IsPool old.pool → frame_of old.pool block ≡ None

@@ -1,4 +1,4 @@
--- Which changed pages are written behind the first.
+-- Which changed pages are written after the first.
 use Rattle.std.proofs.Common.{◌≡◌, ℕ, zero, suc, ◌+◌, ◌<◌, ◌≤◌, ◌/◌, true, false, Some, List, [], ◌∷◌, ◌++◌, length, take, drop, slice_get, get_or, inl, inr, refl, sym, ap, subst, ◌∙◌, arith}
 use Rattle.std.specs.Prelude.{All, remove}
 use Rattle.std.proofs.lemmas.Bool.{cases_eq, ne_eqb}
@@ -10,7 +10,7 @@ use Rattle.buffer_pool.specs.declared.pool.Pool.{Pool}
 use Rattle.page_store.specs.Taking.{IsWrittenNext, AreWrittenAhead}
 use Rattle.page_store.proofs.Pooling.{first_has, later_has, has_at}
 
--- behind these blocks this one comes first of the rest
+-- after these blocks this one comes first of the rest
 next_of : (front rest : List ℕ) (b : ℕ) → slice_get (front ++ rest) (length front) ≡ Some b → (r : List ℕ) × (rest ≡ b ∷ r)
 next_of [] [] b at = absurd cc
 next_of [] (x ∷ rest) b at = (rest, (let same : x ≡ b = cc in ap (λ (y : ℕ). y ∷ rest) same))
@@ -20,7 +20,7 @@ remove_next : (front rest : List ℕ) (b : ℕ) → remove (front ++ b ∷ rest)
 remove_next [] rest b = refl
 remove_next (x ∷ front) rest b = ap (λ (l : List ℕ). x ∷ l) (remove_next front rest b)
 
--- what is left where one was removed behind these, is all without it
+-- what is left where one was removed after these, is all without it
 pub put_back : (xs front rest : List ℕ) (b : ℕ) → slice_get xs (length front) ≡ Some b → remove xs (length front) ≡ front ++ rest → xs ≡ front ++ b ∷ rest
 put_back [] front rest b at left = absurd cc
 put_back (x ∷ xs) [] rest b at left = cc
@@ -49,8 +49,8 @@ has_between [] (x ∷ more) rest zero d less = first_has x x (more ++ rest) refl
 has_between [] (x ∷ more) rest (suc k) d less = later_has x (get_or more k d) (more ++ rest) (has_between [] more rest k d (omega (arith, less)))
 has_between (f ∷ front) more rest k d less = later_has f (get_or more k d) (front ++ (more ++ rest)) (has_between front more rest k d less)
 
--- So many pages were written behind so many of the order, one after the other.
-pub record Goes (pinned : List ℕ) (durable place count : ℕ) (old new : Pool) : Type 0 where
+-- So many pages were written after so many of the order, one after the other.
+pub record AtEachMoment (pinned : List ℕ) (durable place count : ℕ) (old new : Pool) : Type 0 where
   pub front : List ℕ
   pub more : List ℕ
   pub rest : List ℕ
@@ -62,7 +62,7 @@ pub record Goes (pinned : List ℕ) (durable place count : ℕ) (old new : Pool)
   pub few : (b : ℕ) → act_of new b ≤ act_of old b
   pub same : (b : ℕ) → has_block (changed_of new) b ≡ true → act_of new b ≡ act_of old b
 
-pub goes_none : (pinned : List ℕ) (durable place : ℕ) (pool : Pool) → place ≤ length (changed_of pool) → Goes pinned durable place 0 pool pool
+pub goes_none : (pinned : List ℕ) (durable place : ℕ) (pool : Pool) → place ≤ length (changed_of pool) → AtEachMoment pinned durable place 0 pool pool
 goes_none pinned durable place pool within = record {
   front = take place (changed_of pool);
   more = [];
@@ -76,8 +76,8 @@ goes_none pinned durable place pool within = record {
   same = λ b among. refl;
 }
 
-module _ (pinned : List ℕ) (durable place count : ℕ) (old mid : Pool) (g : Goes pinned durable place count old mid) where
-  pub goes_next : (new : Pool) → IsWrittenNext pinned durable place mid new → Goes pinned durable place (count + 1) old new
+module _ (pinned : List ℕ) (durable place count : ℕ) (old mid : Pool) (g : AtEachMoment pinned durable place count old mid) where
+  pub goes_next : (new : Pool) → IsWrittenNext pinned durable place mid new → AtEachMoment pinned durable place (count + 1) old new
   goes_next new n =
       let at : slice_get (g.front ++ g.rest) (length g.front) ≡ Some n.block =
       subst (λ (k : ℕ). slice_get (g.front ++ g.rest) k ≡ Some n.block) (sym g.behind) (subst (λ (l : List ℕ). slice_get l place ≡ Some n.block) g.left n.at) in

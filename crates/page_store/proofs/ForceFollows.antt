@@ -2,7 +2,7 @@
 use Rattle.std.proofs.Common.{◌≡◌, inr, ℕ, ◌<◌, ◌≤◌, Bool, true, false, List, [], length, take, drop, refl, sym, subst, ◌∙◌, arith, length-drop}
 use Rattle.std.proofs.lemmas.List.{append-nil}
 use Rattle.device.specs.Disk.{DiskMoment, Trace}
-use Rattle.device.specs.Moments.{Goes}
+use Rattle.device.specs.Moments.{AtEachMoment}
 use Rattle.device.specs.Places.{Has, OnDisk, ChangesOnly}
 use Rattle.device.proofs.Going.{goes_weaker, goes_both, goes_now}
 use Rattle.device.proofs.Standing.{same_only, has_kept}
@@ -11,12 +11,12 @@ use Rattle.page_codec.specs.Spelling.{page_bytes}
 use Rattle.page_codec.specs.declared.page.Page.{Page}
 use Rattle.page_action.specs.Stored.{AreStored}
 use Rattle.redo_log.specs.Images.{images_of}
-use Rattle.redo_log.specs.Kept.{Keeps, Restarts, limits_of, is_stopped}
+use Rattle.redo_log.specs.Kept.{LogHolds, Restarts, limits_of, is_stopped}
 use Rattle.redo_log.specs.declared.log.Log.{Log}
 use Rattle.redo_log.proofs.Keeping.{keeps_restarts}
 use Rattle.page_store.specs.Histories.{pages_after, AreActs}
 use Rattle.page_codec.specs.Places.{superblock, place}
-use Rattle.page_store.specs.Restart.{LeavesPart}
+use Rattle.page_store.specs.Restart.{CrashesToPart}
 use Rattle.page_store.specs.Logged.{Held, AreHome, IsKept, IsOwn}
 use Rattle.page_store.specs.Following.{GrowsTo, Follows}
 use Rattle.page_store.specs.declared.history.History.{History}
@@ -31,12 +31,12 @@ home_of_more limits since pages n m at le home = record {
   unused = λ block past small none. home.unused block past small (none_among_fewer since n m block le none);
 }
 
--- what is kept of a log leaves a first part
+-- what is kept of a log leaves a prefix
 pub leaves_kept : (held : Held) (own : IsOwn held) (log : Log) (m : DiskMoment) (unwritten : ℕ → ℕ) (durable : ℕ) → limits_of log ≡ limits_of held.log
     → place (limits_of held.log) (limits_of held.log).pages ≤ length m.seen
-    → IsKept log m unwritten held.history durable → LeavesPart (limits_of held.log) held.history durable m
+    → IsKept log m unwritten held.history durable → CrashesToPart (limits_of held.log) held.history durable m
 leaves_kept held own log m unwritten durable limits long k =
-    subst (λ (n : ℕ). LeavesPart (limits_of held.log) held.history n m) (sym k.durable_is)
+    subst (λ (n : ℕ). CrashesToPart (limits_of held.log) held.history n m) (sym k.durable_is)
     (leaves_part (limits_of held.log) held.history own.start_stored own.start_few own.acts_are k.base k.forced m k.base_few
     (subst (λ (l : Format). OnDisk 0 (superblock l) m) limits k.superblock_on)
     (subst (λ (l : Format). AreHome l (images_of (take k.forced (drop k.base held.history.acts))) (pages_after held.history k.base) m) limits k.home)
@@ -44,8 +44,8 @@ leaves_kept held own log m unwritten durable limits long k =
     (subst (λ (l : Format). Restarts l (drop k.base held.history.acts) k.forced m) limits (keeps_restarts log m (drop k.base held.history.acts) k.forced k.log_keeps)))
 
 module _ (old : Held) (log : Log) (trace : Trace) (honest : Bool) (failures : ℕ) (limits : limits_of log ≡ limits_of old.log) (alive : is_stopped old.log ≡ false)
-    (moments : (acts : List (List Page)) (forced : ℕ) → Keeps old.log old.trace.now acts forced → Goes (Restarts (limits_of old.log) acts forced) old.trace trace)
-    (outside : Goes (ChangesOnly 4096 (limits_of old.log).log_bytes old.trace.now) old.trace trace) (len : length trace.now.seen ≡ length old.trace.now.seen)
+    (moments : (acts : List (List Page)) (forced : ℕ) → LogHolds old.log old.trace.now acts forced → AtEachMoment (Restarts (limits_of old.log) acts forced) old.trace trace)
+    (outside : AtEachMoment (ChangesOnly 4096 (limits_of old.log).log_bytes old.trace.now) old.trace trace) (len : length trace.now.seen ≡ length old.trace.now.seen)
     (same_honest : honest ≡ old.honest) (more_failures : old.failures ≤ failures) where
   abbrev l : Format
   l = limits_of old.log
@@ -57,17 +57,17 @@ module _ (old : Held) (log : Log) (trace : Trace) (honest : Bool) (failures : �
   only_now = goes_now (ChangesOnly 4096 l.log_bytes old.trace.now) old.trace trace outside (same_only 4096 l.log_bytes old.trace.now)
 
   module _ (own : IsOwn old) where
-    leaves_between : Goes (LeavesPart l h old.durable) old.trace trace
+    leaves_between : AtEachMoment (CrashesToPart l h old.durable) old.trace trace
     leaves_between =
         let k = own.kept alive in
-        subst (λ (n : ℕ). Goes (LeavesPart l h n) old.trace trace) (sym k.durable_is)
+        subst (λ (n : ℕ). AtEachMoment (CrashesToPart l h n) old.trace trace) (sym k.durable_is)
         (goes_weaker _ _ old.trace trace (λ m both. leaves_part l h own.start_stored own.start_few own.acts_are k.base k.forced m k.base_few
         (superblock_kept l 4096 l.log_bytes old.trace.now m (omega arith) both.1 k.superblock_on)
         (home_kept l _ _ old.trace.now m both.1 k.home)
         (omega (arith, own.long, both.1.same_length)) both.0)
         (goes_both _ _ old.trace trace (moments (drop k.base h.acts) k.forced k.log_keeps) outside))
 
-    own_between : (durable room : ℕ) → LeavesPart l h durable trace.now → (is_stopped log ≡ false → IsKept log trace.now old.unwritten h durable)
+    own_between : (durable room : ℕ) → CrashesToPart l h durable trace.now → (is_stopped log ≡ false → IsKept log trace.now old.unwritten h durable)
         → IsOwn (record old { log = log; trace = trace; honest = honest; failures = failures; durable = durable; room = room })
     own_between durable room leaves kept = record {
       start_stored = subst (λ (x : Format). AreStored x 0 h.start) (sym limits) own.start_stored;
@@ -75,11 +75,11 @@ module _ (old : Held) (log : Log) (trace : Trace) (honest : Bool) (failures : �
       long = subst (λ (x : Format). place x x.pages ≤ length trace.now.seen) (sym limits) (omega (arith, own.long, len));
       acts_are = subst (λ (x : Format). AreActs x h.start h.acts) (sym limits) own.acts_are;
       counted = own.counted;
-      leaves = subst (λ (x : Format). LeavesPart x h durable trace.now) (sym limits) leaves;
+      leaves = subst (λ (x : Format). CrashesToPart x h durable trace.now) (sym limits) leaves;
       kept = kept;
     }
 
-    extends_to : (durable room : ℕ) → LeavesPart l h durable trace.now → (is_stopped log ≡ false → IsKept log trace.now old.unwritten h durable)
+    extends_to : (durable room : ℕ) → CrashesToPart l h durable trace.now → (is_stopped log ≡ false → IsKept log trace.now old.unwritten h durable)
         → GrowsTo old (record old { log = log; trace = trace; honest = honest; failures = failures; durable = durable; room = room })
     extends_to durable room leaves kept = record {
       own = own_between durable room leaves kept;
@@ -100,7 +100,7 @@ module _ (old : Held) (log : Log) (trace : Trace) (honest : Bool) (failures : �
   }
 
   -- it succeeded
-  module _ (keeps : (acts : List (List Page)) (forced : ℕ) → Keeps old.log old.trace.now acts forced → Keeps log trace.now acts (length acts)) (behind : old.durable ≤ old.acts) (room : ℕ) where
+  module _ (keeps : (acts : List (List Page)) (forced : ℕ) → LogHolds old.log old.trace.now acts forced → LogHolds log trace.now acts (length acts)) (behind : old.durable ≤ old.acts) (room : ℕ) where
     kept_all : (own : IsOwn old) → IsKept log trace.now old.unwritten h old.acts
     kept_all own =
         let k = own.kept alive in

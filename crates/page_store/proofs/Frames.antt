@@ -1,5 +1,5 @@
 -- Frames while pages are brought into memory, and why none is had.
-use Rattle.std.proofs.Common.{◌≡◌, ◌≢◌, inl, inr, ℕ, zero, suc, ◌<◌, ◌≤◌, Bool, true, Some, None, Result, Ok, Err, List, [], ◌∷◌, ◌++◌, map, slice_get, get_or, refl, sym, ap, subst, ◌∙◌, arith}
+use Rattle.std.proofs.Common.{◌≡◌, ◌≢◌, inl, inr, ℕ, zero, suc, ◌<◌, true, Some, None, Result, Ok, Err, List, [], ◌∷◌, ◌++◌, map, slice_get, get_or, refl, sym, ap, subst, ◌∙◌}
 use Rattle.std.proofs.lemmas.Bool.{cases_eq}
 use Rattle.std.proofs.lemmas.Option.{slice_get_within, slice_get-get_or, get_or_from_slice_get}
 use Rattle.std.specs.Prelude.{is_some, IfErr, All}
@@ -13,11 +13,11 @@ use Rattle.page_codec.specs.declared.page.Page.{Page}
 use Rattle.page_action.specs.Stored.{IsStored, AreActable}
 use Rattle.page_action.proofs.StoredPages.{stored_at}
 use Rattle.page_store.proofs.Pooling.{first_has, later_has}
-use Rattle.page_store.specs.Taking.{KeepsFrames, AreTooMany, FrameFails, TakingFails, WritingFails}
+use Rattle.page_store.specs.Taking.{SameFrames, AreTooMany}
 
 -- a page was put into a frame of no pinned one
 pub kept_put : (old mid new : Pool) (pinned : List ℕ) (at : ℕ) (page : Page) → HasSamePages old mid
-    → ((block : ℕ) → has_block pinned block ≡ true → frame_of old block ≢ Some at) → IsPut mid new at page → KeepsFrames pinned old new
+    → ((block : ℕ) → has_block pinned block ≡ true → frame_of old block ≢ Some at) → IsPut mid new at page → SameFrames pinned old new
 kept_put old mid new pinned at page same unpinned put = record {
   most = put.most ∙ same.most;
   kept = λ block among there. elim (cases_eq block page.block) [
@@ -26,16 +26,10 @@ kept_put old mid new pinned at page same unpinned put = record {
   ];
 }
 
-pub kept_same : (old new : Pool) (pinned : List ℕ) → HasSamePages old new → KeepsFrames pinned old new
+pub kept_same : (old new : Pool) (pinned : List ℕ) → HasSamePages old new → SameFrames pinned old new
 kept_same old new pinned same = record {
   most = same.most;
   kept = λ block among there. ap is_some (same.places block) ∙ there;
-}
-
-pub kept_both : (a b c : Pool) (pinned : List ℕ) → KeepsFrames pinned a b → KeepsFrames pinned b c → KeepsFrames pinned a c
-kept_both a b c pinned f s = record {
-  most = s.most ∙ f.most;
-  kept = λ block among there. s.kept block among (f.kept block among there);
 }
 
 -- where a pinned block isn't held, the pinned blocks alone are more than the frames
@@ -43,30 +37,6 @@ pub too_many : (pool : Pool) (pinned : List ℕ) (block : ℕ) → AreTooMany po
 too_many pool pinned block many none among =
     let same : count_distinct (block ∷ pinned) ≡ count_distinct pinned = rw among refl in
     subst (λ (n : ℕ). most_of pool < n) same (many block none)
-
-writing_on : (stopped stopped' : Bool) (a b c : ℕ) (e : Fault) → (stopped' ≡ true → stopped ≡ true) → a ≤ b → WritingFails stopped' b c e → WritingFails stopped a c e
-writing_on stopped stopped' a b c e was rises (inl io) = inl (io.0, omega (arith, io.1, rises))
-writing_on stopped stopped' a b c e was rises (inr stops) = inr (stops.0, was stops.1)
-
--- what fails later, fails so from the beginning
-pub taking_on : (old mid : Pool) (pinned : List ℕ) (stopped stopped' : Bool) (a b c : ℕ) (e : Fault) → most_of mid ≡ most_of old
-    → (stopped' ≡ true → stopped ≡ true) → a ≤ b → TakingFails mid pinned stopped' b c e → TakingFails old pinned stopped a c e
-taking_on old mid pinned stopped stopped' a b c e most was rises (inl none) = inl (none.0, subst (λ (n : ℕ). n < count_distinct pinned) most none.1)
-taking_on old mid pinned stopped stopped' a b c e most was rises (inr writes) = inr (writing_on stopped stopped' a b c e was rises writes)
-
--- no frame is had for a block that isn't held
-pub frame_taking : (pool : Pool) (pinned : List ℕ) (stopped : Bool) (a b : ℕ) (block : ℕ) (e : Fault) → frame_of pool block ≡ None
-    → FrameFails pool pinned stopped a b e → TakingFails pool (block ∷ pinned) stopped a b e
-frame_taking pool pinned stopped a b block e none (inl pinned_all) = inl (pinned_all.0, pinned_all.1 block none)
-frame_taking pool pinned stopped a b block e none (inr writes) = inr writes
-
--- ... and is pinned
-pub taking_pinned : (pool : Pool) (pinned : List ℕ) (stopped : Bool) (a b : ℕ) (block : ℕ) (e : Fault) → has_block pinned block ≡ true
-    → TakingFails pool (block ∷ pinned) stopped a b e → TakingFails pool pinned stopped a b e
-taking_pinned pool pinned stopped a b block e among (inl none) =
-    let same : count_distinct (block ∷ pinned) ≡ count_distinct pinned = rw among refl in
-    inl (none.0, subst (λ (n : ℕ). most_of pool < n) same none.1)
-taking_pinned pool pinned stopped a b block e among (inr writes) = inr writes
 
 -- a page of an act may be stored at its block, which is below the limit
 pub actable_at : (limits : Format) (used : ℕ) (changed : List Page) (k : ℕ) (page : Page) → AreActable limits used changed

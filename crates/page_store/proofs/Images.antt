@@ -161,7 +161,7 @@ none_among_fewer (x ∷ acts) (suc n) (suc m) b le e =
     rest_of None h = refl
     rest_of (Some p) h = absurd cc
 
--- a block without an image behind the first acts has none behind more of them
+-- a block without an image after the first acts has none after more of them
 pub none_among_later : (acts : List (List Page)) (n m b : ℕ) → n ≤ m → last_image (images_of (drop n acts)) b ≡ None → last_image (images_of (drop m acts)) b ≡ None
 none_among_later acts zero zero b le e = e
 none_among_later acts (suc n) zero b le e = absurd (omega arith)
@@ -182,7 +182,7 @@ pub image_cases : (o : Option Page) → (o ≡ None) ⊎ (is_some o ≡ true)
 image_cases None = inl refl
 image_cases (Some p) = inr refl
 
--- nothing is left behind all acts
+-- nothing is left after all acts
 pub all_dropped : {A : Type 0} (xs : List A) (n : ℕ) → length xs ≤ n → drop n xs ≡ []
 all_dropped [] zero le = refl
 all_dropped [] (suc n) le = refl

@@ -19,7 +19,7 @@ among_any : (blocks : List ℕ) (block : ℕ) → is_among_blocks blocks block �
 among_any [] block = refl
 among_any (b ∷ blocks) block = ap (λ (rest : Bool). (b == block) || rest) (among_any blocks block)
 
--- ... and so are the blocks that wait behind an act
+-- ... and so are the blocks that wait after an act
 pub blocks_changed : (blocks : List ℕ) (pages : List Page) → with_blocks blocks pages ≡ with_changed blocks pages
 blocks_changed blocks [] = refl
 blocks_changed blocks (page ∷ pages) =

@@ -4,7 +4,7 @@ use Rattle.std.proofs.lemmas.Bool.{cases_lt}
 use Rattle.std.proofs.lemmas.List.{take_at}
 use Rattle.std.specs.Prelude.{OnOk, slice_range}
 use Rattle.device.specs.Disk.{Trace, Writes, wrote}
-use Rattle.device.specs.Moments.{Goes}
+use Rattle.device.specs.Moments.{AtEachMoment}
 use Rattle.device.specs.Places.{Has, ChangesOnly}
 use Rattle.device.proofs.Going.{writes_goes}
 use Rattle.device.proofs.Standing.{wrote_only, wrote_has, has_drop}
@@ -21,15 +21,11 @@ places_apart limits b k ne = elim (cases_lt b k) [
 pub apart_long : (limits : Format) (b k n : ℕ) → n ≡ 4096 → b ≢ k → (place limits b + n ≤ place limits k) ⊎ (place limits k + 4096 ≤ place limits b)
 apart_long limits b k n is ne = subst (λ (x : ℕ). (place limits b + x ≤ place limits k) ⊎ (place limits k + 4096 ≤ place limits b)) (sym is) (places_apart limits b k ne)
 
-pub on_ok_map : {T E : Type 0} {A B : Type 0} (r : Result T E) → OnOk r A → (A → B) → OnOk r B
-on_ok_map (Ok x) a f = f a
-on_ok_map (Err e) a f = tt
-
 -- a page is written to its place: nothing else changes
 module _ (limits : Format) (k : ℕ) (few : k < limits.pages) {T E : Type 0} (bytes : List ℕ) (t u : Trace) (r : Result T E)
     (long : length bytes ≡ 4096) (inside : place limits limits.pages ≤ length t.now.seen)
     (w : Writes (place limits k) bytes r t u) where
-  pub block_goes : Goes (ChangesOnly (place limits k) 4096 t.now) t u
+  pub block_goes : AtEachMoment (ChangesOnly (place limits k) 4096 t.now) t u
   block_goes = writes_goes _ (place limits k) bytes r t u w
       (λ b n. subst (λ (x : ℕ). ChangesOnly (place limits k) x t.now (wrote (place limits k) b t.now)) (n ∙ long) (wrote_only (place limits k) b t.now (omega (arith, n ∙ long))))
 

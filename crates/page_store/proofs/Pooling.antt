@@ -109,13 +109,6 @@ module _ (pool : Pool) (is : IsPool pool) where
     | inr few ↦ omega arith
   ]
 
-  -- a changed page has a frame
-  pub frame_of_changed : (b : ℕ) → 0 < act_of pool b → is_some (frame_of pool b) ≡ true
-  frame_of_changed b some = elim (option_cases (frame_of pool b)) [
-    | inl none ↦ absurd (none_isn't (held_page pool b) (is.absent b none) (is.kept b some))
-    | inr there ↦ there
-  ]
-
   -- a changed page has its frame alone
   pub same_block : (b k at : ℕ) → frame_of pool b ≡ Some at → frame_of pool k ≡ Some at → 0 < act_of pool k → k ≡ b
   same_block b k at frame e some =

@@ -3,7 +3,7 @@ use Rattle.std.proofs.Common.{◌≡◌, ◌≤◌, ◌∙◌, refl, ap, inl, in
 use Rattle.device.specs.declared.device.Device.{Ghosts}
 use Rattle.page_store.specs.Following.{Follows, follows_same}
 use Rattle.page_store.specs.Logged.{held_of, backing_of, SameButDevice}
-use Rattle.page_store.specs.Quiet.{IsQuiet}
+use Rattle.page_store.specs.Quiet.{IsSameButWritten}
 use Rattle.page_store.specs.declared.logged_pages.LoggedPages.{LoggedPages}
 use Rattle.buffer_pool.specs.Pools.{changed_of}
 use Rattle.page_action.specs.Order.{IsPartOf}
@@ -12,7 +12,7 @@ use Rattle.redo_log.specs.Kept.{waiting_blocks}
 use Rattle.page_store.proofs.Ordering.{part_same, part_both, part_is}
 use Rattle.page_store.proofs.FollowLaws.{follows_both}
 
-pub quiet_same : {D : Type 0} (g : Ghosts D) (a : LoggedPages D g) → IsQuiet g a a
+pub quiet_same : {D : Type 0} (g : Ghosts D) (a : LoggedPages D g) → IsSameButWritten g a a
 quiet_same g a = record {
   follows = follows_same (held_of g a);
   pages = record { limits = refl; history = refl; used = refl; acts = refl };
@@ -32,7 +32,7 @@ waits_both g a b c first second later (inr forced) (inl same) =
     let few : c.durable ≤ c.acts = c.not_ahead in
     inr (same ∙ forced.0, omega (arith, forced.1, few, later, first, second))
 
-pub quiet_both : {D : Type 0} (g : Ghosts D) (a b c : LoggedPages D g) → IsQuiet g a b → IsQuiet g b c → IsQuiet g a c
+pub quiet_both : {D : Type 0} (g : Ghosts D) (a b c : LoggedPages D g) → IsSameButWritten g a b → IsSameButWritten g b c → IsSameButWritten g a c
 quiet_both g a b c f s = record {
   follows = follows_both (held_of g a) (held_of g b) (held_of g c) f.follows s.follows;
   pages = record {
@@ -52,10 +52,10 @@ quiet_both g a b c f s = record {
   waits = waits_both g a b c f.pages.acts s.pages.acts s.follows.later.durable f.waits s.waits;
 }
 
--- where the store is as it was but for the pool, of which some changed pages are noted as written
+-- where the store is as it was except for the pool, of which some changed pages are noted as written
 pub quiet_noted : {D : Type 0} (g : Ghosts D) (a b : LoggedPages D g) → b.limits ≡ a.limits → b.history ≡ a.history → b.used ≡ a.used
     → b.acts ≡ a.acts → b.promised ≡ a.promised → b.room ≡ a.room → b.log ≡ a.log → IsPartOf (changed_of b.pool) (changed_of a.pool)
-    → Follows (held_of g a) (held_of g b) → IsQuiet g a b
+    → Follows (held_of g a) (held_of g b) → IsSameButWritten g a b
 quiet_noted g a b limits history used acts promised room log order follows = record {
   follows = follows;
   pages = record { limits = limits; history = history; used = used; acts = acts };
@@ -66,7 +66,7 @@ quiet_noted g a b limits history used acts promised room log order follows = rec
 }
 
 -- where the device alone is another
-pub quiet_device : {D : Type 0} (g : Ghosts D) (a b : LoggedPages D g) → Follows (held_of g a) (held_of g b) → SameButDevice g a b → IsQuiet g a b
+pub quiet_device : {D : Type 0} (g : Ghosts D) (a b : LoggedPages D g) → Follows (held_of g a) (held_of g b) → SameButDevice g a b → IsSameButWritten g a b
 quiet_device g a b follows same =
     record {
       follows = follows;

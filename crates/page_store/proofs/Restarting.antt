@@ -1,7 +1,7 @@
--- What a crash leaves restarts to the pages after a first part of the acts.
+-- What a crash leaves restarts to the pages after a prefix of the acts.
 use Rattle.std.proofs.Common.{◌≡◌, ◌⊎◌, ℕ, ◌+◌, ◌<◌, ◌≤◌, Option, Some, None, List, [], ◌∷◌, length, take, drop, replicate, slice_get, refl, sym, ap, subst, inl, inr, zero, suc, ◌∙◌, arith, length-drop}
 use Rattle.std.proofs.lemmas.Option.{slice_get_past}
-use Rattle.device.specs.Disk.{DiskMoment, MayLeave}
+use Rattle.device.specs.Disk.{DiskMoment, MayCrashTo}
 use Rattle.device.specs.Places.{OnDisk, ChangesOnly}
 use Rattle.device.proofs.Standing.{on_image, kept}
 use Rattle.index_model.specs.declared.format.Format.{Format}
@@ -12,7 +12,7 @@ use Rattle.redo_log.specs.Images.{last_image, later_of, images_of}
 use Rattle.redo_log.specs.Kept.{Holds, HoldsFirst, Restarts}
 use Rattle.page_store.specs.Histories.{after_acts, pages_after, AreActs}
 use Rattle.page_codec.specs.Places.{superblock, place}
-use Rattle.page_store.specs.Restart.{StandsAtHome, RestartsTo, RestartsToPart, LeavesPart}
+use Rattle.page_store.specs.Restart.{StandsAtHome, RestartsTo, RestartsToPart, CrashesToPart}
 use Rattle.page_store.specs.Logged.{AreHome}
 use Rattle.page_store.specs.declared.history.History.{History}
 use Rattle.page_store.proofs.Images.{get-after_acts, stored-after_acts, acts-take, acts-drop, after_both, none_among_fewer, later_is_none}
@@ -23,7 +23,7 @@ past_of_none (x ∷ xs) zero e = absurd cc
 past_of_none (x ∷ xs) (suc i) e = let h = past_of_none xs i e in omega arith
 
 -- with an own superblock, and each page at home that has no image among the forced ones
-module _ (limits : Format) (base : List Page) (since : List (List Page)) (forced part : ℕ) (m : DiskMoment) (image : List ℕ) (left : MayLeave m image) (superblock_on : OnDisk 0 (superblock limits) m)
+module _ (limits : Format) (base : List Page) (since : List (List Page)) (forced part : ℕ) (m : DiskMoment) (image : List ℕ) (left : MayCrashTo m image) (superblock_on : OnDisk 0 (superblock limits) m)
     (home : AreHome limits (images_of (take forced since)) base m) (le : forced ≤ part) (holds : Holds limits image (take part since)) (acts : AreActs limits base since) where
   get : (block : ℕ) → slice_get (after_acts base (take part since)) block ≡ later_of (slice_get base block) (last_image (images_of (take part since)) block)
   get block = get-after_acts limits base (take part since) block (acts-take limits base since part acts)
@@ -78,8 +78,8 @@ module _ (limits : Format) (h : History) (start_stored : AreStored limits 0 h.st
   pub pages_stored : (part : ℕ) → AreStored limits 0 (pages_after h part) × (length (pages_after h part) ≤ limits.pages)
   pages_stored part = stored-after_acts limits h.start (take part h.acts) (acts-take limits h.start h.acts part acts) start_stored start_few
 
-  -- what the log holds of a first part of the acts behind the first so many
-  pub part_restarts : (base forced : ℕ) (m : DiskMoment) (image : List ℕ) → MayLeave m image → base ≤ length h.acts → OnDisk 0 (superblock limits) m
+  -- what the log holds of a prefix of the acts after the first so many
+  pub part_restarts : (base forced : ℕ) (m : DiskMoment) (image : List ℕ) → MayCrashTo m image → base ≤ length h.acts → OnDisk 0 (superblock limits) m
       → AreHome limits (images_of (take forced (drop base h.acts))) (pages_after h base) m → place limits limits.pages ≤ length m.seen
       → HoldsFirst limits (drop base h.acts) forced image → RestartsToPart limits h (base + forced) image
   part_restarts base forced m image left base_few superblock_on home long first =
@@ -95,7 +95,7 @@ module _ (limits : Format) (h : History) (start_stored : AreStored limits 0 h.st
 
   -- what restarts in the log's terms does in those of pages
   pub leaves_part : (base forced : ℕ) (m : DiskMoment) → base ≤ length h.acts → OnDisk 0 (superblock limits) m → AreHome limits (images_of (take forced (drop base h.acts))) (pages_after h base) m
-      → place limits limits.pages ≤ length m.seen → Restarts limits (drop base h.acts) forced m → LeavesPart limits h (base + forced) m
+      → place limits limits.pages ≤ length m.seen → Restarts limits (drop base h.acts) forced m → CrashesToPart limits h (base + forced) m
   leaves_part base forced m base_few superblock_on home long restarts image left = part_restarts base forced m image left base_few superblock_on home long (restarts image left)
 
   whole : {A : Type 0} (xs : List A) → take (length xs) xs ≡ xs
@@ -103,7 +103,7 @@ module _ (limits : Format) (h : History) (start_stored : AreStored limits 0 h.st
   whole (x ∷ xs) = ap (λ l. x ∷ l) (whole xs)
 
   -- all pages at home, and none in the log
-  pub home_restarts : (pages : List Page) (m : DiskMoment) (image : List ℕ) → pages ≡ after_acts h.start h.acts → MayLeave m image → OnDisk 0 (superblock limits) m → AreHome limits [] pages m
+  pub home_restarts : (pages : List Page) (m : DiskMoment) (image : List ℕ) → pages ≡ after_acts h.start h.acts → MayCrashTo m image → OnDisk 0 (superblock limits) m → AreHome limits [] pages m
       → place limits limits.pages ≤ length m.seen → Holds limits image [] → RestartsToPart limits h (length h.acts) image
   home_restarts pages m image are left superblock_on home long holds =
       let now = stored-after_acts limits h.start h.acts acts start_stored start_few in

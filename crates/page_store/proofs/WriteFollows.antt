@@ -3,7 +3,7 @@ use Rattle.std.proofs.Common.{◌≡◌, ◌≢◌, ◌⊎◌, ℕ, ◌+◌, ◌
 use Rattle.std.proofs.lemmas.List.{append-nil, length-replicate}
 use Rattle.std.specs.Prelude.{is_some}
 use Rattle.device.specs.Disk.{DiskMoment, Trace, synced}
-use Rattle.device.specs.Moments.{Goes}
+use Rattle.device.specs.Moments.{AtEachMoment}
 use Rattle.device.specs.Places.{Has, ChangesOnly}
 use Rattle.device.proofs.Going.{goes_weaker, goes_now}
 use Rattle.device.proofs.Standing.{has_kept, kept, synced_only}
@@ -107,7 +107,7 @@ module _ (old : Held) (own : IsOwn old) (alive : is_stopped old.log ≡ false) w
 -- the device went on while the log kept what it kept
 goes_kept : (old : Held) (trace : Trace) (honest : Bool) (failures : ℕ) → is_stopped old.log ≡ false → honest ≡ old.honest → old.failures ≤ failures
     → ((own : IsOwn old)
-    → Goes (λ m. IsKept old.log m old.unwritten old.history old.durable × (length m.seen ≡ length old.trace.now.seen)) old.trace trace)
+    → AtEachMoment (λ m. IsKept old.log m old.unwritten old.history old.durable × (length m.seen ≡ length old.trace.now.seen)) old.trace trace)
     → Follows old (record old { trace = trace; honest = honest; failures = failures })
 goes_kept old trace honest failures alive same more goes = record {
   later = record { failures = more; durable = omega arith; stopped = λ s. s; stop_has_cause = λ s. inl s; honest = λ s. sym same ∙ s };
@@ -134,7 +134,7 @@ goes_kept old trace honest failures alive same more goes = record {
 
 -- the page of a block whose last act is durable was written, or that failed
 pub follows_written : (old : Held) (block : ℕ) (trace : Trace) (honest : Bool) (failures : ℕ) → is_stopped old.log ≡ false → 0 < old.unwritten block → old.unwritten block ≤ old.durable
-    → Goes (ChangesOnly (place (limits_of old.log) block) 4096 old.trace.now) old.trace trace → honest ≡ old.honest → old.failures ≤ failures
+    → AtEachMoment (ChangesOnly (place (limits_of old.log) block) 4096 old.trace.now) old.trace trace → honest ≡ old.honest → old.failures ≤ failures
     → Follows old (record old { trace = trace; honest = honest; failures = failures })
 follows_written old block trace honest failures alive some durable moments same more =
     goes_kept old trace honest failures alive same more
@@ -142,7 +142,7 @@ follows_written old block trace honest failures alive some durable moments same 
 
 -- the device was synced, or that failed
 pub follows_synced : (old : Held) (trace : Trace) (honest : Bool) (failures : ℕ) → is_stopped old.log ≡ false
-    → Goes (λ m. m ≡ synced old.trace.now) old.trace trace → honest ≡ old.honest → old.failures ≤ failures
+    → AtEachMoment (λ m. m ≡ synced old.trace.now) old.trace trace → honest ≡ old.honest → old.failures ≤ failures
     → Follows old (record old { trace = trace; honest = honest; failures = failures })
 follows_synced old trace honest failures alive moments same more =
     goes_kept old trace honest failures alive same more

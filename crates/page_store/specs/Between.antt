@@ -2,8 +2,8 @@
 use Rattle.std.specs.Prelude.{◌≡◌, ◌⊎◌, ℕ, List, [], ◌∷◌, ◌++◌}
 use Rattle.std.proofs.Common.{inl, inr, sym, ap, subst, ◌∙◌, append_assoc}
 use Rattle.std.proofs.lemmas.List.{append_cancel_right}
-use Rattle.device.specs.Disk.{DiskMoment, Trace, MayLeave}
-use Rattle.device.specs.Moments.{AtSome, MayHaveLeft}
+use Rattle.device.specs.Disk.{DiskMoment, Trace, MayCrashTo}
+use Rattle.device.specs.Moments.{AtSome, MayHaveCrashedTo}
 
 split : (P : DiskMoment → Type 0) (ms ns : List DiskMoment) → AtSome P (ms ++ ns)
     → AtSome P ms ⊎ AtSome P ns
@@ -35,18 +35,18 @@ module _ (first second third : Trace) (image : List ℕ) (early late : List Disk
     (to_second : second.now ∷ second.past ≡ early ++ first.now ∷ first.past)
     (to_third : third.now ∷ third.past ≡ late ++ second.now ∷ second.past) where
   may : DiskMoment → Type 0
-  may m = MayLeave m image
+  may m = MayCrashTo m image
 
   to_end : third.now ∷ third.past ≡ (late ++ early) ++ first.now ∷ first.past
   to_end = to_third ∙ (ap (λ (l : List DiskMoment). late ++ l) to_second ∙ sym (append_assoc late early (first.now ∷ first.past)))
 
-  whole : AtSome may (late ++ (early ++ first.now ∷ [])) → MayHaveLeft first third image
+  whole : AtSome may (late ++ (early ++ first.now ∷ [])) → MayHaveCrashedTo first third image
   unfolding may
   whole some = record { since = late ++ early; is = to_end; left = subst (AtSome may) (sym (append_assoc late early (first.now ∷ []))) some }
 
   -- what was left since the first, was left up to the second, or since that one
-  pub left_between : MayHaveLeft first third image
-      → MayHaveLeft first second image ⊎ MayHaveLeft second third image
+  pub left_between : MayHaveCrashedTo first third image
+      → MayHaveCrashedTo first second image ⊎ MayHaveCrashedTo second third image
   unfolding may
   left_between h =
       let all : h.since ≡ late ++ early = append_cancel_right h.since (late ++ early) (first.now ∷ first.past) (sym h.is ∙ to_end) in
@@ -57,14 +57,14 @@ module _ (first second third : Trace) (image : List ℕ) (early late : List Disk
       ]
 
   -- what was left of a part, was left of the whole
-  pub left_early : MayHaveLeft first second image → MayHaveLeft first third image
+  pub left_early : MayHaveCrashedTo first second image → MayHaveCrashedTo first third image
   unfolding may
   left_early h =
       let all : h.since ≡ early =
       append_cancel_right h.since early (first.now ∷ first.past) (sym h.is ∙ to_second) in
       whole (behind may late (early ++ first.now ∷ []) (subst (λ (l : List DiskMoment). AtSome may (l ++ first.now ∷ [])) all h.left))
 
-  pub left_late : MayHaveLeft second third image → MayHaveLeft first third image
+  pub left_late : MayHaveCrashedTo second third image → MayHaveCrashedTo first third image
   unfolding may
   left_late h =
       let all : h.since ≡ late =

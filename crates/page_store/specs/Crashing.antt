@@ -2,21 +2,21 @@
 use Rattle.std.specs.Prelude.{◌≡◌, ◌⊎◌, ℕ, ◌≤◌, List, [], ◌∷◌, ◌++◌, length, take}
 use Rattle.std.proofs.Common.{inl, refl, sym, ap, subst, ◌∙◌, arith, length-append}
 use Rattle.std.proofs.lemmas.List.{take-append-le}
-use Rattle.device.specs.Disk.{MayLeave}
-use Rattle.device.specs.Moments.{Goes, MayHaveLeft}
+use Rattle.device.specs.Disk.{MayCrashTo}
+use Rattle.device.specs.Moments.{AtEachMoment, MayHaveCrashedTo}
 use Rattle.device.proofs.Going.{goes_leaves}
 use Rattle.index_model.specs.declared.format.Format.{Format}
 use Rattle.page_codec.specs.declared.page.Page.{Page}
-use Rattle.page_action.specs.Crashes.{LeavesFirstPart}
+use Rattle.page_action.specs.Crashes.{CrashesToPrefix}
 use Rattle.redo_log.specs.Kept.{limits_of}
 use Rattle.page_store.specs.Between.{left_between, left_early, left_late}
 use Rattle.page_store.specs.Histories.{after_acts, pages_after}
-use Rattle.page_store.specs.Restart.{RestartsTo, RestartsToPart, LeavesPart}
+use Rattle.page_store.specs.Restart.{RestartsTo, RestartsToPart, CrashesToPart}
 use Rattle.page_store.specs.Logged.{Held, pages_held, IsOwn}
 use Rattle.page_store.specs.Following.{Follows}
 use Rattle.page_store.specs.declared.history.History.{History}
 
--- the pages after a first part of the acts stay those with more acts
+-- the pages after a prefix of the acts stay those with more acts
 pub pages_of_more : (h longer : History) (more : List (List Page)) (part : ℕ)
     → longer.start ≡ h.start → longer.acts ≡ h.acts ++ more → part ≤ length h.acts
     → pages_after longer part ≡ pages_after h part
@@ -24,7 +24,7 @@ pages_of_more h longer more part start acts le =
     ap (λ (s : List Page). after_acts s (take part longer.acts)) start
     ∙ ap (after_acts h.start) (ap (take part) acts ∙ take-append-le part h.acts more le)
 
--- a first part of the acts is one of more acts
+-- a prefix of the acts is one of more acts
 pub part_of_more : (limits : Format) (h longer : History) (more : List (List Page))
     (low least : ℕ) (image : List ℕ)
     → longer.start ≡ h.start → longer.acts ≡ h.acts ++ more → low ≤ least
@@ -37,8 +37,8 @@ part_of_more limits h longer more low least image start acts le r = record {
 }
 
 -- a crash now leaves what it may leave at this moment
-pub left_now : (held : Held) (image : List ℕ) → MayLeave held.trace.now image
-    → MayHaveLeft held.trace held.trace image
+pub left_now : (held : Held) (image : List ℕ) → MayCrashTo held.trace.now image
+    → MayHaveCrashedTo held.trace held.trace image
 left_now held image may = record { since = []; is = refl; left = inl may }
 
 all : {A : Type 0} (xs : List A) → take (length xs) xs ≡ xs
@@ -56,19 +56,19 @@ module _ (first now : Held) (own : IsOwn first) (follows : Follows first now) wh
   own_now = (follows.grows own).own
 
   pub crash_restarts : (limits : Format) (image : List ℕ) → limits_of now.log ≡ limits
-      → MayHaveLeft first.trace now.trace image
+      → MayHaveCrashedTo first.trace now.trace image
       → RestartsToPart limits now.history first.durable image
   crash_restarts limits image is left =
       let on = follows.grows own in
       let l = limits_of first.log in
-      let here = goes_leaves (LeavesPart l now.history first.durable) first.trace now.trace image on.moments
+      let here = goes_leaves (CrashesToPart l now.history first.durable) first.trace now.trace image on.moments
       (λ old_image may. part_of_more l first.history now.history on.more first.durable first.durable old_image on.start on.acts (omega arith) (own.leaves old_image may)) left in
       subst (λ (x : Format). RestartsToPart x now.history first.durable image) (sym on.limits ∙ is) (here.1 image here.2)
 
   -- ... in the words of a store of pages
   pub leaves_first : (limits : Format) (image : List ℕ) → limits_of now.log ≡ limits
-      → MayHaveLeft first.trace now.trace image
-      → LeavesFirstPart first.durable now.acts (pages_after now.history) (RestartsTo limits image)
+      → MayHaveCrashedTo first.trace now.trace image
+      → CrashesToPrefix first.durable now.acts (pages_after now.history) (RestartsTo limits image)
   leaves_first limits image is left =
       let r = crash_restarts limits image is left in
       record { part = r.part; from = r.from; to = omega (arith, r.to, own_now.counted); restarts_to = r.restarts }
@@ -90,24 +90,24 @@ module _ (first now : Held) (own : IsOwn first) (follows : Follows first now) wh
 -- what a crash left since the first, it left up to the second, or since that one
 module _ (first second third : Held) (own : IsOwn first) (follows : Follows first second)
     (then : Follows second third) (image : List ℕ) where
-  abbrev early : Goes (LeavesPart (limits_of first.log) second.history first.durable)
+  abbrev early : AtEachMoment (CrashesToPart (limits_of first.log) second.history first.durable)
       first.trace second.trace
   early = (follows.grows own).moments
 
-  abbrev late : Goes (LeavesPart (limits_of second.log) third.history second.durable)
+  abbrev late : AtEachMoment (CrashesToPart (limits_of second.log) third.history second.durable)
       second.trace third.trace
   late = (then.grows (own_now first second own follows)).moments
 
-  pub leaves_between : MayHaveLeft first.trace third.trace image
-      → MayHaveLeft first.trace second.trace image ⊎ MayHaveLeft second.trace third.trace image
+  pub leaves_between : MayHaveCrashedTo first.trace third.trace image
+      → MayHaveCrashedTo first.trace second.trace image ⊎ MayHaveCrashedTo second.trace third.trace image
   leaves_between = left_between first.trace second.trace third.trace image early.since late.since early.is late.is
 
-  pub leaves_early : MayHaveLeft first.trace second.trace image
-      → MayHaveLeft first.trace third.trace image
+  pub leaves_early : MayHaveCrashedTo first.trace second.trace image
+      → MayHaveCrashedTo first.trace third.trace image
   leaves_early =
       left_early first.trace second.trace third.trace image early.since late.since early.is late.is
 
-  pub leaves_late : MayHaveLeft second.trace third.trace image
-      → MayHaveLeft first.trace third.trace image
+  pub leaves_late : MayHaveCrashedTo second.trace third.trace image
+      → MayHaveCrashedTo first.trace third.trace image
   leaves_late =
       left_late first.trace second.trace third.trace image early.since late.since early.is late.is

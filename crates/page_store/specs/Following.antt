@@ -2,22 +2,22 @@
 use Rattle.std.specs.Prelude.{◌≡◌, List, [], ◌++◌}
 use Rattle.std.proofs.Common.{refl, sym}
 use Rattle.std.proofs.lemmas.List.{append-nil}
-use Rattle.device.specs.Moments.{Goes}
+use Rattle.device.specs.Moments.{AtEachMoment}
 use Rattle.page_codec.specs.declared.page.Page.{Page}
 use Rattle.page_action.specs.MapStore.{same_later}
 use Rattle.page_action.specs.States.{IsLater}
 use Rattle.redo_log.specs.Kept.{limits_of}
-use Rattle.page_store.specs.Restart.{LeavesPart}
+use Rattle.page_store.specs.Restart.{CrashesToPart}
 use Rattle.page_store.specs.Logged.{Held, backing_of, IsOwn}
 
--- with some acts more, and at each moment in between a crash left a first part of all acts, with all that were durable
+-- with some acts more, and at each moment in between a crash left a prefix of all acts, with all that were durable
 pub record GrowsTo (old new : Held) : Type 0 where
   pub own : IsOwn new
   pub limits : limits_of new.log ≡ limits_of old.log
   pub start : new.history.start ≡ old.history.start
   pub more : List (List Page)
   pub acts : new.history.acts ≡ old.history.acts ++ more
-  pub moments : Goes (LeavesPart (limits_of old.log) new.history old.durable) old.trace new.trace
+  pub moments : AtEachMoment (CrashesToPart (limits_of old.log) new.history old.durable) old.trace new.trace
 
 -- no count goes back; and if the first are an own device's, so are the second
 pub record Follows (old new : Held) : Type 0 where

@@ -12,11 +12,11 @@ use Rattle.page_action.specs.Frames.{Memory}
 use Rattle.page_action.specs.States.{Backing}
 use Rattle.page_action.specs.Stored.{AreStored}
 use Rattle.redo_log.specs.Images.{last_image, images_of}
-use Rattle.redo_log.specs.Kept.{Keeps, limits_of, is_stopped, waiting_blocks}
+use Rattle.redo_log.specs.Kept.{LogHolds, limits_of, is_stopped, waiting_blocks}
 use Rattle.redo_log.specs.declared.log.Log.{Log}
 use Rattle.page_store.specs.Histories.{pages_after, pages_now, AreActs}
 use Rattle.page_codec.specs.Places.{superblock, place}
-use Rattle.page_store.specs.Restart.{LeavesPart}
+use Rattle.page_store.specs.Restart.{CrashesToPart}
 use Rattle.page_store.specs.declared.history.History.{History}
 use Rattle.page_store.specs.declared.logged_pages.LoggedPages.{LoggedPages}
 
@@ -68,7 +68,7 @@ pub record SameRoom {D : Type 0} (g : Ghosts D) (old new : LoggedPages D g) : Ty
   pub room : new.room ≡ old.room
   pub promised : new.promised ≡ old.promised
 
--- all is as it was but for the device, which is honest if it was
+-- all is as it was except for the device, which is honest if it was
 pub record SameButDevice {D : Type 0} (g : Ghosts D) (old new : LoggedPages D g) : Type 0 where
   pub log : new.log ≡ old.log
   pub pool : new.pool ≡ old.pool
@@ -107,7 +107,7 @@ pub record AreHome (limits : Format) (images pages : List Page) (m : DiskMoment)
 abbrev pub is_named : List (List Page) → ℕ → Bool
 is_named acts block = is_some (last_image (images_of acts) block)
 
--- the log keeps the acts behind the first so many, whose pages stand at home but for those that the log has an image of;
+-- the log keeps the acts after the first so many, whose pages stand at home except for those that the log has an image of;
 -- of these each is unwritten since its last act, or a read gives it at its place
 pub record IsKept (log : Log) (m : DiskMoment) (unwritten : ℕ → ℕ) (h : History) (durable : ℕ)
     : Type 0 where
@@ -115,7 +115,7 @@ pub record IsKept (log : Log) (m : DiskMoment) (unwritten : ℕ → ℕ) (h : Hi
   pub forced : ℕ
   pub base_few : base ≤ length h.acts
   pub durable_is : durable ≡ base + forced
-  pub log_keeps : Keeps log m (drop base h.acts) forced
+  pub log_keeps : LogHolds log m (drop base h.acts) forced
   pub home : AreHome (limits_of log) (images_of (take forced (drop base h.acts)))
       (pages_after h base) m
   pub superblock_on : OnDisk 0 (superblock (limits_of log)) m
@@ -126,7 +126,7 @@ pub record IsKept (log : Log) (m : DiskMoment) (unwritten : ℕ → ℕ) (h : Hi
       → unwritten block ≡ 0 → is_named (drop base h.acts) block ≡ true
       → Has (place (limits_of log) block) (page_bytes page) m.seen
 
--- the pages are those after all acts of the history, a crash leaves a first part of them with all durable ones, and
+-- the pages are those after all acts of the history, a crash leaves a prefix of them with all durable ones, and
 -- while the log has not failed it keeps them
 pub record IsOwn (held : Held) : Type 0 where
   pub start_stored : AreStored (limits_of held.log) 0 held.history.start
@@ -134,13 +134,13 @@ pub record IsOwn (held : Held) : Type 0 where
   pub long : place (limits_of held.log) (limits_of held.log).pages ≤ length held.trace.now.seen
   pub acts_are : AreActs (limits_of held.log) held.history.start held.history.acts
   pub counted : held.acts ≡ length held.history.acts
-  pub leaves : LeavesPart (limits_of held.log) held.history held.durable held.trace.now
+  pub leaves : CrashesToPart (limits_of held.log) held.history held.durable held.trace.now
   pub kept : is_stopped held.log ≡ false
       → IsKept held.log held.trace.now held.unwritten held.history held.durable
 
--- a device as it stands behind its opening: the log holds nothing, each page in use stands at its place, zeros at those
+-- a device as it stands after its opening: the log holds nothing, each page in use stands at its place, zeros at those
 -- of the other blocks, and no crash changes this
 pub record StandsOpened (log : Log) (m : DiskMoment) (pages : List Page) : Type 0 where
-  pub log_keeps : Keeps log m [] 0
+  pub log_keeps : LogHolds log m [] 0
   pub home : AreHome (limits_of log) [] pages m
   pub superblock_on : OnDisk 0 (superblock (limits_of log)) m

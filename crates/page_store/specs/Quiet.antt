@@ -10,7 +10,7 @@ use Rattle.page_store.specs.declared.logged_pages.LoggedPages.{LoggedPages}
 
 -- the pages and what is promised are as they were; and the room, where no act waits for a force; of the changed pages some
 -- were written; what waits in the log is as it was, or it was forced
-pub record IsQuiet {D : Type 0} (g : Ghosts D) (old new : LoggedPages D g) : Type 0 where
+pub record IsSameButWritten {D : Type 0} (g : Ghosts D) (old new : LoggedPages D g) : Type 0 where
   pub follows : Follows (held_of g old) (held_of g new)
   pub pages : SamePages g old new
   pub promised : new.promised ≡ old.promised

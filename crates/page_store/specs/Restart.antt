@@ -1,6 +1,6 @@
 -- What the bytes of a device restart to.
 use Rattle.std.specs.Prelude.{◌≡◌, ◌⊎◌, ℕ, ◌<◌, ◌≤◌, Some, None, List, length, replicate, slice_get}
-use Rattle.device.specs.Disk.{DiskMoment, MayLeave}
+use Rattle.device.specs.Disk.{DiskMoment, MayCrashTo}
 use Rattle.device.specs.Places.{Has}
 use Rattle.page_codec.specs.Places.{superblock, place}
 use Rattle.index_model.specs.declared.format.Format.{Format}
@@ -33,7 +33,7 @@ pub record RestartsTo (limits : Format) (image : List ℕ) (pages : List Page) :
   pub unused : (block : ℕ) → length pages ≤ block → block < limits.pages
       → StandsAtHome limits (images_of groups) block (replicate 4096 0) image
 
--- they restart to the pages after some first part of the acts, of at least so many
+-- they restart to the pages after some prefix of the acts, of at least so many
 pub record RestartsToPart (limits : Format) (h : History) (least : ℕ) (image : List ℕ)
     : Type 0 where
   pub part : ℕ
@@ -42,10 +42,10 @@ pub record RestartsToPart (limits : Format) (h : History) (least : ℕ) (image :
   pub restarts : RestartsTo limits image (pages_after h part)
 
 -- each image that a crash at this moment may leave does
-abbrev pub LeavesPart : Format → History → ℕ → DiskMoment → Type 0
-LeavesPart limits h least m =
-    (image : List ℕ) → MayLeave m image → RestartsToPart limits h least image
+abbrev pub CrashesToPart : Format → History → ℕ → DiskMoment → Type 0
+CrashesToPart limits h least m =
+    (image : List ℕ) → MayCrashTo m image → RestartsToPart limits h least image
 
 -- each image that a crash at this moment may leave restarts to these pages
-abbrev pub LeavesPages : Format → List Page → DiskMoment → Type 0
-LeavesPages limits pages m = (image : List ℕ) → MayLeave m image → RestartsTo limits image pages
+abbrev pub CrashesToPages : Format → List Page → DiskMoment → Type 0
+CrashesToPages limits pages m = (image : List ℕ) → MayCrashTo m image → RestartsTo limits image pages

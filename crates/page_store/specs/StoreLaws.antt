@@ -1,7 +1,7 @@
 -- A store over a device has the laws of a store of pages.
 use Rattle.std.specs.Prelude.{ℕ, ◌≤◌, List}
 use Rattle.std.proofs.Common.{subst}
-use Rattle.device.specs.Moments.{MayHaveLeft}
+use Rattle.device.specs.Moments.{MayHaveCrashedTo}
 use Rattle.device.specs.declared.device.Device.{Ghosts}
 use Rattle.page_codec.specs.declared.page.Page.{Page}
 use Rattle.page_action.specs.Laws.{IsPageStore}
@@ -24,7 +24,7 @@ module _ {D : Type 0} (g : Ghosts D) where
 
   -- the device may have left these bytes at one of its moments from the first to the second
   abbrev pub leaves_by : Store D g → Store D g → List ℕ → Type 0
-  leaves_by s t image = MayHaveLeft (held_by g s).trace (held_by g t).trace image
+  leaves_by s t image = MayHaveCrashedTo (held_by g s).trace (held_by g t).trace image
 
   -- the bytes restart to the pages, under its limits
   abbrev pub restarts_by : Store D g → List ℕ → List Page → Type 0

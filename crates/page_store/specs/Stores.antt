@@ -35,5 +35,5 @@ IsOwnStore g store = IsOwn (held_by g store)
 
 -- no act, no call, no hold yet
 abbrev pub opened_state : Format → ℕ → List Page → List ℕ → ℕ → State
-opened_state limits frames pages counted counter =
-    state_with limits frames pages 0 (opened_calls limits.pages counted counter)
+opened_state limits frames pages counted last_cycle =
+    state_with limits frames pages 0 (opened_calls limits.pages counted last_cycle)

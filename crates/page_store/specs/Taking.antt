@@ -12,7 +12,7 @@ use Rattle.page_store.specs.Logged.{held_of, backing_of, memory_in}
 use Rattle.page_store.specs.declared.logged_pages.LoggedPages.{LoggedPages}
 
 -- which of the pinned pages was held, is held still
-pub record KeepsFrames (pinned : List ℕ) (old new : Pool) : Type 0 where
+pub record SameFrames (pinned : List ℕ) (old new : Pool) : Type 0 where
   pub most : most_of new ≡ most_of old
   pub kept : (block : ℕ) → has_block pinned block ≡ true → IsSome (frame_of old block)
       → IsSome (frame_of new block)
@@ -26,7 +26,7 @@ pub record IsWrittenNext (pinned : List ℕ) (durable place : ℕ) (old new : Po
   pub written : IsWritten old new place
   pub others : (b : ℕ) → has_block (changed_of new) b ≡ true → act_of new b ≡ act_of old b
 
--- Of the changed pages some right behind so many were written, of which none is pinned, and whose acts were durable already: at most
+-- Of the changed pages some right after so many were written, of which none is pinned, and whose acts were durable already: at most
 -- a quarter of what there are frames.
 pub record AreWrittenAhead (pinned : List ℕ) (durable place : ℕ) (old new : Pool) : Type 0 where
   pub front : List ℕ

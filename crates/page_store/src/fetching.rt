@@ -8,8 +8,8 @@ ghost use Rattle.device.specs.Disk.{CountsFailures};
 ghost use Rattle.page_action.specs.Stored.{IsStored, AreActable};
 ghost use Rattle.redo_log.specs.Kept.{IoOrStopped, is_stopped};
 ghost use Rattle.page_store.specs.Histories.{pages_now};
-ghost use Rattle.page_store.specs.Quiet.{IsQuiet, IsUnforced};
-ghost use Rattle.page_store.specs.Taking.{KeepsFrames, CostsFrame, GetsFrame, GetFrames, IsWrittenNext, AreWrittenAhead, FrameFails, TakingFails, FetchFails};
+ghost use Rattle.page_store.specs.Quiet.{IsSameButWritten, IsUnforced};
+ghost use Rattle.page_store.specs.Taking.{SameFrames, CostsFrame, GetsFrame, GetFrames, IsWrittenNext, AreWrittenAhead, FrameFails, TakingFails, FetchFails};
 ghost use Rattle.page_store.specs.Writing.{ReadingFails};
 ghost use Rattle.page_codec.specs.declared.page.Page.{Page};
 
@@ -23,7 +23,7 @@ use page_codec::Page;
 impl<D: Device> LoggedPages<D> {
     // Which frame is taken for another page, or which page is written first, where the pages of these blocks are pinned.
     fn choose(&mut self, pinned: &[u32]) -> Choice
-        ensures quiet { IsQuiet D.Device self.old self.new }
+        ensures quiet { IsSameButWritten D.Device self.old self.new }
         ensures choice { IsChoice self.new.pool pinned.now result }
         ensures same { HasSamePages self.old.pool self.new.pool }
         ensures changes { HasSameChanges self.old.pool self.new.pool }
@@ -36,10 +36,10 @@ impl<D: Device> LoggedPages<D> {
     }
 
     /// Whether the page of this block is in memory. If so, it's noted that somebody looked at it.
-    pub fn look(&mut self, block: u32) -> bool
+    pub fn note_use(&mut self, block: u32) -> bool
         ensures held { result ≡ is_some (frame_of self.old.pool block) }
         ensures there { result ≡ has_block (pool_blocks self.old.pool) block }
-        ensures quiet { IsQuiet D.Device self.old self.new }
+        ensures quiet { IsSameButWritten D.Device self.old self.new }
         ensures same { HasSamePages self.old.pool self.new.pool }
         ensures changes { HasSameChanges self.old.pool self.new.pool }
         ensures log { self.new.log ≡ self.old.log }
@@ -48,7 +48,7 @@ impl<D: Device> LoggedPages<D> {
         ensures room { self.new.room ≡ self.old.room }
     {
         self.pool.law();
-        self.pool.look(block)
+        self.pool.note_use(block)
     }
 
     // The frame of a changed page, which is written before. Refused with `Io` and `Stopped`.
@@ -56,7 +56,7 @@ impl<D: Device> LoggedPages<D> {
         requires at { slice_get (changed_of self.old.pool) place ≡ Some block }
         requires act { act ≡ act_of self.old.pool block }
         requires changed { 0 < act }
-        ensures quiet { IsQuiet D.Device self.old self.new }
+        ensures quiet { IsSameButWritten D.Device self.old self.new }
         ensures same { HasSamePages self.old.pool self.new.pool }
         ensures order { OnOk result
             (changed_of self.new.pool ≡ remove (changed_of self.old.pool) place) }
@@ -83,7 +83,7 @@ impl<D: Device> LoggedPages<D> {
     // whether it did. Refused with `Io`; the page is changed then as before.
     fn write_next(&mut self, place: usize, pinned: &[u32]) -> Result<bool, Fault>
         requires alive { is_stopped self.old.log ≡ false }
-        ensures quiet { IsQuiet D.Device self.old self.new }
+        ensures quiet { IsSameButWritten D.Device self.old self.new }
         ensures same { HasSamePages self.old.pool self.new.pool }
         ensures written { IfOk result (λ did. did ≡ true
             → IsWrittenNext pinned.now self.old.durable place self.old.pool self.new.pool) }
@@ -107,12 +107,12 @@ impl<D: Device> LoggedPages<D> {
         Ok(true)
     }
 
-    // Writes the changed pages behind so many of their order, until one is pinned or has acts that aren't durable, at most a
+    // Writes the changed pages after so many of their order, until one is pinned or has acts that aren't durable, at most a
     // quarter of what there are frames: so that clean ones are there for the pages that are read next. Refused with `Io`.
     fn write_ahead(&mut self, place: usize, pinned: &[u32]) -> Result<(), Fault>
         requires alive { is_stopped self.old.log ≡ false }
         requires place { place ≤ length (changed_of self.old.pool) }
-        ensures quiet { IsQuiet D.Device self.old self.new }
+        ensures quiet { IsSameButWritten D.Device self.old self.new }
         ensures same { HasSamePages self.old.pool self.new.pool }
         ensures ahead { AreWrittenAhead pinned.now self.old.durable place
             self.old.pool self.new.pool }
@@ -135,9 +135,9 @@ impl<D: Device> LoggedPages<D> {
     }
 
     // A frame for another page, where the pages of these blocks are pinned: where no clean one is there, the oldest changed
-    // page is written before, and some behind it. Refused with `NoFrame`, `Io` and `Stopped`.
+    // page is written before, and some after it. Refused with `NoFrame`, `Io` and `Stopped`.
     fn free_frame(&mut self, pinned: &[u32]) -> Result<usize, Fault>
-        ensures quiet { IsQuiet D.Device self.old self.new }
+        ensures quiet { IsSameButWritten D.Device self.old self.new }
         ensures cost { CostsFrame D.Device pinned.now self.old self.new }
         ensures same { HasSamePages self.old.pool self.new.pool }
         ensures free { IfOk result (CanBeTaken self.new.pool) }
@@ -174,7 +174,7 @@ impl<D: Device> LoggedPages<D> {
         requires right { D.is_honest self.old.device ≡ true → (there : Page)
             → slice_get (pages_now self.old.history) self.old.decoded.value.block ≡ Some there
             → self.old.decoded.value ≡ there }
-        ensures quiet { IsQuiet D.Device self.old self.new }
+        ensures quiet { IsSameButWritten D.Device self.old self.new }
         ensures pool { IsPut self.old.pool self.new.pool at self.old.decoded.value }
         ensures log { self.new.log ≡ self.old.log }
         ensures device { self.new.device ≡ self.old.device }
@@ -190,7 +190,7 @@ impl<D: Device> LoggedPages<D> {
     fn read(&mut self, block: u32) -> Result<(), Fault>
         requires used { block < self.old.used }
         requires absent { frame_of self.old.pool block ≡ None }
-        ensures quiet { IsQuiet D.Device self.old self.new }
+        ensures quiet { IsSameButWritten D.Device self.old self.new }
         ensures pool { self.new.pool ≡ self.old.pool }
         ensures log { self.new.log ≡ self.old.log }
         ensures durable { self.new.durable ≡ self.old.durable }
@@ -211,11 +211,11 @@ impl<D: Device> LoggedPages<D> {
     /// `Io` and `Stopped`, and with `PageDamaged` where the device breaks its model.
     pub fn fetch(&mut self, block: u32, pinned: &[u32]) -> Result<(), Fault>
         requires used { block < self.old.used }
-        ensures quiet { IsQuiet D.Device self.old self.new }
+        ensures quiet { IsSameButWritten D.Device self.old self.new }
         ensures frame { GetsFrame D.Device pinned.now block self.old self.new }
         ensures has { OnOk result (IsSome (frame_of self.new.pool block)) }
         ensures there { OnOk result (has_block (pool_blocks self.new.pool) block ≡ true) }
-        ensures kept { KeepsFrames pinned.now self.old.pool self.new.pool }
+        ensures kept { SameFrames pinned.now self.old.pool self.new.pool }
         ensures alive { OnOk result
             (is_stopped self.new.log ≡ true → is_stopped self.old.log ≡ true) }
         ensures damaged { (b : ℕ) → result ≡ Err (Fault.PageDamaged b)
@@ -237,7 +237,7 @@ impl<D: Device> LoggedPages<D> {
 
     // Copies the page to where one is decoded.
     fn copy(&mut self, page: &Page)
-        ensures quiet { IsQuiet D.Device self.old self.new }
+        ensures quiet { IsSameButWritten D.Device self.old self.new }
         ensures pool { self.new.pool ≡ self.old.pool }
         ensures log { self.new.log ≡ self.old.log }
         ensures device { self.new.device ≡ self.old.device }
@@ -253,7 +253,7 @@ impl<D: Device> LoggedPages<D> {
     fn read_or_copy(&mut self, page: &Page) -> Result<(), Fault>
         requires stored { IsStored self.old.limits page.now.block page.now }
         requires absent { frame_of self.old.pool page.now.block ≡ None }
-        ensures quiet { IsQuiet D.Device self.old self.new }
+        ensures quiet { IsSameButWritten D.Device self.old self.new }
         ensures pool { self.new.pool ≡ self.old.pool }
         ensures log { self.new.log ≡ self.old.log }
         ensures durable { self.new.durable ≡ self.old.durable }
@@ -284,10 +284,10 @@ impl<D: Device> LoggedPages<D> {
         requires stored { IsStored self.old.limits page.now.block page.now }
         requires below { page.now.block < self.old.limits.pages }
         requires pinned { has_block pinned.now page.now.block ≡ true }
-        ensures quiet { IsQuiet D.Device self.old self.new }
+        ensures quiet { IsSameButWritten D.Device self.old self.new }
         ensures frame { GetsFrame D.Device pinned.now page.now.block self.old self.new }
         ensures has { OnOk result (IsSome (frame_of self.new.pool page.now.block)) }
-        ensures kept { KeepsFrames pinned.now self.old.pool self.new.pool }
+        ensures kept { SameFrames pinned.now self.old.pool self.new.pool }
         ensures alive { OnOk result
             (is_stopped self.new.log ≡ true → is_stopped self.old.log ≡ true) }
         ensures cause { IfErr result (TakingFails self.old.pool pinned.now (is_stopped self.old.log)
@@ -308,7 +308,7 @@ impl<D: Device> LoggedPages<D> {
     pub fn take_frames(&mut self, pages: &[Page], pinned: &[u32]) -> Result<(), Fault>
         requires actable { AreActable self.old.limits (length (pages_now self.old.history)) pages.now }
         requires pinned { All (λ page. has_block pinned.now page.block ≡ true) pages.now }
-        ensures quiet { IsQuiet D.Device self.old self.new }
+        ensures quiet { IsSameButWritten D.Device self.old self.new }
         ensures frames { GetFrames D.Device pinned.now (map (λ page. page.block) pages.now)
             self.old self.new }
         ensures has { OnOk result

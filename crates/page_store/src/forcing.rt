@@ -6,13 +6,13 @@ ghost use Rattle.device.specs.Disk.{CountsFailures};
 ghost use Rattle.device.specs.Places.{Has, OnDisk, ChangesOnly};
 ghost use Rattle.page_codec.specs.Places.{place};
 ghost use Rattle.page_action.specs.Order.{IsRestOf};
-ghost use Rattle.page_action.specs.Room.{HasWholeRoom, WaitsOn};
+ghost use Rattle.page_action.specs.Room.{LogIsClosed, WaitsOn};
 ghost use Rattle.page_codec.specs.Spelling.{page_bytes};
 ghost use Rattle.page_codec.specs.declared.page.Page.{Page};
 ghost use Rattle.redo_log.specs.Kept.{IoOrStopped, is_stopped, waiting_count, waiting_blocks};
 ghost use Rattle.page_store.specs.Following.{Follows};
 ghost use Rattle.page_store.specs.Logged.{held_of, backing_of, SamePages, SameRoom, SameButDevice};
-ghost use Rattle.page_store.specs.Quiet.{IsQuiet, IsUnforced};
+ghost use Rattle.page_store.specs.Quiet.{IsSameButWritten, IsUnforced};
 ghost use Rattle.page_store.specs.Writing.{AreWrittenUpTo, IsAllFirm, IsClean};
 
 use crate::logged_pages::LoggedPages;
@@ -81,7 +81,7 @@ impl<D: Device> LoggedPages<D> {
     // Makes the acts up to this one durable. Refused with `Io` and `Stopped`.
     fn make_durable(&mut self, act: u64) -> Result<(), Fault>
         requires done { act ≤ self.old.acts }
-        ensures quiet { IsQuiet D.Device self.old self.new }
+        ensures quiet { IsSameButWritten D.Device self.old self.new }
         ensures pool { self.new.pool ≡ self.old.pool }
         ensures durable { OnOk result (act ≤ self.new.durable) }
         ensures forced { act ≤ self.old.durable → IsUnforced D.Device self.old self.new }
@@ -107,7 +107,7 @@ impl<D: Device> LoggedPages<D> {
         requires at { slice_get (changed_of self.old.pool) place ≡ Some block }
         requires act { act ≡ act_of self.old.pool block }
         requires changed { 0 < act }
-        ensures quiet { IsQuiet D.Device self.old self.new }
+        ensures quiet { IsSameButWritten D.Device self.old self.new }
         ensures written { OnOk result (IsWritten self.old.pool self.new.pool place) }
         ensures refused { OnErr result (self.new.pool ≡ self.old.pool) }
         ensures forced { act ≤ self.old.durable → IsUnforced D.Device self.old self.new }
@@ -127,7 +127,7 @@ impl<D: Device> LoggedPages<D> {
         requires home { (page : Page) → held_page self.old.pool block ≡ Some page
             → Has (Rattle.page_codec.specs.Places.place self.old.limits block) (page_bytes page)
             (D.trace self.old.device).now.seen }
-        ensures quiet { IsQuiet D.Device self.old self.new }
+        ensures quiet { IsSameButWritten D.Device self.old self.new }
         ensures written { IsWritten self.old.pool self.new.pool place }
         ensures log { self.new.log ≡ self.old.log }
         ensures device { self.new.device ≡ self.old.device }
@@ -141,7 +141,7 @@ impl<D: Device> LoggedPages<D> {
     /// Writes the page whose first change since it was last written is the earliest to its place, and makes its acts durable
     /// before. None: no page is changed. Refused with `Io` and `Stopped`; the page is changed then as before.
     pub fn flush(&mut self) -> Result<Option<u32>, Fault>
-        ensures quiet { IsQuiet D.Device self.old self.new }
+        ensures quiet { IsSameButWritten D.Device self.old self.new }
         ensures block { IfOk result (λ b. b ≡ slice_get (changed_of self.old.pool) 0) }
         ensures order { OnOk result (changed_of self.new.pool ≡ drop 1 (changed_of self.old.pool)) }
         ensures same { HasSamePages self.old.pool self.new.pool }
@@ -252,7 +252,7 @@ impl<D: Device> LoggedPages<D> {
         ensures pages { SamePages D.Device self.old self.new }
         ensures pool { self.new.pool ≡ self.old.pool }
         ensures room { OnOk result
-            (HasWholeRoom self.old.limits (backing_of (held_of D.Device self.new))) }
+            (LogIsClosed self.old.limits (backing_of (held_of D.Device self.new))) }
         ensures refused { OnErr result (SameRoom D.Device self.old self.new) }
         ensures durable { self.new.durable ≡ self.old.durable }
         ensures waiting { waiting_blocks self.new.log ≡ waiting_blocks self.old.log }
@@ -275,7 +275,7 @@ impl<D: Device> LoggedPages<D> {
         ensures number { IfOk result (λ n. n ≡ self.old.acts) }
         ensures durable { OnOk result (self.new.durable ≡ self.old.acts) }
         ensures room { OnOk result
-            (HasWholeRoom self.old.limits (backing_of (held_of D.Device self.new))) }
+            (LogIsClosed self.old.limits (backing_of (held_of D.Device self.new))) }
         ensures rest { IsRestOf (changed_of self.new.pool) (changed_of self.old.pool) }
         ensures clean { OnOk result (changed_of self.new.pool ≡ []) }
         ensures waits { WaitsOn self.old.acts (backing_of (held_of D.Device self.old))

@@ -63,7 +63,7 @@ impl<D: Device> LoggedPages<D> {
     ghost use Rattle.buffer_pool.specs.Pools.{pool_count, frame_of, held_page};
     ghost use Rattle.page_action.specs.Stored.{AreActable, IsStored};
     ghost use Rattle.page_action.specs.Order.{with_changed};
-    ghost use Rattle.page_action.specs.Room.{HasWholeRoom, HasNoRoomFor};
+    ghost use Rattle.page_action.specs.Room.{LogIsClosed, HasNoRoomFor};
     ghost use Rattle.page_action.specs.States.{with_pages};
     ghost use Rattle.page_codec.specs.declared.page.Page.{Page};
     ghost use Rattle.redo_log.specs.Kept.{groups_end, waiting_blocks};
@@ -108,7 +108,7 @@ impl<D: Device> LoggedPages<D> {
         ensures own { StandsOpened log (D.trace device).now history.start
             → IsOwn (held_of D.Device result) }
         ensures closed { groups_end log ≡ 0
-            → HasWholeRoom limits (backing_of (held_of D.Device result)) }
+            → LogIsClosed limits (backing_of (held_of D.Device result)) }
     {
         pool.law();
         let room = log.room();

@@ -1,7 +1,7 @@
 //! A store over a device in memory: its calls are made to fail, and it is asked what a crash leaves.
 
 ghost use Rattle.std.specs.Prelude.{◌≡◌, IfOk, IfErr};
-ghost use Rattle.device.specs.Disk.{MayLeave, first};
+ghost use Rattle.device.specs.Disk.{MayCrashTo, first};
 ghost use Rattle.device.specs.Memory.{trace_of, left_by, plan_of};
 ghost use Rattle.device.specs.Plans.{no_plan, failing_at, stopping_at};
 ghost use Rattle.page_store.specs.Stores.{state_of, held_by, device_of};
@@ -44,7 +44,7 @@ impl Store<MemDevice> {
     pub fn crash(&self, alloc: Global, image: CrashImage) -> Result<MemDevice, Fault>
         ensures bytes { IfOk result
             (λ d. trace_of d ≡ first (left_by image (device_of ⟦<MemDevice as Device>⟧ self.now))) }
-        ensures left { MayLeave (held_by ⟦<MemDevice as Device>⟧ self.now).trace.now
+        ensures left { MayCrashTo (held_by ⟦<MemDevice as Device>⟧ self.now).trace.now
             (left_by image (device_of ⟦<MemDevice as Device>⟧ self.now)) }
         ensures plan { IfOk result (λ d. plan_of d ≡ no_plan) }
         ensures fault { IfErr result (λ e. e ≡ Fault.NoMemory) }

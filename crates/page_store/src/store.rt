@@ -14,7 +14,7 @@ use page_action::{CallTable, PageStore};
 use page_codec::Page;
 use redo_log::Log;
 
-/// The pages of an index over a device: a log makes acts durable, and a crash leaves the pages after some first part
+/// The pages of an index over a device: a log makes acts durable, and a crash leaves the pages after some prefix
 /// of the acts, with all that were durable. Of the pages in use at most so many are held in memory as the store has frames,
 /// and nothing allocates.
 #[derive(Drop)]
@@ -31,24 +31,24 @@ impl<D: Device> Store<D> {
     ghost use Rattle.buffer_pool.specs.Pools.{most_of, frame_of};
     ghost use Rattle.latch_table.specs.Holdings.{pinned_blocks};
     ghost use Rattle.page_action.specs.Stored.{AreActable};
-    ghost use Rattle.device.specs.Disk.{MayLeave};
-    ghost use Rattle.device.specs.Moments.{MayHaveLeft};
+    ghost use Rattle.device.specs.Disk.{MayCrashTo};
+    ghost use Rattle.device.specs.Moments.{MayHaveCrashedTo};
     ghost use Rattle.redo_log.specs.Kept.{limits_of, actions_of, waiting_count, groups_end, is_stopped};
-    ghost use Rattle.page_action.specs.Room.{HasWholeRoom};
+    ghost use Rattle.page_action.specs.Room.{LogIsClosed};
     ghost use Rattle.page_store.specs.Logged.{Held, IsOwn, StandsOpened, backing_of};
     ghost use Rattle.page_store.specs.Histories.{pages_after};
     ghost use Rattle.page_store.specs.Following.{Follows};
     ghost use Rattle.page_codec.specs.Places.{place};
     ghost use Rattle.page_store.specs.Restart.{RestartsToPart};
-    ghost use Rattle.page_store.specs.Quiet.{IsQuiet};
+    ghost use Rattle.page_store.specs.Quiet.{IsSameButWritten};
     ghost use Rattle.page_store.specs.Rooms.{limits_of_room, frames_of_room, pages_of_room, counts_of_room};
     ghost use Rattle.page_store.specs.Stores.{state_of, held_by, device_of, store_history, opened_state, IsOwnStore};
     ghost use Rattle.page_store.specs.Taking.{GetFrames, TakingFails};
     ghost use Rattle.page_store.specs.Writing.{AreSeen};
 
-    /// A store of the pages that were read from this device, whose log was just opened and closed. `counter` is the last
+    /// A store of the pages that were read from this device, whose log was just opened and closed. `last_cycle` is the last
     /// cycle number that was given.
-    pub fn new(device: D, log: Log, room: StoreRoom, counter: u32) -> Store<D>
+    pub fn new(device: D, log: Log, room: StoreRoom, last_cycle: u32) -> Store<D>
         requires limits { limits_of log ≡ limits_of_room room }
         requires fresh { actions_of log ≡ 0 }
         requires idle { waiting_count log ≡ 0 }
@@ -59,12 +59,12 @@ impl<D: Device> Store<D> {
             → AreSeen (limits_of_room room) (pages_of_room room) (D.trace device).now }
         ensures state { state_of D.Device result
             ≡ opened_state (limits_of_room room) (frames_of_room room) (pages_of_room room)
-            (counts_of_room room) counter }
+            (counts_of_room room) last_cycle }
         ensures device { device_of D.Device result ≡ device }
         ensures durable { (backing_of (held_by D.Device result)).durable ≡ 0 }
         ensures stopped { (backing_of (held_by D.Device result)).stopped ≡ is_stopped log }
         ensures room { groups_end log ≡ 0
-            → HasWholeRoom (limits_of_room room) (backing_of (held_by D.Device result)) }
+            → LogIsClosed (limits_of_room room) (backing_of (held_by D.Device result)) }
         ensures own { StandsOpened log (D.trace device).now (pages_of_room room)
             → IsOwnStore D.Device result }
     {
@@ -78,7 +78,7 @@ impl<D: Device> Store<D> {
                 room.history,
                 room.decoded,
             ),
-            calls: CallTable::new(room.numbers, room.calls, counter),
+            calls: CallTable::new(room.numbers, room.calls, last_cycle),
         }
     }
 
@@ -93,15 +93,15 @@ impl<D: Device> Store<D> {
     pub fn crash_law(&self)
         ensures restarts { (first : Held) (image : List ℕ) → IsOwn first
             → Follows first (held_by D.Device self.now)
-            → MayHaveLeft first.trace (held_by D.Device self.now).trace image
+            → MayHaveCrashedTo first.trace (held_by D.Device self.now).trace image
             → RestartsToPart (state_of D.Device self.now).limits
             (store_history D.Device self.now) first.durable image }
         ensures pages { (first : Held) → IsOwn first → Follows first (held_by D.Device self.now)
             → pages_now first.history ≡ pages_after (store_history D.Device self.now) first.acts }
         ensures own { (first : Held) → IsOwn first → Follows first (held_by D.Device self.now)
             → IsOwnStore D.Device self.now }
-        ensures now { (image : List ℕ) → MayLeave (held_by D.Device self.now).trace.now image
-            → MayHaveLeft (held_by D.Device self.now).trace
+        ensures now { (image : List ℕ) → MayCrashTo (held_by D.Device self.now).trace.now image
+            → MayHaveCrashedTo (held_by D.Device self.now).trace
             (held_by D.Device self.now).trace image }
     {}
 
@@ -110,7 +110,7 @@ impl<D: Device> Store<D> {
         requires few { length pages.now ≤ 4 }
         requires actable { AreActable self.old.held.limits
             (length (pages_now self.old.held.history)) pages.now }
-        ensures quiet { IsQuiet D.Device self.old.held self.new.held }
+        ensures quiet { IsSameButWritten D.Device self.old.held self.new.held }
         ensures frames { GetFrames D.Device
             (map (λ page. page.block) pages.now ++ pinned_blocks self.old.calls.table)
             (map (λ page. page.block) pages.now) self.old.held self.new.held }
@@ -135,7 +135,7 @@ impl<D: Device> Store<D> {
 
 ghost use Rattle.std.specs.Prelude.{◌++◌, map};
 
-/// The blocks of these pages, and the pinned ones behind them.
+/// The blocks of these pages, and the pinned ones after them.
 fn with_blocks(pages: &[Page], pinned: &ArrayVec<u32, 128>) -> ArrayVec<u32, 132>
     requires { length pages.now ≤ 4 }
     ensures { result.items ≡ map (λ page. page.block) pages.now ++ pinned.now.items }
@@ -180,7 +180,7 @@ impl<D: Device> PageStore for Store<D> {
         if block >= self.held.used {
             return Err(Fault::PageDamaged(block));
         }
-        if self.held.look(block) {
+        if self.held.note_use(block) {
             return Ok(());
         }
         let pinned = self.calls.pinned();

@@ -2,7 +2,7 @@
 
 ghost use Rattle.std.specs.Prelude.{◌≡◌, ◌⊎◌, ◌+◌, ◌<◌, ◌≤◌, IsTrue, true, length, OnOk};
 ghost use Rattle.device.specs.Disk.{CountsFailures, Writes};
-ghost use Rattle.device.specs.Moments.{Goes};
+ghost use Rattle.device.specs.Moments.{AtEachMoment};
 ghost use Rattle.device.specs.Places.{Has, ChangesOnly};
 ghost use Rattle.page_action.specs.Stored.{IsStored};
 ghost use Rattle.page_codec.specs.Spelling.{page_bytes};
@@ -37,7 +37,7 @@ pub(crate) fn write_page<D: Device>(
 ) -> Result<(), Fault>
     requires block { block < limits.pages }
     requires inside { place limits limits.pages ≤ length (D.trace device.old).now.seen }
-    ensures moments { Goes (ChangesOnly (place limits block) 4096 (D.trace device.old).now)
+    ensures moments { AtEachMoment (ChangesOnly (place limits block) 4096 (D.trace device.old).now)
         (D.trace device.old) (D.trace device.new) }
     ensures written { OnOk result
         (Has (place limits block) (page_bytes page.now) (D.trace device.new).now.seen) }

@@ -91,11 +91,11 @@ pub found_same : (r : Result Parts Fault) (found limits : Format) (pages : List 
 found_same (Ok parts) found limits pages honest file m is restored same = (restored.read.read.limits_are ∙ is, same)
 found_same (Err e) found limits pages honest file m is restored same = same
 
--- a call that came behind one that didn't fail
-pub fails_behind : {T : Type 0} (r : Result T Fault) (P Q : Fault → Type 0) (fails middle failed : ℕ) → middle ≡ failed
+-- a call that came after one that didn't fail
+pub fails_after : {T : Type 0} (r : Result T Fault) (P Q : Fault → Type 0) (fails middle failed : ℕ) → middle ≡ failed
     → ((e : Fault) → IsIoOr P middle fails e → IsIoOr Q failed fails e) → FailsWithIoOr P r middle fails → FailsWithIoOr Q r failed fails
-fails_behind (Ok x) P Q fails middle failed same f p = p ∙ same
-fails_behind (Err e) P Q fails middle failed same f p = f e p
+fails_after (Ok x) P Q fails middle failed same f p = p ∙ same
+fails_after (Err e) P Q fails middle failed same f p = f e p
 
 pub restore_refuses : (limits : Format) (honest before : Bool) (frames : ℕ) (t u v : Trace) (e : Fault) (fails middle failed : ℕ) → AreFrames frames
     → (IsTrue honest → IsTrue before) → (IsTrue before → IsFront limits t.now.seen) → u ≡ t → middle ≡ failed

@@ -45,9 +45,9 @@ stand-more limits pages page file stand here block p found = elim (cases_eq (len
 pub read_more : (limits : Format) (before after : Bool) (file : List ℕ) (old new : Found) (page : Page) → (IsTrue after → IsTrue before)
     → HasReadPages limits before file old → limits_of_room new.room ≡ limits_of_room old.room
     → pages_of_room new.room ≡ pages_of_room old.room ++ page ∷ [] → counts_of_room new.room ≡ counts_of_room old.room ++ 0 ∷ []
-    → IsStored limits (length (pages_of_room old.room)) page → new.counter ≡ max old.counter page.cycle
+    → IsStored limits (length (pages_of_room old.room)) page → new.last_cycle ≡ max old.last_cycle page.cycle
     → (IsTrue after → block_bytes limits (length (pages_of_room old.room)) file ≡ page_bytes page) → HasReadPages limits after file new
-read_more limits before after file old new page earlier read same pages counts stored counter here =
+read_more limits before after file old new page earlier read same pages counts stored last_cycle here =
     let count : length (pages_of_room new.room) ≡ suc (length (pages_of_room old.room)) = omega (arith, ap length pages, length-append (pages_of_room old.room) (page ∷ [])) in
     record {
       limits_are = same ∙ read.limits_are;
@@ -55,7 +55,7 @@ read_more limits before after file old new page earlier read same pages counts s
           (stored-add limits 0 (pages_of_room old.room) page read.stored
           (let e : 0 + length (pages_of_room old.room) ≡ length (pages_of_room old.room) = omega arith in subst (λ (b : ℕ). IsStored limits b page) (sym e) stored));
       counts = counts ∙ (ap (λ (l : List ℕ). l ++ 0 ∷ []) read.counts ∙ (zeros-more (length (pages_of_room old.room)) ∙ ap (λ (n : ℕ). replicate {A = ℕ} n 0) (sym count)));
-      counter = counter ∙ (ap (λ (n : ℕ). max n page.cycle) read.counter ∙ (sym (cycle-more (pages_of_room old.room) page) ∙ ap greatest_cycle (sym pages)));
+      last_cycle = last_cycle ∙ (ap (λ (n : ℕ). max n page.cycle) read.last_cycle ∙ (sym (cycle-more (pages_of_room old.room) page) ∙ ap greatest_cycle (sym pages)));
       stand = λ honest. subst (λ (ps : List Page). StandFirst limits ps file) (sym pages) (stand-more limits (pages_of_room old.room) page file (read.stand (earlier honest)) (here honest));
     }
 

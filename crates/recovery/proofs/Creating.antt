@@ -5,7 +5,7 @@ use Rattle.std.proofs.lemmas.Bool.Decides.{nat_tests}
 use Rattle.std.specs.Prelude.{OnOk, ◌||◌}
 use Rattle.std.proofs.lemmas.Bool.{cases_lt}
 use Rattle.device.specs.Disk.{DiskMoment, Trace, Writes, Syncs, next, wrote, synced, is_in}
-use Rattle.device.specs.Moments.{Goes}
+use Rattle.device.specs.Moments.{AtEachMoment}
 use Rattle.device.specs.Places.{Has, OnDisk, ChangesOnly}
 use Rattle.device.proofs.Going.{steps, goes_on, goes_weaker, goes_now, writes_goes, syncs_goes}
 use Rattle.device.proofs.Standing.{only_wider, only_more, same_only, has_kept, kept, on_image, wrote_only, wrote_has, synced_only, synced_on}
@@ -13,7 +13,7 @@ use Rattle.index_model.specs.declared.format.Format.{Format}
 use Rattle.page_codec.specs.Spelling.{page_bytes}
 use Rattle.page_codec.specs.declared.page.Page.{Page}
 use Rattle.page_codec.specs.Places.{superblock, place}
-use Rattle.recovery.specs.Fresh.{IsFirstMeta, IsFirstLeaf, AreZero, HasPages, HasBody, WritesFront, LeavesNoMagic, IsMaking, IsEmptyIndex}
+use Rattle.recovery.specs.Fresh.{IsFirstMeta, IsFirstLeaf, AreZero, HasPages, HasBody, WritesFront, CrashesToNoMagic, IsMaking, IsEmptyIndex}
 
 -- what follows from success
 pub on_ok : {T E : Type 0} (P Q : Type 0) (r : Result T E) → (P → Q) → OnOk r P → OnOk r Q
@@ -90,19 +90,19 @@ body_stays limits a b only body = record {
 }
 
 -- at the end nothing else has changed
-pub only_now : (at n : ℕ) (t u : Trace) → Goes (ChangesOnly at n t.now) t u → ChangesOnly at n t.now u.now
+pub only_now : (at n : ℕ) (t u : Trace) → AtEachMoment (ChangesOnly at n t.now) t u → ChangesOnly at n t.now u.now
 only_now at n t u moments = goes_now _ t u moments (same_only at n t.now)
 
-pub wider_goes : (at n start size : ℕ) (t u : Trace) → start ≤ at → at + n ≤ start + size → Goes (ChangesOnly at n t.now) t u → Goes (ChangesOnly start size t.now) t u
+pub wider_goes : (at n start size : ℕ) (t u : Trace) → start ≤ at → at + n ≤ start + size → AtEachMoment (ChangesOnly at n t.now) t u → AtEachMoment (ChangesOnly start size t.now) t u
 wider_goes at n start size t u lo hi moments = goes_weaker _ _ t u (λ m only. only_wider at n start size t.now m lo hi only) moments
 
 -- nor does it while more is written there
-pub more_goes : (at n start size : ℕ) (t u v : Trace) → start ≤ at → at + n ≤ start + size → Goes (ChangesOnly start size t.now) t u
-    → Goes (ChangesOnly at n u.now) u v → Goes (ChangesOnly start size t.now) t v
+pub more_goes : (at n start size : ℕ) (t u v : Trace) → start ≤ at → at + n ≤ start + size → AtEachMoment (ChangesOnly start size t.now) t u
+    → AtEachMoment (ChangesOnly at n u.now) u v → AtEachMoment (ChangesOnly start size t.now) t v
 more_goes at n start size t u v lo hi first second = goes_on _ t u v first
     (goes_weaker _ _ u v (λ m only. only_more start size t.now u.now m (only_now start size t u first) (only_wider at n start size u.now m lo hi only)) second)
 
-pub synced_goes : {T E : Type 0} (at n : ℕ) (r : Result T E) (t u v : Trace) → Goes (ChangesOnly at n t.now) t u → Syncs r u v → Goes (ChangesOnly at n t.now) t v
+pub synced_goes : {T E : Type 0} (at n : ℕ) (r : Result T E) (t u v : Trace) → AtEachMoment (ChangesOnly at n t.now) t u → Syncs r u v → AtEachMoment (ChangesOnly at n t.now) t v
 synced_goes at n r t u v first s = goes_on _ t u v first (syncs_goes _ r u v s (only_more at n t.now u.now (synced u.now) (only_now at n t u first) (synced_only at n u.now)))
 
 -- the superblock's bytes are written and synced
@@ -116,10 +116,10 @@ module _ (bytes : List ℕ) (t : Trace) (long : length bytes ≡ 4096) (inside :
     either = inl (λ i lt. is_loose b (n ∙ long) i lt);
   }
 
-  pub front_written : {T E : Type 0} (r : Result T E) (u : Trace) → Writes 0 bytes r t u → Goes (WritesFront bytes t.now) t u
+  pub front_written : {T E : Type 0} (r : Result T E) (u : Trace) → Writes 0 bytes r t u → AtEachMoment (WritesFront bytes t.now) t u
   front_written r u w = writes_goes _ 0 bytes r t u w (λ b n. front_wrote b n)
 
-  pub front_synced : {T E : Type 0} (r : Result T E) (u v : Trace) → u ≡ next (wrote 0 bytes t.now) t → Syncs r u v → Goes (WritesFront bytes t.now) t v
+  pub front_synced : {T E : Type 0} (r : Result T E) (u v : Trace) → u ≡ next (wrote 0 bytes t.now) t → Syncs r u v → AtEachMoment (WritesFront bytes t.now) t v
   front_synced r u v is s =
       let now : u.now ≡ wrote 0 bytes t.now = ap (λ (x : Trace). x.now) is in
       let only : ChangesOnly 0 4096 t.now u.now = subst (ChangesOnly 0 4096 t.now) (sym now) (front_wrote bytes refl).only in
@@ -130,23 +130,23 @@ module _ (bytes : List ℕ) (t : Trace) (long : length bytes ≡ 4096) (inside :
       }))
 
 -- zeros don't begin as an index does
-pub no_magic : (m : DiskMoment) → OnDisk 0 (replicate 4096 0) m → LeavesNoMagic m
+pub no_magic : (m : DiskMoment) → OnDisk 0 (replicate 4096 0) m → CrashesToNoMagic m
 no_magic m on image left is =
     let zero = (on_image 0 (replicate 4096 0) m image on left).each 0 (omega (arith, length-replicate {A = ℕ} 4096 0)) in
     let first : get_or image 0 0 ≡ 66 = sym (get_or-take 8 image 0 0 (omega arith)) ∙ ap (λ (l : List ℕ). get_or l 0 0) is in
     absurd (omega (arith, first, zero))
 
 -- while an index is made
-module _ (limits : Format) (t u : Trace) (clearing : Goes (WritesFront (replicate 4096 0) t.now) t u) where
-  pub clearing_goes : Goes (IsMaking limits t.now) t u
+module _ (limits : Format) (t u : Trace) (clearing : AtEachMoment (WritesFront (replicate 4096 0) t.now) t u) where
+  pub clearing_goes : AtEachMoment (IsMaking limits t.now) t u
   clearing_goes = goes_weaker _ _ t u (λ m w. ⊎_elim (λ loose. inl (record { front = loose; only = w.only })) (λ on. inr (inl (no_magic m on))) w.either) clearing
 
-  module _ (v : Trace) (n : ℕ) (cleared : OnDisk 0 (replicate 4096 0) u.now) (placing : Goes (ChangesOnly 4096 n u.now) u v) where
-    pub placing_goes : Goes (IsMaking limits t.now) t v
+  module _ (v : Trace) (n : ℕ) (cleared : OnDisk 0 (replicate 4096 0) u.now) (placing : AtEachMoment (ChangesOnly 4096 n u.now) u v) where
+    pub placing_goes : AtEachMoment (IsMaking limits t.now) t v
     placing_goes = goes_on _ t u v clearing_goes
         (goes_weaker _ _ u v (λ m only. inr (inl (no_magic m (kept 4096 n 0 (replicate 4096 0) u.now m only (inl (omega (arith, length-replicate {A = ℕ} 4096 0))) cleared)))) placing)
 
-    pub finishing_goes : (w : Trace) (bytes : List ℕ) → bytes ≡ superblock limits → HasBody limits v.now → Goes (WritesFront bytes v.now) v w → Goes (IsMaking limits t.now) t w
+    pub finishing_goes : (w : Trace) (bytes : List ℕ) → bytes ≡ superblock limits → HasBody limits v.now → AtEachMoment (WritesFront bytes v.now) v w → AtEachMoment (IsMaking limits t.now) t w
     finishing_goes w bytes is body finishing = goes_on _ t v w placing_goes
         (goes_weaker _ _ v w (λ m f. inr (inr (record {
           body = body_stays limits v.now m f.only body;
@@ -155,7 +155,7 @@ module _ (limits : Format) (t u : Trace) (clearing : Goes (WritesFront (replicat
 
 -- the index is made, once its superblock stands
 pub fresh_made : {T E : Type 0} (limits : Format) (r : Result T E) (bytes : List ℕ) (t u : Trace) → bytes ≡ superblock limits → HasBody limits t.now
-    → Goes (WritesFront bytes t.now) t u → OnOk r (OnDisk 0 bytes u.now)
+    → AtEachMoment (WritesFront bytes t.now) t u → OnOk r (OnDisk 0 bytes u.now)
     → OnOk r (IsEmptyIndex limits u.now)
 fresh_made limits (Ok x) bytes t u is body moments on = record {
   superblock = subst (λ (l : List ℕ). OnDisk 0 l u.now) is on;

@@ -1,7 +1,7 @@
 -- A device with an empty index on it leaves that index, whatever crashes.
 use Rattle.std.proofs.Common.{◌≡◌, inr, ℕ, zero, suc, ◌+◌, ◌-◌, ◌≤◌, Some, List, [], ◌∷◌, length, replicate, slice_get, refl, sym, ap, subst, arith}
 use Rattle.std.proofs.lemmas.List.{length-replicate}
-use Rattle.device.specs.Disk.{DiskMoment, MayLeave}
+use Rattle.device.specs.Disk.{DiskMoment, MayCrashTo}
 use Rattle.device.specs.Places.{Has}
 use Rattle.device.proofs.Standing.{on_image}
 use Rattle.index_model.specs.Limits.{AreLimits, Admits}
@@ -17,7 +17,7 @@ use Rattle.page_codec.specs.declared.page.Page.{Page}
 use Rattle.page_codec.specs.Places.{superblock, place}
 use Rattle.page_store.specs.Restart.{StandsAtHome, RestartsTo}
 use Rattle.redo_log.proofs.Leaving.{shut_stands}
-use Rattle.recovery.specs.Fresh.{IsFirstMeta, IsFirstLeaf, HasBody, IsEmptyIndex, LeavesEmpty}
+use Rattle.recovery.specs.Fresh.{IsFirstMeta, IsFirstLeaf, HasBody, IsEmptyIndex, CrashesToEmpty}
 
 -- each index may have them
 may_have : (limits : Format) (page : Page) → page.layout ≡ Two → Admits limits.layout page.layout
@@ -43,11 +43,11 @@ leaf_stored : (limits : Format) (leaf : Page) → IsFirstLeaf leaf → IsStored 
 leaf_stored limits leaf is =
     record { storable = record { admitted = is.page; few = omega (arith, no_entries leaf.items is.kind is.empty); layout = may_have limits leaf is.layout }; block_is = is.block }
 
-module _ (limits : Format) (allowed : AreLimits limits) (m : DiskMoment) (fresh : IsEmptyIndex limits m) (image : List ℕ) (left : MayLeave m image) where
+module _ (limits : Format) (allowed : AreLimits limits) (m : DiskMoment) (fresh : IsEmptyIndex limits m) (image : List ℕ) (left : MayCrashTo m image) where
   abbrev body : HasBody limits m
   body = fresh.body
 
-  -- behind the superblock no crash changes anything
+  -- after the superblock no crash changes anything
   stays : (at : ℕ) (bytes : List ℕ) → 4096 ≤ at → Has at bytes m.seen → Has at bytes image
   stays at bytes behind has = on_image at bytes m image (record { has = has; firm = λ i lt. body.firm (at + i) (omega arith) }) left
 
@@ -74,7 +74,7 @@ module _ (limits : Format) (allowed : AreLimits limits) (m : DiskMoment) (fresh 
     unused = λ block past small. record { unnamed = refl; has = stays (place limits block) (replicate 4096 0) (omega arith) (body.pages.unused block past small) };
   }
 
-pub fresh_leaves : (limits : Format) → AreLimits limits → (m : DiskMoment) → IsEmptyIndex limits m → LeavesEmpty limits m
+pub fresh_leaves : (limits : Format) → AreLimits limits → (m : DiskMoment) → IsEmptyIndex limits m → CrashesToEmpty limits m
 fresh_leaves limits allowed m fresh = record {
   meta = fresh.body.pages.meta;
   is_meta = fresh.body.pages.is_meta;

@@ -11,15 +11,15 @@ use Rattle.recovery.specs.Superblock.{IsNoSuperblock}
 -- a superblock is refused with one of three faults
 fault_of : (bytes : List ℕ) (fault : Fault) → IsNoSuperblock bytes fault → IsFrontFault fault
 fault_of bytes fault (inl begins) = inl begins.0
-fault_of bytes fault (inr magic) = behind_magic magic.1
+fault_of bytes fault (inr magic) = after_magic magic.1
   where
-    behind_layout : {A B C : Type 0} → ((fault ≡ BadLimits) × A) ⊎ (B × (fault ≡ BadSuper) × C) → IsFrontFault fault
-    behind_layout (inl limits) = inr (inr limits.0)
-    behind_layout (inr rest) = inl rest.1
+    after_layout : {A B C : Type 0} → ((fault ≡ BadLimits) × A) ⊎ (B × (fault ≡ BadSuper) × C) → IsFrontFault fault
+    after_layout (inl limits) = inr (inr limits.0)
+    after_layout (inr rest) = inl rest.1
 
-    behind_magic : {A B C D E : Type 0} → ((fault ≡ BadVersion) × A) ⊎ (B × (((fault ≡ BadLimits) × C) ⊎ (D × (fault ≡ BadSuper) × E))) → IsFrontFault fault
-    behind_magic (inl layout) = inr (inl layout.0)
-    behind_magic (inr rest) = behind_layout rest.1
+    after_magic : {A B C D E : Type 0} → ((fault ≡ BadVersion) × A) ⊎ (B × (((fault ≡ BadLimits) × C) ⊎ (D × (fault ≡ BadSuper) × E))) → IsFrontFault fault
+    after_magic (inl layout) = inr (inl layout.0)
+    after_magic (inr rest) = after_layout rest.1
 
 module _ (honest : Bool) (frames : ℕ) (file bytes : List ℕ) (are : AreFrames frames) (long : 4096 ≤ length file) (read : IsTrue honest → take 4096 file ≡ bytes) where
   -- bytes that are no superblock

@@ -1,8 +1,8 @@
 -- Images are written to their places, one block after the other.
-use Rattle.std.proofs.Common.{◌≡◌, inl, inr, ℕ, ◌+◌, ◌*◌, ◌<◌, ◌≤◌, Some, None, List, length, sym, ◌∙◌, ap, subst, arith}
+use Rattle.std.proofs.Common.{◌≡◌, inl, inr, ℕ, ◌+◌, ◌*◌, ◌<◌, Some, None, List, length, sym, ◌∙◌, ap, subst, arith}
 use Rattle.std.proofs.lemmas.Bool.{cases_eq}
 use Rattle.device.specs.Disk.{DiskMoment, Trace, synced}
-use Rattle.device.specs.Moments.{Goes}
+use Rattle.device.specs.Moments.{AtEachMoment}
 use Rattle.device.specs.Places.{Has, ChangesOnly}
 use Rattle.device.proofs.Going.{goes_weaker, goes_now}
 use Rattle.device.proofs.Standing.{has_kept, kept, same_only, only_more, only_wider, synced_only, synced_on}
@@ -47,11 +47,11 @@ HomedBelow limits found k file = (block : ℕ) (bytes : List ℕ) → block < k 
 
 -- one image more was written there
 module _ (limits : Format) (found : Replayed) (k at : ℕ) (image : List ℕ) (t u : Trace) (named : Some image ≡ kept_image found k)
-    (long : length image ≡ 4096) (there : at ≡ place limits k) (moments : Goes (ChangesOnly at (length image) t.now) t u) where
-  block_goes : Goes (ChangesOnly (place limits k) 4096 t.now) t u
-  block_goes = subst (λ (n : ℕ). Goes (ChangesOnly (place limits k) n t.now) t u) long (subst (λ (a : ℕ). Goes (ChangesOnly a (length image) t.now) t u) there moments)
+    (long : length image ≡ 4096) (there : at ≡ place limits k) (moments : AtEachMoment (ChangesOnly at (length image) t.now) t u) where
+  block_goes : AtEachMoment (ChangesOnly (place limits k) 4096 t.now) t u
+  block_goes = subst (λ (n : ℕ). AtEachMoment (ChangesOnly (place limits k) n t.now) t u) long (subst (λ (a : ℕ). AtEachMoment (ChangesOnly a (length image) t.now) t u) there moments)
 
-  pub named_goes : (start : DiskMoment) → k < limits.pages → ChangesNamed limits found start t.now → Goes (ChangesNamed limits found start) t u
+  pub named_goes : (start : DiskMoment) → k < limits.pages → ChangesNamed limits found start t.now → AtEachMoment (ChangesNamed limits found start) t u
   named_goes start few now = goes_weaker _ _ t u (λ m only. named_both limits found start t.now m now (only_named limits found k image t.now m few (sym named) only)) block_goes
 
   -- so that of one block more the last image stands at home
@@ -73,9 +73,6 @@ none_homed limits found k file none before block bytes lt found_bytes = elim (ca
   | inl same ↦ let h : Some bytes ≡ None = sym found_bytes ∙ (ap (kept_image found) (sym same) ∙ none) in absurd cc
   | inr other ↦ before block bytes (omega (arith, lt, other)) found_bytes
 ]
-
-pub all_homed : (limits : Format) (found : Replayed) (k : ℕ) (file : List ℕ) → limits.pages ≤ k → HomedBelow limits found k file → HasImages limits found file
-all_homed limits found k file all before block bytes few found_bytes = (before block bytes (omega (arith, all, few)) found_bytes).1
 
 pub homed : (limits : Format) (found : Replayed) (m : DiskMoment) → HasImages limits found m.seen → AreHomed limits found (synced m)
 homed limits found m has block bytes few found_bytes = synced_on (place limits block) bytes m (has block bytes few found_bytes)

@@ -4,8 +4,8 @@ use Rattle.std.proofs.lemmas.List.{take_all, length-replicate}
 use Rattle.std.proofs.lemmas.Grind.{same_number_lists}
 use Rattle.std.proofs.lemmas.Option.{slice_get_within}
 use Rattle.std.specs.Option.{option_map}
-use Rattle.device.specs.Disk.{DiskMoment, Trace, MayLeave, Syncs, synced}
-use Rattle.device.specs.Moments.{Goes}
+use Rattle.device.specs.Disk.{DiskMoment, Trace, MayCrashTo, Syncs, synced}
+use Rattle.device.specs.Moments.{AtEachMoment}
 use Rattle.device.specs.Places.{Has, OnDisk, ChangesOnly}
 use Rattle.device.proofs.Going.{goes_weaker, goes_both, goes_now, syncs_goes}
 use Rattle.device.proofs.Standing.{elsewhere_untouched, on_image, kept, same_only}
@@ -19,12 +19,12 @@ use Rattle.page_codec.specs.declared.page.Page.{Page}
 use Rattle.page_codec.proofs.Laws.{length-page}
 use Rattle.page_store.specs.Logged.{AreHome, StandsOpened}
 use Rattle.page_codec.specs.Places.{superblock, place}
-use Rattle.page_store.specs.Restart.{RestartsTo, LeavesPages}
+use Rattle.page_store.specs.Restart.{RestartsTo, CrashesToPages}
 use Rattle.page_store.proofs.Restarting.{superblock_kept}
 use Rattle.redo_log.specs.Groups.{SpellsGroups, log_range}
 use Rattle.redo_log.specs.Images.{last_image, images_of, SameImages}
-use Rattle.redo_log.specs.Kept.{Keeps, Restarts, RestartsOrEmpty, RestartsOrEmptyThroughout, ChangesItsRange, ForgetsForced, KeepsWhileUntouched, WhatItKeepsRestarts, limits_of, waiting_count}
-use Rattle.redo_log.specs.Reading.{Replays, IsOpened, IsDamaged, KeepsLast, kept_image}
+use Rattle.redo_log.specs.Kept.{LogHolds, Restarts, RestartsOrEmpty, RestartsOrEmptyThroughout, ChangesItsRange, ForgetsForced, KeepsWhileUntouched, WhatItKeepsRestarts, limits_of, waiting_count}
+use Rattle.redo_log.specs.Reading.{Replays, IsOpened, IsDamaged, HoldsLast, kept_image}
 use Rattle.redo_log.specs.declared.log.Log.{Log}
 use Rattle.redo_log.specs.declared.log.Replayed.{Replayed}
 use Rattle.redo_log.proofs.Keeping.{forgets_all}
@@ -57,7 +57,7 @@ stands_at limits pages m firm r = record {
 }
 
 -- a crash leaves it, where the log's range that it leaves has these images
-pub stands_leaves : (limits : Format) (images pages : List Page) (m : DiskMoment) → Stands limits images pages m → (image : List ℕ) → MayLeave m image
+pub stands_leaves : (limits : Format) (images pages : List Page) (m : DiskMoment) → Stands limits images pages m → (image : List ℕ) → MayCrashTo m image
     → (groups : List (List Page)) → SpellsGroups limits (log_range limits image) groups
     → ((block : ℕ) → last_image (images_of groups) block ≡ last_image images block) → RestartsTo limits image pages
 stands_leaves limits images pages m s image left groups spells same = record {
@@ -73,11 +73,11 @@ stands_leaves limits images pages m s image left groups spells same = record {
 }
 
 -- what is kept of a block without an image
-unkept : (found : Replayed) (images : List Page) (block : ℕ) → KeepsLast found images → last_image images block ≡ None → kept_image found block ≡ None
+unkept : (found : Replayed) (images : List Page) (block : ℕ) → HoldsLast found images → last_image images block ≡ None → kept_image found block ≡ None
 unkept found images block lasts none = lasts.each block ∙ ap (option_map page_bytes) none
 
 -- it stays while places of blocks with an image are written
-pub stands_named : (limits : Format) (images pages : List Page) (found : Replayed) (a b : DiskMoment) → KeepsLast found images
+pub stands_named : (limits : Format) (images pages : List Page) (found : Replayed) (a b : DiskMoment) → HoldsLast found images
     → ChangesNamed limits found a b → Stands limits images pages a → Stands limits images pages b
 stands_named limits images pages found a b lasts change s = record {
   superblock_on = superblock_kept limits (place limits 0) (4096 * limits.pages) a b (omega arith) change.only s.superblock_on;
@@ -107,7 +107,7 @@ stands_logged limits images pages a b only s = record {
 }
 
 -- once the images are written all pages stand at home
-pub stands_home : (limits : Format) (images pages : List Page) (found : Replayed) (m : DiskMoment) → KeepsLast found images → AreHomed limits found m
+pub stands_home : (limits : Format) (images pages : List Page) (found : Replayed) (m : DiskMoment) → HoldsLast found images → AreHomed limits found m
     → Stands limits images pages m → Stands limits [] pages m
 stands_home limits images pages found m lasts homed s = record {
   superblock_on = s.superblock_on;
@@ -127,23 +127,23 @@ home_of limits pages m s = record {
 }
 
 -- a crash leaves a synced device as it is
-pub left_synced : (m : DiskMoment) (image : List ℕ) → IsSynced m → MayLeave m image → image ≡ m.seen
+pub left_synced : (m : DiskMoment) (image : List ℕ) → IsSynced m → MayCrashTo m image → image ≡ m.seen
 left_synced m image firm left = same_number_lists image m.seen left.same_length (λ i lt. left.same i (firm i))
 
-pub sync_leaves : {T E : Type 0} (limits : Format) (pages : List Page) (r : Result T E) (t u : Trace) → RestartsTo limits t.now.seen pages → Syncs r t u → Goes (LeavesPages limits pages) t u
+pub sync_leaves : {T E : Type 0} (limits : Format) (pages : List Page) (r : Result T E) (t u : Trace) → RestartsTo limits t.now.seen pages → Syncs r t u → AtEachMoment (CrashesToPages limits pages) t u
 sync_leaves limits pages r t u restarts s =
-    syncs_goes (LeavesPages limits pages) r t u s (λ image left. subst (λ (file : List ℕ). RestartsTo limits file pages) (sym (left_synced (synced t.now) image (λ i. refl) left)) restarts)
+    syncs_goes (CrashesToPages limits pages) r t u s (λ image left. subst (λ (file : List ℕ). RestartsTo limits file pages) (sym (left_synced (synced t.now) image (λ i. refl) left)) restarts)
 
 -- the same from an equal start
-pub named_from : (limits : Format) (found : Replayed) (t t' u : Trace) → t' ≡ t → Goes (ChangesNamed limits found t'.now) t' u → Goes (ChangesNamed limits found t.now) t u
-named_from limits found t t' u e moments = subst (λ (x : Trace). Goes (ChangesNamed limits found x.now) x u) e moments
+pub named_from : (limits : Format) (found : Replayed) (t t' u : Trace) → t' ≡ t → AtEachMoment (ChangesNamed limits found t'.now) t' u → AtEachMoment (ChangesNamed limits found t.now) t u
+named_from limits found t t' u e moments = subst (λ (x : Trace). AtEachMoment (ChangesNamed limits found x.now) x u) e moments
 
 -- a log that was just replayed over an index
 pub record IsReplayed (limits : Format) (images pages : List Page) (found : Replayed) (t : Trace) : Type 0 where
   pub firm : IsSynced t.now
   pub restarts : RestartsTo limits t.now.seen pages
   pub opened : IsOpened limits found.log
-  pub lasts : KeepsLast found images
+  pub lasts : HoldsLast found images
   pub replays : Replays limits t.now found.log images
   pub law : KeepsWhileUntouched found.log
   pub leaves : WhatItKeepsRestarts found.log
@@ -160,7 +160,7 @@ module _ (limits : Format) (images pages : List Page) (found : Replayed) (t : Tr
       let one : r.restarts.groups ≡ gs = r.replays.only r.restarts.groups r.restarts.spells in
       subst (λ (l : List Page). Stands limits l pages t.now) (ap images_of one ∙ sym r.replays.images_are) (stands_at limits pages t.now r.firm r.restarts)
 
-  keeps : Keeps log t.now gs (length gs)
+  keeps : LogHolds log t.now gs (length gs)
   keeps = r.replays.keeps (record { firm = λ i lt. r.firm (4096 + i) })
 
   same_images : (part : ℕ) (groups : List (List Page)) → length gs ≤ part → SameImages (images_of groups) (images_of (take part gs)) → (block : ℕ)
@@ -168,21 +168,21 @@ module _ (limits : Format) (images pages : List Page) (found : Replayed) (t : Tr
   same_images part groups all same block =
       same.each block ∙ ap (λ (l : List Page). last_image l block) (ap images_of (take_all part gs all) ∙ sym r.replays.images_are)
 
-  keeps_written : (m : DiskMoment) → ChangesNamed limits found t.now m → Keeps log m gs (length gs)
+  keeps_written : (m : DiskMoment) → ChangesNamed limits found t.now m → LogHolds log m gs (length gs)
   keeps_written m change =
       r.law t.now m gs (length gs)
       (elsewhere_untouched (place limits 0) (4096 * limits.pages) 4096 (limits_of log).log_bytes t.now m change.only
       (inl (omega (arith, ap (λ (l : Format). l.log_bytes) r.opened.limits_are)))) keeps
 
   -- while its images are written
-  pub written_leaves : (m : DiskMoment) → ChangesNamed limits found t.now m → LeavesPages limits pages m
+  pub written_leaves : (m : DiskMoment) → ChangesNamed limits found t.now m → CrashesToPages limits pages m
   written_leaves m change image left =
       let h = subst (λ (l : Format). Restarts l gs (length gs) m) r.opened.limits_are (r.leaves m gs (length gs) (keeps_written m change)) image left in
       stands_leaves limits images pages m (stands_named limits images pages found t.now m r.lasts change started) image left h.holds.groups
       h.holds.spells (same_images h.part h.holds.groups h.from h.holds.same)
 
   -- once they are written and synced, and while the log is closed
-  module _ (u v : Trace) (moments : Goes (ChangesNamed limits found t.now) t u) (homed : AreHomed limits found u.now) where
+  module _ (u v : Trace) (moments : AtEachMoment (ChangesNamed limits found t.now) t u) (homed : AreHomed limits found u.now) where
     now_named : ChangesNamed limits found t.now u.now
     now_named = goes_now _ t u moments (same_named limits found t.now)
 
@@ -192,7 +192,7 @@ module _ (limits : Format) (images pages : List Page) (found : Replayed) (t : Tr
     pub at_home : Stands limits [] pages u.now
     at_home = stands_home limits images pages found u.now r.lasts homed both
 
-    closing_leaves : (m : DiskMoment) → RestartsOrEmpty limits (take (length gs) gs) m → ChangesOnly 4096 limits.log_bytes u.now m → LeavesPages limits pages m
+    closing_leaves : (m : DiskMoment) → RestartsOrEmpty limits (take (length gs) gs) m → ChangesOnly 4096 limits.log_bytes u.now m → CrashesToPages limits pages m
     closing_leaves m either only image left = ⊎_elim
         (λ holds. stands_leaves limits images pages m (stands_logged limits images pages u.now m only both) image left holds.groups holds.spells
         (same_images (length gs) holds.groups (omega arith) holds.same))
@@ -200,12 +200,12 @@ module _ (limits : Format) (images pages : List Page) (found : Replayed) (t : Tr
         (either image left)
 
     module _ (closing : RestartsOrEmptyThroughout log u v) (outside : ChangesItsRange (limits_of log) u v) where
-      outside_here : Goes (ChangesOnly 4096 limits.log_bytes u.now) u v
+      outside_here : AtEachMoment (ChangesOnly 4096 limits.log_bytes u.now) u v
       outside_here = subst (λ (l : Format). ChangesItsRange l u v) r.opened.limits_are outside
 
-      pub closed_goes : Goes (LeavesPages limits pages) u v
+      pub closed_goes : AtEachMoment (CrashesToPages limits pages) u v
       closed_goes =
-          let holds = subst (λ (l : Format). Goes (RestartsOrEmpty l (take (length gs) gs)) u v) r.opened.limits_are (closing gs (length gs) (keeps_written u.now now_named)) in
+          let holds = subst (λ (l : Format). AtEachMoment (RestartsOrEmpty l (take (length gs) gs)) u v) r.opened.limits_are (closing gs (length gs) (keeps_written u.now now_named)) in
           goes_weaker _ _ u v (λ m two. closing_leaves m two.0 two.1) (goes_both _ _ u v holds outside_here)
 
       pub closed_stands : (after : Log) → limits_of after ≡ limits_of log → waiting_count after ≡ waiting_count log → ForgetsForced log u.now after v.now → StandsOpened after v.now pages

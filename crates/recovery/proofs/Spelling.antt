@@ -9,7 +9,7 @@ use Rattle.index_model.specs.declared.layout.Layout.TheVariants.{One, Two}
 use Rattle.recovery.specs.Superblock.{spelled_number, layout_of, is_unique, sizes_in, IsLayout}
 use Rattle.page_codec.specs.Places.{layout_number, unique_number, magic, superblock}
 
--- the pieces of a superblock, one behind the other
+-- the pieces of a superblock, one after the other
 pub spelled : (limits : Format) (whole out b1 b2 b3 b4 b5 b6 : List ℕ) (at : ℕ) → b1 ≡ 66 ∷ 76 ∷ 73 ∷ 78 ∷ 75 ∷ 73 ∷ 68 ∷ 88 ∷ []
     → b2 ≡ b1 ++ to_le_bytes w32 (layout_number limits.layout) → b3 ≡ b2 ++ to_le_bytes w32 limits.items → b4 ≡ b3 ++ to_le_bytes w32 limits.pages
     → b5 ≡ b4 ++ to_le_bytes w32 limits.log_bytes → b6 ≡ b5 ++ to_le_bytes w32 (unique_number limits.unique) → at ≡ 28 → length out ≡ 4096
@@ -18,9 +18,9 @@ unfolding superblock
 spelled limits whole out b1 b2 b3 b4 b5 b6 at e1 e2 e3 e4 e5 e6 is long e = e ∙ rw (e6, e5, e4, e3, e2, e1, is, long) refl
 
 -- the numbers of a superblock, as they are read
-number_behind : (layout : Layout) (rest : List ℕ) → spelled_number 8 (magic ++ (to_le_bytes w32 (layout_number layout) ++ rest)) ≡ layout_number layout
-number_behind One rest = refl
-number_behind Two rest = refl
+number_after : (layout : Layout) (rest : List ℕ) → spelled_number 8 (magic ++ (to_le_bytes w32 (layout_number layout) ++ rest)) ≡ layout_number layout
+number_after One rest = refl
+number_after Two rest = refl
 
 layout_back : (layout : Layout) → layout_of (layout_number layout) ≡ layout
 layout_back One = refl
@@ -33,7 +33,7 @@ is_layout Two = inr refl
 pub layout_spelled : (limits : Format) → spelled_number 8 (superblock limits) ≡ layout_number limits.layout
 unfolding superblock
 layout_spelled limits =
-    number_behind limits.layout
+    number_after limits.layout
     (to_le_bytes w32 limits.items ++ (to_le_bytes w32 limits.pages ++ (to_le_bytes w32 limits.log_bytes ++ (to_le_bytes w32 (unique_number limits.unique) ++ replicate 4068 0))))
 
 unique_read : (unique : Bool) → from_le_bytes w32 (to_le_bytes w32 (unique_number unique)) ≡ unique_number unique

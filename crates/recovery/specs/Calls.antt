@@ -1,4 +1,4 @@
--- What is said of a device behind several of its calls.
+-- What is said of a device after several of its calls.
 use Rattle.std.specs.Prelude.{◌≡◌, ◌⊎◌, ℕ, suc, IsTrue, length, Result, MatchResult}
 use Rattle.device.specs.Disk.{CountsFailures}
 use Rattle.device.specs.declared.device.Device.{Ghosts}

@@ -1,6 +1,6 @@
 -- A device with an empty index on it.
 use Rattle.std.specs.Prelude.{◌≡◌, ◌≢◌, ◌⊎◌, ℕ, suc, ◌<◌, ◌≤◌, true, false, take, Some, None, List, [], ◌∷◌, length, replicate, Result, MatchResult}
-use Rattle.device.specs.Disk.{DiskMoment, Trace, MayLeave}
+use Rattle.device.specs.Disk.{DiskMoment, Trace, MayCrashTo}
 use Rattle.device.specs.Places.{Has, OnDisk, ChangesOnly}
 use Rattle.index_model.specs.Limits.{AreLimits}
 use Rattle.index_model.specs.declared.fault.Fault.{Fault}
@@ -75,10 +75,10 @@ pub record IsClearing (old m : DiskMoment) : Type 0 where
   pub only : ChangesOnly 0 log_start old m
 
 -- no image that a crash leaves begins as an index does
-abbrev pub LeavesNoMagic : DiskMoment → Type 0
-LeavesNoMagic m = (image : List ℕ) → MayLeave m image → take 8 image ≢ magic
+abbrev pub CrashesToNoMagic : DiskMoment → Type 0
+CrashesToNoMagic m = (image : List ℕ) → MayCrashTo m image → take 8 image ≢ magic
 
--- all of the new index stands but for its superblock, which is being written, or stands too
+-- all of the new index stands except for its superblock, which is being written, or stands too
 pub record IsFinishing (limits : Format) (m : DiskMoment) : Type 0 where
   pub body : HasBody limits m
   pub either : IsFrontLoose m ⊎ OnDisk 0 (superblock limits) m
@@ -86,7 +86,7 @@ pub record IsFinishing (limits : Format) (m : DiskMoment) : Type 0 where
 -- a moment while an index is made: what was there loses its superblock, alone; or no crash leaves an index; or the new
 -- one gets its superblock, last
 abbrev pub IsMaking : Format → DiskMoment → DiskMoment → Type 0
-IsMaking limits old m = IsClearing old m ⊎ LeavesNoMagic m ⊎ IsFinishing limits m
+IsMaking limits old m = IsClearing old m ⊎ CrashesToNoMagic m ⊎ IsFinishing limits m
 
 -- an empty index, which no crash changes
 pub record IsEmptyIndex (limits : Format) (m : DiskMoment) : Type 0 where
@@ -94,12 +94,12 @@ pub record IsEmptyIndex (limits : Format) (m : DiskMoment) : Type 0 where
   pub body : HasBody limits m
 
 -- whatever a crash leaves is an index of two pages: the metapage and the leaf of an empty one
-pub record LeavesEmpty (limits : Format) (m : DiskMoment) : Type 0 where
+pub record CrashesToEmpty (limits : Format) (m : DiskMoment) : Type 0 where
   pub meta : Page
   pub is_meta : IsFirstMeta meta
   pub leaf : Page
   pub is_leaf : IsFirstLeaf leaf
-  pub leaves : (image : List ℕ) → MayLeave m image → HasIndex limits (meta ∷ leaf ∷ []) image
+  pub leaves : (image : List ℕ) → MayCrashTo m image → HasIndex limits (meta ∷ leaf ∷ []) image
 
 -- done on limits in their ranges and a device that is long enough, no call of which failed; or refused: bad limits, or
 -- else too short a device, nothing changed; or a call of the device failed once

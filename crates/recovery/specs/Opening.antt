@@ -55,7 +55,7 @@ IsFrontRefusal honest frames file fault =
     ⊎ (AreFrames frames × (((fault ≡ BadSuper) × (length file < 4096))
     ⊎ ((4096 ≤ length file) × IsFrontFault fault × (IsTrue honest → IsNoFront file fault))))
 
--- refused behind that: a growth was refused; or an open group of the log is none, and nothing was written; or a block is
+-- refused after that: a growth was refused; or an open group of the log is none, and nothing was written; or a block is
 -- damaged
 abbrev pub IsRestoreRefusal : Format → Bool → Trace → Trace → Fault → Type 0
 IsRestoreRefusal limits honest old new fault =

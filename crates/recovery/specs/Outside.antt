@@ -1,7 +1,7 @@
 -- What making or opening an index leaves alone.
 use Rattle.std.specs.Prelude.{◌≡◌, ◌⊎◌, ◌+◌, ◌-◌, ◌*◌, ◌≤◌, Bool, IsTrue, length}
 use Rattle.device.specs.Disk.{Trace}
-use Rattle.device.specs.Moments.{Goes}
+use Rattle.device.specs.Moments.{AtEachMoment}
 use Rattle.device.specs.Places.{ChangesOnly, IsUntouched}
 use Rattle.index_model.specs.Limits.{AreLimits}
 use Rattle.index_model.specs.declared.format.Format.{Format}
@@ -10,15 +10,15 @@ use Rattle.recovery.specs.Opening.{IsFront}
 
 -- at each moment nothing has changed but the bytes of an index of these limits
 abbrev pub ChangesItsBytes : Format → Trace → Trace → Type 0
-ChangesItsBytes limits old new = Goes (ChangesOnly 0 (needed_length limits) old.now) old new
+ChangesItsBytes limits old new = AtEachMoment (ChangesOnly 0 (needed_length limits) old.now) old new
 
--- at each moment the bytes of its log behind the first gate are as they were
-abbrev pub KeepsLogBytes : Format → Trace → Trace → Type 0
-KeepsLogBytes limits old new = Goes (IsUntouched (log_start + 1) (limits.log_bytes - 1) old.now) old new
+-- at each moment the bytes of its log after the first gate are as they were
+abbrev pub SameLogBytes : Format → Trace → Trace → Type 0
+SameLogBytes limits old new = AtEachMoment (IsUntouched (log_start + 1) (limits.log_bytes - 1) old.now) old new
 
 -- at each moment nothing has changed but its log and its pages
-abbrev pub ChangesBehindFront : Format → Trace → Trace → Type 0
-ChangesBehindFront limits old new = Goes (ChangesOnly log_start (limits.log_bytes + 4096 * limits.pages) old.now) old new
+abbrev pub ChangesAfterFront : Format → Trace → Trace → Type 0
+ChangesAfterFront limits old new = AtEachMoment (ChangesOnly log_start (limits.log_bytes + 4096 * limits.pages) old.now) old new
 
 -- nothing but the log and the pages of one index has changed, whose superblock stood there if the device kept its model
 pub record ChangesOneIndex (honest : Bool) (old new : Trace) : Type 0 where
@@ -26,7 +26,7 @@ pub record ChangesOneIndex (honest : Bool) (old new : Trace) : Type 0 where
   pub allowed : AreLimits limits
   pub long : needed_length limits ≤ length old.now.seen
   pub front : IsTrue honest → IsFront limits old.now.seen
-  pub only : ChangesBehindFront limits old new
+  pub only : ChangesAfterFront limits old new
 
 -- nothing was written; or that alone
 abbrev pub StaysInside : Bool → Trace → Trace → Type 0

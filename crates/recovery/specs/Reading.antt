@@ -25,7 +25,7 @@ abbrev pub StandFirst : Format → List Page → List ℕ → Type 0
 StandFirst limits pages file = (block : ℕ) (page : Page) → slice_get pages block ≡ Some page
     → block_bytes limits block file ≡ page_bytes page
 
--- behind so many blocks none is in use: there is no block more, or zeros stand at the place of the next one
+-- after so many blocks none is in use: there is no block more, or zeros stand at the place of the next one
 abbrev pub IsEnd : Format → ℕ → List ℕ → Type 0
 IsEnd limits used file = (used ≡ limits.pages) ⊎ (block_bytes limits used file ≡ replicate 4096 0)
 
@@ -36,7 +36,7 @@ pub record AreInUse (limits : Format) (pages : List Page) (file : List ℕ) : Ty
   pub stand : StandFirst limits pages file
   pub end : IsEnd limits (length pages) file
 
--- in front of the block pages stand, and at its place no page that may be stored there; nor zeros, but for block 0
+-- in front of the block pages stand, and at its place no page that may be stored there; nor zeros, except for block 0
 pub record IsDamagedAt (limits : Format) (block : ℕ) (file : List ℕ) : Type 0 where
   pub before : List Page
   pub stored : AreStored limits 0 before
@@ -64,7 +64,7 @@ pub record HasReadPages (limits : Format) (honest : Bool) (file : List ℕ) (fou
   pub limits_are : limits_of_room found.room ≡ limits
   pub stored : AreStored limits 0 (pages_of_room found.room)
   pub counts : counts_of_room found.room ≡ replicate (length (pages_of_room found.room)) 0
-  pub counter : found.counter ≡ greatest_cycle (pages_of_room found.room)
+  pub last_cycle : found.last_cycle ≡ greatest_cycle (pages_of_room found.room)
   pub stand : IsTrue honest → StandFirst limits (pages_of_room found.room) file
 
 -- and these are all: one page or more

@@ -37,7 +37,7 @@ sizes_in bytes = record {
 }
 
 -- the bytes are no superblock: they begin otherwise; or else their layout is none; or else the sizes are out of their
--- ranges; or else other bytes stand behind them than a superblock has
+-- ranges; or else other bytes stand after them than a superblock has
 abbrev pub IsNoSuperblock : List ℕ → Fault → Type 0
 IsNoSuperblock bytes fault =
     ((fault ≡ BadSuper) × (take 8 bytes ≢ magic))

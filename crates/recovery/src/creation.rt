@@ -1,15 +1,15 @@
 //! An index is made.
 
 ghost use Rattle.std.specs.Prelude.{◌≡◌, ◌+◌, ◌-◌, ◌*◌, ◌≤◌, ◌<◌, [], ◌∷◌, length, OnOk};
-ghost use Rattle.device.specs.Moments.{Goes};
+ghost use Rattle.device.specs.Moments.{AtEachMoment};
 ghost use Rattle.device.specs.Places.{Has, OnDisk, ChangesOnly};
 ghost use Rattle.index_model.specs.Formats.{made};
 ghost use Rattle.index_model.specs.Limits.{AreLimits};
 ghost use Rattle.page_codec.specs.Spelling.{page_bytes};
 ghost use Rattle.page_codec.specs.Places.{log_start, place, needed_length};
 ghost use Rattle.recovery.specs.Calls.{OnlyWrites};
-ghost use Rattle.recovery.specs.Fresh.{IsFirstMeta, IsFirstLeaf, AreZero, HasPages, HasBody, WritesFront, IsMaking, IsEmptyIndex, LeavesEmpty, CreateEnds};
-ghost use Rattle.recovery.specs.Outside.{ChangesItsBytes, ChangesBehindFront, KeepsLogBytes};
+ghost use Rattle.recovery.specs.Fresh.{IsFirstMeta, IsFirstLeaf, AreZero, HasPages, HasBody, WritesFront, IsMaking, IsEmptyIndex, CrashesToEmpty, CreateEnds};
+ghost use Rattle.recovery.specs.Outside.{ChangesItsBytes, ChangesAfterFront, SameLogBytes};
 
 use crate::superblock::spell_superblock;
 use arrayvec::ArrayVec;
@@ -59,7 +59,7 @@ fn first_leaf() -> Page
 pub(crate) fn place<D: Device>(device: &mut D, at: u64, bytes: &[u8]) -> Result<(), Fault>
     requires inside { at + length bytes.now ≤ length (D.trace device.old).now.seen }
     ensures there { OnOk result (Has at bytes.now (D.trace device.new).now.seen) }
-    ensures moments { Goes (ChangesOnly at (length bytes.now) (D.trace device.old).now)
+    ensures moments { AtEachMoment (ChangesOnly at (length bytes.now) (D.trace device.old).now)
         (D.trace device.old) (D.trace device.new) }
     ensures calls { OnlyWrites D.Device result device.old device.new }
 {
@@ -72,7 +72,7 @@ fn place_zeros<D: Device>(device: &mut D, limits: &Format) -> Result<(), Fault>
     requires inside { needed_length limits.now ≤ length (D.trace device.old).now.seen }
     ensures there { OnOk result
         (AreZero limits.now 2 limits.now.pages (D.trace device.new).now.seen) }
-    ensures moments { Goes
+    ensures moments { AtEachMoment
         (ChangesOnly (place limits.now 2) (4096 * (limits.now.pages - 2)) (D.trace device.old).now)
         (D.trace device.old) (D.trace device.new) }
     ensures calls { OnlyWrites D.Device result device.old device.new }
@@ -93,7 +93,7 @@ fn place_page<D: Device>(device: &mut D, limits: &Format, page: &Page) -> Result
         (Has (place limits.now page.now.block) (page_bytes page.now)
         (D.trace device.new).now.seen) }
     ensures long { length (page_bytes page.now) ≡ 4096 }
-    ensures moments { Goes
+    ensures moments { AtEachMoment
         (ChangesOnly (place limits.now page.now.block) 4096 (D.trace device.old).now)
         (D.trace device.old) (D.trace device.new) }
     ensures calls { OnlyWrites D.Device result device.old device.new }
@@ -103,12 +103,12 @@ fn place_page<D: Device>(device: &mut D, limits: &Format, page: &Page) -> Result
     place(device, page_place(limits, page.block), &bytes)
 }
 
-/// Writes the pages of an empty index, and zeros behind them.
+/// Writes the pages of an empty index, and zeros after them.
 fn place_pages<D: Device>(device: &mut D, limits: &Format) -> Result<(), Fault>
     requires allowed { AreLimits limits.now }
     requires inside { needed_length limits.now ≤ length (D.trace device.old).now.seen }
     ensures there { OnOk result (HasPages limits.now (D.trace device.new).now.seen) }
-    ensures moments { Goes
+    ensures moments { AtEachMoment
         (ChangesOnly (place limits.now 0) (4096 * limits.now.pages) (D.trace device.old).now)
         (D.trace device.old) (D.trace device.new) }
     ensures calls { OnlyWrites D.Device result device.old device.new }
@@ -123,8 +123,8 @@ fn place_body<D: Device>(device: &mut D, limits: &Format) -> Result<(), Fault>
     requires allowed { AreLimits limits.now }
     requires inside { needed_length limits.now ≤ length (D.trace device.old).now.seen }
     ensures there { OnOk result (HasBody limits.now (D.trace device.new).now) }
-    ensures moments { ChangesBehindFront limits.now (D.trace device.old) (D.trace device.new) }
-    ensures log { KeepsLogBytes limits.now (D.trace device.old) (D.trace device.new) }
+    ensures moments { ChangesAfterFront limits.now (D.trace device.old) (D.trace device.new) }
+    ensures log { SameLogBytes limits.now (D.trace device.old) (D.trace device.new) }
     ensures calls { OnlyWrites D.Device result device.old device.new }
 {
     place(device, LOG_START, &[0])?;
@@ -136,7 +136,7 @@ fn place_body<D: Device>(device: &mut D, limits: &Format) -> Result<(), Fault>
 fn place_front<D: Device>(device: &mut D, bytes: &[u8; 4096]) -> Result<(), Fault>
     requires inside { 4096 ≤ length (D.trace device.old).now.seen }
     ensures there { OnOk result (OnDisk 0 bytes.now (D.trace device.new).now) }
-    ensures moments { Goes (WritesFront bytes.now (D.trace device.old).now)
+    ensures moments { AtEachMoment (WritesFront bytes.now (D.trace device.old).now)
         (D.trace device.old) (D.trace device.new) }
     ensures calls { OnlyWrites D.Device result device.old device.new }
 {
@@ -150,10 +150,10 @@ fn write_index<D: Device>(device: &mut D, limits: &Format) -> Result<(), Fault>
     requires allowed { AreLimits limits.now }
     requires inside { needed_length limits.now ≤ length (D.trace device.old).now.seen }
     ensures made { OnOk result (IsEmptyIndex limits.now (D.trace device.new).now) }
-    ensures moments { Goes (IsMaking limits.now (D.trace device.old).now)
+    ensures moments { AtEachMoment (IsMaking limits.now (D.trace device.old).now)
         (D.trace device.old) (D.trace device.new) }
     ensures outside { ChangesItsBytes limits.now (D.trace device.old) (D.trace device.new) }
-    ensures log { KeepsLogBytes limits.now (D.trace device.old) (D.trace device.new) }
+    ensures log { SameLogBytes limits.now (D.trace device.old) (D.trace device.new) }
     ensures calls { OnlyWrites D.Device result device.old device.new }
 {
     let mut front = [0; 4096];
@@ -165,7 +165,7 @@ fn write_index<D: Device>(device: &mut D, limits: &Format) -> Result<(), Fault>
 
 /// Makes an empty index of these limits on the device, over whatever it holds: the superblock, a closed log, the
 /// metapage, one empty leaf, and zeros in all other blocks, all of it synced. Of the log it writes the first gate alone:
-/// what stands behind that stays, and so do bytes behind the last block.
+/// what stands after that stays, and so do bytes after the last block.
 ///
 /// Refused, with the device as it was: limits out of their ranges (`BadLimits`); a device shorter than
 /// 4,096 + `log_bytes` + 4,096 * `pages` bytes (`DeviceTooSmall`). A failed device call answers `Io`; then, and after a
@@ -173,14 +173,14 @@ fn write_index<D: Device>(device: &mut D, limits: &Format) -> Result<(), Fault>
 pub fn create<D: Device>(device: &mut D, limits: &Limits) -> Result<(), Fault>
     ensures made { OnOk result (IsEmptyIndex (made limits.now) (D.trace device.new).now) }
     // So it can be opened, also after a crash.
-    ensures own { OnOk result (LeavesEmpty (made limits.now) (D.trace device.new).now) }
-    // A crash at each moment since leaves what was there but for its superblock, no index, or the
+    ensures own { OnOk result (CrashesToEmpty (made limits.now) (D.trace device.new).now) }
+    // A crash at each moment since leaves what was there except for its superblock, no index, or the
     // new one.
-    ensures moments { Goes (IsMaking (made limits.now) (D.trace device.old).now)
+    ensures moments { AtEachMoment (IsMaking (made limits.now) (D.trace device.old).now)
         (D.trace device.old) (D.trace device.new) }
-    // Bytes behind the index stay as they are, and those of its log behind the first gate.
+    // Bytes after the index stay as they are, and those of its log after the first gate.
     ensures outside { ChangesItsBytes (made limits.now) (D.trace device.old) (D.trace device.new) }
-    ensures log { KeepsLogBytes (made limits.now) (D.trace device.old) (D.trace device.new) }
+    ensures log { SameLogBytes (made limits.now) (D.trace device.old) (D.trace device.new) }
     ensures ends { CreateEnds (made limits.now) result (D.trace device.old) (D.trace device.new)
         (D.failures device.old) (D.failures device.new) }
     ensures len { length (D.trace device.new).now.seen ≡ length (D.trace device.old).now.seen }

@@ -1,7 +1,7 @@
 //! The images of a log are written to the places of their blocks.
 
 ghost use Rattle.std.specs.Prelude.{◌≡◌, ◌≤◌, length, OnOk};
-ghost use Rattle.device.specs.Moments.{Goes};
+ghost use Rattle.device.specs.Moments.{AtEachMoment};
 ghost use Rattle.index_model.specs.Limits.{AreLimits};
 ghost use Rattle.page_codec.specs.Places.{needed_length};
 ghost use Rattle.recovery.specs.Calls.{OnlyWrites};
@@ -17,7 +17,7 @@ use redo_log::Replayed;
 fn write_images<D: Device>(device: &mut D, limits: Format, found: &Replayed) -> Result<(), Fault>
     requires allowed { AreLimits limits }
     requires inside { needed_length limits ≤ length (D.trace device.old).now.seen }
-    ensures moments { Goes (ChangesNamed limits found.now (D.trace device.old).now)
+    ensures moments { AtEachMoment (ChangesNamed limits found.now (D.trace device.old).now)
         (D.trace device.old) (D.trace device.new) }
     ensures written { OnOk result (HasImages limits found.now (D.trace device.new).now.seen) }
     ensures calls { OnlyWrites D.Device result device.old device.new }
@@ -39,7 +39,7 @@ pub(crate) fn bring_home<D: Device>(
 ) -> Result<(), Fault>
     requires allowed { AreLimits limits }
     requires inside { needed_length limits ≤ length (D.trace device.old).now.seen }
-    ensures moments { Goes (ChangesNamed limits found.now (D.trace device.old).now)
+    ensures moments { AtEachMoment (ChangesNamed limits found.now (D.trace device.old).now)
         (D.trace device.old) (D.trace device.new) }
     ensures home { OnOk result (AreHomed limits found.now (D.trace device.new).now) }
     ensures calls { OnlyWrites D.Device result device.old device.new }

@@ -1,22 +1,22 @@
 //! An index is opened, after any crash.
 
 ghost use Rattle.std.specs.Prelude.{◌≡◌, ◌⊎◌, ◌≤◌, ◌<◌, ℕ, suc, IsTrue, IsErrOf, List, false, length, IfOk, IfErr, OnOk, MatchResult};
-ghost use Rattle.device.specs.Moments.{Goes};
+ghost use Rattle.device.specs.Moments.{AtEachMoment};
 ghost use Rattle.index_model.specs.Limits.{AreLimits};
 ghost use Rattle.page_codec.specs.declared.page.Page.{Page};
-ghost use Rattle.page_action.specs.Room.{HasWholeRoom};
+ghost use Rattle.page_action.specs.Room.{LogIsClosed};
 ghost use Rattle.page_store.specs.Logged.{StandsOpened, backing_of};
 ghost use Rattle.page_store.specs.Rooms.{limits_of_room, frames_of_room};
 ghost use Rattle.page_store.specs.Stores.{state_of, held_by};
 ghost use Rattle.index_model.specs.declared.format.Format.{Format};
 ghost use Rattle.page_codec.specs.Places.{needed_length};
-ghost use Rattle.page_store.specs.Restart.{RestartsTo, LeavesPages};
+ghost use Rattle.page_store.specs.Restart.{RestartsTo, CrashesToPages};
 ghost use Rattle.redo_log.specs.Kept.{groups_end};
 ghost use Rattle.redo_log.specs.Reading.{IsOpened, IsDamaged, ReplayFails};
 ghost use Rattle.recovery.specs.Calls.{OnlyReads, ReadsAndWrites, IsIoOr, FailsWithIoOr};
 ghost use Rattle.recovery.specs.Index.{HasIndex};
 ghost use Rattle.recovery.specs.Opening.{AreFrames, HasGroups, IsFront, IsFrontRefusal, IsRestoreRefusal, IsSynced, IsRestored, IsFound, IsRefusal, AreSamePages, IsNoMemoryOrIo, IsFreshlyOpened, StandsOnDevice, IsSameIndex, device_left};
-ghost use Rattle.recovery.specs.Outside.{ChangesBehindFront, StaysInside};
+ghost use Rattle.recovery.specs.Outside.{ChangesAfterFront, StaysInside};
 
 use crate::homing::bring_home;
 use crate::reading::{Found, read_pages};
@@ -90,8 +90,8 @@ fn restore_log<D: Device>(alloc: Global, device: &mut D, limits: Format) -> Resu
         IsNoMemoryOrIo }
     ensures moments { IsTrue (D.is_honest device.new) → IsSynced (D.trace device.old).now
         → (pages : List Page) → RestartsTo limits (D.trace device.old).now.seen pages
-        → Goes (LeavesPages limits pages) (D.trace device.old) (D.trace device.new) }
-    ensures outside { ChangesBehindFront limits (D.trace device.old) (D.trace device.new) }
+        → AtEachMoment (CrashesToPages limits pages) (D.trace device.old) (D.trace device.new) }
+    ensures outside { ChangesAfterFront limits (D.trace device.old) (D.trace device.new) }
     ensures damaged { IfErr result (λ e. e ≡ Fault.LogDamaged
         → (D.trace device.new ≡ D.trace device.old)
         × (IsTrue (D.is_honest device.new) → IsDamaged limits (D.trace device.old).now)) }
@@ -129,8 +129,8 @@ fn restore<D: Device>(
         → MatchResult result (AreSamePages pages (D.trace device.new).now) IsNoMemoryOrIo }
     ensures moments { IsTrue (D.is_honest device.new) → (pages : List Page)
         → RestartsTo limits (D.trace device.old).now.seen pages
-        → Goes (LeavesPages limits pages) (D.trace device.old) (D.trace device.new) }
-    ensures outside { ChangesBehindFront limits (D.trace device.old) (D.trace device.new) }
+        → AtEachMoment (CrashesToPages limits pages) (D.trace device.old) (D.trace device.new) }
+    ensures outside { ChangesAfterFront limits (D.trace device.old) (D.trace device.new) }
     ensures calls { ReadsAndWrites D.Device device.old device.new }
     ensures cause { FailsWithIoOr
         (IsRestoreRefusal limits (D.is_honest device.new) (D.trace device.old) (D.trace device.new))
@@ -156,7 +156,7 @@ fn read_index<D: Device>(alloc: Global, device: &mut D, frames: u32) -> Result<P
         × AreSamePages pages (D.trace device.new).now parts) IsNoMemoryOrIo }
     ensures moments { IsTrue (D.is_honest device.new) → (limits : Format) (pages : List Page)
         → HasIndex limits pages (D.trace device.old).now.seen
-        → Goes (LeavesPages limits pages) (D.trace device.old) (D.trace device.new) }
+        → AtEachMoment (CrashesToPages limits pages) (D.trace device.old) (D.trace device.new) }
     ensures outside { StaysInside (D.is_honest device.new)
         (D.trace device.old) (D.trace device.new) }
     ensures calls { ReadsAndWrites D.Device device.old device.new }
@@ -187,7 +187,7 @@ pub fn open<D: Device>(alloc: Global, device: D, frames: u32) -> Result<Store<D>
     ensures alive { IfOk result (λ store. (backing_of (held_by D.Device store)).stopped ≡ false) }
     ensures durable { IfOk result (λ store. (backing_of (held_by D.Device store)).durable ≡ 0) }
     ensures room { IfOk result (λ store.
-        HasWholeRoom (state_of D.Device store).limits (backing_of (held_by D.Device store))) }
+        LogIsClosed (state_of D.Device store).limits (backing_of (held_by D.Device store))) }
     // What it has is what stands on the device.
     ensures read { IsTrue (D.is_honest (device_left D.Device result)) → IfOk result (λ store.
         StandsOnDevice (state_of D.Device store) (D.trace device).now.seen
@@ -200,7 +200,7 @@ pub fn open<D: Device>(alloc: Global, device: D, frames: u32) -> Result<Store<D>
     // A crash at each moment since leaves the same index, whatever was answered.
     ensures moments { IsTrue (D.is_honest (device_left D.Device result))
         → (limits : Format) (pages : List Page) → HasIndex limits pages (D.trace device).now.seen
-        → Goes (LeavesPages limits pages) (D.trace device) (D.trace (device_left D.Device result)) }
+        → AtEachMoment (CrashesToPages limits pages) (D.trace device) (D.trace (device_left D.Device result)) }
     // Nothing but the log and the pages of the index is written.
     ensures outside { StaysInside (D.is_honest (device_left D.Device result))
         (D.trace device) (D.trace (device_left D.Device result)) }
@@ -218,8 +218,8 @@ pub fn open<D: Device>(alloc: Global, device: D, frames: u32) -> Result<Store<D>
     let read = read_index(alloc, &mut device, frames);
     match read {
         Ok(Parts { log, found }) => {
-            let Found { room, counter } = found;
-            Ok(Store::new(device, log, room, counter))
+            let Found { room, last_cycle } = found;
+            Ok(Store::new(device, log, room, last_cycle))
         }
         Err(fault) => Err(Refused { fault, device }),
     }

@@ -21,7 +21,7 @@ use std::alloc::Global;
 #[derive(Drop)]
 pub(crate) struct Found {
     pub(crate) room: StoreRoom,
-    pub(crate) counter: u32,
+    pub(crate) last_cycle: u32,
 }
 
 /// The page of these bytes; none where they are zeros. Other bytes are refused with `PageDamaged` for this block.
@@ -71,7 +71,7 @@ fn add_pages<D: Device>(device: &mut D, limits: Format, found: &mut Found) -> Re
     requires limits { limits_of_room found.old.room ≡ limits }
     requires empty { pages_of_room found.old.room ≡ [] }
     requires uncounted { counts_of_room found.old.room ≡ [] }
-    requires counter { found.old.counter ≡ 0 }
+    requires last_cycle { found.old.last_cycle ≡ 0 }
     ensures read { OnOk result
         (HasReadPages limits (D.is_honest device.new) (D.trace device.old).now.seen found.new) }
     ensures frames { frames_of_room found.new.room ≡ frames_of_room found.old.room }
@@ -88,7 +88,7 @@ fn add_pages<D: Device>(device: &mut D, limits: Format, found: &mut Found) -> Re
         let Some(page) = read_page(device, limits, block)? else {
             return Ok(block);
         };
-        found.counter = found.counter.max(page.cycle);
+        found.last_cycle = found.last_cycle.max(page.cycle);
         found.room.add(&page)?;
     }
     Ok(limits.pages)
@@ -117,7 +117,7 @@ pub(crate) fn read_pages<D: Device>(
 {
     let mut found = Found {
         room: StoreRoom::new(alloc, limits, frames)?,
-        counter: 0,
+        last_cycle: 0,
     };
     let used = add_pages(device, limits, &mut found)?;
     if used == 0 {

@@ -12,7 +12,7 @@ use index_model::{Fault, Format, Layout};
 /// The bytes that an index begins with.
 const MAGIC: [u8; 8] = *b"BLINKIDX";
 
-/// Writes bytes at a place, and answers the place behind them.
+/// Writes bytes at a place, and answers the place after them.
 fn put(out: &mut [u8], at: usize, bytes: &[u8]) -> usize
     requires { at + length bytes.now ≤ length out.old }
     ensures next { result ≡ at + length bytes.now }
@@ -23,7 +23,7 @@ fn put(out: &mut [u8], at: usize, bytes: &[u8]) -> usize
     end
 }
 
-/// Writes a number at a place, lowest byte first, and answers the place behind it.
+/// Writes a number at a place, lowest byte first, and answers the place after it.
 fn put_number(out: &mut [u8], at: usize, n: u32) -> usize
     requires { at + 4 ≤ length out.old }
     ensures next { result ≡ at + 4 }
@@ -101,7 +101,7 @@ fn number_at(bytes: &[u8; 4096], at: usize) -> u32
 
 /// The layout and the sizes of the index whose superblock these bytes are, and whether it is unique. Other bytes are refused, in
 /// this order: another beginning than `BLINKIDX` (`BadSuper`), another layout than 1 or 2 (`BadVersion`), sizes out of their ranges
-/// (`BadLimits`), behind them another number than 0 or, in the second layout, 1, or anything but zeros behind that (`BadSuper`).
+/// (`BadLimits`), after them another number than 0 or, in the second layout, 1, or anything but zeros after that (`BadSuper`).
 pub(crate) fn read_superblock(bytes: &[u8; 4096]) -> Result<Format, Fault>
     ensures allowed { IfOk result AreLimits }
     ensures found { IfOk result (λ limits. bytes.now ≡ superblock limits) }

@@ -5,7 +5,7 @@ use Rattle.device.specs.Disk.{DiskMoment}
 use Rattle.page_codec.specs.declared.page.Page.{Page}
 use Rattle.redo_log.specs.Images.{SameImages, images_of}
 use Rattle.redo_log.specs.Blocks.{with_blocks, new_count, with_images, AreLaid}
-use Rattle.redo_log.specs.Kept.{Keeps, IsSettled, ImagesFit, waiting_blocks, waiting_count}
+use Rattle.redo_log.specs.Kept.{LogHolds, IsSettled, ImagesFit, waiting_blocks, waiting_count}
 use Rattle.redo_log.specs.declared.log.Log.{Log}
 use Rattle.redo_log.proofs.ImageLists.{same_append, same_trans, same_eq, images_of-push}
 use Rattle.redo_log.proofs.BlockLists.{AreDistinct, distinct, length-with_blocks}
@@ -14,7 +14,7 @@ use Rattle.redo_log.proofs.Laying.{with_images-same}
 -- what waits has the images of the action too, each in the place of its block's
 pub keeps_more : (old new : Log) (images : List Page) → new.limits ≡ old.limits → new.at ≡ old.at → new.stopped ≡ old.stopped
     → ((laid : List Page) → AreLaid old.limits (waiting_blocks old) old.buffer.items laid → AreLaid old.limits (waiting_blocks new) new.buffer.items (with_images laid images))
-    → (m : DiskMoment) (acts : List (List Page)) (forced : ℕ) → Keeps old m acts forced → Keeps new m (acts ++ images ∷ []) forced
+    → (m : DiskMoment) (acts : List (List Page)) (forced : ℕ) → LogHolds old m acts forced → LogHolds new m (acts ++ images ∷ []) forced
 keeps_more old new images limits at stopped laid m acts forced k =
     record {
       alive = stopped ∙ k.alive;

@@ -34,7 +34,7 @@ pub found_among : (blocks : List ℕ) (block : ℕ) (o : Option ℕ) → IfSome 
 found_among blocks block None found none = sym none
 found_among blocks block (Some k) found none = sym (is_among-at blocks block k found.0 found.1)
 
--- with one more behind them that one is among them, and so are those that were
+-- with one more after them that one is among them, and so are those that were
 pub is_among-push : (blocks : List ℕ) (b block : ℕ) → is_among_blocks (blocks ++ b ∷ []) block ≡ (is_among_blocks blocks block || (b == block))
 is_among-push [] b block = or_none (b == block)
   where
@@ -59,7 +59,7 @@ is_among-none places blocks block place placed is apart = false_from_ne_true (is
     let e : w.0 ≡ place = sym (placed w.0 w.1) ∙ (ap (λ (b : ℕ). get_or places b 0) w.2 ∙ sym is) in
     apart (subst (λ (n : ℕ). n < length blocks) e w.1) (subst (λ (n : ℕ). get_or blocks n 0 ≡ block) e w.2))
 
--- with one more behind them the table has the places of all
+-- with one more after them the table has the places of all
 pub placed-push : (places blocks : List ℕ) (block n : ℕ) → ArePlaced places blocks → is_among_blocks blocks block ≡ false → block < length places → n ≡ length blocks
     → ArePlaced (set places block n) (blocks ++ block ∷ [])
 placed-push places blocks block n placed new inside here k lt = ⊎_elim
@@ -94,7 +94,7 @@ distinct_placed places (b ∷ blocks) from placed = (
 pub distinct : (places blocks : List ℕ) → ArePlaced places blocks → AreDistinct blocks
 distinct places blocks placed = distinct_placed places blocks 0 (λ k lt. omega (arith, placed k lt))
 
--- with a new one behind them they are distinct
+-- with a new one after them they are distinct
 pub distinct-push : (blocks : List ℕ) (block : ℕ) → AreDistinct blocks → is_among_blocks blocks block ≡ false → AreDistinct (blocks ++ block ∷ [])
 distinct-push [] block distinct new = (refl, tt)
 distinct-push (b ∷ blocks) block distinct new =
@@ -106,7 +106,7 @@ distinct-push (b ∷ blocks) block distinct new =
 pub with_block-old : (blocks : List ℕ) (block : ℕ) → is_among_blocks blocks block ≡ true → with_block blocks block ≡ blocks
 with_block-old blocks block old = ap (λ (t : Bool). cond t blocks (blocks ++ block ∷ [])) old
 
--- another one stands behind them
+-- another one stands after them
 pub with_block-new : (blocks : List ℕ) (block : ℕ) → is_among_blocks blocks block ≡ false → with_block blocks block ≡ blocks ++ block ∷ []
 with_block-new blocks block new = ap (λ (t : Bool). cond t blocks (blocks ++ block ∷ [])) new
 
@@ -166,7 +166,7 @@ new_count-new blocks p ps new =
     once true e = omega arith
     once false e = omega arith
 
--- so many are behind them then
+-- so many are after them then
 pub length-with_blocks : (blocks : List ℕ) (ps : List Page) → length (with_blocks blocks ps) ≡ length blocks + new_count blocks ps
 length-with_blocks blocks [] = omega arith
 length-with_blocks blocks (p ∷ ps) = ⊎_elim

@@ -6,7 +6,7 @@ use Rattle.std.specs.declared.alloc.Global.{Global}
 use Rattle.std.specs.Vec.{with_items}
 use Rattle.std.specs.Int.{w32, to_le_bytes}
 use Rattle.device.specs.Disk.{DiskMoment, Trace}
-use Rattle.device.specs.Moments.{Goes}
+use Rattle.device.specs.Moments.{AtEachMoment}
 use Rattle.device.specs.Places.{OnDisk, ChangesOnly}
 use Rattle.device.proofs.Going.{goes_weaker, goes_now}
 use Rattle.device.proofs.Standing.{only_wider, same_only}
@@ -14,8 +14,8 @@ use Rattle.index_model.specs.declared.format.Format.{Format}
 use Rattle.page_codec.specs.declared.page.Page.{Page}
 use Rattle.redo_log.specs.Images.{SameImages, images_bytes, images_of}
 use Rattle.redo_log.specs.Groups.{IsGroup, body}
-use Rattle.redo_log.specs.Publish.{IsShutOrWhole}
-use Rattle.redo_log.specs.Kept.{Keeps, IsSettled, Restarts, waiting_blocks, waiting_count}
+use Rattle.redo_log.specs.Publish.{IsClosedOrWritten}
+use Rattle.redo_log.specs.Kept.{LogHolds, IsSettled, Restarts, waiting_blocks, waiting_count}
 use Rattle.redo_log.specs.declared.log.Log.{Log}
 use Rattle.redo_log.proofs.Leaving.{publishing, published}
 use Rattle.redo_log.proofs.ImageLists.{none, same_eq, same_trans, images_of-push}
@@ -38,7 +38,7 @@ sealed_piece v given sealed read c waiting was long is laid counted buffered =
     ∙ ap (λ (n : ℕ). to_le_bytes w32 n ++ images_bytes waiting ++ 0 ∷ []) (sym counted)
 
 -- with no image waiting all actions are on the disk
-pub all_forced : (log : Log) (m : DiskMoment) (acts : List (List Page)) (forced : ℕ) → Keeps log m acts forced → waiting_count log ≡ 0 → Keeps log m acts (length acts)
+pub all_forced : (log : Log) (m : DiskMoment) (acts : List (List Page)) (forced : ℕ) → LogHolds log m acts forced → waiting_count log ≡ 0 → LogHolds log m acts (length acts)
 all_forced log m acts forced k idle =
     let no_more : k.waiting ≡ [] = none k.waiting (k.waits.counted ∙ idle) in
     record {
@@ -54,16 +54,16 @@ all_forced log m acts forced k idle =
       unforced = same_eq k.waiting _ (no_more ∙ sym (ap images_of (drop-length acts)));
     }
 
-module _ (log : Log) (b : List ℕ) (old new : Trace) (acts : List (List Page)) (forced : ℕ) (k : Keeps log old.now acts forced) (some : 0 < waiting_count log)
-    (piece : b ≡ body k.waiting ++ 0 ∷ []) (gone : Goes (IsShutOrWhole (4096 + log.at) b old.now) old new) where
+module _ (log : Log) (b : List ℕ) (old new : Trace) (acts : List (List Page)) (forced : ℕ) (k : LogHolds log old.now acts forced) (some : 0 < waiting_count log)
+    (piece : b ≡ body k.waiting ++ 0 ∷ []) (gone : AtEachMoment (IsClosedOrWritten (4096 + log.at) b old.now) old new) where
   is : IsGroup log.limits k.waiting
   is = record { some = omega (arith, k.waits.counted); few = omega (arith, k.waits.counted, log.fits some, log.most); images = k.waits.images }
 
   enough : log.at + (6 + 4096 * length k.waiting) ≤ log.limits.log_bytes
   enough = omega (arith, k.waits.counted, log.fits some)
 
-  as_piece : (n : DiskMoment) → IsShutOrWhole (4096 + log.at) b old.now n → IsShutOrWhole (4096 + log.at) (body k.waiting ++ 0 ∷ []) old.now n
-  as_piece n p = subst (λ (l : List ℕ). IsShutOrWhole (4096 + log.at) l old.now n) piece p
+  as_piece : (n : DiskMoment) → IsClosedOrWritten (4096 + log.at) b old.now n → IsClosedOrWritten (4096 + log.at) (body k.waiting ++ 0 ∷ []) old.now n
+  as_piece n p = subst (λ (l : List ℕ). IsClosedOrWritten (4096 + log.at) l old.now n) piece p
 
   -- the images on the disk are then those of all actions
   all_there : SameImages (images_of (k.groups ++ k.waiting ∷ [])) (images_of (take (length acts) acts))
@@ -71,17 +71,17 @@ module _ (log : Log) (b : List ℕ) (old new : Trace) (acts : List (List Page)) 
       same_trans _ (images_of k.groups ++ k.waiting) _ (same_eq _ _ (images_of-push k.groups k.waiting))
       (same_trans (images_of k.groups ++ k.waiting) (images_of acts) _ (keeps_all log old.now acts forced k) (same_eq _ _ (ap images_of (sym (whole_list acts)))))
 
-  pub forced_goes : Goes (Restarts log.limits acts forced) old new
+  pub forced_goes : AtEachMoment (Restarts log.limits acts forced) old new
   forced_goes = goes_weaker _ _ old new (λ n p image left. ⊎_elim
       (λ s. record { part = forced; from = omega arith; to = k.few; holds = record { groups = k.groups; spells = s; same = k.durable } })
       (λ s. record { part = length acts; from = k.few; to = omega arith; holds = record { groups = k.groups ++ k.waiting ∷ []; spells = s; same = all_there } })
       (publishing log.limits 4096 log.limits.log_bytes log.at k.groups old.now k.settled log.room k.waiting is enough n (as_piece n p) image left)) gone
 
-  now_is : IsShutOrWhole (4096 + log.at) b old.now new.now
+  now_is : IsClosedOrWritten (4096 + log.at) b old.now new.now
   now_is = goes_now _ old new gone (record { only = same_only _ _ old.now; either = λ shut. inl shut })
 
   pub forced_keeps : (log' : Log) → log'.limits ≡ log.limits → log'.at ≡ log.at + (5 + 4096 * waiting_count log) → waiting_blocks log' ≡ [] → log'.stopped ≡ false
-      → OnDisk (4096 + log.at) (1 ∷ b) new.now → Keeps log' new.now acts (length acts)
+      → OnDisk (4096 + log.at) (1 ∷ b) new.now → LogHolds log' new.now acts (length acts)
   forced_keeps log' limits at none_waits stopped on =
       let end : log.at + (5 + 4096 * length k.waiting) ≡ log'.at = omega (arith, at, k.waits.counted) in
       let settled : IsSettled log.limits 4096 log'.at (k.groups ++ k.waiting ∷ []) new.now =
@@ -100,7 +100,7 @@ module _ (log : Log) (b : List ℕ) (old new : Trace) (acts : List (List Page)) 
       }
 
 -- a publication changes the log's range alone
-pub publish_only : (log : Log) (b : List ℕ) (old new : Trace) → length b ≡ 5 + 4096 * waiting_count log → 0 < waiting_count log → Goes (IsShutOrWhole (4096 + log.at) b old.now) old new
-    → Goes (ChangesOnly 4096 log.limits.log_bytes old.now) old new
+pub publish_only : (log : Log) (b : List ℕ) (old new : Trace) → length b ≡ 5 + 4096 * waiting_count log → 0 < waiting_count log → AtEachMoment (IsClosedOrWritten (4096 + log.at) b old.now) old new
+    → AtEachMoment (ChangesOnly 4096 log.limits.log_bytes old.now) old new
 publish_only log b old new long some gone = goes_weaker _ _ old new (λ n p.
     only_wider (4096 + log.at) (length b + 1) 4096 log.limits.log_bytes old.now n (omega arith) (omega (arith, long, log.fits some)) p.only) gone

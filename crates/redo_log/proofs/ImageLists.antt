@@ -56,8 +56,8 @@ same_append xs ys zs s = record {
       last_image-append xs zs block ∙ (ap (λ (o : Option Page). later_of o (last_image zs block)) (s.each block) ∙ sym (last_image-append ys zs block));
 }
 
-pub same_behind : (xs ys zs : List Page) → SameImages ys zs → SameImages (xs ++ ys) (xs ++ zs)
-same_behind xs ys zs s = record {
+pub same_after : (xs ys zs : List Page) → SameImages ys zs → SameImages (xs ++ ys) (xs ++ zs)
+same_after xs ys zs s = record {
   each = λ block.
       last_image-append xs ys block ∙ (ap (λ (o : Option Page). later_of (last_image xs block) o) (s.each block) ∙ sym (last_image-append xs zs block));
 }
@@ -69,9 +69,9 @@ images_of-append (x ∷ xs) ys = ap (λ (l : List Page). x ++ l) (images_of-appe
 pub images_of-push : (xs : List (List Page)) (x : List Page) → images_of (xs ++ x ∷ []) ≡ images_of xs ++ x
 images_of-push xs x = images_of-append xs (x ∷ []) ∙ ap (λ (l : List Page). images_of xs ++ l) (append-nil x)
 
--- what stands behind the head of a buffer, with more laid behind it
-pub behind_head : (head j k : ℕ) (old new more : List ℕ) → head + j ≤ length old → take (head + j + k) new ≡ take (head + j) old ++ more → take (j + k) (drop head new) ≡ take j (drop head old) ++ more
-behind_head head j k old new more le laid =
+-- what stands after the head of a buffer, with more laid after it
+pub after_head : (head j k : ℕ) (old new more : List ℕ) → head + j ≤ length old → take (head + j + k) new ≡ take (head + j) old ++ more → take (j + k) (drop head new) ≡ take j (drop head old) ++ more
+after_head head j k old new more le laid =
     let e : head + j + k ≡ head + (j + k) = omega arith in
     sym (drop-take head (j + k) new)
     ∙ (ap (λ (n : ℕ). drop head (take n new)) (sym e)

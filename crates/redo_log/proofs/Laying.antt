@@ -12,7 +12,7 @@ use Rattle.page_codec.proofs.Laws.{length-page}
 use Rattle.redo_log.specs.Images.{if_of, later_of, last_image, SameImages, images_bytes}
 use Rattle.redo_log.specs.Groups.{IsImage, AreImages}
 use Rattle.redo_log.specs.Blocks.{image_blocks, is_among_blocks, with_block, with_image, with_images, AreLaid}
-use Rattle.redo_log.proofs.ImageLists.{images_bytes-append, last_image-append, same_eq, same_trans, same_append, same_behind, behind_head}
+use Rattle.redo_log.proofs.ImageLists.{images_bytes-append, last_image-append, same_eq, same_trans, same_append, same_after, after_head}
 use Rattle.redo_log.proofs.BlockLists.{AreDistinct, is_among-at, with_block-old, with_block-new, distinct-with_block}
 
 -- an image has one block
@@ -35,13 +35,13 @@ last_image-none (p ∷ ps) block new =
     let parts = or_parts (p.block == block) (is_among_blocks (image_blocks ps) block) new in
     ap (λ (o : Option Page). later_of (if_of block p) o) (last_image-none ps block parts.1) ∙ ap (λ (t : Bool). cond t (Some p) None) parts.0
 
--- the image in the place of its block's counts as one behind them all
+-- the image in the place of its block's counts as one after them all
 pub with_image-same : (ps : List Page) (p : Page) → AreDistinct (image_blocks ps) → SameImages (with_image ps p) (ps ++ p ∷ [])
 with_image-same [] p distinct = same_eq (p ∷ []) (p ∷ []) refl
 with_image-same (q ∷ qs) p distinct = ⊎_elim
     (λ here. same_trans (with_image (q ∷ qs) p) (p ∷ qs) (q ∷ qs ++ p ∷ []) (same_eq _ _ (with_image-here q qs p here)) (record { each = λ block. moved block here (cases_Bool (p.block == block)) }))
     (λ there. same_trans (with_image (q ∷ qs) p) (q ∷ with_image qs p) (q ∷ qs ++ p ∷ []) (same_eq _ _ (with_image-there q qs p there))
-    (same_behind (q ∷ []) (with_image qs p) (qs ++ p ∷ []) (with_image-same qs p distinct.1)))
+    (same_after (q ∷ []) (with_image qs p) (qs ++ p ∷ []) (with_image-same qs p distinct.1)))
     (cases_Bool (q.block == p.block))
   where
     moved : (block : ℕ) → (q.block == p.block) ≡ true → ((p.block == block) ≡ true) ⊎ ((p.block == block) ≡ false) → last_image (p ∷ qs) block ≡ last_image (q ∷ qs ++ p ∷ []) block
@@ -75,7 +75,7 @@ images-with_image limits (q ∷ qs) p are is = ⊎_elim
     (λ there. subst (AreImages limits) (sym (with_image-there q qs p there)) (are.0, images-with_image limits qs p are.1 is))
     (cases_Bool (q.block == p.block))
 
--- the image of a new block stands behind them
+-- the image of a new block stands after them
 with_image-new : (ps : List Page) (p : Page) → is_among_blocks (image_blocks ps) p.block ≡ false → with_image ps p ≡ ps ++ p ∷ []
 with_image-new [] p new = refl
 with_image-new (q ∷ qs) p new =
@@ -83,12 +83,12 @@ with_image-new (q ∷ qs) p new =
     with_image-there q qs p parts.0 ∙ ap (λ (l : List Page). q ∷ l) (with_image-new qs p parts.1)
 
 -- the first of two lists, and so many of the second
-take_behind : (front more : List ℕ) (n m : ℕ) → n ≡ length front + m → take n (front ++ more) ≡ front ++ take m more
-take_behind front more n m e = ap (λ (k : ℕ). take k (front ++ more)) e ∙ take-append-add front more m
+take_after : (front more : List ℕ) (n m : ℕ) → n ≡ length front + m → take n (front ++ more) ≡ front ++ take m more
+take_after front more n m e = ap (λ (k : ℕ). take k (front ++ more)) e ∙ take-append-add front more m
 
--- and what is behind those
-drop_behind : (front more : List ℕ) (n m : ℕ) → n ≡ length front + m → drop n (front ++ more) ≡ drop m more
-drop_behind front more n m e = ap (λ (k : ℕ). drop k (front ++ more)) e ∙ drop-append-add front more m
+-- and what is after those
+drop_after : (front more : List ℕ) (n m : ℕ) → n ≡ length front + m → drop n (front ++ more) ≡ drop m more
+drop_after front more n m e = ap (λ (k : ℕ). drop k (front ++ more)) e ∙ drop-append-add front more m
 
 -- the bytes of those of which the one at this place is replaced
 bytes-with_image : (limits : Format) (ps : List Page) (p : Page) (k at : ℕ) → AreImages limits ps → AreDistinct (image_blocks ps) → k < length ps
@@ -107,8 +107,8 @@ bytes-with_image limits (q ∷ qs) p (suc k) at are distinct lt is e =
     ap images_bytes (with_image-there q qs p there)
     ∙ (ap (λ (l : List ℕ). page_bytes q ++ l) (bytes-with_image limits qs p k (4096 * k) are.1 distinct.1 (omega arith) is refl)
     ∙ (sym (append_assoc (page_bytes q) (take (4096 * k) (images_bytes qs)) _)
-    ∙ (ap (λ (l : List ℕ). l ++ (page_bytes p ++ drop (4096 * k + 4096) (images_bytes qs))) (sym (take_behind (page_bytes q) (images_bytes qs) at (4096 * k) (omega (arith, long))))
-    ∙ ap (λ (l : List ℕ). take at (images_bytes (q ∷ qs)) ++ (page_bytes p ++ l)) (sym (drop_behind (page_bytes q) (images_bytes qs) (at + 4096) (4096 * k + 4096) (omega (arith, long)))))))
+    ∙ (ap (λ (l : List ℕ). l ++ (page_bytes p ++ drop (4096 * k + 4096) (images_bytes qs))) (sym (take_after (page_bytes q) (images_bytes qs) at (4096 * k) (omega (arith, long))))
+    ∙ ap (λ (l : List ℕ). take at (images_bytes (q ∷ qs)) ++ (page_bytes p ++ l)) (sym (drop_after (page_bytes q) (images_bytes qs) (at + 4096) (4096 * k + 4096) (omega (arith, long)))))))
 
 -- a part of a buffer is replaced
 replaced : (old part : List ℕ) (at n : ℕ) → length part ≡ 4096 → at + 4096 ≤ n → 4 + n ≤ length old
@@ -121,8 +121,8 @@ replaced old part at n long inside fits =
     let first : length (take at body) ≡ at = length-take-le at body (omega (arith, length-drop 4 old)) in
     ap (take n) (drop-append-le 4 (take (4 + at) old) (part ++ drop 4096 (drop (4 + at) old))
     (omega (arith, length-take-le (4 + at) old (omega arith))) ∙ ap (λ (l : List ℕ). l ++ (part ++ drop 4096 (drop (4 + at) old))) (drop-take 4 at old))
-    ∙ (take_behind (take at body) (part ++ drop 4096 (drop (4 + at) old)) n (4096 + rest) (omega arith)
-    ∙ (ap (λ (l : List ℕ). take at body ++ l) (take_behind part (drop 4096 (drop (4 + at) old)) (4096 + rest) rest (omega arith))
+    ∙ (take_after (take at body) (part ++ drop 4096 (drop (4 + at) old)) n (4096 + rest) (omega arith)
+    ∙ (ap (λ (l : List ℕ). take at body ++ l) (take_after part (drop 4096 (drop (4 + at) old)) (4096 + rest) rest (omega arith))
     ∙ (ap (λ (l : List ℕ). take at body ++ (part ++ take rest l)) behind
     ∙ (ap (λ (l : List ℕ). take at body ++ (part ++ l)) (sym (drop-take (at + 4096) rest body) ∙ ap (λ (k : ℕ). drop (at + 4096) (take k body)) (sym whole))
     ∙ ap (λ (l : List ℕ). l ++ (part ++ drop (at + 4096) (take n body))) (sym (take-take at n body (omega arith)))))))
@@ -131,7 +131,7 @@ replaced old part at n long inside fits =
 pub none_laid : (limits : Format) (order buffer : List ℕ) → order ≡ [] → AreLaid limits order buffer []
 none_laid limits order buffer none = subst (λ (l : List ℕ). AreLaid limits l buffer []) (sym none) (record { counted = refl; images = tt; blocks = refl; buffered = refl })
 
--- the images in the places of their blocks' count as those behind them all
+-- the images in the places of their blocks' count as those after them all
 pub with_images-same : (laid ps : List Page) → AreDistinct (image_blocks laid) → SameImages (with_images laid ps) (laid ++ ps)
 with_images-same laid [] distinct = same_eq laid (laid ++ []) (sym (append-nil laid))
 with_images-same laid (p ∷ ps) distinct =
@@ -141,7 +141,7 @@ with_images-same laid (p ∷ ps) distinct =
     (same_append (with_image laid p) (laid ++ p ∷ []) ps (with_image-same laid p distinct))
     (same_eq _ _ (append_assoc laid (p ∷ []) ps)))
 
--- what stands behind the room for the number once an image was written at a place
+-- what stands after the room for the number once an image was written at a place
 abbrev written : List ℕ → Page → ℕ → List ℕ
 written old p k = drop 4 (put_mid (4 + 4096 * k) 4096 old (page_bytes p))
 
@@ -153,7 +153,7 @@ laid_old limits order old p k lt is distinct fits image laid a =
     ∙ (ap (λ (l : List ℕ). take (4096 * k) l ++ (page_bytes p ++ drop (4096 * k + 4096) l)) a.buffered
     ∙ sym (bytes-with_image limits laid p k (4096 * k) a.images (subst AreDistinct (sym a.blocks) distinct) (omega (arith, a.counted)) (ap (λ (l : List ℕ). get_or l k 0) a.blocks ∙ is) refl))
 
--- an image of another block is laid behind them
+-- an image of another block is laid after them
 laid_new : (limits : Format) (order old : List ℕ) (p : Page) → is_among_blocks order p.block ≡ false → 4 + 4096 * (length order + 1) ≤ length old → IsImage limits p
     → (laid : List Page) → AreLaid limits order old laid → take (4096 * (length order + 1)) (written old p (length order)) ≡ images_bytes (with_image laid p)
 laid_new limits order old p new fits image laid a =
@@ -161,7 +161,7 @@ laid_new limits order old p new fits image laid a =
     let long = length-page p image.page in
     let more : 4096 * (length order + 1) ≡ at + 4096 = omega arith in
     ap (λ (n : ℕ). take n (drop 4 (put_mid (4 + at) 4096 old (page_bytes p)))) more
-    ∙ (behind_head 4 at 4096 old (put_mid (4 + at) 4096 old (page_bytes p)) (page_bytes p) (omega arith)
+    ∙ (after_head 4 at 4096 old (put_mid (4 + at) 4096 old (page_bytes p)) (page_bytes p) (omega arith)
     (take-put_mid (4 + at) 4096 old (page_bytes p) (4 + at + 4096) (omega (arith, long)) (omega arith))
     ∙ (ap (λ (l : List ℕ). l ++ page_bytes p) a.buffered
     ∙ (ap (λ (l : List ℕ). images_bytes laid ++ l) (sym (append-nil (page_bytes p)))

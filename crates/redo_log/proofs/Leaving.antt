@@ -3,14 +3,14 @@ use Rattle.std.proofs.Common.{◌≡◌, ◌≢◌, ◌⊎◌, inl, inr, ℕ, ze
 use Rattle.std.proofs.lemmas.Bool.{cases_eq}
 use Rattle.std.proofs.lemmas.List.{append-nil}
 use Rattle.std.specs.Int.{w32, to_le_bytes}
-use Rattle.device.specs.Disk.{DiskMoment, MayLeave}
+use Rattle.device.specs.Disk.{DiskMoment, MayCrashTo}
 use Rattle.device.specs.Places.{Has, OnDisk, ChangesOnly}
 use Rattle.device.proofs.Standing.{kept, on_image, on_front, on_back, on_both, has_both, has_drop}
 use Rattle.index_model.specs.declared.format.Format.{Format}
 use Rattle.page_codec.specs.declared.page.Page.{Page}
 use Rattle.redo_log.specs.Images.{images_bytes}
 use Rattle.redo_log.specs.Groups.{AreGroups, IsGroup, spelled_groups, body, SpellsGroups}
-use Rattle.redo_log.specs.Publish.{IsShut, IsShutOrWhole}
+use Rattle.redo_log.specs.Publish.{IsShut, IsClosedOrWritten}
 use Rattle.redo_log.specs.Kept.{IsSettled}
 use Rattle.redo_log.proofs.ImageLists.{length-images_bytes, all-append}
 
@@ -68,7 +68,7 @@ module _ (limits : Format) (start size at : ℕ) (gs : List (List Page)) (m : Di
     on_disk = subst (λ (n : ℕ). OnDisk (start + n) (s.gate ∷ []) m) (sym s.end) (on_back start (spelled_groups gs) (s.gate ∷ []) m s.on_disk);
   }
 
-  pub settled_leaves : (c : List ℕ) → MayLeave m c → SpellsGroups limits (take size (drop start c)) gs
+  pub settled_leaves : (c : List ℕ) → MayCrashTo m c → SpellsGroups limits (take size (drop start c)) gs
   settled_leaves c left = shut_stands limits start size gs s.gate c s.good s.closed (omega (arith, s.end)) (on_image start _ m c s.on_disk left)
 
   module _ (g : List Page) (is : IsGroup limits g) (room : at + (6 + 4096 * length g) ≤ size) where
@@ -81,7 +81,7 @@ module _ (limits : Format) (start size at : ℕ) (gs : List (List Page)) (m : Di
     end_is : start + at ≡ start + length (spelled_groups gs)
     end_is = omega (arith, s.end)
 
-    -- the groups with this gate behind them, whatever it is
+    -- the groups with this gate after them, whatever it is
     with_gate : (x : ℕ) (c : List ℕ) → Has start (spelled_groups gs) c → Has (start + at) (x ∷ []) c → Has start (spelled_groups gs ++ x ∷ []) c
     with_gate x c front gate = has_both start (spelled_groups gs) (x ∷ []) c front (subst (λ (n : ℕ). Has n (x ∷ []) c) end_is gate)
 
@@ -112,10 +112,10 @@ module _ (limits : Format) (start size at : ℕ) (gs : List (List Page)) (m : Di
           | inr shut ↦ inl (shut_stands limits start size gs x c s.good shut (omega (arith, s.end)) (with_gate x c front gate))
         ]
 
-    fronts : (n : DiskMoment) → IsShutOrWhole (start + at) piece m n → OnDisk start (spelled_groups gs) n
+    fronts : (n : DiskMoment) → IsClosedOrWritten (start + at) piece m n → OnDisk start (spelled_groups gs) n
     fronts n p = kept (start + at) (length piece + 1) start (spelled_groups gs) m n p.only (inl (omega (arith, s.end))) (on_front start (spelled_groups gs) (s.gate ∷ []) m s.on_disk)
 
-    pub publishing : (n : DiskMoment) → IsShutOrWhole (start + at) piece m n → (c : List ℕ) → MayLeave n c
+    pub publishing : (n : DiskMoment) → IsClosedOrWritten (start + at) piece m n → (c : List ℕ) → MayCrashTo n c
         → SpellsGroups limits (take size (drop start c)) gs ⊎ SpellsGroups limits (take size (drop start c)) (gs ++ g ∷ [])
     publishing n p c left = elim (p.either shut_at) [
       | inl shut ↦ inl (shut_stands limits start size gs shut.gate c s.good shut.closed (omega (arith, s.end))
@@ -123,7 +123,7 @@ module _ (limits : Format) (start size at : ℕ) (gs : List (List Page)) (m : Di
       | inr on ↦ whole c (on_image start (spelled_groups gs) n c (fronts n p) left) (on_image (start + at + 1) piece n c on left)
     ]
 
-    pub published : (n : DiskMoment) → IsShutOrWhole (start + at) piece m n → OnDisk (start + at) (1 ∷ piece) n → IsSettled limits start (at + (5 + 4096 * length g)) (gs ++ g ∷ []) n
+    pub published : (n : DiskMoment) → IsClosedOrWritten (start + at) piece m n → OnDisk (start + at) (1 ∷ piece) n → IsSettled limits start (at + (5 + 4096 * length g)) (gs ++ g ∷ []) n
     published n p on = record {
       good = good_pushed;
       end = sym length_pushed;
@@ -135,7 +135,7 @@ module _ (limits : Format) (start size at : ℕ) (gs : List (List Page)) (m : Di
 -- while the first gate is closed, a crash leaves what there was or nothing
 pub resetting : (limits : Format) (start size : ℕ) (gs : List (List Page)) (gate : ℕ) (m n : DiskMoment) → AreGroups limits gs → gate ≢ 1
     → OnDisk start (spelled_groups gs ++ gate ∷ []) m → 0 < length (spelled_groups gs) → length (spelled_groups gs) + 1 ≤ size
-    → ChangesOnly start 1 m n → (c : List ℕ) → MayLeave n c → SpellsGroups limits (take size (drop start c)) gs ⊎ SpellsGroups limits (take size (drop start c)) []
+    → ChangesOnly start 1 m n → (c : List ℕ) → MayCrashTo n c → SpellsGroups limits (take size (drop start c)) gs ⊎ SpellsGroups limits (take size (drop start c)) []
 resetting limits start size [] gate m n good shut on some fits only c left = absurd (omega arith)
 resetting limits start size (g ∷ gs) gate m n good shut on some fits only c left =
     let rest = body g ++ spelled_groups gs ++ gate ∷ [] in

@@ -1,16 +1,16 @@
 -- Of each block the last image is noted.
 use Rattle.std.proofs.Common.{◌≡◌, ◌≢◌, inl, inr, ℕ, zero, suc, ◌+◌, ◌-◌, ◌*◌, ◌<◌, ◌≤◌, Some, List, [], ◌∷◌, ◌++◌, length, take, drop, replicate, get_or, set, slice_range, refl, sym, ◌∙◌, ap, subst, arith, append_assoc, length-drop, length-set, length-take-le}
 use Rattle.std.proofs.lemmas.Bool.{cases_eq, eq-eqb, ne_eqb}
-use Rattle.std.proofs.lemmas.List.{append-nil, drop-drop, drop-take, take-take, get_or-drop, get_or-set_same, get_or-set_other, length-replicate}
+use Rattle.std.proofs.lemmas.List.{drop-drop, drop-take, take-take, get_or-drop, get_or-set_same, get_or-set_other, length-replicate}
 use Rattle.std.specs.Option.{option_map}
 use Rattle.index_model.specs.declared.format.Format.{Format}
 use Rattle.page_codec.specs.declared.page.Page.{Page}
 use Rattle.page_codec.specs.Spelling.{page_bytes}
 use Rattle.redo_log.specs.Images.{last_image, images_bytes}
 use Rattle.redo_log.specs.Groups.{IsImage, AreImages, IsGroup, body, SpellsGroups}
-use Rattle.redo_log.specs.Reading.{bytes_at, AreNoted, NotesImages, NotesGroup, AreAllNoted, AreAllImages}
+use Rattle.redo_log.specs.Reading.{bytes_at, AreNoted, NotesGroup, AreAllNoted, AreAllImages}
 use Rattle.redo_log.proofs.ImageLists.{last_image-append}
-use Rattle.redo_log.proofs.Parsing.{ImagesSoFar, images_start, image_read, no_image, images_end, GroupsSoFar, groups_start, group_read, no_group, groups_end}
+use Rattle.redo_log.proofs.Parsing.{ImagesSoFar, image_read, no_image, GroupsSoFar, groups_start, group_read, no_group, groups_end}
 
 -- 0 is noted of each block at first
 zeros : (n i : ℕ) → get_or {A = ℕ} (replicate n 0) i 0 ≡ 0
@@ -65,15 +65,7 @@ pub record NotedSoFar (limits : Format) (log : List ℕ) (at count k : ℕ) (old
   pub noted : (before : List Page) → AreNoted limits log before old → AreNoted limits log (before ++ images) now
   pub many : length now ≡ length old
 
-pub noted_start : (limits : Format) (log : List ℕ) (at count : ℕ) (old : List ℕ) → NotedSoFar limits log at count 0 old old
-noted_start limits log at count old = record {
-  images = [];
-  read = images_start limits (take (4096 * count) (drop at log));
-  noted = λ before noted. subst (λ (l : List Page). AreNoted limits log l old) (sym (append-nil before)) noted;
-  many = refl;
-}
-
--- the image that stands behind those
+-- the image that stands after those
 module _ (limits : Format) (log : List ℕ) (at count k : ℕ) (old now : List ℕ) (s : NotedSoFar limits log at count k old now) (more : k < count) (inside : at + 4096 * count ≤ length log) where
   abbrev rest : List ℕ
   rest = drop (4096 * k) (take (4096 * count) (drop at log))
@@ -109,22 +101,6 @@ module _ (limits : Format) (log : List ℕ) (at count k : ℕ) (old now : List �
             (note_more limits log (before ++ s.images) now p (at + 4096 * k) (s.noted before noted) good.within.block (omega (arith, behind)) (omega (arith, more, inside)) is);
         many = length-set now p.block (at + 4096 * k) ∙ s.many;
       }
-
-pub noted_end : (limits : Format) (log : List ℕ) (at count k : ℕ) (old now : List ℕ) → NotedSoFar limits log at count k old now → count ≤ k
-    → at + 4096 * count ≤ length log → NotesImages limits log at count old now
-noted_end limits log at count k old now s all inside = record {
-  images = s.images;
-  good = s.read.good;
-  is = images_end limits _ _ s.images s.read
-      (nothing_left (4096 * k) (take (4096 * count) (drop at log)) (omega (arith, all, inside, length-take-le (4096 * count) (drop at log) (omega (arith, inside, length-drop at log)))));
-  noted = s.noted;
-}
-  where
-    nothing_left : (n : ℕ) (xs : List ℕ) → length xs ≤ n → drop n xs ≡ []
-    nothing_left zero [] le = refl
-    nothing_left zero (x ∷ xs) le = absurd (omega arith)
-    nothing_left (suc n) [] le = refl
-    nothing_left (suc n) (x ∷ xs) le = nothing_left n xs (omega arith)
 
 -- the groups in front of this place were read, and their images noted
 pub record GroupsNoted (limits : Format) (log : List ℕ) (at : ℕ) (lasts : List ℕ) : Type 0 where

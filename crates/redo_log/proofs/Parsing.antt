@@ -1,5 +1,5 @@
 -- What has been read so far, and that it is the only reading.
-use Rattle.std.proofs.Common.{◌≡◌, ◌≢◌, ℕ, zero, suc, ◌+◌, ◌-◌, ◌*◌, ◌^◌, ◌<◌, List, [], ◌∷◌, ◌++◌, length, take, drop, get_or, Result, Err, Fits, w8, refl, sym, ◌∙◌, ap, subst, arith, append_assoc, length-append, length-drop, length-take-le, take-append-drop}
+use Rattle.std.proofs.Common.{◌≡◌, ◌≢◌, ℕ, zero, suc, ◌+◌, ◌-◌, ◌*◌, ◌^◌, ◌<◌, List, [], ◌∷◌, ◌++◌, length, take, drop, get_or, Fits, w8, refl, sym, ◌∙◌, ap, subst, arith, append_assoc, length-append, length-drop, length-take-le, take-append-drop}
 use Rattle.std.proofs.lemmas.List.{take_at, drop_at, append-nil, drop-drop}
 use Rattle.std.proofs.lemmas.Nat.{from_le_bytes-to_le_bytes_4, le_bytes_4}
 use Rattle.std.specs.Int.{w32, to_le_bytes, from_le_bytes}
@@ -62,7 +62,7 @@ module _ (limits : Format) (bytes rest : List ℕ) (images : List Page) (s : Ima
 pub images_end : (limits : Format) (bytes rest : List ℕ) (images : List Page) → ImagesSoFar limits bytes rest images → rest ≡ [] → bytes ≡ images_bytes images
 images_end limits bytes rest images s e = s.is ∙ (ap (λ (l : List ℕ). images_bytes images ++ l) e ∙ append-nil (images_bytes images))
 
--- the number in front, and the images behind it
+-- the number in front, and the images after it
 parts : (head images rest behind : List ℕ) → length head ≡ 4 → behind ≡ head ++ images ++ rest → (take 4 behind ≡ head) × (drop 4 behind ≡ images ++ rest)
 parts head images rest behind four is = (
   ap (take 4) (is ∙ append_assoc head images rest) ∙ take_at head (images ++ rest) 4 four,
@@ -240,7 +240,3 @@ groups_end limits bytes rest now s shut = record {
     none_left : (t : List (List Page)) → SpellsGroups limits rest t → t ≡ []
     none_left [] is = refl
     none_left (g ∷ t) is = absurd (shut (ap (λ (l : List ℕ). get_or l 0 0) is.is))
-
--- two refusals of one result
-pub same_err : {T E : Type 0} (a b : E) (r : Result T E) → r ≡ Err a → r ≡ Err b → a ≡ b
-same_err a b r e f = cc

@@ -2,14 +2,14 @@
 use Rattle.std.proofs.Common.{◌≡◌, inl, inr, ⊎_elim, ℕ, ◌+◌, ◌<◌, ◌≤◌, List, [], ◌∷◌, length, take, drop, false, Result, Ok, Err, refl, sym, ap, subst, arith}
 use Rattle.std.specs.Prelude.{OnOk}
 use Rattle.device.specs.Disk.{DiskMoment, Trace, Writes, Syncs, next, wrote}
-use Rattle.device.specs.Moments.{Goes}
+use Rattle.device.specs.Moments.{AtEachMoment}
 use Rattle.device.specs.Places.{Has, OnDisk, ChangesOnly}
 use Rattle.device.proofs.Going.{steps, goes_on, writes_goes, syncs_goes, goes_weaker}
 use Rattle.device.proofs.Standing.{only_wider, only_more, wrote_only, wrote_has, synced_only, synced_on}
 use Rattle.page_codec.specs.declared.page.Page.{Page}
 use Rattle.redo_log.specs.Images.{images_of}
 use Rattle.redo_log.specs.Groups.{spelled_groups}
-use Rattle.redo_log.specs.Kept.{Keeps, Waits, RestartsOrEmpty}
+use Rattle.redo_log.specs.Kept.{LogHolds, Waits, RestartsOrEmpty}
 use Rattle.redo_log.specs.declared.log.Log.{Log}
 use Rattle.redo_log.proofs.Leaving.{resetting}
 use Rattle.redo_log.proofs.ImageLists.{same_refl, same_eq}
@@ -22,14 +22,14 @@ module _ (at : ℕ) (t : Trace) (inside : at + 1 ≤ length t.now.seen) where
   one_only : (b : List ℕ) → length b ≡ 1 → P (wrote at b t.now)
   one_only b n = subst (λ (k : ℕ). ChangesOnly at k t.now (wrote at b t.now)) n (wrote_only at b t.now (omega arith))
 
-  pub byte_written : {T E : Type 0} (r : Result T E) (u : Trace) → Writes at (0 ∷ []) r t u → Goes P t u
+  pub byte_written : {T E : Type 0} (r : Result T E) (u : Trace) → Writes at (0 ∷ []) r t u → AtEachMoment P t u
   byte_written r u w = writes_goes P at (0 ∷ []) r t u w (λ b n. one_only b n)
 
   module _ (u : Trace) (is : u ≡ next (wrote at (0 ∷ []) t.now) t) where
     u_only : P u.now
     u_only = subst P (sym (ap (λ (v : Trace). v.now) is)) (one_only (0 ∷ []) refl)
 
-    pub byte_synced : {T E : Type 0} (r : Result T E) (v : Trace) → Syncs r u v → Goes P t v
+    pub byte_synced : {T E : Type 0} (r : Result T E) (v : Trace) → Syncs r u v → AtEachMoment P t v
     byte_synced r v w = goes_on P t u v (steps P t u _ is (one_only (0 ∷ []) refl)) (syncs_goes P r u v w (only_more at 1 _ _ _ u_only (synced_only at 1 u.now)))
 
     pub byte_on_disk : {T E : Type 0} (r : Result T E) (v : Trace) → Syncs r u v → OnOk r (OnDisk at (0 ∷ []) v.now)
@@ -39,15 +39,15 @@ module _ (at : ℕ) (t : Trace) (inside : at + 1 ≤ length t.now.seen) where
     byte_on_disk (Err e) v is' = tt
 
 -- while the first gate is closed a crash leaves the actions that were there, or nothing
-pub reset_goes : (log : Log) (old new : Trace) (acts : List (List Page)) (forced : ℕ) → Keeps log old.now acts forced → 0 < log.at → Goes (ChangesOnly 4096 1 old.now) old new
-    → Goes (RestartsOrEmpty log.limits (take forced acts)) old new
+pub reset_goes : (log : Log) (old new : Trace) (acts : List (List Page)) (forced : ℕ) → LogHolds log old.now acts forced → 0 < log.at → AtEachMoment (ChangesOnly 4096 1 old.now) old new
+    → AtEachMoment (RestartsOrEmpty log.limits (take forced acts)) old new
 reset_goes log old new acts forced k some gone = goes_weaker _ _ old new (λ n only image left. ⊎_elim
     (λ s. inl (record { groups = k.groups; spells = s; same = k.durable }))
     (λ s. inr (record { groups = []; spells = s; same = same_refl [] }))
     (resetting log.limits 4096 log.limits.log_bytes k.groups k.settled.gate old.now n k.settled.good k.settled.closed k.settled.on_disk
     (omega (arith, some, k.settled.end)) (omega (arith, log.room, k.settled.end)) only image left)) gone
 
-pub in_range : (log : Log) (old new : Trace) → Goes (ChangesOnly 4096 1 old.now) old new → Goes (ChangesOnly 4096 log.limits.log_bytes old.now) old new
+pub in_range : (log : Log) (old new : Trace) → AtEachMoment (ChangesOnly 4096 1 old.now) old new → AtEachMoment (ChangesOnly 4096 log.limits.log_bytes old.now) old new
 in_range log old new gone = goes_weaker _ _ old new (λ n only. only_wider 4096 1 4096 log.limits.log_bytes old.now n (omega arith) (omega (arith, log.least)) only) gone
 
 -- with no group on the disk what is kept waits
@@ -55,7 +55,7 @@ no_groups : (gs : List (List Page)) → length (spelled_groups gs) ≡ 0 → gs 
 no_groups [] e = refl
 no_groups (g ∷ gs) e = absurd (omega arith)
 
-pub empty_keeps : (log : Log) (m : DiskMoment) (acts : List (List Page)) (forced : ℕ) → Keeps log m acts forced → log.at ≡ 0 → Keeps log m (drop forced acts) 0
+pub empty_keeps : (log : Log) (m : DiskMoment) (acts : List (List Page)) (forced : ℕ) → LogHolds log m acts forced → log.at ≡ 0 → LogHolds log m (drop forced acts) 0
 empty_keeps log m acts forced k start =
     let nothing : k.groups ≡ [] = no_groups k.groups (omega (arith, k.settled.end, start)) in
     record {
@@ -70,8 +70,8 @@ empty_keeps log m acts forced k start =
     }
 
 -- and so it does once the first gate is closed
-pub reset_keeps : (old : Log) (before : DiskMoment) (acts : List (List Page)) (forced : ℕ) → (k : Keeps old before acts forced)
-    → (log : Log) (m : DiskMoment) → log.at ≡ 0 → log.stopped ≡ false → Waits log k.waiting → OnDisk 4096 (0 ∷ []) m → Keeps log m (drop forced acts) 0
+pub reset_keeps : (old : Log) (before : DiskMoment) (acts : List (List Page)) (forced : ℕ) → (k : LogHolds old before acts forced)
+    → (log : Log) (m : DiskMoment) → log.at ≡ 0 → log.stopped ≡ false → Waits log k.waiting → OnDisk 4096 (0 ∷ []) m → LogHolds log m (drop forced acts) 0
 reset_keeps old before acts forced k log m start alive waits on = record {
   alive = alive;
   groups = [];

@@ -2,15 +2,15 @@
 use Rattle.std.proofs.Common.{◌≡◌, inl, inr, ℕ, ◌+◌, ◌≤◌, List, [], ◌∷◌, length, Result, Ok, Err, refl, sym, ap, subst, arith}
 use Rattle.std.specs.Prelude.{OnOk}
 use Rattle.device.specs.Disk.{DiskMoment, Trace, next, wrote, synced, Writes, Syncs}
-use Rattle.device.specs.Moments.{Goes}
+use Rattle.device.specs.Moments.{AtEachMoment}
 use Rattle.device.specs.Places.{Has, OnDisk, ChangesOnly}
 use Rattle.device.proofs.Going.{steps, goes_on, writes_goes, syncs_goes}
 use Rattle.device.proofs.Standing.{wrote_only, synced_only, only_more, only_wider, has_kept, kept, wrote_has, synced_on, has_both, has_back}
-use Rattle.redo_log.specs.Publish.{IsShut, IsShutOrWhole}
+use Rattle.redo_log.specs.Publish.{IsShut, IsClosedOrWritten}
 
 module _ (gate : ℕ) (body : List ℕ) (t : Trace) (room : gate + (length body + 1) ≤ length t.now.seen) where
   abbrev P : DiskMoment → Type 0
-  P = IsShutOrWhole gate body t.now
+  P = IsClosedOrWritten gate body t.now
 
   body_only : (b : List ℕ) → length b ≡ length body → ChangesOnly gate (length body + 1) t.now (wrote (gate + 1) b t.now)
   body_only b n = only_wider (gate + 1) (length b) gate (length body + 1) _ _ (omega arith) (omega arith) (wrote_only (gate + 1) b t.now (omega arith))
@@ -23,11 +23,11 @@ module _ (gate : ℕ) (body : List ℕ) (t : Trace) (room : gate + (length body 
   }
 
   -- while the body is written
-  pub first : {T E : Type 0} (r : Result T E) (u : Trace) → Writes (gate + 1) body r t u → Goes P t u
+  pub first : {T E : Type 0} (r : Result T E) (u : Trace) → Writes (gate + 1) body r t u → AtEachMoment P t u
   first r u w = writes_goes P (gate + 1) body r t u w (λ b n. record { only = body_only b n; either = λ shut. inl (still_shut b n shut) })
 
   module _ (u : Trace) (is : u ≡ next (wrote (gate + 1) body t.now) t) where
-    gone : Goes P t u
+    gone : AtEachMoment P t u
     gone = steps P t u _ is (record { only = body_only body refl; either = λ shut. inl (still_shut body refl shut) })
 
     now_is : u.now ≡ wrote (gate + 1) body t.now
@@ -46,11 +46,11 @@ module _ (gate : ℕ) (body : List ℕ) (t : Trace) (room : gate + (length body 
     }
 
     -- and synced
-    pub second : {T E : Type 0} (r : Result T E) (v : Trace) → Syncs r u v → Goes P t v
+    pub second : {T E : Type 0} (r : Result T E) (v : Trace) → Syncs r u v → AtEachMoment P t v
     second r v s = goes_on P t u v gone (syncs_goes P r u v s u_synced)
 
     module _ (v : Trace) (is' : v ≡ next (synced u.now) u) where
-      gone' : Goes P t v
+      gone' : AtEachMoment P t v
       gone' = goes_on P t u v gone (steps P u v _ is' u_synced)
 
       v_is : v.now ≡ synced u.now
@@ -74,14 +74,14 @@ module _ (gate : ℕ) (body : List ℕ) (t : Trace) (room : gate + (length body 
           }
 
       -- while the gate is opened
-      pub third : {T E : Type 0} (r : Result T E) (w : Trace) → Writes gate (1 ∷ []) r v w → Goes P t w
+      pub third : {T E : Type 0} (r : Result T E) (w : Trace) → Writes gate (1 ∷ []) r v w → AtEachMoment P t w
       third r w wr = goes_on P t v w gone' (writes_goes P gate (1 ∷ []) r v w wr (λ b n. gate_P b n))
 
       module _ (w : Trace) (is'' : w ≡ next (wrote gate (1 ∷ []) v.now) v) where
         w_is : w.now ≡ wrote gate (1 ∷ []) v.now
         w_is = ap (λ (x : Trace). x.now) is''
 
-        gone'' : Goes P t w
+        gone'' : AtEachMoment P t w
         gone'' = goes_on P t v w gone' (steps P v w _ is'' (gate_P (1 ∷ []) refl))
 
         w_P : P w.now
@@ -93,13 +93,13 @@ module _ (gate : ℕ) (body : List ℕ) (t : Trace) (room : gate + (length body 
             (has_both gate (1 ∷ []) body _ (wrote_has gate (1 ∷ []) v.now v_room)
             (has_kept gate 1 (gate + 1) body v.now _ (wrote_only gate (1 ∷ []) v.now v_room) (inr (omega arith)) v_body.has))
 
-        pub fourth : {T E : Type 0} (r : Result T E) (x : Trace) → Syncs r w x → Goes P t x
+        pub fourth : {T E : Type 0} (r : Result T E) (x : Trace) → Syncs r w x → AtEachMoment P t x
         fourth r x s = goes_on P t w x gone'' (syncs_goes P r w x s (record {
           only = only_more gate (length body + 1) _ _ _ w_P.only (synced_only gate (length body + 1) w.now);
           either = λ shut. inr (synced_on (gate + 1) body w.now (has_back gate (1 ∷ []) body w.now.seen w_has));
         }))
 
-        -- and then the piece stands there behind an open gate
+        -- and then the piece stands there after an open gate
         pub ended : {T E : Type 0} (r : Result T E) (x : Trace) → Syncs r w x → OnOk r (OnDisk gate (1 ∷ body) x.now)
         ended (Ok a) x s = subst (λ (y : Trace). OnDisk gate (1 ∷ body) y.now) (sym s) (synced_on gate (1 ∷ body) w.now w_has)
         ended (Err e) x s = tt

@@ -16,11 +16,11 @@ abbrev pub is_among_blocks : List ℕ → ℕ → Bool
 is_among_blocks [] block = false
 is_among_blocks (b ∷ blocks) block = (b == block) || is_among_blocks blocks block
 
--- these blocks, and behind them this one where it isn't among them
+-- these blocks, and after them this one where it isn't among them
 abbrev pub with_block : List ℕ → ℕ → List ℕ
 with_block blocks block = if is_among_blocks blocks block then blocks else blocks ++ block ∷ []
 
--- these blocks, and behind them those of the images that aren't among them, each once
+-- these blocks, and after them those of the images that aren't among them, each once
 abbrev pub with_blocks : List ℕ → List Page → List ℕ
 with_blocks blocks [] = blocks
 with_blocks blocks (p ∷ ps) = with_blocks (with_block blocks p.block) ps
@@ -36,7 +36,7 @@ new_count blocks (p ∷ ps) =
 abbrev pub AreInside : ℕ → List Page → Type 0
 AreInside pages ps = AllByRecursion (λ p. p.block < pages) ps
 
--- these images, with this one in the place of its block's, or behind them where there is none
+-- these images, with this one in the place of its block's, or after them where there is none
 abbrev pub with_image : List Page → Page → List Page
 with_image [] p = p ∷ []
 with_image (q ∷ qs) p = if q.block == p.block then p ∷ qs else q ∷ with_image qs p
@@ -46,7 +46,7 @@ abbrev pub with_images : List Page → List Page → List Page
 with_images laid [] = laid
 with_images laid (p ∷ ps) = with_images (with_image laid p) ps
 
--- these images, one of each of the blocks, stand in the buffer behind the room for their number
+-- these images, one of each of the blocks, stand in the buffer after the room for their number
 pub record AreLaid (limits : Format) (order buffer : List ℕ) (laid : List Page) : Type 0 where
   pub counted : length laid ≡ length order
   pub images : AreImages limits laid

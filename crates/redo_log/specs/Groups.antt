@@ -1,4 +1,4 @@
--- The bytes of a log: groups of images, each behind a gate.
+-- The bytes of a log: groups of images, each after a gate.
 use Rattle.std.specs.Prelude.{◌≡◌, ◌≢◌, ℕ, ◌^◌, ◌<◌, ◌≤◌, List, [], ◌∷◌, ◌++◌, length, take, drop}
 use Rattle.std.specs.Int.{w32, to_le_bytes}
 use Rattle.std.specs.List.{AllByRecursion}
@@ -39,7 +39,7 @@ AreGroups limits groups = AllByRecursion (IsGroup limits) groups
 abbrev pub body : List Page → List ℕ
 body group = to_le_bytes w32 (length group) ++ images_bytes group
 
--- the groups, each behind an open gate
+-- the groups, each after an open gate
 abbrev pub spelled_groups : List (List Page) → List ℕ
 spelled_groups [] = []
 spelled_groups (group ∷ groups) = 1 ∷ body group ++ spelled_groups groups

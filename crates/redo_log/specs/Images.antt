@@ -21,7 +21,7 @@ last_image (p ∷ ps) block = later_of (if_of block p) (last_image ps block)
 pub record SameImages (xs ys : List Page) : Type 0 where
   pub each : (block : ℕ) → last_image xs block ≡ last_image ys block
 
--- the bytes of these images, one behind the other
+-- the bytes of these images, one after the other
 abbrev pub images_bytes : List Page → List ℕ
 images_bytes [] = []
 images_bytes (p ∷ ps) = page_bytes p ++ images_bytes ps

@@ -1,7 +1,7 @@
 -- What a log stands for, at a moment of its device and after a crash.
 use Rattle.std.specs.Prelude.{◌≡◌, ◌≢◌, ◌⊎◌, ℕ, suc, Result, MatchResult, ◌+◌, ◌-◌, ◌*◌, ◌^◌, ◌≤◌, Bool, false, true, List, [], ◌∷◌, ◌++◌, length, take, drop}
-use Rattle.device.specs.Disk.{DiskMoment, Trace, MayLeave}
-use Rattle.device.specs.Moments.{Goes}
+use Rattle.device.specs.Disk.{DiskMoment, Trace, MayCrashTo}
+use Rattle.device.specs.Moments.{AtEachMoment}
 use Rattle.device.specs.Places.{OnDisk, ChangesOnly, IsUntouched}
 use Rattle.page_codec.specs.Places.{log_start}
 use Rattle.index_model.specs.declared.fault.Fault.{Fault}
@@ -37,7 +37,7 @@ waiting_count log = length (waiting_blocks log)
 abbrev pub groups_end : Log → ℕ
 groups_end log = log.at
 
--- where the group that waits would end with n images more, the closed gate behind it among them
+-- where the group that waits would end with n images more, the closed gate after it among them
 abbrev pub end_with : Log → ℕ → ℕ
 end_with log n = log.at + (6 + 4096 * (waiting_count log + n))
 
@@ -60,7 +60,7 @@ abbrev pub IoOrStopped : {T : Type 0} → Result T Fault → Bool → ℕ → �
 IoOrStopped result was_stopped old new = MatchResult result (λ _. new ≡ old)
     (λ e. ((e ≡ Io) × (new ≡ suc old)) ⊎ ((e ≡ Stopped) × (was_stopped ≡ true) × (new ≡ old)))
 
--- its groups stand on the disk, and behind them a gate that isn't 1
+-- its groups stand on the disk, and after them a gate that isn't 1
 pub record IsSettled (limits : Format) (start at : ℕ) (groups : List (List Page)) (m : DiskMoment)
     : Type 0 where
   pub good : AreGroups limits groups
@@ -75,7 +75,7 @@ Waits log waiting = AreLaid log.limits (waiting_blocks log) log.buffer.items wai
 
 -- the log keeps these actions, of which the first so many are forced: on the disk stand the last
 -- images of these, and the last images of the others wait
-pub record Keeps (log : Log) (m : DiskMoment) (acts : List (List Page)) (forced : ℕ) : Type 0 where
+pub record LogHolds (log : Log) (m : DiskMoment) (acts : List (List Page)) (forced : ℕ) : Type 0 where
   pub alive : log.stopped ≡ false
   pub groups : List (List Page)
   pub settled : IsSettled log.limits log_start log.at groups m
@@ -92,7 +92,7 @@ pub record Holds (limits : Format) (image : List ℕ) (acts : List (List Page)) 
   pub spells : SpellsGroups limits (log_range limits image) groups
   pub same : SameImages (images_of groups) (images_of acts)
 
--- the bytes hold some first part of the actions with every forced one
+-- the bytes hold some prefix of the actions with every forced one
 pub record HoldsFirst (limits : Format) (acts : List (List Page)) (forced : ℕ) (image : List ℕ)
     : Type 0 where
   pub part : ℕ
@@ -100,46 +100,46 @@ pub record HoldsFirst (limits : Format) (acts : List (List Page)) (forced : ℕ)
   pub to : part ≤ length acts
   pub holds : Holds limits image (take part acts)
 
--- a crash at this moment leaves some first part of the actions with every forced one
+-- a crash at this moment leaves some prefix of the actions with every forced one
 abbrev pub Restarts : Format → List (List Page) → ℕ → DiskMoment → Type 0
 Restarts limits acts forced m =
-    (image : List ℕ) → MayLeave m image → HoldsFirst limits acts forced image
+    (image : List ℕ) → MayCrashTo m image → HoldsFirst limits acts forced image
 
 -- a crash at this moment leaves these actions, or nothing
 abbrev pub RestartsOrEmpty : Format → List (List Page) → DiskMoment → Type 0
 RestartsOrEmpty limits acts m =
-    (image : List ℕ) → MayLeave m image → Holds limits image acts ⊎ Holds limits image []
+    (image : List ℕ) → MayCrashTo m image → Holds limits image acts ⊎ Holds limits image []
 
 -- whatever actions the log kept, it keeps these images as one more, which isn't forced
 abbrev pub AddsAction : List Page → Log → Log → Type 0
 AddsAction images old new = (m : DiskMoment) (acts : List (List Page)) (forced : ℕ)
-    → Keeps old m acts forced → Keeps new m (acts ++ images ∷ []) forced
+    → LogHolds old m acts forced → LogHolds new m (acts ++ images ∷ []) forced
 
 -- whatever actions the log kept, all of them are forced now
 abbrev pub ForcesAll : Log → DiskMoment → Log → DiskMoment → Type 0
 ForcesAll old before new after = (acts : List (List Page)) (forced : ℕ)
-    → Keeps old before acts forced → Keeps new after acts (length acts)
+    → LogHolds old before acts forced → LogHolds new after acts (length acts)
 
 -- whatever actions the log kept, it keeps those that weren't forced, and none of them is forced now
 abbrev pub ForgetsForced : Log → DiskMoment → Log → DiskMoment → Type 0
 ForgetsForced old before new after = (acts : List (List Page)) (forced : ℕ)
-    → Keeps old before acts forced → Keeps new after (drop forced acts) 0
+    → LogHolds old before acts forced → LogHolds new after (drop forced acts) 0
 
--- a crash at each moment in between leaves a first part of the actions that the log kept, which has
+-- a crash at each moment in between leaves a prefix of the actions that the log kept, which has
 -- every one that was forced at the beginning
 abbrev pub RestartsThroughout : Log → Trace → Trace → Type 0
 RestartsThroughout log old new = (acts : List (List Page)) (forced : ℕ)
-    → Keeps log old.now acts forced → Goes (Restarts (limits_of log) acts forced) old new
+    → LogHolds log old.now acts forced → AtEachMoment (Restarts (limits_of log) acts forced) old new
 
 -- a crash at each moment in between leaves the forced actions that the log kept, or none
 abbrev pub RestartsOrEmptyThroughout : Log → Trace → Trace → Type 0
 RestartsOrEmptyThroughout log old new = (acts : List (List Page)) (forced : ℕ)
-    → Keeps log old.now acts forced
-    → Goes (RestartsOrEmpty (limits_of log) (take forced acts)) old new
+    → LogHolds log old.now acts forced
+    → AtEachMoment (RestartsOrEmpty (limits_of log) (take forced acts)) old new
 
 -- at each moment in between nothing but the log's range has changed
 abbrev pub ChangesItsRange : Format → Trace → Trace → Type 0
-ChangesItsRange limits old new = Goes (ChangesOnly log_start limits.log_bytes old.now) old new
+ChangesItsRange limits old new = AtEachMoment (ChangesOnly log_start limits.log_bytes old.now) old new
 
 -- nothing in the log's range has changed, and no crash changes more of it
 abbrev pub RangeIsUntouched : Format → DiskMoment → DiskMoment → Type 0
@@ -149,9 +149,9 @@ RangeIsUntouched limits old new = IsUntouched log_start limits.log_bytes old new
 abbrev pub KeepsWhileUntouched : Log → Type 0
 KeepsWhileUntouched log = (old new : DiskMoment) (acts : List (List Page)) (forced : ℕ)
     → RangeIsUntouched (limits_of log) old new
-    → Keeps log old acts forced → Keeps log new acts forced
+    → LogHolds log old acts forced → LogHolds log new acts forced
 
--- whatever actions the log keeps, a crash leaves a first part of them with every forced one
+-- whatever actions the log keeps, a crash leaves a prefix of them with every forced one
 abbrev pub WhatItKeepsRestarts : Log → Type 0
 WhatItKeepsRestarts log = (m : DiskMoment) (acts : List (List Page)) (forced : ℕ)
-    → Keeps log m acts forced → Restarts (limits_of log) acts forced m
+    → LogHolds log m acts forced → Restarts (limits_of log) acts forced m

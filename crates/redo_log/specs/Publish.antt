@@ -9,8 +9,8 @@ pub record IsShut (at : ℕ) (m : DiskMoment) : Type 0 where
   pub closed : gate ≢ 1
   pub on_disk : OnDisk at (gate ∷ []) m
 
--- nothing else changed, and if the gate stood closed it still does, or the whole piece stands behind
+-- nothing else changed, and if the gate stood closed it still does, or the whole piece stands after
 -- it
-pub record IsShutOrWhole (gate : ℕ) (body : List ℕ) (old m : DiskMoment) : Type 0 where
+pub record IsClosedOrWritten (gate : ℕ) (body : List ℕ) (old m : DiskMoment) : Type 0 where
   pub only : ChangesOnly gate (length body + 1) old m
   pub either : IsShut gate old → IsShut gate m ⊎ OnDisk (gate + 1) body m

@@ -10,7 +10,7 @@ use Rattle.page_codec.specs.declared.page.Page.{Page}
 use Rattle.page_codec.specs.Spelling.{page_bytes}
 use Rattle.redo_log.specs.Images.{images_bytes, images_of, last_image}
 use Rattle.redo_log.specs.Groups.{AreImages, IsGroup, body, spelled_groups, SpellsGroups, log_range}
-use Rattle.redo_log.specs.Kept.{Keeps, limits_of, actions_of, waiting_count, is_stopped}
+use Rattle.redo_log.specs.Kept.{LogHolds, limits_of, actions_of, waiting_count, is_stopped}
 use Rattle.redo_log.specs.declared.log.Log.{Log}
 use Rattle.redo_log.specs.declared.log.Replayed.{Replayed}
 
@@ -27,7 +27,7 @@ pub record AreNoted (limits : Format) (log : List ℕ) (images : List Page) (las
   pub each : (block : ℕ)
       → bytes_at log (get_or lasts block 0) ≡ option_map page_bytes (last_image images block)
 
--- so many images stand there, and were noted behind any others
+-- so many images stand there, and were noted after any others
 pub record NotesImages (limits : Format) (log : List ℕ) (at count : ℕ) (old new : List ℕ)
     : Type 0 where
   pub images : List Page
@@ -36,7 +36,7 @@ pub record NotesImages (limits : Format) (log : List ℕ) (at count : ℕ) (old 
   pub noted : (before : List Page) → AreNoted limits log before old
       → AreNoted limits log (before ++ images) new
 
--- a group of so many images stands there, with something behind it, and they were noted so
+-- a group of so many images stands there, with something after it, and they were noted so
 pub record NotesGroup (limits : Format) (log : List ℕ) (at count : ℕ) (old new : List ℕ)
     : Type 0 where
   pub group : List Page
@@ -76,7 +76,7 @@ pub record Replays (limits : Format) (m : DiskMoment) (log : Log) (images : List
   pub images_are : images ≡ images_of groups
   pub only : (others : List (List Page)) → SpellsGroups limits (log_range limits m.seen) others
       → others ≡ groups
-  pub keeps : IsFirm limits m → Keeps log m groups (length groups)
+  pub keeps : IsFirm limits m → LogHolds log m groups (length groups)
 
 -- the bytes that a replay kept of the block, if it has an image
 abbrev pub kept_image : Replayed → ℕ → Option (List ℕ)
@@ -84,7 +84,7 @@ kept_image found block = bytes_at found.log.buffer.items (get_or found.lasts.ite
 
 -- it kept of each block the bytes of the last of these images, and none where there is no image of
 -- it
-pub record KeepsLast (found : Replayed) (images : List Page) : Type 0 where
+pub record HoldsLast (found : Replayed) (images : List Page) : Type 0 where
   pub each : (block : ℕ)
       → kept_image found block ≡ option_map page_bytes (last_image images block)
 
@@ -94,7 +94,7 @@ pub record IsReplay (limits : Format) (honest : Bool) (m : DiskMoment) (found : 
     : Type 0 where
   pub images : List Page
   pub good : AreImages limits images
-  pub lasts : KeepsLast found images
+  pub lasts : HoldsLast found images
   pub replays : IsTrue honest → Replays limits m found.log images
 
 -- a log as it is opened: nothing waits, and no action was appended

@@ -11,7 +11,7 @@ ghost use Rattle.redo_log.specs.Blocks.{with_block, with_blocks, with_image, wit
 use crate::waiting::Waiting;
 use page_codec::{Page, encode};
 
-/// Lays images one after the other, each in the place of the image of its block, or behind those
+/// Lays images one after the other, each in the place of the image of its block, or after those
 /// that wait where none is of its block.
 pub(crate) fn lay_images(waiting: &mut Waiting, buffer: &mut [u8], images: &[Page])
     requires inside { AreInside (length waiting.old.places.items) images.now }
@@ -63,7 +63,7 @@ fn put_image(place: &mut [u8], image: &Page)
     }
 }
 
-/// Puts the number in front of the images, and a closed gate behind them.
+/// Puts the number in front of the images, and a closed gate after them.
 pub(crate) fn seal(buffer: &mut [u8], count: u32)
     requires { 5 + 4096 * count ≤ length buffer.old }
     ensures { take (5 + 4096 * count) buffer.new

@@ -1,4 +1,4 @@
-//! A redo log: whole pages, in groups behind gates, of which a crash leaves a first part that has all
+//! A redo log: whole pages, in groups after gates, of which a crash leaves a prefix that has all
 //! that was forced.
 #![tactic(auto)]
 

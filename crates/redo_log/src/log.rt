@@ -86,7 +86,7 @@ impl Log {
     /// the log was opened.
     ///
     /// Refused, with nothing changed: on a stopped log, or where the greatest number was given
-    /// (`Stopped`); where the images of blocks that don't wait don't fit behind those that wait
+    /// (`Stopped`); where the images of blocks that don't wait don't fit after those that wait
     /// (`LogFull`), which is never so up to `room()` of them.
     pub fn append(&mut self, images: &[Page]) -> Result<u64, Fault>
         requires images { AreImages (limits_of self.old) images.now }
@@ -125,7 +125,7 @@ impl Log {
     }
 
     /// Does nothing: whatever changes outside of the log's range, the log keeps what it kept, and a
-    /// crash leaves a first part of it that has all that was forced.
+    /// crash leaves a prefix of it that has all that was forced.
     pub fn keeping_law(&self)
         ensures keeps { KeepsWhileUntouched self.now }
         ensures restarts { WhatItKeepsRestarts self.now }

@@ -78,8 +78,8 @@ fn note_images(limits: &Format, lasts: &mut [u32], log: &[u8], at: usize, count:
     true
 }
 
-/// Notes the images of the group that stands there, behind its gate, and answers how many they are.
-/// None: the bytes are no group, or nothing stands behind it.
+/// Notes the images of the group that stands there, after its gate, and answers how many they are.
+/// None: the bytes are no group, or nothing stands after it.
 fn note_group(limits: &Format, lasts: &mut [u32], log: &[u8], at: usize) -> Option<usize>
     requires small { length log.now ≤ 16777216 }
     requires many { length lasts.old ≡ limits.now.pages }

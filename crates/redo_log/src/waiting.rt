@@ -80,7 +80,7 @@ impl Waiting {
         count
     }
 
-    /// The place of the block's image: where none waits, a new one behind the others, and then the
+    /// The place of the block's image: where none waits, a new one after the others, and then the
     /// block waits too.
     pub(crate) fn take(&mut self, block: u32) -> usize
         requires inside { block < length self.old.places.items }

@@ -1,4 +1,4 @@
--- The leaf behind the frontier is a leaf.
+-- The leaf after the frontier is a leaf.
 use Rattle.std.proofs.Common.{◌≡◌, ◌<◌, ◌≤◌, Bool, Some, length, slice_get, refl, sym, ap, subst, ◌∙◌, arith}
 use Rattle.arrayvec.specs.declared.array_vec.ArrayVec.{ArrayVec}
 use Rattle.index_model.specs.declared.bound.Bound.{Bound}

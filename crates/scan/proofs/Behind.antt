@@ -37,7 +37,7 @@ past_high f high = go (is_lt (bound_cmp f high)) refl
     go true e = upto_self high
     go false e = e
 
--- what lies behind a lesser frontier lies behind a greater one too
+-- what lies after a lesser frontier lies after a greater one too
 module _ (f g : Bound) (le : IsNoGreater f g) where
   pub aim_widens : (b : Bound) → frontier_aim f b ≡ true → frontier_aim g b ≡ true
   aim_widens b p = ap not (upto_trans b f g (elim (before_or f b) [ inl lt ↦ absurd (false_true (sym (ap not lt) ∙ p)) | inr le ↦ le ]) le)

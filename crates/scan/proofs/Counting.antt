@@ -6,10 +6,11 @@ use Rattle.index_model.specs.declared.bound.Bound.{Bound}
 use Rattle.page_codec.specs.declared.page.Page.{Page}
 use Rattle.page_codec.specs.declared.page.PageState.TheVariants.{Live}
 use Rattle.tree_shape.specs.Chains.{IsNoGreater}
+use Rattle.tree_shape.specs.Nodes.{is_live}
 use Rattle.tree_shape.specs.Walks.{frontier_aim, is_within}
-use Rattle.descent.specs.Onward.{walk_length}
+use Rattle.descent.specs.NextPage.{walk_length}
 use Rattle.scan.specs.Scans.{frontier_past}
-use Rattle.scan.specs.Work.{is_live, is_ahead, count_ahead}
+use Rattle.scan.specs.Work.{is_ahead, count_ahead}
 use Rattle.scan.proofs.Behind.{within_falls, high_is_passed}
 
 counted : Bool → ℕ → ℕ
@@ -83,7 +84,7 @@ some_ahead f (p ∷ pages) (suc b) page found was = go (is_ahead f p) (some_ahea
 pub live_ahead : (f : Bound) (page : Page) → page.state ≡ Live → is_within (frontier_aim f) page.high ≡ true → is_ahead f page ≡ true
 live_ahead f page alive within = rw (alive, within) refl
 
--- a page with a high key isn't ahead of the frontier behind it
+-- a page with a high key isn't ahead of the frontier after it
 pub passed_not_ahead : (f high : Bound) (page : Page) → page.high ≡ Some high → is_ahead (frontier_past f (Some high)) page ≡ false
 passed_not_ahead f high page is = none (is_live page.state) (is_within (frontier_aim (frontier_past f (Some high))) page.high)
     (ap (is_within (frontier_aim (frontier_past f (Some high)))) is ∙ high_is_passed f high)

@@ -11,9 +11,9 @@ use Rattle.tree_shape.specs.Walks.{frontier_aim}
 use Rattle.tree_shape.proofs.Fits.{frontier_falls}
 use Rattle.tree_acts.specs.Trees.{HasTree}
 use Rattle.tree_acts.proofs.Sizes.{low_level, pages_few}
-use Rattle.descent.specs.Shared.{NumbersStay}
+use Rattle.tree_acts.specs.StepEffects.{NumbersStay}
 use Rattle.scan.specs.Scans.{LeafIsLive, leaf_pinned, ScanStands}
-use Rattle.descent.specs.Onward.{walk_length}
+use Rattle.descent.specs.NextPage.{walk_length}
 use Rattle.scan.specs.Work.{count_ahead, leaves_left, scan_walk_left}
 use Rattle.scan.specs.Laws.{PinnedLeavesLast, ScansAreUndisturbed, FreshScansAreBounded, ScansAreBounded}
 use Rattle.scan.specs.declared.steps.ScanAt.{ScanAt}

@@ -1,4 +1,4 @@
--- What the leaf behind the frontier gives a scan.
+-- What the leaf after the frontier gives a scan.
 use Rattle.std.proofs.Common.{◌≡◌, ℕ, Bool, true, false, not, ◌&&◌, if◌then◌else◌, Option, Some, None, List, slice_get, IsSome, ◌↔◌, inl, inr, refl, sym, ap, subst, ◌∙◌}
 use Rattle.std.proofs.lemmas.Bool.{cases_Bool, and_parts}
 use Rattle.index_model.specs.Order.{is_among, is_past, IsUpTo}
@@ -14,27 +14,27 @@ use Rattle.page_action.specs.States.{State}
 use Rattle.tree_shape.specs.Leaf.{IsCopiedFrom}
 use Rattle.tree_shape.specs.Walks.{entry_aim, frontier_aim, is_within}
 use Rattle.tree_acts.specs.Trees.{HasTree, HasCover}
-use Rattle.tree_acts.proofs.Telling.{leaf_tells, frontier_tells}
-use Rattle.descent.specs.declared.way.Way.{Way}
-use Rattle.scan.specs.Scans.{IsBehind, LeafIsRead, behind, behind_leaf, frontier_past}
+use Rattle.tree_acts.proofs.Meanings.{leaf_shows, frontier_shows}
+use Rattle.descent.specs.declared.way.Position.{Position}
+use Rattle.scan.specs.Scans.{IsAfter, LeafIsRead, behind, after_leaf, frontier_past}
 use Rattle.scan.specs.declared.steps.ScanAt.{ScanAt}
 use Rattle.scan.specs.declared.steps.ScanAt.TheVariants.{At, Last}
 use Rattle.scan.specs.declared.steps.ScanOp.{ScanOp}
 use Rattle.scan.proofs.Behind.{not_back, past_high, behind_stays, within_high, below_high}
 
--- what the frontier has passed is behind the scan
-pub behind_after : (g : Bound) (high : Option Bound) (right : Option ℕ) (below : Option (List ℕ)) (e : Entry) → is_past g e ≡ false → IsBehind g (behind_leaf high right below) e
+-- what the frontier has passed is after the scan
+pub behind_after : (g : Bound) (high : Option Bound) (right : Option ℕ) (below : Option (List ℕ)) (e : Entry) → is_past g e ≡ false → IsAfter g (after_leaf high right below) e
 behind_after g None right below e h = tt
 behind_after g (Some high) None below e h = tt
 behind_after g (Some high) (Some right) below e h = go (below_admits below high.key)
   where
-    go : (w : Bool) → IsBehind g (if w then At (record { block = right; level = 0; moves = 1 }) else Last) e
+    go : (w : Bool) → IsAfter g (if w then At (record { block = right; level = 0; moves = 1 }) else Last) e
     go true = h
     go false = tt
 
--- a match beyond the frontier that is behind the scan after a leaf isn't above the high key
+-- a match beyond the frontier that is after the scan after a leaf isn't above the high key
 within_after : (f : Bound) (high : Option Bound) (right : Option ℕ) (below : Option (List ℕ)) (e : Entry) → IsSome high ↔ IsSome right → is_past f e ≡ true → below_admits below e.key ≡ true
-    → IsBehind (frontier_past f high) (behind_leaf high right below) e → is_within (entry_aim e) high ≡ true
+    → IsAfter (frontier_past f high) (after_leaf high right below) e → is_within (entry_aim e) high ≡ true
 within_after f None right below e linked beyond inside h = refl
 within_after f (Some high) None below e linked beyond inside h = absurd (clash (linked.0 refl))
   where
@@ -42,7 +42,7 @@ within_after f (Some high) None below e linked beyond inside h = absurd (clash (
     clash e = cc
 within_after f (Some high) (Some right) below e linked beyond inside h = go (below_admits below high.key) refl h
   where
-    go : (w : Bool) → below_admits below high.key ≡ w → IsBehind (frontier_past f (Some high)) (if w then At (record { block = right; level = 0; moves = 1 }) else Last) e → not (is_past high e) ≡ true
+    go : (w : Bool) → below_admits below high.key ≡ w → IsAfter (frontier_past f (Some high)) (if w then At (record { block = right; level = 0; moves = 1 }) else Last) e → not (is_past high e) ≡ true
     go true e' h = ap not (within_high f high e beyond h)
     go false out h = ap not (below_high below high e out inside)
 
@@ -56,16 +56,16 @@ up_to_within : (high : Option Bound) (e : Entry) → IsUpTo high e → is_within
 up_to_within None e h = refl
 up_to_within (Some high) e h = ap not h
 
-up_to_behind : (f : Bound) (high : Option Bound) (right : Option ℕ) (below : Option (List ℕ)) (e : Entry) → IsUpTo high e → IsBehind (frontier_past f high) (behind_leaf high right below) e
-up_to_behind f None right below e h = tt
-up_to_behind f (Some high) right below e h = behind_after (frontier_past f (Some high)) (Some high) right below e (behind_stays high (frontier_past f (Some high)) (past_high f high) e h)
+up_to_after : (f : Bound) (high : Option Bound) (right : Option ℕ) (below : Option (List ℕ)) (e : Entry) → IsUpTo high e → IsAfter (frontier_past f high) (after_leaf high right below) e
+up_to_after f None right below e h = tt
+up_to_after f (Some high) right below e h = behind_after (frontier_past f (Some high)) (Some high) right below e (behind_stays high (frontier_past f (Some high)) (past_high f high) e h)
 
-module _ (st : State) (before : ScanOp) (leaf : Option ℕ) (way : Way) (page : Page) (es : List Entry) (tree : HasTree st) (from : before.at ≡ At way)
+module _ (st : State) (before : ScanOp) (leaf : Option ℕ) (way : Position) (page : Page) (es : List Entry) (tree : HasTree st) (from : before.at ≡ At way)
     (started : (e : Entry) → is_past before.frontier e ≡ true → from_admits before.range.from e.key ≡ true)
     (found : slice_get st.pages page.block ≡ Some page) (cover : HasCover st 0 (frontier_aim before.frontier) page.block) (live : IsLiveLeaf page (entries_of page.items))
     (copied : IsCopiedFrom (entries_of page.items) before.frontier before.range.below es) where
   is_there : (e : Entry) → is_past before.frontier e ≡ true → is_within (entry_aim e) page.high ≡ true → entry_on_live_leaf st.pages e ≡ is_among (entries_of page.items) e
-  is_there e beyond within = leaf_tells st e page tree found (frontier_tells st before.frontier e page tree found cover beyond within)
+  is_there e beyond within = leaf_shows st e page tree found (frontier_shows st before.frontier e page tree found cover beyond within)
 
   given_parts : (e : Entry) → is_among es e ≡ true → (is_among (entries_of page.items) e ≡ true) × (is_past before.frontier e ≡ true) × (below_admits before.range.below e.key ≡ true)
   given_parts e m = parts_of _ _ _ (sym (copied.each e) ∙ m)
@@ -73,11 +73,11 @@ module _ (st : State) (before : ScanOp) (leaf : Option ℕ) (way : Way) (page : 
   up_to : (e : Entry) → is_among (entries_of page.items) e ≡ true → IsUpTo page.high e
   up_to e m = AllByRecursion-among (IsUpTo page.high) (entries_of page.items) e live.entries.within m
 
-  behind_before : (e : Entry) → is_past before.frontier e ≡ false → IsBehind before.frontier before.at e
-  behind_before e h = subst (λ (a : ScanAt). IsBehind before.frontier a e) (sym from) h
+  after_before : (e : Entry) → is_past before.frontier e ≡ false → IsAfter before.frontier before.at e
+  after_before e h = subst (λ (a : ScanAt). IsAfter before.frontier a e) (sym from) h
 
-  passed_before : (e : Entry) → IsBehind before.frontier before.at e → is_past before.frontier e ≡ false
-  passed_before e h = subst (λ (a : ScanAt). IsBehind before.frontier a e) from h
+  passed_before : (e : Entry) → IsAfter before.frontier before.at e → is_past before.frontier e ≡ false
+  passed_before e h = subst (λ (a : ScanAt). IsAfter before.frontier a e) from h
 
   pub reads_leaf : LeafIsRead st before (behind (record before { leaf = leaf }) page.high page.right es)
   reads_leaf = record {
@@ -90,9 +90,9 @@ module _ (st : State) (before : ScanOp) (leaf : Option ℕ) (way : Way) (page : 
               let inside = (and_parts (from_admits before.range.from e.key) (below_admits before.range.below e.key) match).1 in
               let within = within_after before.frontier page.high page.right before.range.below e live.high beyond inside after in
               inr (copied.each e ∙ rw (sym (is_there e beyond within) ∙ there, beyond, inside) refl)
-          | inr not_beyond ↦ inl (behind_before e not_beyond)
+          | inr not_beyond ↦ inl (after_before e not_beyond)
         ];
-    onward = λ e m. up_to_behind before.frontier page.high page.right before.range.below e (up_to e (given_parts e m).0);
+    next_page = λ e m. up_to_after before.frontier page.high page.right before.range.below e (up_to e (given_parts e m).0);
     forward = λ e h. behind_after (frontier_past before.frontier page.high) page.high page.right before.range.below e
         (behind_stays before.frontier (frontier_past before.frontier page.high) (not_back before.frontier page.high) e (passed_before e h));
   }

@@ -10,15 +10,15 @@ use Rattle.tree_shape.specs.Nodes.{node_of}
 use Rattle.tree_shape.specs.Laws.{IsPassedBy}
 use Rattle.tree_shape.specs.Walks.{frontier_aim, is_within}
 use Rattle.tree_acts.specs.Leaves.{WasLeaf}
-use Rattle.tree_acts.specs.Trees.{HasTree, HasPlace}
+use Rattle.tree_acts.specs.Trees.{HasTree, LeadsTo}
 use Rattle.tree_acts.specs.Ways.{RightIsThere}
-use Rattle.tree_acts.proofs.Telling.{passed_tells, places_widen, trail_begins_here, trail_goes_right}
-use Rattle.descent.specs.Onward.{IsOnWay, IsArrived, IsShorter, way_left}
-use Rattle.descent.specs.Shared.{IsInOrder, Does}
-use Rattle.descent.specs.declared.way.Way.{Way}
+use Rattle.tree_acts.proofs.Meanings.{passed_shows, places_widen, trail_begins_here, trail_moves_right}
+use Rattle.descent.specs.NextPage.{IsOnDescent, IsArrived, IsShorter, way_left}
+use Rattle.tree_acts.specs.StepEffects.{IsInOrder, StepEffect}
+use Rattle.descent.specs.declared.way.Position.{Position}
 use Rattle.descent.proofs.Acting.{holds_else}
 use Rattle.descent.proofs.Shortening.{walk_is_long, way_shortens}
-use Rattle.scan.specs.Scans.{waiting, without_leaf, gone_to, behind, behind_leaf, frontier_past, ScanStands, ScanInvariant}
+use Rattle.scan.specs.Scans.{waiting, without_leaf, moved_to, behind, after_leaf, frontier_past, ScanStands, ScanInvariant}
 use Rattle.scan.specs.Work.{scan_left, leaves_left, scan_walk_left, count_ahead, is_ahead}
 use Rattle.scan.specs.declared.steps.ScanAt.{ScanAt}
 use Rattle.scan.specs.declared.steps.ScanAt.TheVariants.{Start, At, Last}
@@ -33,12 +33,12 @@ module _ (old new : State) (before : ScanOp) (order : IsInOrder old) (fits : Sca
   below : before.session < length old.table
   below = (let many = order.holdings in let low = fits.session in omega arith)
 
-  pub going_does : Does before.session None old new
+  pub going_does : StepEffect before.session None old new
   going_does = holds_else before.session old new (without_leaf old.table before.session before.leaf) is order (without_apart old.table before.session before.leaf below order.apart)
       (without_many old.table before.session before.leaf ∙ order.holdings) (λ other differ. without_other old.table before.session before.leaf other differ)
 
-  pub going_fits : (way : Way) → IsOnWay old fits.start (frontier_aim before.frontier) false 0 way → ScanInvariant new (gone_to before way)
-  going_fits way on = subst (λ (st : State). ScanInvariant st (gone_to before way)) (sym is) (record {
+  pub going_fits : (way : Position) → IsOnDescent old fits.start (frontier_aim before.frontier) false 0 way → ScanInvariant new (moved_to before way)
+  going_fits way on = subst (λ (st : State). ScanInvariant st (moved_to before way)) (sym is) (record {
     session = fits.session;
     start = fits.start;
     running = fits.running;
@@ -49,16 +49,16 @@ module _ (old new : State) (before : ScanOp) (order : IsInOrder old) (fits : Sca
     few = fits.few;
   })
 
--- behind a leaf the scan goes right
-way_behind : (st : State) (start : ℕ) (f : Bound) (page : Page) (high : Bound) (right : ℕ) → HasTree st → slice_get st.pages page.block ≡ Some page
-    → HasPlace st start 0 (frontier_aim f) false page.block
-    → page.high ≡ Some high → page.right ≡ Some right → IsOnWay st start (frontier_aim (frontier_past f (Some high))) false 0 (record { block = right; level = 0; moves = 1 })
-way_behind st start f page high right h found place high_is right_is = go (passed_tells st start 0 aim false page h found wide passed)
+-- after a leaf the scan goes right
+way_after : (st : State) (start : ℕ) (f : Bound) (page : Page) (high : Bound) (right : ℕ) → HasTree st → slice_get st.pages page.block ≡ Some page
+    → LeadsTo st start 0 (frontier_aim f) false page.block
+    → page.high ≡ Some high → page.right ≡ Some right → IsOnDescent st start (frontier_aim (frontier_past f (Some high))) false 0 (record { block = right; level = 0; moves = 1 })
+way_after st start f page high right h found place high_is right_is = go (passed_shows st start 0 aim false page h found wide passed)
   where
     aim : Bound → Bool
     aim = frontier_aim (frontier_past f (Some high))
 
-    wide : HasPlace st start 0 aim false page.block
+    wide : LeadsTo st start 0 aim false page.block
     wide = places_widen st start 0 (frontier_aim f) aim false false page.block (aim_widens f (frontier_past f (Some high)) (not_back f (Some high))) (λ e. e) place
 
     passed : IsPassedBy aim false (node_of page)
@@ -70,26 +70,26 @@ way_behind st start f page high right h found place high_is right_is = go (passe
     some_is : (a b : ℕ) → Some a ≡ Some b → a ≡ b
     some_is a b e = cc
 
-    go : RightIsThere st start 0 aim false page → IsOnWay st start aim false 0 (record { block = right; level = 0; moves = 1 })
+    go : RightIsThere st start 0 aim false page → IsOnDescent st start aim false 0 (record { block = right; level = 0; moves = 1 })
     go r = record {
       not_below = omega arith;
-      place = subst (HasPlace st start 0 aim false) (some_is r.to right (sym r.right_is ∙ right_is)) r.place;
-      trail = trail_goes_right st start 0 0 right page h found right_is (trail_begins_here st start 0 (frontier_aim f) false page.block h place);
+      place = subst (LeadsTo st start 0 aim false) (some_is r.to right (sym r.right_is ∙ right_is)) r.place;
+      trail = trail_moves_right st start 0 0 right page h found right_is (trail_begins_here st start 0 (frontier_aim f) false page.block h place);
     }
 
 -- ... unless nothing is there
-stands_behind : (st : State) (start : ℕ) (leaf : Option ℕ) (f : Bound) (page : Page) (below : Option (List ℕ)) → HasTree st
-    → slice_get st.pages page.block ≡ Some page → HasPlace st start 0 (frontier_aim f) false page.block
-    → ScanStands st start leaf (frontier_past f page.high) (behind_leaf page.high page.right below)
-stands_behind st start leaf f page below h found place = go page.high page.right refl refl
+stands_after : (st : State) (start : ℕ) (leaf : Option ℕ) (f : Bound) (page : Page) (below : Option (List ℕ)) → HasTree st
+    → slice_get st.pages page.block ≡ Some page → LeadsTo st start 0 (frontier_aim f) false page.block
+    → ScanStands st start leaf (frontier_past f page.high) (after_leaf page.high page.right below)
+stands_after st start leaf f page below h found place = go page.high page.right refl refl
   where
-    go : (high : Option Bound) (right : Option ℕ) → page.high ≡ high → page.right ≡ right → ScanStands st start leaf (frontier_past f high) (behind_leaf high right below)
+    go : (high : Option Bound) (right : Option ℕ) → page.high ≡ high → page.right ≡ right → ScanStands st start leaf (frontier_past f high) (after_leaf high right below)
     go None right high_is right_is = tt
     go (Some high) None high_is right_is = tt
     go (Some high) (Some right) high_is right_is = by (below_admits below high.key)
       where
         by : (w : Bool) → ScanStands st start leaf (frontier_past f (Some high)) (if w then At (record { block = right; level = 0; moves = 1 }) else Last)
-        by true = way_behind st start f page high right h found place high_is right_is
+        by true = way_after st start f page high right h found place high_is right_is
         by false = tt
 
 stands_with : (st : State) (table : Table) (start : ℕ) (leaf : Option ℕ) (f : Bound) (at : ScanAt) → ScanStands st start leaf f at → ScanStands (with_table st table) start leaf f at
@@ -97,18 +97,18 @@ stands_with st table start leaf f Start h = h
 stands_with st table start leaf f (At way) h = way_with st table start (frontier_aim f) false 0 way h
 stands_with st table start leaf f Last h = h
 
--- a scan that has read the leaf behind the frontier
+-- a scan that has read the leaf after the frontier
 module _ (old new : State) (before : ScanOp) (block : ℕ) (order : IsInOrder old) (fits : ScanInvariant old before)
     (is : new ≡ with_table old (pinned (without_leaf old.table before.session before.leaf) before.session block)) where
   low : before.session < length old.table
   low = (let many = order.holdings in let low = fits.session in omega arith)
 
-  pub reading_does : Does before.session None old new
+  pub reading_does : StepEffect before.session None old new
   reading_does = holds_else before.session old new (pinned (without_leaf old.table before.session before.leaf) before.session block) is order
       (stood_apart old.table before.session before.leaf block low order.apart)
       (stood_many old.table before.session before.leaf block low ∙ order.holdings) (λ other differ. stood_other old.table before.session before.leaf block low other differ)
 
-  pub reading_fits : (page : Page) (es : List Entry) → slice_get old.pages page.block ≡ Some page → HasPlace old fits.start 0 (frontier_aim before.frontier) false page.block
+  pub reading_fits : (page : Page) (es : List Entry) → slice_get old.pages page.block ≡ Some page → LeadsTo old fits.start 0 (frontier_aim before.frontier) false page.block
       → WasLeaf old.pages block → length es ≤ 50 → ScanInvariant new (behind (record before { leaf = Some block }) page.high page.right es)
   reading_fits page es found place live few = subst (λ (st : State). ScanInvariant st (behind (record before { leaf = Some block }) page.high page.right es)) (sym is) (record {
     session = fits.session;
@@ -117,27 +117,27 @@ module _ (old new : State) (before : ScanOp) (block : ℕ) (order : IsInOrder ol
     held = stood_held old.table before.session before.leaf block low fits.held;
     live = live;
     stands = stands_with old (pinned (without_leaf old.table before.session before.leaf) before.session block) fits.start (Some block) (frontier_past before.frontier page.high)
-        (behind_leaf page.high page.right before.range.below)
-        (stands_behind old fits.start (Some block) before.frontier page before.range.below order.tree found place);
+        (after_leaf page.high page.right before.range.below)
+        (stands_after old fits.start (Some block) before.frontier page before.range.below order.tree found place);
     started = λ e beyond. fits.started e (past_falls before.frontier (frontier_past before.frontier page.high) (not_back before.frontier page.high) e beyond);
     few = few;
   })
 
 -- what is left to do
-pub first_less : (most : ℕ) (pages : List Page) (before : ScanOp) (way : Way) → before.at ≡ Start → way.level < 256 → scan_left most pages (gone_to before way) < scan_left most pages before
+pub first_less : (most : ℕ) (pages : List Page) (before : ScanOp) (way : Position) → before.at ≡ Start → way.level < 256 → scan_left most pages (moved_to before way) < scan_left most pages before
 first_less most pages before way is low =
     let w = walk_is_long most way (omega (arith, low)) in
     rw is (omega arith)
 
-pub going_less : (most : ℕ) (pages : List Page) (before : ScanOp) (way on : Way) → before.at ≡ At way → IsShorter 0 most way on → scan_left most pages (gone_to before on) < scan_left most pages before
+pub going_less : (most : ℕ) (pages : List Page) (before : ScanOp) (way on : Position) → before.at ≡ At way → IsShorter 0 most way on → scan_left most pages (moved_to before on) < scan_left most pages before
 going_less most pages before way on is s =
     let w = way_shortens 0 most way on s in
     rw is (omega arith)
 
 -- a page with a high key is passed, and without one it is the last
-leaves_behind : (f : Bound) (pages : List Page) (b : ℕ) (page : Page) (below : Option (List ℕ)) → slice_get pages b ≡ Some page → IsArrived page (frontier_aim f)
-    → leaves_left (frontier_past f page.high) pages (behind_leaf page.high page.right below) < count_ahead f pages
-leaves_behind f pages b page below found arrived = go page.high page.right refl
+leaves_after : (f : Bound) (pages : List Page) (b : ℕ) (page : Page) (below : Option (List ℕ)) → slice_get pages b ≡ Some page → IsArrived page (frontier_aim f)
+    → leaves_left (frontier_past f page.high) pages (after_leaf page.high page.right below) < count_ahead f pages
+leaves_after f pages b page below found arrived = go page.high page.right refl
   where
     ahead : is_ahead f page ≡ true
     ahead = live_ahead f page arrived.alive arrived.within
@@ -145,7 +145,7 @@ leaves_behind f pages b page below found arrived = go page.high page.right refl
     last : 0 < count_ahead f pages
     last = some_ahead f pages b page found ahead
 
-    go : (high : Option Bound) (right : Option ℕ) → page.high ≡ high → leaves_left (frontier_past f high) pages (behind_leaf high right below) < count_ahead f pages
+    go : (high : Option Bound) (right : Option ℕ) → page.high ≡ high → leaves_left (frontier_past f high) pages (after_leaf high right below) < count_ahead f pages
     go None right is = last
     go (Some high) None is = last
     go (Some high) (Some right) is = by (below_admits below high.key)
@@ -154,20 +154,20 @@ leaves_behind f pages b page below found arrived = go page.high page.right refl
         by true = count_drops f (frontier_past f (Some high)) (not_back f (Some high)) pages b page found ahead (passed_not_ahead f high page is)
         by false = last
 
-walk_behind : (most : ℕ) (high : Option Bound) (right : Option ℕ) (below : Option (List ℕ)) → scan_walk_left most (behind_leaf high right below) < most + 4
-walk_behind most None right below = omega arith
-walk_behind most (Some high) None below = omega arith
-walk_behind most (Some high) (Some right) below = by (below_admits below high.key)
+walk_after : (most : ℕ) (high : Option Bound) (right : Option ℕ) (below : Option (List ℕ)) → scan_walk_left most (after_leaf high right below) < most + 4
+walk_after most None right below = omega arith
+walk_after most (Some high) None below = omega arith
+walk_after most (Some high) (Some right) below = by (below_admits below high.key)
   where
     by : (w : Bool) → scan_walk_left most (if w then At (record { block = right; level = 0; moves = 1 }) else Last) < most + 4
     by true = omega arith
     by false = omega arith
 
-pub reading_less : (most : ℕ) (pages : List Page) (before : ScanOp) (leaf : Option ℕ) (way : Way) (b : ℕ) (page : Page) (es : List Entry) → before.at ≡ At way → slice_get pages b ≡ Some page
+pub reading_less : (most : ℕ) (pages : List Page) (before : ScanOp) (leaf : Option ℕ) (way : Position) (b : ℕ) (page : Page) (es : List Entry) → before.at ≡ At way → slice_get pages b ≡ Some page
     → IsArrived page (frontier_aim before.frontier) → length es ≤ 50 → scan_left most pages (behind (record before { leaf = leaf }) page.high page.right es) < scan_left most pages before
 reading_less most pages before leaf way b page es is found arrived few =
-    let fewer = leaves_behind before.frontier pages b page before.range.below found arrived in
-    let walk = walk_behind most page.high page.right before.range.below in
-    let t = leaf_less most (leaves_left (frontier_past before.frontier page.high) pages (behind_leaf page.high page.right before.range.below)) (count_ahead before.frontier pages)
-    (scan_walk_left most (behind_leaf page.high page.right before.range.below) + length es) (way_left most way + length (waiting before)) fewer (omega arith) in
+    let fewer = leaves_after before.frontier pages b page before.range.below found arrived in
+    let walk = walk_after most page.high page.right before.range.below in
+    let t = leaf_less most (leaves_left (frontier_past before.frontier page.high) pages (after_leaf page.high page.right before.range.below)) (count_ahead before.frontier pages)
+    (scan_walk_left most (after_leaf page.high page.right before.range.below) + length es) (way_left most way + length (waiting before)) fewer (omega arith) in
     rw is (omega arith)

@@ -10,10 +10,10 @@ use Rattle.page_action.specs.States.{State, Continues}
 use Rattle.page_action.specs.declared.page_store.PageStore.{Ghosts}
 use Rattle.tree_shape.specs.Walks.{frontier_aim}
 use Rattle.tree_acts.specs.Trees.{HasTree}
-use Rattle.descent.specs.Onward.{IsOnWay, LeadsOnward}
-use Rattle.descent.specs.Shared.{IsInOrder}
-use Rattle.descent.specs.declared.way.Way.{Way}
-use Rattle.descent.specs.declared.way.Onward.{Onward}
+use Rattle.descent.specs.NextPage.{IsOnDescent, LeadsToNext}
+use Rattle.tree_acts.specs.StepEffects.{IsInOrder}
+use Rattle.descent.specs.declared.way.Position.{Position}
+use Rattle.descent.specs.declared.way.NextPage.{NextPage}
 use Rattle.descent.proofs.Acting.{one_nothing}
 use Rattle.scan.specs.Scans.{waiting, ScanStands, ScanInvariant, ScanSteps, causes_of_scanning}
 use Rattle.scan.specs.declared.steps.ScanAt.TheVariants.{At}
@@ -41,11 +41,11 @@ refuses g op old new fault steps same none stops cause = record {
 }
 
 -- where a page leads a scan on its way
-pub scan_led : (st : State) (op : ScanOp) (way : Way) (page : Page) (most : Limits) (result : Option Onward) → op.at ≡ At way → IsInOrder st → (fits : ScanInvariant st op)
+pub scan_led : (st : State) (op : ScanOp) (way : Position) (page : Page) (most : Limits) (result : Option NextPage) → op.at ≡ At way → IsInOrder st → (fits : ScanInvariant st op)
     → slice_get st.pages way.block ≡ Some page → most ≡ sizes_of st.limits → length st.pages ≤ st.limits.pages
-    → ((s : State) (start : ℕ) (clear : Bool) → HasTree s → slice_get s.pages way.block ≡ Some page → IsOnWay s start (frontier_aim op.frontier) clear 0 way → (clear ≡ true → page.split ≡ false)
-    → length s.pages ≤ most.pages → LeadsOnward s start (frontier_aim op.frontier) clear 0 way result)
-    → LeadsOnward st fits.start (frontier_aim op.frontier) false 0 way result
+    → ((s : State) (start : ℕ) (clear : Bool) → HasTree s → slice_get s.pages way.block ≡ Some page → IsOnDescent s start (frontier_aim op.frontier) clear 0 way → (clear ≡ true → page.split ≡ false)
+    → length s.pages ≤ most.pages → LeadsToNext s start (frontier_aim op.frontier) clear 0 way result)
+    → LeadsToNext st fits.start (frontier_aim op.frontier) false 0 way result
 scan_led st op way page most result at_is order fits found is few goes =
     goes st fits.start false order.tree found (subst (ScanStands st fits.start op.leaf op.frontier) at_is fits.stands) (λ e. cc)
     (subst (λ (l : Limits). length st.pages ≤ l.pages) (sym is) few)

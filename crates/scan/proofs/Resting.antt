@@ -3,30 +3,30 @@ use Rattle.std.proofs.Common.{◌≡◌, ℕ, Bool, inl, refl, sym, subst}
 use Rattle.index_model.specs.declared.bound.Bound.{Bound}
 use Rattle.latch_table.specs.Holdings.{Table}
 use Rattle.page_action.specs.States.{State, with_table}
-use Rattle.tree_acts.specs.Trees.{HasPlace, HasTrail}
-use Rattle.descent.specs.Onward.{IsOnWay}
-use Rattle.descent.specs.Shared.{IsOneStep}
-use Rattle.descent.specs.declared.way.Way.{Way}
+use Rattle.tree_acts.specs.Trees.{LeadsTo, HasTrail}
+use Rattle.descent.specs.NextPage.{IsOnDescent}
+use Rattle.tree_acts.specs.StepEffects.{IsOneActAtMost}
+use Rattle.descent.specs.declared.way.Position.{Position}
 
 -- other latches and pins leave every page number what it was
-place_with : (st : State) (table : Table) (start level : ℕ) (aim : Bound → Bool) (clear : Bool) (block : ℕ) → HasPlace st start level aim clear block
-    → HasPlace (with_table st table) start level aim clear block
+place_with : (st : State) (table : Table) (start level : ℕ) (aim : Bound → Bool) (clear : Bool) (block : ℕ) → LeadsTo st start level aim clear block
+    → LeadsTo (with_table st table) start level aim clear block
 place_with st table start level aim clear block p = record { tree = p.tree; in_tree = p.in_tree; place = p.place }
 
 trail_with : (st : State) (table : Table) (start level block moves : ℕ) → HasTrail st start level block moves → HasTrail (with_table st table) start level block moves
 trail_with st table start level block moves t =
     record { tree = t.tree; in_tree = t.in_tree; passed = t.passed; count = t.count; distinct = t.distinct; steps = t.steps; trail = t.trail }
 
-pub way_with : (st : State) (table : Table) (start : ℕ) (aim : Bound → Bool) (clear : Bool) (to : ℕ) (way : Way) → IsOnWay st start aim clear to way
-    → IsOnWay (with_table st table) start aim clear to way
+pub way_with : (st : State) (table : Table) (start : ℕ) (aim : Bound → Bool) (clear : Bool) (to : ℕ) (way : Position) → IsOnDescent st start aim clear to way
+    → IsOnDescent (with_table st table) start aim clear to way
 way_with st table start aim clear to way on = record {
   not_below = on.not_below;
   place = place_with st table start way.level aim clear way.block on.place;
   trail = trail_with st table start way.level way.block way.moves on.trail;
 }
 
-pub rests : (old new : State) (table : Table) → new ≡ with_table old table → IsOneStep old new
-rests old new table is = subst (λ (st : State). IsOneStep old st) (sym is) (record {
+pub rests : (old new : State) (table : Table) → new ≡ with_table old table → IsOneActAtMost old new
+rests old new table is = subst (λ (st : State). IsOneActAtMost old st) (sym is) (record {
   acts = inl refl;
   quiet = λ same. refl;
   limits = refl;

@@ -3,7 +3,7 @@ use Rattle.std.proofs.Common.{◌≡◌, ◌≢◌, ℕ, ◌<◌, Bool, Option, 
 use Rattle.std.proofs.lemmas.Bool.{eq-eqb}
 use Rattle.latch_table.specs.Holdings.{Holding, Table, holding_of, without_pin, pinned}
 use Rattle.latch_table.proofs.Tables.{length-pinned, length-unpinned, holding_of-pinned, holding_of-unpinned, holding_of-pinned_other, holding_of-unpinned_other}
-use Rattle.descent.specs.Steps.{AreApart}
+use Rattle.tree_acts.specs.Steps.{AreApart}
 use Rattle.descent.proofs.Tables.{apart_pins}
 use Rattle.scan.specs.Scans.{without_leaf, leaf_pinned}
 

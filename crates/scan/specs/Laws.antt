@@ -5,7 +5,7 @@ use Rattle.latch_table.specs.Holdings.{has_pin, holding_of}
 use Rattle.page_codec.specs.declared.page.Page.{Page}
 use Rattle.page_action.specs.States.{State}
 use Rattle.tree_acts.specs.Leaves.{WasLeaf}
-use Rattle.descent.specs.Shared.{IsInOrder, MayRely}
+use Rattle.tree_acts.specs.StepEffects.{IsInOrder, MayRely}
 use Rattle.scan.specs.Scans.{ScanInvariant, fresh_scan}
 use Rattle.scan.specs.Work.{scan_left}
 use Rattle.scan.specs.declared.steps.ScanOp.{ScanOp}

@@ -19,10 +19,10 @@ use Rattle.page_codec.specs.Edits.{entries_of}
 use Rattle.page_codec.specs.declared.page.Page.{Page}
 use Rattle.tree_shape.specs.Walks.{frontier_aim}
 use Rattle.tree_acts.specs.Leaves.{IsLeafAt, WasLeaf}
-use Rattle.tree_acts.specs.Ways.{AreWhole}
-use Rattle.descent.specs.Onward.{IsOnWay}
-use Rattle.descent.specs.Shared.{IsInOrder, Does, IsOneStep}
-use Rattle.descent.specs.declared.way.Way.{Way}
+use Rattle.tree_acts.specs.Ways.{NoneIsIncomplete}
+use Rattle.descent.specs.NextPage.{IsOnDescent}
+use Rattle.tree_acts.specs.StepEffects.{IsInOrder, StepEffect, IsOneActAtMost}
+use Rattle.descent.specs.declared.way.Position.{Position}
 pub use Rattle.scan.specs.Ready.{waiting}
 use Rattle.scan.specs.Straight.{ScanIsStraight, ScanCountsDown}
 use Rattle.scan.specs.Work.{scan_left}
@@ -56,22 +56,22 @@ frontier_past frontier None = frontier
 frontier_past frontier (Some high) =
     if is_lt (bound_cmp frontier high) then high else frontier
 
--- behind a leaf with this high key and right link, the scan goes right by one move, unless the high
+-- after a leaf with this high key and right link, the scan goes right by one move, unless the high
 -- key's key isn't in the range
-abbrev pub behind_leaf : Option Bound → Option ℕ → Option (List ℕ) → ScanAt
-behind_leaf None right below = Last
-behind_leaf (Some high) None below = Last
-behind_leaf (Some high) (Some right) below = if below_admits below high.key
+abbrev pub after_leaf : Option Bound → Option ℕ → Option (List ℕ) → ScanAt
+after_leaf None right below = Last
+after_leaf (Some high) None below = Last
+after_leaf (Some high) (Some right) below = if below_admits below high.key
     then At (record { block = right; level = 0; moves = 1 }) else Last
 
 -- a scan that goes on to another page stands on no leaf
-abbrev pub gone_to : ScanOp → Way → ScanOp
-gone_to op way = record op { at = At way; leaf = None }
+abbrev pub moved_to : ScanOp → Position → ScanOp
+moved_to op way = record op { at = At way; leaf = None }
 
 -- a scan that has read a leaf, and has copied these entries
 abbrev pub behind : ScanOp → Option Bound → Option ℕ → List Entry → ScanOp
 behind op high right copied = record op {
-  at = behind_leaf high right op.range.below;
+  at = after_leaf high right op.range.below;
   frontier = frontier_past op.frontier high;
   copied = record { items = copied };
   given = 0;
@@ -83,10 +83,10 @@ without_leaf table session None = table
 without_leaf table session (Some block) = unpinned table session block
 
 -- the scan has read beyond the entry
-abbrev pub IsBehind : Bound → ScanAt → Entry → Type 0
-IsBehind frontier Start e = is_past frontier e ≡ false
-IsBehind frontier (At way) e = is_past frontier e ≡ false
-IsBehind frontier Last e = Unit {0}
+abbrev pub IsAfter : Bound → ScanAt → Entry → Type 0
+IsAfter frontier Start e = is_past frontier e ≡ false
+IsAfter frontier (At way) e = is_past frontier e ≡ false
+IsAfter frontier Last e = Unit {0}
 
 abbrev pub pins_of : Option ℕ → List ℕ
 pins_of None = []
@@ -101,10 +101,10 @@ abbrev pub LeafIsLive : List Page → Option ℕ → Type 0
 LeafIsLive pages None = Unit {0}
 LeafIsLive pages (Some block) = WasLeaf pages block
 
--- it stands on no leaf before its first step, and is on its way to what lies behind the frontier
+-- it stands on no leaf before its first step, and is on its way to what lies after the frontier
 abbrev pub ScanStands : State → ℕ → Option ℕ → Bound → ScanAt → Type 0
 ScanStands st start leaf frontier Start = leaf ≡ None
-ScanStands st start leaf frontier (At way) = IsOnWay st start (frontier_aim frontier) false 0 way
+ScanStands st start leaf frontier (At way) = IsOnDescent st start (frontier_aim frontier) false 0 way
 ScanStands st start leaf frontier Last = Unit {0}
 
 -- what a scan knows between its steps
@@ -123,13 +123,13 @@ pub record ScanInvariant (st : State) (op : ScanOp) : Type 0 where
 
 -- a step that reads a page leaves less to do, whatever the pages are; with nothing ready, each step
 -- that isn't the last
-abbrev pub ScanLeavesLess : State → ScanOp → ScanOp → Result ScanStep Fault → Type 0
-ScanLeavesLess st before after (Ok Going) =
+abbrev pub ScanHasLessLeft : State → ScanOp → ScanOp → Result ScanStep Fault → Type 0
+ScanHasLessLeft st before after (Ok Going) =
     scan_left st.limits.pages st.pages after < scan_left st.limits.pages st.pages before
-ScanLeavesLess st before after (Ok (Ready count)) = waiting before ≡ []
+ScanHasLessLeft st before after (Ok (Ready count)) = waiting before ≡ []
     → scan_left st.limits.pages st.pages after < scan_left st.limits.pages st.pages before
-ScanLeavesLess st before after (Ok Done) = Unit {0}
-ScanLeavesLess st before after (Err fault) = Unit {0}
+ScanHasLessLeft st before after (Ok Done) = Unit {0}
+ScanHasLessLeft st before after (Err fault) = Unit {0}
 
 -- what a leaf gave: the matches beyond the frontier as it was, of what the pages hold now; each
 -- match that the scan has read beyond now, it had read beyond before, or it is among them
@@ -138,13 +138,13 @@ pub record LeafIsRead (st : State) (before after : ScanOp) : Type 0 where
   pub matched : (e : Entry) → is_among (waiting after) e ≡ true → matches before.range e ≡ true
   pub there : (e : Entry) → is_among (waiting after) e ≡ true
       → entry_on_live_leaf st.pages e ≡ true
-  pub complete : (e : Entry) → IsBehind after.frontier after.at e → matches before.range e ≡ true
+  pub complete : (e : Entry) → IsAfter after.frontier after.at e → matches before.range e ≡ true
       → entry_on_live_leaf st.pages e ≡ true
-      → IsBehind before.frontier before.at e ⊎ (is_among (waiting after) e ≡ true)
-  pub onward : (e : Entry) → is_among (waiting after) e ≡ true → IsBehind after.frontier after.at e
+      → IsAfter before.frontier before.at e ⊎ (is_among (waiting after) e ≡ true)
+  pub next_page : (e : Entry) → is_among (waiting after) e ≡ true → IsAfter after.frontier after.at e
   -- what it had read beyond, it has read beyond still: the frontier never goes back
-  pub forward : (e : Entry) → IsBehind before.frontier before.at e
-      → IsBehind after.frontier after.at e
+  pub forward : (e : Entry) → IsAfter before.frontier before.at e
+      → IsAfter after.frontier after.at e
 
 -- why a step of a scan is refused, on pages that are a tree and a device that keeps its model
 abbrev pub causes_of_scanning : State → Backing → Backing → ℕ → Circumstances
@@ -161,21 +161,21 @@ IsUnderway Start = Unit {0}
 IsUnderway (At way) = Unit {0}
 IsUnderway Last = ⊥
 
--- a page is read that isn't the leaf behind the frontier
+-- a page is read that isn't the leaf after the frontier
 pub record IsMoving (old new : State) (before after : ScanOp) : Type 0 where
-  pub does : Does before.session None old new
+  pub does : StepEffect before.session None old new
   pub fits : ScanInvariant new after
   pub none : waiting before ≡ []
   pub from : IsUnderway before.at
-  pub way : Way
-  pub op : after ≡ gone_to before way
+  pub way : Position
+  pub op : after ≡ moved_to before way
 
--- the leaf behind the frontier is read: the scan stands on it, and what is ready is of its entries
+-- the leaf after the frontier is read: the scan stands on it, and what is ready is of its entries
 pub record IsReading (old new : State) (before after : ScanOp) (count : ℕ) : Type 0 where
-  pub does : Does before.session None old new
+  pub does : StepEffect before.session None old new
   pub fits : ScanInvariant new after
   pub none : waiting before ≡ []
-  pub way : Way
+  pub way : Position
   pub from : before.at ≡ At way
   pub leaf : after.leaf ≡ Some way.block
   pub page : Page
@@ -231,20 +231,20 @@ ReadyIsCounted after (Err fault) = Unit {0}
 -- A step of a scan. On any pages: nothing but latches and pins is changed, a refused one changes
 -- nothing, a stopped log refuses it, as many entries are ready as it says, and while there are any
 -- it changes nothing; over a device that keeps its model, one that reads a page leaves less to do. On pages in order: what it does, and why
--- it is refused; where no page is flagged, it goes straight down.
+-- it is refused; where no page has an incomplete split, it goes straight down.
 pub record ScanSteps {S : Type 0} (g : Ghosts S) (before after : ScanOp) (old new : S)
     (result : Result ScanStep Fault) : Type 0 where
   pub steps : Continues g.follows old new
   pub session : after.session ≡ before.session
   pub range : after.range ≡ before.range
   pub quiet : g.state new ≡ with_table (g.state old) (g.state new).table
-  pub kept : IsOneStep (g.state old) (g.state new)
+  pub kept : IsOneActAtMost (g.state old) (g.state new)
   pub refused : OnErr result (ScanStays (g.state old) (g.state new) before after)
   pub stopped : (g.backing old).stopped ≡ true → result ≡ Err Stopped
   pub ready : ReadyIsCounted after result
   pub waits : (g.backing old).stopped ≡ false → waiting before ≢ []
       → ScanWaits (g.state old) (g.state new) before after result
-  pub less : (g.backing new).honest ≡ true → ScanLeavesLess (g.state old) before after result
+  pub less : (g.backing new).honest ≡ true → ScanHasLessLeft (g.state old) before after result
   pub no_more : (g.backing new).honest ≡ true
       → scan_left (g.state old).limits.pages (g.state old).pages after
       ≤ scan_left (g.state old).limits.pages (g.state old).pages before
@@ -252,6 +252,6 @@ pub record ScanSteps {S : Type 0} (g : Ghosts S) (before after : ScanOp) (old ne
       → ScanInvariant (g.state old) before
       → ScanStepped (g.state old) (g.backing old) (g.state new) (g.backing new) before after result
   pub straight : (g.backing new).honest ≡ true → IsInOrder (g.state old)
-      → AreWhole (g.state old).pages → waiting before ≡ []
+      → NoneIsIncomplete (g.state old).pages → waiting before ≡ []
       → ScanIsStraight (g.state old) before.frontier before.at
       → ScanCountsDown (g.state old) before after result

@@ -6,7 +6,7 @@ use Rattle.page_codec.specs.declared.page.Page.{Page}
 use Rattle.page_action.specs.States.{State}
 use Rattle.tree_shape.specs.Walks.{frontier_aim}
 use Rattle.tree_acts.specs.Trees.{HasCover}
-use Rattle.descent.specs.Ways.{root_level}
+use Rattle.tree_acts.specs.Levels.{root_level}
 use Rattle.scan.specs.declared.steps.ScanAt.{ScanAt}
 use Rattle.scan.specs.declared.steps.ScanAt.TheVariants.{Start, At, Last}
 use Rattle.scan.specs.declared.steps.ScanOp.{ScanOp}
@@ -19,7 +19,7 @@ scan_straight_steps pages Start = root_level pages + 2
 scan_straight_steps pages (At way) = suc way.level
 scan_straight_steps pages Last = 0
 
--- a scan that hasn't begun, or whose next page covers what lies behind the frontier
+-- a scan that hasn't begun, or whose next page covers what lies after the frontier
 abbrev pub ScanIsStraight : State → Bound → ScanAt → Type 0
 ScanIsStraight st frontier Start = Unit {0}
 ScanIsStraight st frontier (At way) = HasCover st way.level (frontier_aim frontier) way.block

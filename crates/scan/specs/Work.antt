@@ -1,22 +1,16 @@
 -- How much is left to do for a scan, while the pages are as they are.
-use Rattle.std.specs.Prelude.{ℕ, suc, ◌+◌, ◌*◌, ◌&&◌, if◌then◌else◌, Bool, true, false, List, [], ◌∷◌, length}
+use Rattle.std.specs.Prelude.{ℕ, suc, ◌+◌, ◌*◌, ◌&&◌, if◌then◌else◌, Bool, List, [], ◌∷◌, length}
 use Rattle.index_model.specs.declared.bound.Bound.{Bound}
 use Rattle.page_codec.specs.declared.page.Page.{Page}
-use Rattle.page_codec.specs.declared.page.PageState.{PageState}
-use Rattle.page_codec.specs.declared.page.PageState.TheVariants.{Live, HalfDead, Deleted}
+use Rattle.tree_shape.specs.Nodes.{is_live}
 use Rattle.tree_shape.specs.Walks.{frontier_aim, is_within}
-use Rattle.descent.specs.Onward.{way_left, walk_length}
+use Rattle.descent.specs.NextPage.{way_left, walk_length}
 use Rattle.scan.specs.Ready.{waiting}
 use Rattle.scan.specs.declared.steps.ScanAt.{ScanAt}
 use Rattle.scan.specs.declared.steps.ScanAt.TheVariants.{Start, At, Last}
 use Rattle.scan.specs.declared.steps.ScanOp.{ScanOp}
 
-abbrev pub is_live : PageState → Bool
-is_live Live = true
-is_live HalfDead = false
-is_live Deleted = false
-
--- a live page that isn't all behind the frontier: it has no high key, or one beyond that
+-- a live page that isn't all after the frontier: it has no high key, or one beyond that
 abbrev pub is_ahead : Bound → Page → Bool
 is_ahead frontier page = is_live page.state && is_within (frontier_aim frontier) page.high
 

@@ -2,7 +2,7 @@
 #![tactic(auto)]
 
 mod laws;
-mod onward;
+mod next_page;
 mod steps;
 
 pub use laws::{fresh_scans_are_bounded, scans_are_bounded, scans_are_undisturbed};

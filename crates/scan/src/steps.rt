@@ -6,16 +6,16 @@ ghost use Rattle.index_model.specs.Order.{IsAscending};
 ghost use Rattle.latch_table.specs.Holdings.{pinned};
 ghost use Rattle.page_action.specs.States.{Continues, with_table};
 ghost use Rattle.tree_shape.specs.Leaf.{IsCopiedFrom};
-ghost use Rattle.descent.specs.Shared.{causes_of_reading_any};
+ghost use Rattle.tree_acts.specs.StepEffects.{causes_of_reading_any};
 ghost use Rattle.scan.specs.Scans.{without_leaf};
 
-use crate::onward::{behind_leaf, frontier_past};
+use crate::next_page::{after_leaf, frontier_past};
 use arrayvec::ArrayVec;
-use descent::{Onward, Way, lead, look, way_down};
+use descent::{NextPage, Position, lead, read_shared, way_down};
 use index_model::{Bound, Entry, Fault, Range, Session};
 use page_action::PageStore;
 use page_codec::{Items, Page};
-use tree_shape::{Aim, matches_beyond};
+use tree_shape::{SearchKey, matches_beyond};
 
 /// Where a scan is between its steps.
 #[derive(Clone, Copy)]
@@ -23,7 +23,7 @@ pub enum ScanAt {
     /// Before its first step.
     Start,
     /// The next step reads this page.
-    At(Way),
+    At(Position),
     /// It has read the last leaf.
     Last,
 }
@@ -56,7 +56,7 @@ pub enum ScanStep {
 }
 
 impl ScanOp {
-    ghost use Rattle.scan.specs.Scans.{fresh_scan, waiting, gone_to, behind, ScanSteps, IsNext};
+    ghost use Rattle.scan.specs.Scans.{fresh_scan, waiting, moved_to, behind, ScanSteps, IsNext};
 
     /// A scan of the range before its first step.
     pub fn new(session: Session, range: Range) -> ScanOp
@@ -122,7 +122,7 @@ impl ScanOp {
         ensures all { ScanSteps S.PageStore self.old self.new store.old store.new result }
         ensures faults { IfErr result (HasCause causes_of_reading_any) }
     {
-        look(store, self.session, 0)?;
+        read_shared(store, self.session, 0)?;
         let Some(way) = way_down(store.view(0)) else {
             return Err(Fault::PageDamaged(0));
         };
@@ -130,23 +130,23 @@ impl ScanOp {
         Ok(ScanStep::Going)
     }
 
-    // Reads a page: it leads on, or it is the leaf behind the frontier, whose matches are copied.
-    fn read<S: PageStore>(&mut self, store: &mut S, way: Way) -> Result<ScanStep, Fault>
+    // Reads a page: it leads on, or it is the leaf after the frontier, whose matches are copied.
+    fn read<S: PageStore>(&mut self, store: &mut S, way: Position) -> Result<ScanStep, Fault>
         requires at { self.old.at ≡ ScanAt.At way }
         requires none { waiting self.old ≡ [] }
         ensures all { ScanSteps S.PageStore self.old self.new store.old store.new result }
         ensures faults { IfErr result (HasCause causes_of_reading_any) }
     {
-        look(store, self.session, way.block)?;
+        read_shared(store, self.session, way.block)?;
         let page = store.view(way.block);
         let most = store.limits().pages;
-        match lead(page, &way, &Aim::UpTo(self.frontier), 0, most) {
+        match lead(page, &way, &SearchKey::UpTo(self.frontier), 0, most) {
             None => Err(Fault::PageDamaged(way.block)),
-            Some(Onward::Going(on)) => {
+            Some(NextPage::Going(on)) => {
                 self.go_on(store, on);
                 Ok(ScanStep::Going)
             }
-            Some(Onward::Here) => {
+            Some(NextPage::Here) => {
                 let Items::Entries(entries) = &page.items else {
                     return Err(Fault::PageDamaged(way.block));
                 };
@@ -158,12 +158,12 @@ impl ScanOp {
     }
 
     // Goes on to another page, and stands on no leaf.
-    fn go_on<S: PageStore>(&mut self, store: &mut S, way: Way)
+    fn go_on<S: PageStore>(&mut self, store: &mut S, way: Position)
         ensures steps { Continues S.follows store.old store.new }
         ensures backing { S.backing store.new ≡ S.backing store.old }
         ensures state { S.state store.new ≡ with_table (S.state store.old)
             (without_leaf (S.state store.old).table self.old.session self.old.leaf) }
-        ensures op { self.new ≡ gone_to self.old way }
+        ensures op { self.new ≡ moved_to self.old way }
     {
         self.let_go(store);
         self.at = ScanAt::At(way);
@@ -197,7 +197,7 @@ impl ScanOp {
         self.leaf = None;
     }
 
-    // The matches of a leaf become ready, and the frontier goes on behind it.
+    // The matches of a leaf become ready, and the frontier goes on after it.
     fn take(&mut self, page: &Page, entries: &[Entry])
         requires few { length entries.now ≤ 50 }
         ensures copied { IsAscending entries.now → IsCopiedFrom entries.now self.old.frontier
@@ -207,7 +207,7 @@ impl ScanOp {
     {
         self.copied = matches_beyond(entries, &self.frontier, &self.range.below);
         self.given = 0;
-        self.at = behind_leaf(page, &self.range.below);
+        self.at = after_leaf(page, &self.range.below);
         self.frontier = frontier_past(self.frontier, &page.high);
     }
 }

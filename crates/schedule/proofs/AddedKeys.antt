@@ -12,7 +12,7 @@ use Rattle.schedule.specs.Keys.{AddedKeysAreNew}
 use Rattle.schedule.specs.TheoremMoments.{Moment}
 use Rattle.schedule.specs.TheoremRuns.{Fits}
 
--- a first part of one action more
+-- a prefix of one action more
 take_one_more : (l : List Action) (n : ℕ) (a : Action) → slice_get l n ≡ Some a → take (suc n) l ≡ take n l ++ a ∷ []
 take_one_more [] n a found = absurd cc
 take_one_more (x ∷ l) zero a found = (let same : x ≡ a = cc in ap (λ (y : Action). y ∷ []) same)
@@ -46,9 +46,9 @@ module _ {S : Type 0} (g : Ghosts S) (start : Entry → Bool) (now : Moment S) (
 
   clash : is_there_after start now.history before x ≡ true → ⊥
   clash there =
-      let x_behind : is_there_after start now.history (suc before) x ≡ true = behind x ∙ rw there (or_true (same_entry e x)) in
-      let e_behind : is_there_after start now.history (suc before) e ≡ true = behind e ∙ rw (same_entry-self e) refl in
-      let one : x ≡ e = fits.explains.unique asked (suc before) x e x_behind e_behind same in
+      let x_after : is_there_after start now.history (suc before) x ≡ true = behind x ∙ rw there (or_true (same_entry e x)) in
+      let e_after : is_there_after start now.history (suc before) e ≡ true = behind e ∙ rw (same_entry-self e) refl in
+      let one : x ≡ e = fits.explains.unique asked (suc before) x e x_after e_after same in
       let e_there : is_there_after start now.history before e ≡ true = subst (λ (y : Entry). is_there_after start now.history before y ≡ true) one there in
       let false_true : false ≡ true = sym absent ∙ e_there in
       absurd cc

@@ -57,7 +57,7 @@ module _ {S : Type 0} (g : Ghosts S) (start : Entry → Bool) (now : Moment S) (
     is = record { found = get_append_some now.calls (more ∷ []) h.number h.call h.is.found; session_is = h.is.session_is; running = h.is.running };
     only = λ other c is. h.only other c (was_running u other c is);
     runs = h.runs;
-    sweeps = h.sweeps;
+    deletions = h.deletions;
   }
 
   pub refused_fits : Fits g start then

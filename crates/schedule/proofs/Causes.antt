@@ -24,8 +24,8 @@ use Rattle.page_codec.specs.declared.page.PageState.{PageState}
 use Rattle.page_codec.specs.declared.page.PageState.TheVariants.{Live, HalfDead, Deleted}
 use Rattle.tree_shape.specs.Chains.{IsIn}
 use Rattle.tree_shape.specs.Nodes.{node_from, nodes_of, links_of}
-use Rattle.descent.specs.Shared.{any_is_reusable, is_out_of_blocks, fresh_block, count_new, lacks_room, frames_for, sibling}
-use Rattle.descent.specs.Ways.{level_with, level_of, root_level}
+use Rattle.tree_acts.specs.StepEffects.{any_is_reusable, is_out_of_blocks, fresh_block, count_new, lacks_room, frames_for, sibling}
+use Rattle.tree_acts.specs.Levels.{level_with, level_of, root_level}
 use Rattle.split_finish.specs.Finishes.{blocks_linked, finish_blocks, frames_of, is_to_link, is_to_grow}
 use Rattle.split_finish.specs.declared.finish.FinishAt.{FinishAt}
 use Rattle.split_finish.specs.declared.finish.FinishAt.TheVariants.{Start as FinishStart, Down, Link, Root}
@@ -48,7 +48,7 @@ use Rattle.session_calls.proofs.Meeting.{other_row_is}
 use Rattle.schedule.specs.TheoremMoments.{Moment}
 use Rattle.schedule.specs.TheoremKinds.{Steps}
 use Rattle.schedule.proofs.Lists.{get_within}
-use Rattle.schedule.specs.TheoremRefusals.{StandsInWay, IsHeldByAnother, HasNoBlock, MoveFails}
+use Rattle.schedule.specs.TheoremRefusals.{BlocksCall, IsHeldByAnother, HasNoBlock, MoveFails}
 
 -- circumstances of which five may be so, as there are where no step is made
 abbrev pub few_circumstances : Bool → Bool → Bool → Bool → Bool → Circumstances
@@ -122,19 +122,19 @@ module _ (table : Table) (session block : ℕ) where
   no_pin holding asked none h =
       elim (or_cases (latches_exclude holding.latches block asked) (pins_exclude holding.pins block asked) h) [ inl latch ↦ latch_in holding.latches block asked latch | inr pin ↦ absurd (none pin) ]
 
-  held_by : (ask : Ask) (asked : Mode) → ((holding : Holding) → holding_excludes holding block asked ≡ true → StandsInWay ask holding block)
+  held_by : (ask : Ask) (asked : Mode) → ((holding : Holding) → holding_excludes holding block asked ≡ true → BlocksCall ask holding block)
       → is_held_by_another table session block asked ≡ true → IsHeldByAnother table session ask block
   held_by ask asked stands h =
       let found = other_excludes 0 table session block asked h in
       record { other = found.0; apart = λ same. found.3 (let e : found.0 ≡ session = same in omega arith); holding = found.1; held = found.2; stands = stands found.1 found.4 }
 
   held_shared : (ask : Ask)
-      → ((holding : Holding) → IsIn block (map (λ (latch : Latch). latch.block) holding.latches) → StandsInWay ask holding block)
+      → ((holding : Holding) → IsIn block (map (λ (latch : Latch). latch.block) holding.latches) → BlocksCall ask holding block)
       → is_held_by_another table session block Shared ≡ true → IsHeldByAnother table session ask block
   held_shared ask stands h = held_by ask Shared (λ holding excludes. stands holding (no_pin holding Shared false≢true excludes)) h
 
   held_exclusive : (ask : Ask)
-      → ((holding : Holding) → IsIn block (map (λ (latch : Latch). latch.block) holding.latches) → StandsInWay ask holding block)
+      → ((holding : Holding) → IsIn block (map (λ (latch : Latch). latch.block) holding.latches) → BlocksCall ask holding block)
       → is_held_by_another table session block Exclusive ≡ true → IsHeldByAnother table session ask block
   held_exclusive ask stands h = held_by ask Exclusive (λ holding excludes. stands holding (no_pin holding Exclusive false≢true excludes)) h
 

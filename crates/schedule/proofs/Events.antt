@@ -13,33 +13,33 @@ use Rattle.index_model.specs.declared.fault.Fault.TheVariants.{Stopped, NoSessio
 use Rattle.page_action.specs.Causes.{causes_of_forced}
 use Rattle.page_action.specs.States.{State, IsLater}
 use Rattle.page_action.specs.declared.page_store.PageStore.{Ghosts}
-use Rattle.descent.specs.Shared.{OthersRely}
-use Rattle.page_delete.specs.Parts.{PinnedLeavesStay}
+use Rattle.tree_acts.specs.StepEffects.{OthersRely}
+use Rattle.page_delete.specs.Parts.{PinnedLeafPagesStay}
 use Rattle.session_calls.specs.Due.{IsDueIn, HasSteps}
 use Rattle.session_calls.specs.TheoremCalls.{DeadSets, asked_by, acts_of, begun_call}
-use Rattle.session_calls.specs.Ops.{op_before, asks_vacuum, asks_sweep, is_vacuum, is_sweep, is_sweeping, no_call_begins, IsOfSets, IsCaused}
-use Rattle.session_calls.specs.Sessions.{Matches, OpRuns, CallFits, SlotFits, IsIdle, after_request, SessionGoes, SessionBegins, OnlyOwnAreFlagged}
-use Rattle.session_calls.specs.Sweeps.{OpSweeps}
+use Rattle.session_calls.specs.Ops.{op_before, asks_vacuum, asks_bulk_delete, is_vacuum, is_bulk_delete, runs_bulk_delete, no_call_begins, IsOfSets, IsCaused}
+use Rattle.session_calls.specs.Sessions.{Matches, OpRuns, CallFits, SlotFits, IsIdle, after_request, SessionEvent, SessionBegins, OnlyOwnAreIncomplete}
+use Rattle.session_calls.specs.BulkDeletions.{OpDeletions}
 use Rattle.session_calls.specs.declared.answer.Answer.{Answer}
 use Rattle.session_calls.specs.declared.answer.Answer.TheVariants.{Begun, Forced, Flushed, Checkpointed, Refused}
 use Rattle.session_calls.specs.declared.op.Op.{Op}
 use Rattle.session_calls.specs.declared.op.Op.TheVariants.{Insert, Scan, Bulk, Cleanup}
 use Rattle.session_calls.specs.declared.request.Request.{Request}
 use Rattle.session_calls.specs.declared.request.Request.TheVariants.{Insert as ToInsert, Scan as ToScan, Bulk as ToBulk, Cleanup as ToCleanup}
-use Rattle.tree_acts.specs.Leaves.{LeavesStay}
+use Rattle.tree_acts.specs.Leaves.{LeafPagesStay}
 use Rattle.session_calls.proofs.Counting.{due_still}
 use Rattle.session_calls.proofs.Meeting.{grown}
-use Rattle.session_calls.proofs.Sweeping.{sweeps_undisturbed}
-use Rattle.session_calls.proofs.Telling.{told_same}
+use Rattle.session_calls.proofs.Vacuuming.{deletions_undisturbed}
+use Rattle.session_calls.proofs.Meanings.{told_same}
 use Rattle.session_calls.proofs.Undisturbed.{undisturbed, idle_undisturbed}
 use Rattle.schedule.specs.TheoremMoments.{Moment, IsRunningCall}
 use Rattle.schedule.specs.Making.{EventDoes}
 use Rattle.schedule.specs.TheoremRuns.{Fits}
 use Rattle.session_calls.specs.Slots.{slot_of, slot_vacuums, one_vacuums, slot_has_call, is_of_sets, session_to_begin}
-use Rattle.schedule.specs.MomentInvariants.{here_at, SlotRuns, IsFreeSession, SlotMatches, slot_sweeps, OneVacuums}
-use Rattle.schedule.specs.TheoremKinds.{Move, Steps, Takes, GivesUp, Upkeep, Forces, Flushes, Checkpoints, Kind, BeginsCall, MovesCall, KeepsStore}
+use Rattle.schedule.specs.MomentInvariants.{here_at, SlotRuns, IsFreeSession, SlotMatches, slot_is_bulk_delete, OneVacuums}
+use Rattle.schedule.specs.TheoremKinds.{Move, Steps, Takes, GivesUp, Upkeep, Forces, Flushes, Checkpoints, Kind, BeginsCall, MovesCall, MaintainsStore}
 use Rattle.schedule.specs.TheoremEvents.{IsDurable}
-use Rattle.schedule.specs.Events.{UpkeepIsTold, IsToldDurable, IsOfSession, Stays, kept_answer, MovesOn, MayBegin, causes_of_begun_at, causes_of_moving, Happens, causes_of_happening, OthersStay, session_at, EventAlways, CallIsFollowed, LeavesBe}
+use Rattle.schedule.specs.Events.{UpkeepAnswerMeans, UpkeepIsDurable, IsOfSession, Stays, kept_answer, MovesOn, MayBegin, causes_of_begun_at, causes_of_moving, Happens, causes_of_happening, OthersStay, session_at, EventAlways, CallIsFollowed, SameButForActs}
 use Rattle.schedule.specs.Making.{EventRuns}
 use Rattle.schedule.proofs.Frames.{began_within, slot_is, goes_fits}
 use Rattle.schedule.proofs.Keeping.{no_growth}
@@ -56,7 +56,7 @@ true_false h = cc
 -- what an event leaves as it was: a call is due after as many steps on the same pages, within the same limits
 leaves_be : {S : Type 0} (g : Ghosts S) (kind : Kind) (old new : Moment S) → (g.state new.store).limits ≡ (g.state old.store).limits → (g.state new.store).frames ≡ (g.state old.store).frames
     → (new.history ≡ old.history → (g.state new.store).pages ≡ (g.state old.store).pages)
-    → ((session : ℕ) → IsOfSession session kind → OthersStay session old.slots new.slots) → LeavesBe g kind old new
+    → ((session : ℕ) → IsOfSession session kind → OthersStay session old.slots new.slots) → SameButForActs g kind old new
 leaves_be g kind old new limits frames pages others = record {
   limits = limits;
   frames = frames;
@@ -67,7 +67,7 @@ leaves_be g kind old new limits frames pages others = record {
 }
 
 -- nothing at all is changed but the log and the device
-stays_be : {S : Type 0} (g : Ghosts S) (kind : Kind) (old new : Moment S) → g.state new.store ≡ g.state old.store → new.slots ≡ old.slots → LeavesBe g kind old new
+stays_be : {S : Type 0} (g : Ghosts S) (kind : Kind) (old new : Moment S) → g.state new.store ≡ g.state old.store → new.slots ≡ old.slots → SameButForActs g kind old new
 stays_be g kind old new same slots = leaves_be g kind old new (ap (λ (st : State). st.limits) same) (ap (λ (st : State). st.frames) same) (λ quiet. ap (λ (st : State). st.pages) same)
     (λ session of other apart. ap (λ (s : List (Option Op)). slice_get s other) slots)
 
@@ -87,7 +87,7 @@ others_stay_set slots session slot s same other apart = get_set_other slots sess
 pub call_fits : {S : Type 0} (g : Ghosts S) (start : Entry → Bool) (old : Moment S) (session : ℕ) (op : Op) → Fits g start old
     → (runs : SlotRuns g start old session op) → CallFits (g.state old.store) old.sets start old.history runs.number runs.call op
 call_fits g start old session op fits runs =
-    record { world = (matches_of fits); running = runs.is.running; meets = fits.explains.meets runs.number runs.call runs.is.found; runs = runs.runs; sweeps = runs.sweeps }
+    record { world = (matches_of fits); running = runs.is.running; meets = fits.explains.meets runs.number runs.call runs.is.found; runs = runs.runs; deletions = runs.deletions }
 
 -- nothing that a moment shows is changed but the log and the device
 pub fits_still : {S : Type 0} (g : Ghosts S) (start : Entry → Bool) (old : Moment S) (store : S) → g.state store ≡ g.state old.store → Fits g start old
@@ -112,14 +112,14 @@ fits_still {S} g start old store same fits = fits_from (record {
       is = h.is;
       only = h.only;
       runs = subst (λ (st : State). OpRuns st old.sets start old.history h.call op) (sym same) h.runs;
-      sweeps = subst (λ (st : State). OpSweeps st old.sets start old.history h.number h.call.began op) (sym same) h.sweeps;
+      deletions = subst (λ (st : State). OpDeletions st old.sets start old.history h.number h.call.began op) (sym same) h.deletions;
     }
 
 -- a move of a running call
 module _ {S : Type 0} (g : Ghosts S) (start : Entry → Bool) (old : Moment S) (store : S) (session : ℕ) (op : Op) (slot : Option Op) (move : Move) (at : Circumstances) (answer : Answer)
     (fits : Fits g start old) (found : slice_get old.slots session ≡ Some (Some op)) (follows : g.follows old.store store) (later : IsLater (g.backing old.store) (g.backing store))
     (goes : (number : ℕ) (call : Call) → SlotFits (g.state old.store) old.sets start old.history number call (Some op)
-    → SessionGoes at (g.state old.store) (g.state store) old.sets start old.history number call slot answer)
+    → SessionEvent at (g.state old.store) (g.state store) old.sets start old.history number call slot answer)
     (where_is : causes_of_moving g old.sets old.store store move (Some (Some op)) ≡ at)
     (always : EventAlways g (MovesCall session move) answer (here_at old) (record { store = store; slots = slice_set old.slots session slot; sets = old.sets }))
     (followed : (start' : Entry → Bool) (l : List Action) (n : ℕ) (c : Call) → SlotFits (g.state old.store) old.sets start' l n c (Some op)
@@ -130,14 +130,14 @@ module _ {S : Type 0} (g : Ghosts S) (start : Entry → Bool) (old : Moment S) (
   fit : CallFits (g.state old.store) old.sets start old.history runs.number runs.call op
   fit = call_fits g start old session op fits runs
 
-  one : SessionGoes at (g.state old.store) (g.state store) old.sets start old.history runs.number runs.call slot answer
+  one : SessionEvent at (g.state old.store) (g.state store) old.sets start old.history runs.number runs.call slot answer
   one = goes runs.number runs.call fit
 
   others : OthersRely session (g.state old.store) (g.state store)
   others = subst (λ (t : ℕ). OthersRely t (g.state old.store) (g.state store)) runs.is.session_is one.others
 
-  pinned : PinnedLeavesStay session (g.state old.store) (g.state store)
-  pinned = subst (λ (t : ℕ). PinnedLeavesStay t (g.state old.store) (g.state store)) runs.is.session_is one.pinned
+  pinned : PinnedLeafPagesStay session (g.state old.store) (g.state store)
+  pinned = subst (λ (t : ℕ). PinnedLeafPagesStay t (g.state old.store) (g.state store)) runs.is.session_is one.pinned
 
   new : Moment S
   new = record { store = store; slots = slice_set old.slots session slot; sets = old.sets; history = old.history ++ acts_of runs.number one.effect; calls = slice_set old.calls runs.number one.after }
@@ -146,7 +146,7 @@ module _ {S : Type 0} (g : Ghosts S) (start : Entry → Bool) (old : Moment S) (
   unfolding new
   new_fits = goes_fits g start old store session one.after one.effect op slot fits found runs
       (told_same (old.history ++ acts_of runs.number one.effect) (length old.history) one.effect runs.call one.after runs.is.running (grown old.history runs.number one.effect) answer one.told)
-      one.asked others pinned one.limits one.world one.meets one.holds one.cycle one.leaves one.sweeps
+      one.asked others pinned one.limits one.world one.meets one.holds one.cycle one.leaves one.deletions
 
   no_effect : (effect : Option Effect) → old.history ++ acts_of runs.number effect ≡ old.history → effect ≡ None
   no_effect None same = refl
@@ -204,7 +204,7 @@ module _ {S : Type 0} (g : Ghosts S) (start : Entry → Bool) (old : Moment S) (
       subst (λ (o : Option Op). CallIsFollowed (MovesCall session Steps) old.sets (Refused fault) (g.state old.store) (g.state store) o o) (sym (idle session refl)) (record {
         due = λ left due. absurd due;
         no_more = λ acts. omega arith;
-        flagged = λ only. subst (λ (st : State). OnlyOwnAreFlagged st None) (sym same) only;
+        incomplete = λ only. subst (λ (st : State). OnlyOwnAreIncomplete st None) (sym same) only;
         stands = tt;
         waits = tt;
         entries = tt;
@@ -215,7 +215,7 @@ module _ {S : Type 0} (g : Ghosts S) (start : Entry → Bool) (old : Moment S) (
   follows_on (MovesCall session Takes) before idle = λ steps due.
       due_still (g.state old.store) (g.state store) before steps (ap (λ (st : State). st.limits) same) (ap (λ (st : State). st.pages) same) due
   follows_on (MovesCall session GivesUp) before idle = tt
-  follows_on (KeepsStore upkeep) before idle = tt
+  follows_on (MaintainsStore upkeep) before idle = tt
 
   stay_with : (kind : Kind) → Happens g start kind (Refused fault) old then_now → EventAlways g kind (Refused fault) (here_at old) (here_at then_now)
       → IsCaused (causes_of_happening g kind (here_at old) (here_at then_now)) (Refused fault)
@@ -259,14 +259,14 @@ module _ {S : Type 0} (g : Ghosts S) (start : Entry → Bool) (old : Moment S) (
   kept_caused Flushes count at answer is = absurd (let none : kept_answer Flushes count ≡ Some answer = is in cc)
   kept_caused Checkpoints count at answer is = subst (λ (a : Answer). IsCaused at a) (same_some (kept_answer Checkpoints count) (Checkpointed count) answer refl is) tt
 
-  kept_told : (u : Upkeep) (count : ℕ) (answer : Answer) (new : Moment S) → kept_answer u count ≡ Some answer → IsToldDurable g u answer old new → UpkeepIsTold g u answer old new
+  kept_told : (u : Upkeep) (count : ℕ) (answer : Answer) (new : Moment S) → kept_answer u count ≡ Some answer → UpkeepIsDurable g u answer old new → UpkeepAnswerMeans g u answer old new
   kept_told Forces count answer new is all = all
   kept_told Flushes count answer new is all = absurd (let none : kept_answer Flushes count ≡ Some answer = is in cc)
   kept_told Checkpoints count answer new is all = all
 
   pub keeps_on_store : (count : ℕ) (answer : Answer) → kept_answer upkeep count ≡ Some answer → count ≡ (g.state old.store).acts → (g.backing store).durable ≡ (g.state old.store).acts
-      → EventAlways g (KeepsStore upkeep) answer (here_at old) (record { store = store; slots = old.slots; sets = old.sets })
-      → EventRuns g (here_at old) (record { store = store; slots = old.slots; sets = old.sets }) (KeepsStore upkeep) answer start old.history old.calls
+      → EventAlways g (MaintainsStore upkeep) answer (here_at old) (record { store = store; slots = old.slots; sets = old.sets })
+      → EventRuns g (here_at old) (record { store = store; slots = old.slots; sets = old.sets }) (MaintainsStore upkeep) answer start old.history old.calls
   keeps_on_store count answer told number durable always =
       let then : Moment S = record { store = store; slots = old.slots; sets = old.sets; history = old.history; calls = old.calls } in
       record {
@@ -286,7 +286,7 @@ module _ {S : Type 0} (g : Ghosts S) (start : Entry → Bool) (old : Moment S) (
           followed = tt;
           leaves = λ other block page apart there pinned. leaf_same (g.state old.store) (g.state store) (ap (λ (st : State). st.pages) same) block page there;
           lows = lows_still (g.state old.store) (g.state store) (ap (λ (st : State). st.pages) same);
-          quiet = stays_be g (KeepsStore upkeep) old then same refl;
+          quiet = stays_be g (MaintainsStore upkeep) old then same refl;
           durable = kept_durable upkeep count (g.backing store).durable answer told
               (let n : count ≡ (g.state old.store).acts = number in let d : (g.backing store).durable ≡ (g.state old.store).acts = durable in omega arith);
           follows = follows;
@@ -298,8 +298,8 @@ module _ {S : Type 0} (g : Ghosts S) (start : Entry → Bool) (old : Moment S) (
 -- a changed page is written to its place
 pub flushes_on_store : {S : Type 0} (g : Ghosts S) (start : Entry → Bool) (old : Moment S) (store : S) (fits : Fits g start old) (same : g.state store ≡ g.state old.store)
     (follows : g.follows old.store store) (later : IsLater (g.backing old.store) (g.backing store)) (block : Option ℕ) → block ≡ slice_get (g.backing old.store).changed 0
-    → EventAlways g (KeepsStore Flushes) (Flushed block) (here_at old) (record { store = store; slots = old.slots; sets = old.sets })
-    → EventRuns g (here_at old) (record { store = store; slots = old.slots; sets = old.sets }) (KeepsStore Flushes) (Flushed block) start old.history old.calls
+    → EventAlways g (MaintainsStore Flushes) (Flushed block) (here_at old) (record { store = store; slots = old.slots; sets = old.sets })
+    → EventRuns g (here_at old) (record { store = store; slots = old.slots; sets = old.sets }) (MaintainsStore Flushes) (Flushed block) start old.history old.calls
 flushes_on_store {S} g start old store fits same follows later block first always =
     let then : Moment S = record { store = store; slots = old.slots; sets = old.sets; history = old.history; calls = old.calls } in
     record {
@@ -313,7 +313,7 @@ flushes_on_store {S} g start old store fits same follows later block first alway
         followed = tt;
         leaves = λ other block page apart there pinned. leaf_same (g.state old.store) (g.state store) (ap (λ (st : State). st.pages) same) block page there;
         lows = lows_still (g.state old.store) (g.state store) (ap (λ (st : State). st.pages) same);
-        quiet = stays_be g (KeepsStore Flushes) old then same refl;
+        quiet = stays_be g (MaintainsStore Flushes) old then same refl;
         durable = tt;
         follows = follows;
         later = later;
@@ -343,7 +343,7 @@ module _ {S : Type 0} (g : Ghosts S) (start : Entry → Bool) (old : Moment S) (
     (fits : Fits g start old) (free : slice_get old.slots session ≡ Some None)
     (begins : SessionBegins (g.state old.store) (g.state store) old.sets start old.history (length old.calls) session request (Some op))
     (named : IsOfSets old.sets request) (alone : asks_vacuum request ≡ true → one_vacuums old.slots ≡ false) (fresh : op ≡ op_before session request)
-    (state : g.state store ≡ after_request (asks_sweep request) session (g.state old.store)) where
+    (state : g.state store ≡ after_request (asks_bulk_delete request) session (g.state old.store)) where
   abbrev call : Call
   call = begun_call session (asked_by old.sets request) (length old.history)
 
@@ -361,56 +361,56 @@ module _ {S : Type 0} (g : Ghosts S) (start : Entry → Bool) (old : Moment S) (
   within_slots = get_within old.slots session None free
 
   same_pages : (g.state store).pages ≡ (g.state old.store).pages
-  same_pages = ap (λ (st : State). st.pages) state ∙ request_pages (asks_sweep request) session (g.state old.store)
+  same_pages = ap (λ (st : State). st.pages) state ∙ request_pages (asks_bulk_delete request) session (g.state old.store)
 
   same_limits : (g.state store).limits ≡ (g.state old.store).limits
-  same_limits = ap (λ (st : State). st.limits) state ∙ request_limits (asks_sweep request) session (g.state old.store)
+  same_limits = ap (λ (st : State). st.limits) state ∙ request_limits (asks_bulk_delete request) session (g.state old.store)
 
   -- it is a bulk delete or a cleanup exactly where one was asked for
   vacuum_is : is_vacuum op ≡ asks_vacuum request
   vacuum_is = ap is_vacuum fresh ∙ before_vacuum session request
 
-  sweep_is : is_sweep op ≡ asks_sweep request
-  sweep_is = ap is_sweep fresh ∙ before_sweep session request
+  sweep_is : is_bulk_delete op ≡ asks_bulk_delete request
+  sweep_is = ap is_bulk_delete fresh ∙ before_sweep session request
 
   -- where a bulk delete runs, neither that nor a cleanup begins, and leaves stay
-  stay_for : (u : ℕ) → slot_vacuums (slot_of old.slots u) ≡ true → LeavesStay None (g.state old.store) (g.state store)
+  stay_for : (u : ℕ) → slot_vacuums (slot_of old.slots u) ≡ true → LeafPagesStay None (g.state old.store) (g.state store)
   stay_for u theirs_runs = by (asks_vacuum request) refl
     where
-      by : (b : Bool) → asks_vacuum request ≡ b → LeavesStay None (g.state old.store) (g.state store)
+      by : (b : Bool) → asks_vacuum request ≡ b → LeafPagesStay None (g.state old.store) (g.state store)
       by true is = absurd (none_runs old.slots (alone is) u theirs_runs)
       by false is = begins.leaves (begins.cycle (calm_request request is))
 
   sweep_theirs : (u : ℕ) (other : Op) (number began : ℕ) → slot_of old.slots u ≡ Some other → began ≤ length old.history
-      → OpSweeps (g.state old.store) old.sets start old.history number began other → OpSweeps (g.state store) old.sets start old.history number began other
+      → OpDeletions (g.state old.store) old.sets start old.history number began other → OpDeletions (g.state store) old.sets start old.history number began other
   sweep_theirs u (Insert x) number began is within h = tt
   sweep_theirs u (Scan x) number began is within h = tt
   sweep_theirs u (Cleanup x) number began is within h = tt
   sweep_theirs u (Bulk set x) number began is within h =
-      subst (λ (l : List Action). OpSweeps (g.state store) old.sets start l number began (Bulk set x)) (append-nil old.history)
-      (sweeps_undisturbed (g.state old.store) (g.state store) old.sets start old.history number (suc number) began None (Bulk set x)
+      subst (λ (l : List Action). OpDeletions (g.state store) old.sets start l number began (Bulk set x)) (append-nil old.history)
+      (deletions_undisturbed (g.state old.store) (g.state store) old.sets start old.history number (suc number) began None (Bulk set x)
       (stay_for u (ap slot_vacuums is)) (λ e. absurd (let n : suc number ≡ number = e in omega arith)) within h)
 
   -- what a bulk delete has to remove that begins: a cycle number is given for it
-  given_cycle : (o : Op) → is_sweep o ≡ true → OpSweeps (g.state store) old.sets start old.history (length old.calls) (length old.history) o → is_sweeping (g.state store) ≡ true
+  given_cycle : (o : Op) → is_bulk_delete o ≡ true → OpDeletions (g.state store) old.sets start old.history (length old.calls) (length old.history) o → runs_bulk_delete (g.state store) ≡ true
   given_cycle (Insert x) is h = absurd (true_false (sym is))
   given_cycle (Scan x) is h = absurd (true_false (sym is))
   given_cycle (Cleanup x) is h = absurd (true_false (sym is))
   given_cycle (Bulk set x) is h = h.1.runs
 
   begun_vacuums : OneVacuums (g.state store) (slice_set old.slots session (Some op))
-  begun_vacuums = by (asks_vacuum request) refl (asks_sweep request) refl
+  begun_vacuums = by (asks_vacuum request) refl (asks_bulk_delete request) refl
     where
       was_none : slot_of old.slots session ≡ None
       was_none = slot_is old.slots session None free
 
-      by : (b : Bool) → asks_vacuum request ≡ b → (c : Bool) → asks_sweep request ≡ c → OneVacuums (g.state store) (slice_set old.slots session (Some op))
-      by true is true sweeps = sweep_begins (g.state old.store) old.slots session (Some op) within_slots (vacuum_is ∙ is) (alone is) fits.invariant.vacuums (g.state store) (sweep_is ∙ sweeps)
-          (given_cycle op (sweep_is ∙ sweeps) (begins.sweeps named))
+      by : (b : Bool) → asks_vacuum request ≡ b → (c : Bool) → asks_bulk_delete request ≡ c → OneVacuums (g.state store) (slice_set old.slots session (Some op))
+      by true is true deletions = sweep_begins (g.state old.store) old.slots session (Some op) within_slots (vacuum_is ∙ is) (alone is) fits.invariant.vacuums (g.state store) (sweep_is ∙ deletions)
+          (given_cycle op (sweep_is ∙ deletions) (begins.deletions named))
       by true is false calm =
           cleanup_begins (g.state old.store) old.slots session (Some op) within_slots (vacuum_is ∙ is) (alone is) fits.invariant.vacuums (g.state store) (sweep_is ∙ calm) (begins.cycle calm)
-      by false is c sweeps = vacuums_still (g.state old.store) (g.state store) old.slots session (Some op) within_slots (vacuum_is ∙ is ∙ sym (ap slot_vacuums was_none))
-          (sweep_is ∙ calm_request request is ∙ sym (ap slot_sweeps was_none)) (begins.cycle (calm_request request is)) fits.invariant.vacuums
+      by false is c deletions = vacuums_still (g.state old.store) (g.state store) old.slots session (Some op) within_slots (vacuum_is ∙ is ∙ sym (ap slot_vacuums was_none))
+          (sweep_is ∙ calm_request request is ∙ sym (ap slot_is_bulk_delete was_none)) (begins.cycle (calm_request request is)) fits.invariant.vacuums
 
   begun_slot : (u : ℕ) (o : Option Op) → u ≢ session → slice_get old.slots u ≡ Some o → SlotMatches g start old u o → SlotMatches g start begun u o
   begun_slot u None ne in_slot h = record {
@@ -425,7 +425,7 @@ module _ {S : Type 0} (g : Ghosts S) (start : Entry → Bool) (old : Moment S) (
     runs = subst (λ (l : List Action). OpRuns (g.state store) old.sets start l h.call other) (append-nil old.history)
         (undisturbed (g.state old.store) (g.state store) old.sets start old.history [] h.call other (begins.others h.call.session (λ e. ne (sym h.is.session_is ∙ e)))
         (leaves_same (g.state old.store) (g.state store) same_pages h.call.session) h.runs);
-    sweeps = sweep_theirs u other h.number h.call.began (slot_is old.slots u (Some other) in_slot) (began_within g start old u h.number h.call fits h.is) h.sweeps;
+    deletions = sweep_theirs u other h.number h.call.began (slot_is old.slots u (Some other) in_slot) (began_within g start old u h.number h.call fits h.is) h.deletions;
   }
 
   begun_fits : Fits g start begun
@@ -445,7 +445,7 @@ module _ {S : Type 0} (g : Ghosts S) (start : Entry → Bool) (old : Moment S) (
                 is = record { found = get_append_new old.calls call; session_is = refl; running = refl };
                 only = λ j c r. elim (old_or_new session j c r) [ inl a ↦ absurd (was_free.none j c a) | inr b ↦ b.0 ];
                 runs = begins.holds.1;
-                sweeps = begins.sweeps named;
+                deletions = begins.deletions named;
               })))
           | inr n ↦ begun_slot u o n (sym (get_set_other old.slots session u (Some op) n) ∙ h) (running_of fits u o (sym (get_set_other old.slots session u (Some op) n) ∙ h))
         ];
@@ -482,7 +482,7 @@ module _ {S : Type 0} (g : Ghosts S) (start : Entry → Bool) (old : Moment S) (
       followed = λ told. subst (λ (x : Option Op). HasSteps (g.state old.store) (g.state store) request x) (sym (set_is old.slots session (Some op) (get_within old.slots session None free))) counts;
       leaves = λ other block page apart there pinned. leaf_same (g.state old.store) (g.state store) same_pages block page there;
       lows = lows_still (g.state old.store) (g.state store) same_pages;
-      quiet = leaves_be g (BeginsCall session request) old begun same_limits (ap (λ (st : State). st.frames) state ∙ request_frames (asks_sweep request) session (g.state old.store))
+      quiet = leaves_be g (BeginsCall session request) old begun same_limits (ap (λ (st : State). st.frames) state ∙ request_frames (asks_bulk_delete request) session (g.state old.store))
           (λ same. same_pages) (others_stay_set old.slots session (Some op));
       durable = tt;
       follows = follows;

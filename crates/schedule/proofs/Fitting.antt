@@ -5,13 +5,13 @@ use Rattle.index_model.specs.Calls.{Call, Meets, ActionsAreOwned}
 use Rattle.index_model.specs.declared.entry.Entry.{Entry}
 use Rattle.page_action.specs.declared.page_store.PageStore.{Ghosts}
 use Rattle.session_calls.specs.Sessions.{Matches, OpRuns, IsIdle}
-use Rattle.session_calls.specs.Sweeps.{OpSweeps}
+use Rattle.session_calls.specs.BulkDeletions.{OpDeletions}
 use Rattle.session_calls.specs.declared.answer.Answer.{Answer}
 use Rattle.session_calls.specs.declared.op.Op.{Op}
 use Rattle.schedule.specs.TheoremMoments.{Moment, RunsOne, IsRunningCall, HasOneCall}
 use Rattle.schedule.specs.MomentInvariants.{SlotRuns, SlotMatches, OneVacuums}
 use Rattle.schedule.specs.TheoremKinds.{Kind, kind_of}
-use Rattle.schedule.specs.TheoremRuns.{Fits, EventGoes}
+use Rattle.schedule.specs.TheoremRuns.{Fits, EventIsRun}
 use Rattle.schedule.specs.Making.{EventDoes}
 use Rattle.schedule.specs.declared.event.Event.{Event}
 use Rattle.schedule.proofs.Keys.{keyed_now}
@@ -49,7 +49,7 @@ running_of {S} {g} {start} {now} fits session None at = record {
 running_of {S} {g} {start} {now} fits session (Some op) at =
     let one = fits.explains.running session (op, at) in
     let runs = fits.invariant.runs session one.number one.call op at one.is in
-    record { number = one.number; call = one.call; is = one.is; only = one.only; runs = runs.0; sweeps = runs.1 }
+    record { number = one.number; call = one.call; is = one.is; only = one.only; runs = runs.0; deletions = runs.1 }
 
 -- a session that isn't there holds nothing
 pub beyond_of : {S : Type 0} {g : Ghosts S} {start : Entry → Bool} {now : Moment S} → Fits g start now
@@ -78,14 +78,14 @@ module _ {S : Type 0} (g : Ghosts S) (start : Entry → Bool) (now : Moment S)
       of (Some (Some op)) at = (op, at)
 
   runs_it : (session number : ℕ) (call : Call) (op : Op) → slice_get now.slots session ≡ Some (Some op) → IsRunningCall now.calls session number call
-      → OpRuns (g.state now.store) now.sets start now.history call op × OpSweeps (g.state now.store) now.sets start now.history number call.began op
+      → OpRuns (g.state now.store) now.sets start now.history call op × OpDeletions (g.state now.store) now.sets start now.history number call.began op
   runs_it session number call op at is =
       let h : SlotRuns g start now session op = running session (Some op) at in
       let number_is : number ≡ h.number = h.only number call is in
       let call_is : call ≡ h.call = same_some (slice_get now.calls h.number) call h.call (subst (λ (i : ℕ). slice_get now.calls i ≡ Some call) number_is is.found) h.is.found in
-      subst (λ (c : Call). OpRuns (g.state now.store) now.sets start now.history c op × OpSweeps (g.state now.store) now.sets start now.history number c.began op) (sym call_is)
-      (subst (λ (i : ℕ). OpRuns (g.state now.store) now.sets start now.history h.call op × OpSweeps (g.state now.store) now.sets start now.history i h.call.began op) (sym number_is)
-      (h.runs, h.sweeps))
+      subst (λ (c : Call). OpRuns (g.state now.store) now.sets start now.history c op × OpDeletions (g.state now.store) now.sets start now.history number c.began op) (sym call_is)
+      (subst (λ (i : ℕ). OpRuns (g.state now.store) now.sets start now.history h.call op × OpDeletions (g.state now.store) now.sets start now.history i h.call.began op) (sym number_is)
+      (h.runs, h.deletions))
 
   idle_at : (session : ℕ) → (RunsOne now.slots session → ⊥) → IsIdle (g.state now.store) session
   idle_at session none = of (slice_get now.slots session) refl
@@ -119,10 +119,10 @@ fits_from {S} {g} {start} {now} parts = record {
   };
 }
 
--- what fits behind an event
-pub fits_behind : {S : Type 0} {g : Ghosts S} {start : Entry → Bool} {kind : Kind} {answer : Answer} {old new : Moment S} → EventDoes g start kind answer old new → Fits g start new
-fits_behind does = record { explains = does.means.explains; invariant = does.also.invariant }
+-- what fits after an event
+pub fits_after : {S : Type 0} {g : Ghosts S} {start : Entry → Bool} {kind : Kind} {answer : Answer} {old new : Moment S} → EventDoes g start kind answer old new → Fits g start new
+fits_after does = record { explains = does.means.explains; invariant = does.also.invariant }
 
 pub goes_does : {S : Type 0} {g : Ghosts S} {start : Entry → Bool} {event : Event} {answer : Answer} {old new : Moment S}
-    → EventGoes g start event answer old new → EventDoes g start (kind_of event) answer old new
+    → EventIsRun g start event answer old new → EventDoes g start (kind_of event) answer old new
 goes_does goes = record { means = goes.means; also = goes.also }

@@ -8,17 +8,17 @@ use Rattle.index_model.specs.declared.entry.Entry.{Entry}
 use Rattle.index_model.specs.declared.format.Format.{Format}
 use Rattle.index_model.proofs.Histories.{there_before, meets_later}
 use Rattle.page_action.specs.declared.page_store.PageStore.{Ghosts}
-use Rattle.descent.specs.Shared.{OthersRely}
-use Rattle.page_delete.specs.Parts.{PinnedLeavesStay}
-use Rattle.tree_acts.specs.Leaves.{LeavesStay}
+use Rattle.tree_acts.specs.StepEffects.{OthersRely}
+use Rattle.page_delete.specs.Parts.{PinnedLeafPagesStay}
+use Rattle.tree_acts.specs.Leaves.{LeafPagesStay}
 use Rattle.session_calls.specs.Ops.{asked_of, is_vacuum}
 use Rattle.session_calls.specs.TheoremCalls.{acts_of}
-use Rattle.session_calls.specs.Sessions.{Matches, IsIdle, SlotIs, IsAsked, cycle_behind, asks_cleanup}
-use Rattle.session_calls.specs.Sweeps.{OpSweeps, SlotSweeps}
+use Rattle.session_calls.specs.Sessions.{Matches, IsIdle, SlotIs, IsAsked, cycle_after, asks_cleanup}
+use Rattle.session_calls.specs.BulkDeletions.{OpDeletions, SlotDeletions}
 use Rattle.session_calls.specs.declared.op.Op.{Op}
 use Rattle.session_calls.specs.declared.op.Op.TheVariants.{Insert, Scan, Bulk, Cleanup}
-use Rattle.session_calls.proofs.Sweeping.{sweeps_undisturbed}
-use Rattle.session_calls.proofs.Telling.{IsSameCall}
+use Rattle.session_calls.proofs.Vacuuming.{deletions_undisturbed}
+use Rattle.session_calls.proofs.Meanings.{IsSameCall}
 use Rattle.session_calls.proofs.Undisturbed.{undisturbed, idle_undisturbed}
 use Rattle.schedule.specs.TheoremMoments.{Moment, IsRunningCall}
 use Rattle.schedule.specs.TheoremRuns.{Fits}
@@ -88,13 +88,13 @@ module _ {S : Type 0} (g : Ghosts S) (start : Entry → Bool) (old : Moment S) (
     (fits : Fits g start old) (at : slice_get old.slots session ≡ Some (Some op)) (runs : SlotRuns g start old session op)
     (same : IsSameCall (old.history ++ acts_of runs.number effect) (length old.history) effect runs.call after)
     (asked : IsAsked (contents_after start old.history) runs.call.ask runs.call.added effect)
-    (others : OthersRely session (g.state old.store) (g.state store)) (pinned : PinnedLeavesStay session (g.state old.store) (g.state store))
+    (others : OthersRely session (g.state old.store) (g.state store)) (pinned : PinnedLeafPagesStay session (g.state old.store) (g.state store))
     (limits : (g.state store).limits ≡ (g.state old.store).limits)
     (world : Matches (g.state store) start (old.history ++ acts_of runs.number effect)) (meets : Meets start (old.history ++ acts_of runs.number effect) runs.number after)
     (holds : SlotIs (g.state store) old.sets start (old.history ++ acts_of runs.number effect) after slot)
-    (cycle : (g.state store).cycle ≡ cycle_behind runs.call.ask slot (g.state old.store).cycle)
-    (leaves : asks_cleanup runs.call.ask ≡ false → (g.state store).cycle ≡ (g.state old.store).cycle → LeavesStay effect (g.state old.store) (g.state store))
-    (sweeps : SlotSweeps (g.state store) old.sets start (old.history ++ acts_of runs.number effect) runs.number after.began slot) where
+    (cycle : (g.state store).cycle ≡ cycle_after runs.call.ask slot (g.state old.store).cycle)
+    (leaves : asks_cleanup runs.call.ask ≡ false → (g.state store).cycle ≡ (g.state old.store).cycle → LeafPagesStay effect (g.state old.store) (g.state store))
+    (deletions : SlotDeletions (g.state store) old.sets start (old.history ++ acts_of runs.number effect) runs.number after.began slot) where
   abbrev acts : List Action
   acts = acts_of runs.number effect
 
@@ -124,7 +124,7 @@ module _ {S : Type 0} (g : Ghosts S) (start : Entry → Bool) (old : Moment S) (
     | inr n ↦ record { found = sym (elsewhere j n) ∙ r.found; session_is = r.session_is; running = r.running }
   ]
 
-  slot_mine : (o : Option Op) → SlotIs (g.state store) old.sets start (old.history ++ acts) after o → SlotSweeps (g.state store) old.sets start (old.history ++ acts) runs.number after.began o
+  slot_mine : (o : Option Op) → SlotIs (g.state store) old.sets start (old.history ++ acts) after o → SlotDeletions (g.state store) old.sets start (old.history ++ acts) runs.number after.began o
       → SlotMatches g start
       (record { store = store; slots = slice_set old.slots session slot; sets = old.sets; history = old.history ++ acts; calls = slice_set old.calls runs.number after }) session o
   slot_mine None h to_sweep = record {
@@ -137,29 +137,29 @@ module _ {S : Type 0} (g : Ghosts S) (start : Entry → Bool) (old : Moment S) (
     is = record { found = here; session_is = session_is; running = h.0 };
     only = λ j c r. (mine j c r).0;
     runs = h.1;
-    sweeps = to_sweep;
+    deletions = to_sweep;
   }
 
-  -- the cycle number behind the event, by what the session runs
-  cycle_by : (g.state store).cycle ≡ cycle_behind (asked_of old.sets op) slot (g.state old.store).cycle
-  cycle_by = subst (λ (x : Ask). (g.state store).cycle ≡ cycle_behind x slot (g.state old.store).cycle) runs.runs.ask cycle
+  -- the cycle number after the event, by what the session runs
+  cycle_by : (g.state store).cycle ≡ cycle_after (asked_of old.sets op) slot (g.state old.store).cycle
+  cycle_by = subst (λ (x : Ask). (g.state store).cycle ≡ cycle_after x slot (g.state old.store).cycle) runs.runs.ask cycle
 
   -- where another session runs a bulk delete, this one runs neither that nor a cleanup, and leaves stay
-  stay_for : (u : ℕ) → u ≢ session → slot_vacuums (slot_of old.slots u) ≡ true → LeavesStay effect (g.state old.store) (g.state store)
+  stay_for : (u : ℕ) → u ≢ session → slot_vacuums (slot_of old.slots u) ≡ true → LeafPagesStay effect (g.state old.store) (g.state store)
   stay_for u ne theirs_runs = by (is_vacuum op) refl
     where
-      by : (b : Bool) → is_vacuum op ≡ b → LeavesStay effect (g.state old.store) (g.state store)
+      by : (b : Bool) → is_vacuum op ≡ b → LeafPagesStay effect (g.state old.store) (g.state store)
       by true is = absurd (ne (fits.invariant.vacuums.alone u session theirs_runs (ap slot_vacuums (slot_is old.slots session (Some op) at) ∙ is)))
       by false is = leaves (ap asks_cleanup runs.runs.ask ∙ calm_cleanup old.sets op is) (cycle_by ∙ cycle_kept old.sets op slot (g.state old.store).cycle (calm_sweep op is))
 
   -- what another session's bulk delete has to remove is to come still
   sweep_theirs : (u : ℕ) (other : Op) (number began : ℕ) → u ≢ session → slot_of old.slots u ≡ Some other → number ≢ runs.number → began ≤ length old.history
-      → OpSweeps (g.state old.store) old.sets start old.history number began other → OpSweeps (g.state store) old.sets start (old.history ++ acts) number began other
+      → OpDeletions (g.state old.store) old.sets start old.history number began other → OpDeletions (g.state store) old.sets start (old.history ++ acts) number began other
   sweep_theirs u (Insert x) number began ne is apart within h = tt
   sweep_theirs u (Scan x) number began ne is apart within h = tt
   sweep_theirs u (Cleanup x) number began ne is apart within h = tt
   sweep_theirs u (Bulk set x) number began ne is apart within h =
-      sweeps_undisturbed (g.state old.store) (g.state store) old.sets start old.history number runs.number began effect (Bulk set x) (stay_for u ne (ap slot_vacuums is)) (λ e. apart (sym e)) within h
+      deletions_undisturbed (g.state old.store) (g.state store) old.sets start old.history number runs.number began effect (Bulk set x) (stay_for u ne (ap slot_vacuums is)) (λ e. apart (sym e)) within h
 
   slot_theirs : (u : ℕ) (o : Option Op) → u ≢ session → slice_get old.slots u ≡ Some o → SlotMatches g start old u o
       → SlotMatches g start (record { store = store; slots = slice_set old.slots session slot; sets = old.sets; history = old.history ++ acts; calls = slice_set old.calls runs.number after }) u o
@@ -175,10 +175,10 @@ module _ {S : Type 0} (g : Ghosts S) (start : Entry → Bool) (old : Moment S) (
         only = λ j c r. h.only j c (theirs u j c ne r);
         runs = undisturbed (g.state old.store) (g.state store) old.sets start old.history acts h.call other (others h.call.session (λ e. ne (sym h.is.session_is ∙ e)))
             (leaves_last session h.call.session (g.state old.store) (g.state store) (λ e. ne (sym h.is.session_is ∙ e)) pinned) h.runs;
-        sweeps = sweep_theirs u other h.number h.call.began ne (slot_is old.slots u (Some other) in_slot) apart (began_within g start old u h.number h.call fits h.is) h.sweeps;
+        deletions = sweep_theirs u other h.number h.call.began ne (slot_is old.slots u (Some other) in_slot) apart (began_within g start old u h.number h.call fits h.is) h.deletions;
       }
 
-  -- behind the event, what the session asked is as it was
+  -- after the event, what the session asked is as it was
   asks_still : (next : Op) → slot ≡ Some next → asked_of old.sets next ≡ asked_of old.sets op
   asks_still next is = sym (subst (λ (o : Option Op). SlotIs (g.state store) old.sets start (old.history ++ acts) after o) is holds).1.ask ∙ same.ask ∙ runs.runs.ask
 
@@ -247,7 +247,7 @@ module _ {S : Type 0} (g : Ghosts S) (start : Entry → Bool) (old : Moment S) (
             sets = old.sets;
             history = old.history ++ acts;
             calls = slice_set old.calls runs.number after;
-          }) session x) (sym k) (slot_mine slot holds sweeps)))
+          }) session x) (sym k) (slot_mine slot holds deletions)))
       | inr n ↦ slot_theirs u o n (sym (get_set_other old.slots session u slot n) ∙ h) (running_of fits u o (sym (get_set_other old.slots session u slot n) ∙ h))
     ];
     vacuums = vacuums_go (g.state old.store) (g.state store) old.sets old.slots session op slot (get_within old.slots session (Some op) at)

@@ -6,7 +6,7 @@ use Rattle.index_model.specs.declared.fault.Fault.{Fault}
 use Rattle.index_model.specs.declared.fault.Fault.TheVariants.{Stopped, NoSession}
 use Rattle.page_action.specs.States.{State}
 use Rattle.page_action.specs.declared.page_store.PageStore.{Ghosts}
-use Rattle.session_calls.specs.Following.{StepTells}
+use Rattle.session_calls.specs.Following.{StepAnswerMeans}
 use Rattle.session_calls.specs.TheoremCalls.{DeadSets}
 use Rattle.session_calls.specs.Ops.{causes_of_slot_stepped_any, RunsOn, StoppedAnswersFirst}
 use Rattle.session_calls.specs.Sessions.{no_call, slot_add, after_slot, GivesLess, AnswersStep, AnswersNext, AnswersEnd, RefusalChangesNothing, RunsUntilLast, OnlyWritersAct}
@@ -18,7 +18,7 @@ use Rattle.session_calls.specs.Slots.{slot_of, slot_has_call, has_call}
 use Rattle.schedule.specs.MomentInvariants.{here_with}
 use Rattle.schedule.specs.TheoremKinds.{Move, Steps, Takes, GivesUp, MovesCall}
 use Rattle.schedule.specs.Events.{MovesOn, causes_of_moving, EventAlways, DoesOneAct}
-use Rattle.schedule.specs.Making.{Makes}
+use Rattle.schedule.specs.Making.{EventEffect}
 use Rattle.schedule.proofs.Events.{stays_on, refused_stay}
 use Rattle.schedule.proofs.Keeping.{Laws}
 
@@ -39,7 +39,7 @@ module _ {S : Type 0} (g : Ghosts S) (laws : Laws g) (store : S) (slots : List (
   -- a move with its cause changes nothing
   stays : (move : Move) (fault : Fault) → EventAlways g (MovesCall session move) (Refused fault) (here_with store slots sets) (here_with store slots sets)
       → HasCause (causes_of_moving g sets store store move (slice_get slots session)) fault
-      → Makes g (MovesCall session move) (Refused fault) (here_with store slots sets) (here_with store slots sets)
+      → EventEffect g (MovesCall session move) (Refused fault) (here_with store slots sets) (here_with store slots sets)
   stays move fault always cause = record {
     sessions = refl;
     always = always;
@@ -78,7 +78,7 @@ module _ {S : Type 0} (g : Ghosts S) (laws : Laws g) (store : S) (slots : List (
     answers = subst (λ (x : Option Op). AnswersStep x x (Refused fault)) (sym none) tt;
     until_last = subst (λ (x : Option Op). RunsUntilLast x x (Refused fault)) (sym none) refl;
     stands = tt;
-    tells = subst (λ (x : Option Op). StepTells (g.backing store).stopped (g.state store) (g.state store) x x (Refused fault)) (sym none)
+    tells = subst (λ (x : Option Op). StepAnswerMeans (g.backing store).stopped (g.state store) (g.state store) x x (Refused fault)) (sym none)
         (record { faults = cause; logged = tt; unfinished = tt; stats = tt; waits = λ alive some. absurd (some tt); starts = λ on. refl });
     refused = subst (λ (x : Option Op). RefusalChangesNothing (g.state store) (g.state store) x x (Refused fault)) (sym none) (refl, refl);
     stopped = λ h. subst (λ (x : Option Op). StoppedAnswersFirst (slot_add x) (Refused fault)) (sym none) (stopped h);
@@ -98,18 +98,18 @@ module _ {S : Type 0} (g : Ghosts S) (laws : Laws g) (store : S) (slots : List (
 
   -- a step is refused with `Stopped` on a stopped log, and with `NoSession` else
   idle_steps : (is_stopped : Bool) (answer : Answer) → answer ≡ no_call is_stopped → is_stopped ≡ (g.backing store).stopped
-      → Makes g (MovesCall session Steps) answer (here_with store slots sets) (here_with store slots sets)
+      → EventEffect g (MovesCall session Steps) answer (here_with store slots sets) (here_with store slots sets)
   idle_steps true answer is same =
-      subst (λ (a : Answer). Makes g (MovesCall session Steps) a (here_with store slots sets) (here_with store slots sets)) (sym is)
+      subst (λ (a : Answer). EventEffect g (MovesCall session Steps) a (here_with store slots sets) (here_with store slots sets)) (sym is)
       (stays Steps Stopped (step_always Stopped (λ h. refl) refl) (stopped_step (slice_get slots session) idle (sym same)))
   idle_steps false answer is same =
-      subst (λ (a : Answer). Makes g (MovesCall session Steps) a (here_with store slots sets) (here_with store slots sets)) (sym is)
+      subst (λ (a : Answer). EventEffect g (MovesCall session Steps) a (here_with store slots sets) (here_with store slots sets)) (sym is)
       (stays Steps NoSession (step_always NoSession (λ h. absurd (let both : false ≡ true = same ∙ h in cc)) refl) (no_step (slice_get slots session) idle (sym same)))
 
   -- nothing is given
-  idle_takes : (answer : Answer) → answer ≡ Refused NoSession → Makes g (MovesCall session Takes) answer (here_with store slots sets) (here_with store slots sets)
+  idle_takes : (answer : Answer) → answer ≡ Refused NoSession → EventEffect g (MovesCall session Takes) answer (here_with store slots sets) (here_with store slots sets)
   idle_takes answer is =
-      subst (λ (a : Answer). Makes g (MovesCall session Takes) a (here_with store slots sets) (here_with store slots sets)) (sym is)
+      subst (λ (a : Answer). EventEffect g (MovesCall session Takes) a (here_with store slots sets) (here_with store slots sets)) (sym is)
       (stays Takes NoSession always (no_next (slice_get slots session) idle))
     where
       always : EventAlways g (MovesCall session Takes) (Refused NoSession) (here_with store slots sets) (here_with store slots sets)
@@ -135,9 +135,9 @@ module _ {S : Type 0} (g : Ghosts S) (laws : Laws g) (store : S) (slots : List (
       }
 
   -- nothing is given up
-  idle_gives_up : (answer : Answer) → answer ≡ Refused NoSession → Makes g (MovesCall session GivesUp) answer (here_with store slots sets) (here_with store slots sets)
+  idle_gives_up : (answer : Answer) → answer ≡ Refused NoSession → EventEffect g (MovesCall session GivesUp) answer (here_with store slots sets) (here_with store slots sets)
   idle_gives_up answer is =
-      subst (λ (a : Answer). Makes g (MovesCall session GivesUp) a (here_with store slots sets) (here_with store slots sets)) (sym is)
+      subst (λ (a : Answer). EventEffect g (MovesCall session GivesUp) a (here_with store slots sets) (here_with store slots sets)) (sym is)
       (stays GivesUp NoSession always (no_end (slice_get slots session) idle))
     where
       always : EventAlways g (MovesCall session GivesUp) (Refused NoSession) (here_with store slots sets) (here_with store slots sets)
@@ -169,7 +169,7 @@ module _ {S : Type 0} (g : Ghosts S) (laws : Laws g) (store : S) (slots : List (
   stops GivesUp = false
 
   -- a move of a session without a call is refused: a step with `Stopped` on a stopped log, all else with `NoSession`
-  pub idle_makes : (move : Move) (answer : Answer) → answer ≡ no_call (stops move) → Makes g (MovesCall session move) answer (here_with store slots sets) (here_with store slots sets)
+  pub idle_makes : (move : Move) (answer : Answer) → answer ≡ no_call (stops move) → EventEffect g (MovesCall session move) answer (here_with store slots sets) (here_with store slots sets)
   idle_makes Steps answer is = idle_steps (g.backing store).stopped answer is refl
   idle_makes Takes answer is = idle_takes answer is
   idle_makes GivesUp answer is = idle_gives_up answer is

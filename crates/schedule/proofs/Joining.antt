@@ -20,22 +20,22 @@ both_durable : (durable : ℕ) (one two : List Answer) → AreDurable durable on
 both_durable durable [] two h k = k
 both_durable durable (x ∷ xs) two h k = (h.0, both_durable durable xs two h.1 k)
 
--- a run is one behind more answers, if they were durable before it
-run_behind : {S : Type 0} (g : Ghosts S) (start : Entry → Bool) (before told : List Answer) (events : List Event) (answers : List Answer) (first last : Moment S)
+-- a run is one after more answers, if they were durable before it
+run_after : {S : Type 0} (g : Ghosts S) (start : Entry → Bool) (before told : List Answer) (events : List Event) (answers : List Answer) (first last : Moment S)
     → AreDurable (g.backing first.store).durable before → IsRun g start told events answers first last → IsRun g start (before ++ told) events answers first last
-run_behind g start before told [] [] first last durable run = run
-run_behind g start before told (x ∷ xs) (y ∷ ys) first last durable run = (
+run_after g start before told [] [] first last durable run = run
+run_after g start before told (x ∷ xs) (y ∷ ys) first last durable run = (
   both_durable (g.backing first.store).durable before told durable run.0,
   (
     run.1.0,
     run.1.1,
     subst (λ (t : List Answer). IsRun g start t xs ys run.1.0 last) (sym (append_assoc before told (y ∷ [])))
-        (run_behind g start before (told ++ y ∷ []) xs ys run.1.0 last
+        (run_after g start before (told ++ y ∷ []) xs ys run.1.0 last
         (are_durable_more (g.backing first.store).durable (g.backing (run.1.0).store).durable before run.1.1.also.later.durable durable) run.1.2),
   ),
 )
-run_behind g start before told [] (y ∷ ys) first last durable run = absurd run
-run_behind g start before told (x ∷ xs) [] first last durable run = absurd run
+run_after g start before told [] (y ∷ ys) first last durable run = absurd run
+run_after g start before told (x ∷ xs) [] first last durable run = absurd run
 
 run_then : {S : Type 0} (g : Ghosts S) (start : Entry → Bool) (told : List Answer) (events then_events : List Event) (answers then_answers : List Answer) (first mid last : Moment S)
     → IsRun g start told events answers first mid → IsRun g start (told ++ answers) then_events then_answers mid last
@@ -62,7 +62,7 @@ pub ran_then : {S : Type 0} (g : Ghosts S) (laws : Laws g) (start : Entry → Bo
 ran_then {S} g laws start events then_events answers then_answers first mid last follows one two = record {
   run = run_then g start [] events then_events answers then_answers first mid last one.run
       (subst (λ (t : List Answer). IsRun g start t then_events then_answers mid last) (append-nil answers)
-      (run_behind g start answers [] then_events then_answers mid last one.acknowledged two.run));
+      (run_after g start answers [] then_events then_answers mid last one.acknowledged two.run));
   fits = two.fits;
   follows = follows;
   acknowledged = both_durable (g.backing last.store).durable answers then_answers

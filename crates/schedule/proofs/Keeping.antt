@@ -1,4 +1,4 @@
--- A store that keeps its history keeps it still behind an event, and a crash leaves a first part of it.
+-- A store that keeps its history keeps it still after an event, and a crash leaves a prefix of it.
 use Rattle.std.proofs.Common.{◌≡◌, ℕ, ◌≤◌, ◌+◌, Bool, List, [], length, take, sym, ap, subst, arith, inl, inr, ◌∙◌, length-append}
 use Rattle.std.proofs.lemmas.Bool.{cases_lt}
 use Rattle.std.proofs.lemmas.List.{append-nil, take_all, take-append-le}

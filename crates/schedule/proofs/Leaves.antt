@@ -1,12 +1,12 @@
--- Live leaves stay behind an event that changes no page, pinned ones behind any, and lows don't rise.
+-- Live leaves stay after an event that changes no page, pinned ones after any, and lows don't rise.
 use Rattle.std.proofs.Common.{◌≡◌, ◌≢◌, ℕ, suc, List, sym, subst, arith}
 use Rattle.page_codec.specs.declared.page.Page.{Page}
 use Rattle.page_action.specs.States.{State}
 use Rattle.tree_acts.specs.Leaves.{IsLeafAt, WasLeaf}
 use Rattle.tree_acts.specs.Lows.{NoLowRises}
 use Rattle.tree_acts.proofs.Lows.{lows_same}
-use Rattle.descent.specs.Shared.{OthersRely}
-use Rattle.page_delete.specs.Parts.{PinnedLeavesStay}
+use Rattle.tree_acts.specs.StepEffects.{OthersRely}
+use Rattle.page_delete.specs.Parts.{PinnedLeafPagesStay}
 use Rattle.scan.specs.Laws.{PinnedLeavesLast}
 
 -- where the pages are as they were
@@ -17,7 +17,7 @@ pub leaves_same : (old new : State) → new.pages ≡ old.pages → (session : �
 leaves_same old new same session block pinned leaf = leaf_same old new same block leaf.page leaf.was
 
 -- what one session leaves of pinned leaves is what another may rely on
-pub leaves_last : (session other : ℕ) (old new : State) → other ≢ session → PinnedLeavesStay session old new → PinnedLeavesLast other old new
+pub leaves_last : (session other : ℕ) (old new : State) → other ≢ session → PinnedLeafPagesStay session old new → PinnedLeavesLast other old new
 leaves_last session other old new apart stay block pinned leaf = stay other block leaf.page apart leaf.was pinned
 
 pub lows_still : (old new : State) → new.pages ≡ old.pages → NoLowRises old.pages new.pages

@@ -1,4 +1,4 @@
--- What each kind of event makes, by what the call behind it promises.
+-- What each kind of event makes, by what the call after it promises.
 use Rattle.std.proofs.Common.{◌≡◌, ℕ, ◌&&◌, not, Bool, true, false, Option, Some, None, Ok, Err, List, length, slice_get, slice_set, refl, sym, ap, subst, inl, inr, ◌∙◌}
 use Rattle.std.specs.Prelude.{unwrap_or}
 use Rattle.index_model.specs.Actions.{Action}
@@ -11,10 +11,10 @@ use Rattle.page_action.specs.Causes.{nothing_wrong, is_at_end, causes_of_forced}
 use Rattle.page_action.specs.States.{State}
 use Rattle.page_action.specs.declared.page_store.PageStore.{Ghosts}
 use Rattle.session_calls.specs.Due.{IsDueIn, HasSteps}
-use Rattle.session_calls.specs.Following.{StepTells, StepAlways, IsFitted, StepFollows}
+use Rattle.session_calls.specs.Following.{StepAnswerMeans, StepAlways, IsFitted, StepFollows}
 use Rattle.session_calls.specs.TheoremCalls.{DeadSets}
-use Rattle.session_calls.specs.Ops.{op_before, asks_vacuum, asks_sweep, is_sweep, session_of, asked_of, causes_of_slot_stepped, causes_of_asked_next, no_call_begins, causes_of_requesting, causes_of_beginning, RunsOn, StoppedAnswersFirst}
-use Rattle.session_calls.specs.Sessions.{Matches, IsIdle, SlotFits, SessionGoes, SessionBegins, IsBegun, BeginsBy, op_after_call, after_slot, let_go, is_busy, slot_add, StepLeavesLess, GivesLess, AnswersStep, AnswersNext, AnswersEnd, RefusalChangesNothing, RunsUntilLast, leaf_of, OnlyWritersAct}
+use Rattle.session_calls.specs.Ops.{op_before, asks_vacuum, asks_bulk_delete, is_bulk_delete, session_of, asked_of, causes_of_slot_stepped, causes_of_asked_next, no_call_begins, causes_of_requesting, causes_of_beginning, RunsOn, StoppedAnswersFirst}
+use Rattle.session_calls.specs.Sessions.{Matches, IsIdle, SlotFits, SessionEvent, SessionBegins, IsBegun, BeginsBy, op_after_call, after_slot, let_go, is_busy, slot_add, StepHasLessLeft, GivesLess, AnswersStep, AnswersNext, AnswersEnd, RefusalChangesNothing, RunsUntilLast, leaf_of, OnlyWritersAct}
 use Rattle.session_calls.specs.declared.answer.Answer.{Answer}
 use Rattle.session_calls.specs.declared.answer.Answer.TheVariants.{Begun, Going, Added, Ready, Done, Finished, Gave, Ended, Forced, Flushed, Checkpointed, Refused}
 use Rattle.session_calls.specs.declared.op.Op.{Op}
@@ -24,9 +24,9 @@ use Rattle.schedule.specs.TheoremMoments.{snapshot_of}
 use Rattle.schedule.specs.TheoremRuns.{Fits}
 use Rattle.session_calls.specs.Slots.{slot_of, one_vacuums, is_of_sets, session_to_begin}
 use Rattle.schedule.specs.MomentInvariants.{here_with}
-use Rattle.schedule.specs.TheoremKinds.{Steps, Takes, GivesUp, Upkeep, Forces, Flushes, Checkpoints, BeginsCall, MovesCall, KeepsStore}
-use Rattle.schedule.specs.Events.{kept_answer, causes_of_begun_at, DoesOneAct, EventAlways, CallIsFollowed, AnswersUpkeep, IsFlushed, UpkeepLeaves}
-use Rattle.schedule.specs.Making.{EventRuns, Makes}
+use Rattle.schedule.specs.TheoremKinds.{Steps, Takes, GivesUp, Upkeep, Forces, Flushes, Checkpoints, BeginsCall, MovesCall, MaintainsStore}
+use Rattle.schedule.specs.Events.{kept_answer, causes_of_begun_at, DoesOneAct, EventAlways, CallIsFollowed, AnswersUpkeep, IsFlushed, UpkeepChanges}
+use Rattle.schedule.specs.Making.{EventRuns, EventEffect}
 use Rattle.schedule.proofs.Events.{at_slots, others_stay_set, moves_on, stays_on, refused_stay, keeps_on_store, flushes_on_store, begins_on, named_of, request_pages, request_limits, request_frames, request_acts, not_begun, not_found_why, not_found_first, none_begins, set_same}
 use Rattle.schedule.proofs.Keeping.{Laws}
 use Rattle.schedule.proofs.Lists.{length_set, get_within, same_some}
@@ -74,9 +74,9 @@ module _ {S : Type 0} (g : Ghosts S) (laws : Laws g) (old new : S) (follows_stor
 
   pub step_makes : StepAlways g old new before slot answer
       → ((g.backing new).honest ≡ true → (start : Entry → Bool) (history : List Action) (number : ℕ) (call : Call) → SlotFits (g.state old) sets start history number call before
-      → SessionGoes (causes_of_slot_stepped sets before (g.state old) (g.backing old) (g.backing new)) (g.state old) (g.state new) sets start history number call slot answer)
+      → SessionEvent (causes_of_slot_stepped sets before (g.state old) (g.backing old) (g.backing new)) (g.state old) (g.state new) sets start history number call slot answer)
       → ((g.backing new).honest ≡ true → StepFollows sets (g.state old) (g.state new) before slot answer)
-      → Makes g (MovesCall session Steps) answer (here_with old slots sets) (here_with new (slice_set slots session slot) sets)
+      → EventEffect g (MovesCall session Steps) answer (here_with old slots sets) (here_with new (slice_set slots session slot) sets)
   step_makes made goes follows = record {
     sessions = length_set slots session slot;
     always = always;
@@ -85,7 +85,7 @@ module _ {S : Type 0} (g : Ghosts S) (laws : Laws g) (old new : S) (follows_stor
         (causes_of_slot_stepped sets (Some op) (g.state old) (g.backing old) (g.backing new)) answer fits found_op follows_store (laws.follows_later old new follows_store)
         (λ number call runs.
         subst (λ (x : Option Op).
-        SessionGoes (causes_of_slot_stepped sets x (g.state old) (g.backing old) (g.backing new)) (g.state old) (g.state new) sets start history number call slot answer) is
+        SessionEvent (causes_of_slot_stepped sets x (g.state old) (g.backing old) (g.backing new)) (g.state old) (g.state new) sets start history number call slot answer) is
         (goes honest start history number call (subst (λ (x : Option Op). SlotFits (g.state old) sets start history number call x) (sym is) runs))) refl always
         (λ s l n c runs. subst (λ (x : Option Op). CallIsFollowed (MovesCall session Steps) sets answer (g.state old) (g.state new) x slot) is
         (followed honest (record { start = s; history = l; number = n; call = c; fits = subst (λ (x : Option Op). SlotFits (g.state old) sets s l n c x) (sym is) runs })));
@@ -97,7 +97,7 @@ module _ {S : Type 0} (g : Ghosts S) (laws : Laws g) (old new : S) (follows_stor
           record {
             due = told.due fitted;
             no_more = made.no_more honest;
-            flagged = told.flagged fitted;
+            incomplete = told.incomplete fitted;
             stands = told.stands fitted;
             waits =
                 told.waits;
@@ -112,10 +112,10 @@ module _ {S : Type 0} (g : Ghosts S) (laws : Laws g) (old new : S) (follows_stor
         answers = at_slots slots session before slot (λ x y. AnswersStep x y answer) found_at made.kind;
         until_last = at_slots slots session before slot (λ x y. RunsUntilLast x y answer) found_at made.until_last;
         stands = tt;
-        tells = at_slots slots session before slot (λ x y. StepTells (g.backing old).stopped (g.state old) (g.state new) x y answer) found_at made.tells;
+        tells = at_slots slots session before slot (λ x y. StepAnswerMeans (g.backing old).stopped (g.state old) (g.state new) x y answer) found_at made.tells;
         refused = at_slots slots session before slot (λ x y. RefusalChangesNothing (g.state old) (g.state new) x y answer) found_at made.refused;
         stopped = λ h. subst (λ (x : Option Op). StoppedAnswersFirst (slot_add x) answer) (sym slot_was) (made.stopped h);
-        less = λ honest. at_slots slots session before slot (λ x y. StepLeavesLess (g.state old) (g.state new) x y answer) found_at (made.less honest);
+        less = λ honest. at_slots slots session before slot (λ x y. StepHasLessLeft (g.state old) (g.state new) x y answer) found_at (made.less honest);
         kept = record { acts = made.kept.acts; quiet = made.kept.quiet; limits = made.kept.limits; frames = made.kept.frames };
         calm = subst (λ (x : Option Op). OnlyWritersAct x (g.state old) (g.state new)) (sym slot_was) made.calm;
         others = others_stay_set slots session slot;
@@ -131,8 +131,8 @@ module _ {S : Type 0} (g : Ghosts S) (laws : Laws g) (old new : S) (follows_stor
 
   pub end_makes : AnswersEnd before answer → slot ≡ None → g.backing new ≡ g.backing old → g.state new ≡ op_after_call op (g.state old)
       → ((start : Entry → Bool) (history : List Action) (number : ℕ) (call : Call) → SlotFits (g.state old) sets start history number call before
-      → SessionGoes nothing_wrong (g.state old) (g.state new) sets start history number call slot answer)
-      → Makes g (MovesCall session GivesUp) answer (here_with old slots sets) (here_with new (slice_set slots session slot) sets)
+      → SessionEvent nothing_wrong (g.state old) (g.state new) sets start history number call slot answer)
+      → EventEffect g (MovesCall session GivesUp) answer (here_with old slots sets) (here_with new (slice_set slots session slot) sets)
   end_makes kind over backing given_up goes = record {
     sessions = length_set slots session slot;
     always = always;
@@ -154,17 +154,17 @@ module _ {S : Type 0} (g : Ghosts S) (laws : Laws g) (old new : S) (follows_stor
         refused = λ fault h. absurd (let a : answer ≡ Ended = ended in cc);
         stopped = tt;
         less = tt;
-        kept = no_act (g.state old) (g.state new) (ap (λ (st : State). st.acts) given_up ∙ over_acts (is_sweep op) (session_of op) (g.state old))
-            (ap (λ (st : State). st.pages) given_up ∙ over_pages (is_sweep op) (session_of op) (g.state old))
-            (ap (λ (st : State). st.limits) given_up ∙ over_limits (is_sweep op) (session_of op) (g.state old))
-            (ap (λ (st : State). st.frames) given_up ∙ over_frames (is_sweep op) (session_of op) (g.state old));
-        calm = ap (λ (st : State). st.acts) given_up ∙ over_acts (is_sweep op) (session_of op) (g.state old);
+        kept = no_act (g.state old) (g.state new) (ap (λ (st : State). st.acts) given_up ∙ over_acts (is_bulk_delete op) (session_of op) (g.state old))
+            (ap (λ (st : State). st.pages) given_up ∙ over_pages (is_bulk_delete op) (session_of op) (g.state old))
+            (ap (λ (st : State). st.limits) given_up ∙ over_limits (is_bulk_delete op) (session_of op) (g.state old))
+            (ap (λ (st : State). st.frames) given_up ∙ over_frames (is_bulk_delete op) (session_of op) (g.state old));
+        calm = ap (λ (st : State). st.acts) given_up ∙ over_acts (is_bulk_delete op) (session_of op) (g.state old);
         others = others_stay_set slots session slot;
         left = record {
           over = at_slots slots session before slot (λ x y. y ≡ None) found_at over;
           backing = backing;
           begun =
-              ap (λ (st : State). st.begun) given_up ∙ over_begun (is_sweep op) (session_of op) (g.state old);
+              ap (λ (st : State). st.begun) given_up ∙ over_begun (is_bulk_delete op) (session_of op) (g.state old);
           state_is = given_up
               ∙ sym (ap (λ (o : Option Op). after_slot o (g.state old)) (slot_was ∙ is));
         };
@@ -196,9 +196,9 @@ module _ {S : Type 0} (g : Ghosts S) (laws : Laws g) (store : S) (slots : List (
 
   pub next_makes : AnswersNext before answer → GivesLess before slot answer → RunsOn before slot → RunsUntilLast before slot answer
       → ((st : State) (start : Entry → Bool) (history : List Action) (number : ℕ) (call : Call) → SlotFits st sets start history number call before
-      → SessionGoes (causes_of_asked_next call.ask) st st sets start history number call slot answer)
+      → SessionEvent (causes_of_asked_next call.ask) st st sets start history number call slot answer)
       → ((st : State) (steps : ℕ) → IsDueIn st before steps → IsDueIn st slot steps)
-      → leaf_of slot ≡ leaf_of before → Makes g (MovesCall session Takes) answer (here_with store slots sets) (here_with store (slice_set slots session slot) sets)
+      → leaf_of slot ≡ leaf_of before → EventEffect g (MovesCall session Takes) answer (here_with store slots sets) (here_with store (slice_set slots session slot) sets)
   next_makes kind less runs_on until_last goes due stands = record {
     sessions = length_set slots session slot;
     always = always;
@@ -206,7 +206,7 @@ module _ {S : Type 0} (g : Ghosts S) (laws : Laws g) (store : S) (slots : List (
         moves_on g start (snapshot_of (here_with store slots sets) history calls) store session op slot Takes
         (causes_of_asked_next (asked_of sets op)) answer fits (found_at ∙ ap (λ (o : Option Op). Some o) is) (laws.follows_same store)
         (laws.follows_later store store (laws.follows_same store))
-        (λ number call runs. subst (λ (a : Ask). SessionGoes (causes_of_asked_next a) (g.state store) (g.state store) sets start history number call slot answer) runs.runs.ask
+        (λ number call runs. subst (λ (a : Ask). SessionEvent (causes_of_asked_next a) (g.state store) (g.state store) sets start history number call slot answer) runs.runs.ask
         (goes (g.state store) start history number call (subst (λ (x : Option Op). SlotFits (g.state store) sets start history number call x) (sym is) runs))) refl always
         (λ s l n c runs steps h. due (g.state store) steps (subst (λ (x : Option Op). IsDueIn (g.state store) x steps) (sym is) h));
   }
@@ -238,7 +238,7 @@ module _ {S : Type 0} (g : Ghosts S) (laws : Laws g) (store : S) (slots : List (
 
 -- what is done for the store
 module _ {S : Type 0} (g : Ghosts S) (laws : Laws g) (old new : S) (follows : g.follows old new) (slots : List (Option Op)) (sets : DeadSets)
-    (upkeep : Upkeep) (answer : Answer) (same : g.state new ≡ g.state old) (leaves : UpkeepLeaves g upkeep answer old new) where
+    (upkeep : Upkeep) (answer : Answer) (same : g.state new ≡ g.state old) (leaves : UpkeepChanges g upkeep answer old new) where
   told_so : (u : Upkeep) (count : ℕ) (answer : Answer) → kept_answer u count ≡ Some answer → AnswersUpkeep u answer
   told_so Forces count answer is = subst (λ (a : Answer). AnswersUpkeep Forces a) (same_some (kept_answer Forces count) (Forced count) answer refl is) tt
   told_so Flushes count answer is = absurd (let none : kept_answer Flushes count ≡ Some answer = is in cc)
@@ -263,7 +263,7 @@ module _ {S : Type 0} (g : Ghosts S) (laws : Laws g) (old new : S) (follows : g.
   refused_so Checkpoints fault = tt
 
   pub kept_makes : (count : ℕ) → kept_answer upkeep count ≡ Some answer → count ≡ (g.state old).acts → (g.backing new).durable ≡ (g.state old).acts → ((g.backing old).stopped ≡ true → ⊥)
-      → Makes g (KeepsStore upkeep) answer (here_with old slots sets) (here_with new slots sets)
+      → EventEffect g (MaintainsStore upkeep) answer (here_with old slots sets) (here_with new slots sets)
   kept_makes count told number durable alive = record {
     sessions = refl;
     always = always;
@@ -271,7 +271,7 @@ module _ {S : Type 0} (g : Ghosts S) (laws : Laws g) (old new : S) (follows : g.
         keeps_on_store g start (snapshot_of (here_with old slots sets) history calls) new upkeep fits same follows (laws.follows_later old new follows) count answer told number durable always;
   }
     where
-      always : EventAlways g (KeepsStore upkeep) answer (here_with old slots sets) (here_with new slots sets)
+      always : EventAlways g (MaintainsStore upkeep) answer (here_with old slots sets) (here_with new slots sets)
       always = record {
         answers = told_so upkeep count answer told;
         until_last = tt;
@@ -299,17 +299,17 @@ module _ {S : Type 0} (g : Ghosts S) (laws : Laws g) (old new : S) (follows : g.
       }
 
   pub not_kept_makes : (fault : Fault) → answer ≡ Refused fault → ((g.backing old).stopped ≡ true → fault ≡ Stopped) → HasCause (causes_of_forced (g.backing old) (g.backing new)) fault
-      → Makes g (KeepsStore upkeep) (Refused fault) (here_with old slots sets) (here_with new slots sets)
+      → EventEffect g (MaintainsStore upkeep) (Refused fault) (here_with old slots sets) (here_with new slots sets)
   not_kept_makes fault is stopped cause = record {
     sessions = refl;
     always = always;
     does = λ honest start history calls fits.
         (let before = snapshot_of (here_with old slots sets) history calls in
         let later = laws.follows_later old new follows in
-        stays_on g start before new fault fits same follows later (KeepsStore upkeep) (inr (refused_stay g start before new fault fits same follows later)) always cause (λ s h. absurd cc));
+        stays_on g start before new fault fits same follows later (MaintainsStore upkeep) (inr (refused_stay g start before new fault fits same follows later)) always cause (λ s h. absurd cc));
   }
     where
-      always : EventAlways g (KeepsStore upkeep) (Refused fault) (here_with old slots sets) (here_with new slots sets)
+      always : EventAlways g (MaintainsStore upkeep) (Refused fault) (here_with old slots sets) (here_with new slots sets)
       always = record {
         answers = refused_so upkeep fault;
         until_last = tt;
@@ -332,14 +332,14 @@ module _ {S : Type 0} (g : Ghosts S) (laws : Laws g) (old new : S) (follows : g.
           durable = λ c h. absurd (not_refused upkeep c (Refused fault) fault h refl);
           caused = λ f h. subst (λ (x : Fault). HasCause (causes_of_forced (g.backing old) (g.backing new)) x) (same_fault fault f h) cause;
         };
-        keeps_up = subst (λ (a : Answer). UpkeepLeaves g upkeep a old new) is leaves;
+        keeps_up = subst (λ (a : Answer). UpkeepChanges g upkeep a old new) is leaves;
         runs_on = tt;
       }
 
 -- a changed page is written to its place
 pub flush_makes : {S : Type 0} (g : Ghosts S) (laws : Laws g) (old new : S) (follows : g.follows old new) (slots : List (Option Op)) (sets : DeadSets)
     (same : g.state new ≡ g.state old) (block : Option ℕ)
-    → IsFlushed g block old new → ((g.backing old).stopped ≡ true → ⊥) → Makes g (KeepsStore Flushes) (Flushed block) (here_with old slots sets) (here_with new slots sets)
+    → IsFlushed g block old new → ((g.backing old).stopped ≡ true → ⊥) → EventEffect g (MaintainsStore Flushes) (Flushed block) (here_with old slots sets) (here_with new slots sets)
 flush_makes g laws old new follows slots sets same block flushed alive = record {
   sessions = refl;
   always = always;
@@ -347,7 +347,7 @@ flush_makes g laws old new follows slots sets same block flushed alive = record 
       flushes_on_store g start (snapshot_of (here_with old slots sets) history calls) new fits same follows (laws.follows_later old new follows) block flushed.first always;
 }
   where
-    always : EventAlways g (KeepsStore Flushes) (Flushed block) (here_with old slots sets) (here_with new slots sets)
+    always : EventAlways g (MaintainsStore Flushes) (Flushed block) (here_with old slots sets) (here_with new slots sets)
     always = record {
       answers = tt;
       until_last = tt;
@@ -411,11 +411,11 @@ module _ {S : Type 0} (g : Ghosts S) (laws : Laws g) (old new : S) (follows : g.
     refused = λ fault e. absurd cc;
     stopped = λ is. absurd (true_false (sym (none_begins (g.backing old).stopped (is_at_end (g.state old).begun) is) ∙ alive));
     less = tt;
-    kept = no_act (g.state old) (g.state new) (ap (λ (st : State). st.acts) h.state ∙ request_acts (asks_sweep request) session (g.state old))
-        (ap (λ (st : State). st.pages) h.state ∙ request_pages (asks_sweep request) session (g.state old))
-        (ap (λ (st : State). st.limits) h.state ∙ request_limits (asks_sweep request) session (g.state old))
-        (ap (λ (st : State). st.frames) h.state ∙ request_frames (asks_sweep request) session (g.state old));
-    calm = ap (λ (st : State). st.acts) h.state ∙ request_acts (asks_sweep request) session (g.state old);
+    kept = no_act (g.state old) (g.state new) (ap (λ (st : State). st.acts) h.state ∙ request_acts (asks_bulk_delete request) session (g.state old))
+        (ap (λ (st : State). st.pages) h.state ∙ request_pages (asks_bulk_delete request) session (g.state old))
+        (ap (λ (st : State). st.limits) h.state ∙ request_limits (asks_bulk_delete request) session (g.state old))
+        (ap (λ (st : State). st.frames) h.state ∙ request_frames (asks_bulk_delete request) session (g.state old));
+    calm = ap (λ (st : State). st.acts) h.state ∙ request_acts (asks_bulk_delete request) session (g.state old);
     others = others_stay_set slots session slot;
     left = tt;
     causes = tt;
@@ -501,7 +501,7 @@ module _ {S : Type 0} (g : Ghosts S) (laws : Laws g) (old new : S) (follows : g.
       → ((start : Entry → Bool) (history : List Action) (number : ℕ) → answer ≡ Begun → Matches (g.state old) start history
       → IsIdle (g.state old) session → SessionBegins (g.state old) (g.state new) sets start history number session request slot)
       → (answer ≡ Begun → HasSteps (g.state old) (g.state new) request slot)
-      → Makes g (BeginsCall session request) answer (here_with old slots sets) (here_with new (slice_set slots session slot) sets)
+      → EventEffect g (BeginsCall session request) answer (here_with old slots sets) (here_with new (slice_set slots session slot) sets)
   begin_makes by begins counts = record {
     sessions = length_set slots session slot;
     always = always_of answer by;
@@ -511,7 +511,7 @@ module _ {S : Type 0} (g : Ghosts S) (laws : Laws g) (old new : S) (follows : g.
 -- a beginning that finds no session
 pub not_found_makes : {S : Type 0} (g : Ghosts S) (laws : Laws g) (store : S) (slots : List (Option Op)) (sets : DeadSets) (session : ℕ) (request : Request) (fault : Fault)
     → Err fault ≡ session_to_begin (no_call_begins (g.state store) (g.backing store)) (is_of_sets sets request) (slice_get slots session) session
-    → Makes g (BeginsCall session request) (Refused fault) (here_with store slots sets) (here_with store slots sets)
+    → EventEffect g (BeginsCall session request) (Refused fault) (here_with store slots sets) (here_with store slots sets)
 not_found_makes g laws store slots sets session request fault none = record {
   sessions = refl;
   always = always;

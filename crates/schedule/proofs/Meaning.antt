@@ -14,10 +14,10 @@ use Rattle.page_action.specs.States.{State}
 use Rattle.page_action.specs.declared.page_store.PageStore.{Ghosts}
 use Rattle.tree_shape.specs.Nodes.{nodes_of}
 use Rattle.tree_acts.specs.Flags.{FlagsMove}
-use Rattle.descent.specs.Shared.{FinishesASplit, DeletesALeaf, IsRaised, is_flagged, level_in}
+use Rattle.tree_acts.specs.StepEffects.{FinishesASplit, DeletesALeaf, IsRaised, is_incomplete, level_in}
 use Rattle.session_calls.specs.TheoremCalls.{asked_by, acts_of, becomes, MayComeWith}
 use Rattle.session_calls.specs.Ops.{asked_of, session_of, asks_vacuum, is_vacuum, causes_of_asked_next, no_call_begins, once_added, IsCaused, ends_call}
-use Rattle.session_calls.specs.Sessions.{Told, MovesShape, act_count, noted, ended, is_busy}
+use Rattle.session_calls.specs.Sessions.{AnswerMeans, MovesShape, act_count, noted, ended, is_busy}
 use Rattle.session_calls.specs.declared.answer.Answer.{Answer}
 use Rattle.session_calls.specs.declared.answer.Answer.TheVariants.{Begun, Going, Added, Ready, Done, Finished, Gave, Ended, Forced, Flushed, Checkpointed, Refused}
 use Rattle.session_calls.specs.declared.op.Op.{Op}
@@ -25,14 +25,14 @@ use Rattle.session_calls.specs.declared.op.Op.TheVariants.{Insert, Scan, Bulk, C
 use Rattle.session_calls.specs.declared.request.Request.{Request}
 use Rattle.session_calls.specs.declared.request.Request.TheVariants.{Insert as ToInsert, Scan as ToScan, Bulk as ToBulk, Cleanup as ToCleanup}
 use Rattle.schedule.specs.TheoremMoments.{Moment, RunsOne, IsRunningCall}
-use Rattle.schedule.specs.TheoremKinds.{Move, Steps, Takes, GivesUp, Upkeep, Forces, Flushes, Checkpoints, Kind, BeginsCall, MovesCall, KeepsStore}
+use Rattle.schedule.specs.TheoremKinds.{Move, Steps, Takes, GivesUp, Upkeep, Forces, Flushes, Checkpoints, Kind, BeginsCall, MovesCall, MaintainsStore}
 use Rattle.schedule.specs.TheoremRefusals.{MoveFails, Vacuums, EventFails}
-use Rattle.schedule.specs.TheoremEvents.{IsStill, ClearsOneSplit, DeletesOneLeaf, ShapeMoves, IsRefusedFor, CallGoesOn, AllAreDurable, Means}
+use Rattle.schedule.specs.TheoremEvents.{IsSameState, ClearsOneSplit, DeletesOneLeaf, ShapeMoves, IsRefusedFor, CallContinues, AllAreDurable, Means}
 use Rattle.schedule.specs.TheoremRuns.{Fits}
 use Rattle.schedule.specs.Making.{EventDoes}
 use Rattle.session_calls.specs.Slots.{slot_of, slot_vacuums, one_vacuums, slot_has_call, has_call, is_of_sets}
 use Rattle.schedule.specs.MomentInvariants.{SlotRuns, here_at}
-use Rattle.schedule.specs.Events.{CallMoves, Stays, kept_answer, IsToldDurable, UpkeepIsDone, MovesOn, MayBegin, Happens, causes_of_no_call, causes_of_begun_at, causes_of_moving, causes_of_happening, EventAlso}
+use Rattle.schedule.specs.Events.{CallMoves, Stays, kept_answer, UpkeepIsDurable, UpkeepIsDone, MovesOn, MayBegin, Happens, causes_of_no_call, causes_of_begun_at, causes_of_moving, causes_of_happening, EventAlso}
 use Rattle.schedule.proofs.Causes.{one_of_few, step_fails}
 use Rattle.schedule.proofs.Fitting.{none_beyond, running_of}
 use Rattle.schedule.proofs.Lists.{same_some}
@@ -71,7 +71,7 @@ same_count : (effect : Option Effect) (count n : ℕ) → effect ≡ None → n 
 same_count effect count n none is = let zero_is : act_count effect ≡ 0 = ap act_count none in omega arith
 
 -- what is told of a call is what the answer makes of it
-told_becomes : (answer : Answer) (count n : ℕ) (effect : Option Effect) (call after : Call) → n ≡ act_count effect + count → Told answer count effect call after
+told_becomes : (answer : Answer) (count n : ℕ) (effect : Option Effect) (call after : Call) → n ≡ act_count effect + count → AnswerMeans answer count effect call after
     → after ≡ record (becomes answer n call) { added = after.added }
 told_becomes Begun count n effect call after is h = absurd h
 told_becomes Going count n effect call after is h = with_added call after (noted call count effect).added h
@@ -107,7 +107,7 @@ added_with action None None quiet = tt
 added_with action None (Some effect) quiet = tt
 added_with action (Some fault) effect quiet = comes_alone (Added action (Some fault)) effect (quiet (λ e. cc))
 
-told_comes : (answer : Answer) (count : ℕ) (effect : Option Effect) (call after : Call) → Told answer count effect call after → MayComeWith answer effect
+told_comes : (answer : Answer) (count : ℕ) (effect : Option Effect) (call after : Call) → AnswerMeans answer count effect call after → MayComeWith answer effect
 told_comes Begun count effect call after h = absurd h
 told_comes Going count effect call after h = goes_with effect
 told_comes (Added action unfinished) count effect call after h = added_with action unfinished effect h.quiet
@@ -133,24 +133,24 @@ finishes_one old new h = by h.raised h.higher h.moves
     by None higher moves = record {
       cleared = h.cleared;
       was = h.was;
-      is = moves h.cleared ∙ ap (λ (b : Bool). if b then false else is_flagged old h.cleared) cleared_true;
+      is = moves h.cleared ∙ ap (λ (b : Bool). if b then false else is_incomplete old h.cleared) cleared_true;
       raised = h.cleared;
-      higher = λ not_flagged flagged. absurd (true≢false (sym h.was ∙ not_flagged));
-      others = λ block apart same. moves block ∙ ap (λ (b : Bool). if b then false else is_flagged old block) (ne_eqb block h.cleared apart);
+      higher = λ not_incomplete incomplete. absurd (true≢false (sym h.was ∙ not_incomplete));
+      others = λ block apart same. moves block ∙ ap (λ (b : Bool). if b then false else is_incomplete old block) (ne_eqb block h.cleared apart);
     }
     by (Some raised) higher moves =
-        let differs : h.cleared ≢ raised = λ e. true≢false (sym h.was ∙ (ap (is_flagged old) e ∙ higher.0)) in
+        let differs : h.cleared ≢ raised = λ e. true≢false (sym h.was ∙ (ap (is_incomplete old) e ∙ higher.0)) in
         record {
           cleared = h.cleared;
           was = h.was;
           is = moves h.cleared
-              ∙ ap (λ (b : Bool). if b then true else if h.cleared == h.cleared then false else is_flagged old h.cleared) (ne_eqb h.cleared raised differs)
-              ∙ ap (λ (b : Bool). if b then false else is_flagged old h.cleared) cleared_true;
+              ∙ ap (λ (b : Bool). if b then true else if h.cleared == h.cleared then false else is_incomplete old h.cleared) (ne_eqb h.cleared raised differs)
+              ∙ ap (λ (b : Bool). if b then false else is_incomplete old h.cleared) cleared_true;
           raised = raised;
-          higher = λ not_flagged flagged. higher.1;
+          higher = λ not_incomplete incomplete. higher.1;
           others = λ block apart other. moves block
-              ∙ ap (λ (b : Bool). if b then true else if block == h.cleared then false else is_flagged old block) (ne_eqb block raised other)
-              ∙ ap (λ (b : Bool). if b then false else is_flagged old block) (ne_eqb block h.cleared apart);
+              ∙ ap (λ (b : Bool). if b then true else if block == h.cleared then false else is_incomplete old block) (ne_eqb block raised other)
+              ∙ ap (λ (b : Bool). if b then false else is_incomplete old block) (ne_eqb block h.cleared apart);
         }
 
 -- one leaf goes on its way out of the tree
@@ -238,7 +238,7 @@ module _ {S : Type 0} (g : Ghosts S) (start : Entry → Bool) (old : Moment S) (
 
   -- a move of the session's running call
   goes_on : (session : ℕ) (move : Move) (answer : Answer) (op : Op) → slice_get old.slots session ≡ Some (Some op)
-      → IsCaused (causes_of_moving g old.sets old.store new.store move (slice_get old.slots session)) answer → CallMoves g start session answer old new → CallGoesOn g session move answer old new
+      → IsCaused (causes_of_moving g old.sets old.store new.store move (slice_get old.slots session)) answer → CallMoves g start session answer old new → CallContinues g session move answer old new
   goes_on session move answer op at caused h =
       let runs : SlotRuns g start old session op = running_of fits session (Some op) at in
       let number_is : h.number ≡ runs.number = runs.only h.number h.call h.is in
@@ -290,7 +290,7 @@ module _ {S : Type 0} (g : Ghosts S) (start : Entry → Bool) (old : Moment S) (
       → IsCaused (causes_of_moving g old.sets old.store new.store move (slice_get old.slots session)) answer → Means g (MovesCall session move) answer old new
   moves_mean session move answer h caused = of (slice_get old.slots session) refl
     where
-      goes : (a : Answer) → CallGoesOn g session move a old new → Means g (MovesCall session move) a old new
+      goes : (a : Answer) → CallContinues g session move a old new → Means g (MovesCall session move) a old new
       goes Begun k = k
       goes Going k = k
       goes (Added action unfinished) k = k
@@ -399,9 +399,9 @@ module _ {S : Type 0} (g : Ghosts S) (start : Entry → Bool) (old : Moment S) (
       ]
 
   -- what is done for the store is refused
-  upkeep_fails : (upkeep : Upkeep) (fault : Fault) → HasCause (causes_of_forced (g.backing old.store) (g.backing new.store)) fault → EventFails g (KeepsStore upkeep) old new.store fault
+  upkeep_fails : (upkeep : Upkeep) (fault : Fault) → HasCause (causes_of_forced (g.backing old.store) (g.backing new.store)) fault → EventFails g (MaintainsStore upkeep) old new.store fault
   upkeep_fails upkeep fault h =
-      one_of_few (has_failed (g.backing old.store) (g.backing new.store)) (g.backing old.store).stopped false false false (EventFails g (KeepsStore upkeep) old new.store) (record {
+      one_of_few (has_failed (g.backing old.store) (g.backing new.store)) (g.backing old.store).stopped false false false (EventFails g (MaintainsStore upkeep) old new.store) (record {
         device = λ k. ltb-true (g.backing old.store).failures (g.backing new.store).failures k;
         stopped = λ k. k;
         vacuum = λ k. absurd (false≢true k);
@@ -409,39 +409,39 @@ module _ {S : Type 0} (g : Ghosts S) (start : Entry → Bool) (old : Moment S) (
         busy = λ k. absurd (false≢true k);
       }) fault h
 
-  durable_mean : (count : ℕ) (u : Upkeep) (answer : Answer) (is : Answer) → IsStill g old new → IsToldDurable g u answer old new → kept_answer u (length old.history) ≡ Some is
+  durable_mean : (count : ℕ) (u : Upkeep) (answer : Answer) (is : Answer) → IsSameState g old new → UpkeepIsDurable g u answer old new → kept_answer u (length old.history) ≡ Some is
       → (answer ≡ is) × AllAreDurable g (length old.history) old new
   durable_mean count u answer is still told kept = (same_some (kept_answer u (length old.history)) answer is told.told kept, record { still = still; count_is = refl; durable = told.durable })
 
-  done_means : (upkeep : Upkeep) (answer : Answer) → UpkeepIsDone g upkeep answer old new → Means g (KeepsStore upkeep) answer old new
+  done_means : (upkeep : Upkeep) (answer : Answer) → UpkeepIsDone g upkeep answer old new → Means g (MaintainsStore upkeep) answer old new
   done_means Forces answer done =
       let all = durable_mean 0 Forces answer (Forced (length old.history)) done.still done.tells refl in
-      subst (λ (a : Answer). Means g (KeepsStore Forces) a old new) (sym all.0) all.1
-  done_means Flushes answer done = subst (λ (a : Answer). Means g (KeepsStore Flushes) a old new) (sym done.tells) (done.still, refl)
+      subst (λ (a : Answer). Means g (MaintainsStore Forces) a old new) (sym all.0) all.1
+  done_means Flushes answer done = subst (λ (a : Answer). Means g (MaintainsStore Flushes) a old new) (sym done.tells) (done.still, refl)
   done_means Checkpoints answer done =
       let all = durable_mean 0 Checkpoints answer (Checkpointed (length old.history)) done.still done.tells refl in
-      subst (λ (a : Answer). Means g (KeepsStore Checkpoints) a old new) (sym all.0) all.1
+      subst (λ (a : Answer). Means g (MaintainsStore Checkpoints) a old new) (sym all.0) all.1
 
-  upkeep_refused : (upkeep : Upkeep) (fault : Fault) → IsStill g old new → EventFails g (KeepsStore upkeep) old new.store fault → Means g (KeepsStore upkeep) (Refused fault) old new
+  upkeep_refused : (upkeep : Upkeep) (fault : Fault) → IsSameState g old new → EventFails g (MaintainsStore upkeep) old new.store fault → Means g (MaintainsStore upkeep) (Refused fault) old new
   upkeep_refused Forces fault still fails = (still, fails)
   upkeep_refused Flushes fault still fails = (still, fails)
   upkeep_refused Checkpoints fault still fails = (still, fails)
 
   upkeep_means : (upkeep : Upkeep) (answer : Answer) → UpkeepIsDone g upkeep answer old new ⊎ Stays g answer old new
-      → IsCaused (causes_of_forced (g.backing old.store) (g.backing new.store)) answer → Means g (KeepsStore upkeep) answer old new
+      → IsCaused (causes_of_forced (g.backing old.store) (g.backing new.store)) answer → Means g (MaintainsStore upkeep) answer old new
   upkeep_means upkeep answer h caused = elim h [
     | inl done ↦ done_means upkeep answer done
     | inr stays ↦ (
         let cause : HasCause (causes_of_forced (g.backing old.store) (g.backing new.store)) stays.fault =
         subst (λ (a : Answer). IsCaused (causes_of_forced (g.backing old.store) (g.backing new.store)) a) stays.refused caused in
-        subst (λ (a : Answer). Means g (KeepsStore upkeep) a old new) (sym stays.refused) (upkeep_refused upkeep stays.fault stays.still (upkeep_fails upkeep stays.fault cause)))
+        subst (λ (a : Answer). Means g (MaintainsStore upkeep) a old new) (sym stays.refused) (upkeep_refused upkeep stays.fault stays.still (upkeep_fails upkeep stays.fault cause)))
   ]
 
   -- what happens, with its cause, is what the event means
   event_means : (kind : Kind) (answer : Answer) → Happens g start kind answer old new → IsCaused (causes_of_happening g kind (here_at old) (here_at new)) answer → Means g kind answer old new
   event_means (BeginsCall session request) answer h caused = begins_mean session request answer h caused
   event_means (MovesCall session move) answer h caused = moves_mean session move answer h caused
-  event_means (KeepsStore upkeep) answer h caused = upkeep_means upkeep answer h caused
+  event_means (MaintainsStore upkeep) answer h caused = upkeep_means upkeep answer h caused
 
 -- an event that also leaves this means what it says
 pub does_of : {S : Type 0} {g : Ghosts S} {start : Entry → Bool} {kind : Kind} {answer : Answer} {old new : Moment S} → Fits g start old → Fits g start new → new.sets ≡ old.sets

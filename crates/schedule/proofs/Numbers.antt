@@ -11,12 +11,12 @@ use Rattle.page_codec.specs.declared.page.PageState.TheVariants.{Live, Deleted}
 use Rattle.page_action.specs.Reuse.{IsFresh}
 use Rattle.page_action.specs.States.{State}
 use Rattle.page_action.specs.declared.page_store.PageStore.{Ghosts}
-use Rattle.tree_shape.specs.Chains.{FitsState, IsIn, IsRunOf, Spot, first_spot, past, spot_after}
+use Rattle.tree_shape.specs.Chains.{FitsState, IsIn, IsRunOf, LeftContext, first_spot, past, spot_after}
 use Rattle.tree_shape.specs.Nodes.{Node, node_from, nodes_of}
 use Rattle.tree_shape.specs.Walks.{IsCoverOn, LeadsOn, here, step, IsTrail, reached, over, entry_aim, bound_aim, frontier_aim}
 use Rattle.tree_shape.proofs.Runs.{run_back, split_at}
-use Rattle.tree_shape.proofs.Told.{places_lead_on}
-use Rattle.tree_acts.specs.Trees.{IsStart, HasTree, HasPlace, HasTrail}
+use Rattle.tree_shape.proofs.Shown.{places_lead_on}
+use Rattle.tree_acts.specs.Trees.{IsStart, HasTree, LeadsTo, HasTrail}
 use Rattle.tree_acts.proofs.Lasting.{fresh_free, fresh_reusable}
 use Rattle.tree_acts.proofs.Words.{place_in, trail_in}
 use Rattle.split_finish.specs.Targets.{targets_of, FinishInvariant, FinishStands}
@@ -32,20 +32,20 @@ use Rattle.insert_split.specs.declared.insert.Stage.TheVariants.{Start as Insert
 use Rattle.scan.specs.Scans.{ScanStands}
 use Rattle.scan.specs.declared.steps.ScanAt.{ScanAt}
 use Rattle.scan.specs.declared.steps.ScanAt.TheVariants.{Start as ScanStart, At as ScansAt, Last}
-use Rattle.vacuum.specs.BulkDeletes.{GoesBack}
-use Rattle.vacuum.specs.declared.steps.Back.{Back}
+use Rattle.vacuum.specs.BulkDeletes.{IsGoingBack}
+use Rattle.vacuum.specs.declared.steps.Backtrack.{Backtrack}
 use Rattle.page_delete.specs.Cleanups.{CleanupIsUnderway}
 use Rattle.page_delete.specs.declared.steps.CleanupAt.{CleanupAt}
 use Rattle.page_delete.specs.declared.steps.CleanupAt.TheVariants.{Look, Start as CleanupStart, Down as CleanupDown, Judge, Unlink}
 use Rattle.session_calls.specs.Ops.{OpInvariant}
 use Rattle.session_calls.specs.declared.op.Op.{Op}
 use Rattle.session_calls.specs.declared.op.Op.TheVariants.{Insert, Scan, Bulk, Cleanup}
-use Rattle.schedule.specs.Numbers.{KeptNumber, cover_of, page_of, target_number, finish_numbers, insert_numbers, scan_numbers, back_numbers, cleanup_numbers, kept_numbers, StandsOnLevel, LeadsPast, there, onward, NumberLeads, AllLead, NumbersLeadOn}
+use Rattle.schedule.specs.Numbers.{KeptNumber, cover_of, page_of, target_number, finish_numbers, insert_numbers, scan_numbers, back_numbers, cleanup_numbers, kept_numbers, StandsOnLevel, LeadsPast, there, next_page, NumberLeads, AllLead, NumbersLeadOn}
 use Rattle.schedule.specs.MomentInvariants.{SlotMatches}
 use Rattle.schedule.proofs.Fitting.{running_of}
 
 -- a page of a chain that covers what is looked for is live
-cover_there : (at : ℕ → Node) (s : Spot) (xs : List ℕ) (aim : Bound → Bool) (b : ℕ) → IsCoverOn at s xs aim b → IsIn b xs × ((at b).state ≡ Live)
+cover_there : (at : ℕ → Node) (s : LeftContext) (xs : List ℕ) (aim : Bound → Bool) (b : ℕ) → IsCoverOn at s xs aim b → IsIn b xs × ((at b).state ≡ Live)
 cover_there at s [] aim b i = absurd i
 cover_there at s (x ∷ xs) aim b (inl h) = (inl h.0, subst (λ (c : ℕ). (at c).state ≡ Live) (sym h.0) h.1)
 cover_there at s (x ∷ xs) aim b (inr i) = (let r = cover_there at (past x (at x) s) xs aim b i in (inr r.0, r.1))
@@ -90,10 +90,10 @@ module _ (st : State) (has : HasTree st) where
   leads_past : (start b d : ℕ) → IsStart st.running start → LeadsOn (nodes_of st.pages) (slice_index st.counted) start b d → (IsFresh st d → ⊥) → LeadsPast st b d
   leads_past start b d runs here last = there last
   leads_past start b d runs (step late right rest) last =
-      onward (kept_not_fresh start b runs (linked_in_use b _ right) late) right (leads_past start _ d runs rest last)
+      next_page (kept_not_fresh start b runs (linked_in_use b _ right) late) right (leads_past start _ d runs rest last)
 
   -- a place leads on to the page that covers what is looked for
-  place_leads : (start level : ℕ) (aim : Bound → Bool) (clear : Bool) (b : ℕ) → IsStart st.running start → HasPlace st start level aim clear b
+  place_leads : (start level : ℕ) (aim : Bound → Bool) (clear : Bool) (b : ℕ) → IsStart st.running start → LeadsTo st start level aim clear b
       → NumberLeads st (record { block = b; sought = cover_of level aim })
   place_leads start level aim clear b runs place =
       let p = place_in st has.tree start level aim clear b place in
@@ -114,7 +114,7 @@ module _ (st : State) (has : HasTree st) where
       record { page = b; is = on; leads = there (not_fresh b on.used on.stays) }
   walk_leads start level passed steps b runs in_top (over r kept right apart rest) =
       let more = walk_leads start level passed _ r runs in_top rest in
-      record { page = more.page; is = more.is; leads = onward (kept_not_fresh start b runs (linked_in_use b r right) (λ gone. kept.late)) right more.leads }
+      record { page = more.page; is = more.is; leads = next_page (kept_not_fresh start b runs (linked_in_use b r right) (λ gone. kept.late)) right more.leads }
 
   trail_leads : (start level b moves : ℕ) → IsStart st.running start → HasTrail st start level b moves → NumberLeads st (record { block = b; sought = page_of level })
   trail_leads start level b moves runs trail =
@@ -153,7 +153,7 @@ module _ (st : State) (has : HasTree st) where
   scan_leads start leaf frontier (ScansAt way) runs stands = (place_leads start way.level (frontier_aim frontier) false way.block runs stands.place, tt)
   scan_leads start leaf frontier Last runs stands = tt
 
-  back_leads : (start : ℕ) (back : Option Back) → IsStart st.running start → GoesBack st start back → AllLead st (back_numbers back)
+  back_leads : (start : ℕ) (back : Option Backtrack) → IsStart st.running start → IsGoingBack st start back → AllLead st (back_numbers back)
   back_leads start None runs goes = tt
   back_leads start (Some back) runs goes = (trail_leads start 0 back.block back.moves runs goes, tt)
 

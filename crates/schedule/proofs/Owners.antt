@@ -4,15 +4,15 @@ use Rattle.index_model.specs.Actions.{Effect, Add, Remove, Shape, Action, conten
 use Rattle.index_model.specs.Calls.{Ask, AskInsert, AskScan, AskBulkDelete, AskCleanup, Call, MayAct}
 use Rattle.index_model.specs.declared.entry.Entry.{Entry}
 use Rattle.index_model.proofs.Histories.{there_before, there_now}
-use Rattle.descent.specs.Steps.{IsApt}
+use Rattle.tree_acts.specs.Steps.{IsApt}
 use Rattle.session_calls.specs.TheoremCalls.{acts_of}
-use Rattle.session_calls.specs.Sessions.{IsAsked, add_after, Told}
+use Rattle.session_calls.specs.Sessions.{IsAsked, add_after, AnswerMeans}
 use Rattle.session_calls.specs.declared.answer.Answer.{Answer}
 use Rattle.session_calls.specs.declared.answer.Answer.TheVariants.{Begun, Going, Added, Ready, Done, Finished, Gave, Ended, Forced, Flushed, Checkpointed, Refused}
 use Rattle.schedule.specs.TheoremEvents.{IsDurable}
 
 -- no number of durable actions is told of a call
-pub told_durable : (answer : Answer) (durable count : ℕ) (effect : Option Effect) (call after : Call) → Told answer count effect call after → IsDurable durable answer
+pub told_durable : (answer : Answer) (durable count : ℕ) (effect : Option Effect) (call after : Call) → AnswerMeans answer count effect call after → IsDurable durable answer
 told_durable Begun d k x c after h = tt
 told_durable Going d k x c after h = tt
 told_durable (Added a u) d k x c after h = tt
@@ -31,7 +31,7 @@ pub acts_few : (number : ℕ) (effect : Option Effect) → length (acts_of numbe
 acts_few number None = omega arith
 acts_few number (Some effect) = omega arith
 
--- a call that has an Add keeps it behind what it was asked for
+-- a call that has an Add keeps it after what it was asked for
 pub add_stays : (was_there : Entry → Bool) (ask : Ask) (added : Option ℕ) (count : ℕ) (effect : Option Effect) → IsAsked was_there ask added effect
     → (action : ℕ) → added ≡ Some action → add_after added count effect ≡ Some action
 add_stays was_there ask added count None h action is = is

@@ -24,7 +24,7 @@ or_true : (a b : Bool) → b ≡ true → (a || b) ≡ true
 or_true true b h = refl
 or_true false b h = h
 
--- the first entry behind others is among them all
+-- the first entry after others is among them all
 first_among : (given rest : List Entry) (e : Entry) → is_among (given ++ e ∷ rest) e ≡ true
 first_among given rest e = is_among-append given (e ∷ rest) e ∙ or_true (is_among given e) (is_among (e ∷ rest) e) (ap (λ (b : Bool). b || is_among rest e) (same_entry-self e))
 

@@ -6,15 +6,15 @@ use Rattle.page_action.specs.declared.page_store.PageStore.{Ghosts}
 use Rattle.session_calls.specs.declared.answer.Answer.{Answer}
 use Rattle.session_calls.specs.declared.answer.Answer.TheVariants.{Begun, Going, Added, Ready, Done, Finished, Gave, Ended, Forced, Flushed, Checkpointed, Refused}
 use Rattle.schedule.specs.TheoremMoments.{StoreAndSlots, Moment, snapshot_of}
-use Rattle.schedule.specs.Making.{EventDoes, Makes, EachAlways}
+use Rattle.schedule.specs.Making.{EventDoes, EventEffect, EachAlways}
 use Rattle.schedule.specs.Events.{EventAlways}
 use Rattle.schedule.specs.TheoremRuns.{Fits}
 use Rattle.schedule.specs.TheoremKinds.{kind_of}
 use Rattle.schedule.specs.TheoremEvents.{IsDurable}
-use Rattle.schedule.specs.TheoremRuns.{AreDurable, EventGoes, IsRun, Ran, ForEachHistory, Runs, EventFollows}
+use Rattle.schedule.specs.TheoremRuns.{AreDurable, EventIsRun, IsRun, Ran, ForEachHistory, Runs, EventFollows}
 use Rattle.schedule.specs.declared.event.Event.{Event}
 use Rattle.schedule.proofs.Keeping.{Laws, safe, keeps_on}
-use Rattle.schedule.proofs.Fitting.{fits_behind, goes_does, matches_of}
+use Rattle.schedule.proofs.Fitting.{fits_after, goes_does, matches_of}
 
 pub durable_more : (few many : ℕ) (answer : Answer) → few ≤ many → IsDurable few answer → IsDurable many answer
 durable_more few many Begun le h = tt
@@ -35,7 +35,7 @@ all_durable few many [] answer le h last = (last, tt)
 all_durable few many (x ∷ xs) answer le h last = (durable_more few many x le h.0, all_durable few many xs answer le h.1 last)
 
 run_more : {S : Type 0} (g : Ghosts S) (start : Entry → Bool) (told : List Answer) (events : List Event) (answers : List Answer) (event : Event) (answer : Answer) (first mid last : Moment S)
-    → IsRun g start told events answers first mid → AreDurable (g.backing mid.store).durable (told ++ answers) → EventGoes g start event answer mid last
+    → IsRun g start told events answers first mid → AreDurable (g.backing mid.store).durable (told ++ answers) → EventIsRun g start event answer mid last
     → IsRun g start told (events ++ event ∷ []) (answers ++ answer ∷ []) first last
 run_more {S} g start told [] [] event answer first mid last run durable goes =
     subst (λ (m : Moment S). IsRun g start told (event ∷ []) (answer ∷ []) m last) (sym run)
@@ -54,27 +54,27 @@ run_more g start told (x ∷ xs) [] event answer first mid last run durable goes
 
 -- one event, with what a crash leaves, where it follows
 pub event_goes : {S : Type 0} (g : Ghosts S) (laws : Laws g) (start : Entry → Bool) (event : Event) (answer : Answer) (old new : Moment S) → Fits g start old
-    → EventDoes g start (kind_of event) answer old new → EventGoes g start event answer old new
+    → EventDoes g start (kind_of event) answer old new → EventIsRun g start event answer old new
 event_goes g laws start event answer old new fits does = record {
   means = does.means;
   also = does.also;
-  crash = λ keeps. safe g laws start old new does.also.follows keeps.own (matches_of (fits_behind does))
-      (keeps_on g laws start old new does.also.follows does.also.quiet.limits does.also.grows fits.explains.count (matches_of (fits_behind does)) keeps);
+  crash = λ keeps. safe g laws start old new does.also.follows keeps.own (matches_of (fits_after does))
+      (keeps_on g laws start old new does.also.follows does.also.quiet.limits does.also.grows fits.explains.count (matches_of (fits_after does)) keeps);
 }
 
 -- one event is a run
 pub one_ran : {S : Type 0} (g : Ghosts S) (start : Entry → Bool) (event : Event) (answer : Answer) (old new : Moment S)
-    → EventGoes g start event answer old new → Ran g start (event ∷ []) (answer ∷ []) old new
+    → EventIsRun g start event answer old new → Ran g start (event ∷ []) (answer ∷ []) old new
 one_ran g start event answer old new goes = record {
   run = (tt, (new, goes, refl));
-  fits = fits_behind (goes_does goes);
+  fits = fits_after (goes_does goes);
   acknowledged = (goes.also.durable, tt);
   follows = goes.also.follows;
   crash = goes.crash;
 }
 
 -- what an event of a kind makes follows
-pub makes_follow : {S : Type 0} (g : Ghosts S) (laws : Laws g) (event : Event) (answer : Answer) (old new : StoreAndSlots S) → Makes g (kind_of event) answer old new
+pub makes_follow : {S : Type 0} (g : Ghosts S) (laws : Laws g) (event : Event) (answer : Answer) (old new : StoreAndSlots S) → EventEffect g (kind_of event) answer old new
     → ForEachHistory g old new (EventFollows g old new event answer)
 makes_follow g laws event answer old new makes honest start history calls fits =
     let d = makes.does honest start history calls fits in
@@ -82,7 +82,7 @@ makes_follow g laws event answer old new makes honest start history calls fits =
       then_history = d.then_history;
       then_calls = d.then_calls;
       goes = event_goes g laws start event answer (snapshot_of old history calls) (snapshot_of new d.then_history d.then_calls) fits d.does;
-      fits = fits_behind d.does;
+      fits = fits_after d.does;
     }
 
 -- an event that follows is a run of it
@@ -97,7 +97,7 @@ follow_runs g event answer old new follow honest start history calls fits =
     }
 
 -- what an event of a kind makes is a run of it
-pub makes_runs : {S : Type 0} (g : Ghosts S) (laws : Laws g) (event : Event) (answer : Answer) (old new : StoreAndSlots S) → Makes g (kind_of event) answer old new
+pub makes_runs : {S : Type 0} (g : Ghosts S) (laws : Laws g) (event : Event) (answer : Answer) (old new : StoreAndSlots S) → EventEffect g (kind_of event) answer old new
     → ForEachHistory g old new (Runs g old new (event ∷ []) (answer ∷ []))
 makes_runs g laws event answer old new makes = follow_runs g event answer old new (makes_follow g laws event answer old new makes)
 
@@ -105,7 +105,7 @@ makes_runs g laws event answer old new makes = follow_runs g event answer old ne
 pub ran_more : {S : Type 0} (g : Ghosts S) (laws : Laws g) (start : Entry → Bool) (events : List Event) (answers : List Answer) (event : Event) (answer : Answer) (first mid last : Moment S)
     → g.follows first.store last.store → Ran g start events answers first mid → Ran g start (event ∷ []) (answer ∷ []) mid last → Ran g start (events ++ event ∷ []) (answers ++ answer ∷ []) first last
 ran_more {S} g laws start events answers event answer first mid last follows ran one =
-    let goes : EventGoes g start event answer mid last = subst (λ (m : Moment S). EventGoes g start event answer mid m) one.run.1.2 one.run.1.1 in
+    let goes : EventIsRun g start event answer mid last = subst (λ (m : Moment S). EventIsRun g start event answer mid m) one.run.1.2 one.run.1.1 in
     record {
       run = run_more g start [] events answers event answer first mid last ran.run ran.acknowledged goes;
       fits = one.fits;

@@ -11,7 +11,7 @@ use Rattle.page_action.specs.declared.page_store.PageStore.{Ghosts}
 use Rattle.tree_shape.specs.Walks.{IsNoHigher}
 use Rattle.tree_shape.proofs.Order.{upto_self, upto_trans}
 use Rattle.tree_acts.specs.Lows.{HasLow}
-use Rattle.descent.specs.Ways.{root_level}
+use Rattle.tree_acts.specs.Levels.{root_level}
 use Rattle.session_calls.specs.Due.{IsDueIn, DueCountsDown, IsServable, steps_for}
 use Rattle.session_calls.specs.Slots.{slot_of}
 use Rattle.session_calls.specs.declared.answer.Answer.{Answer}
@@ -21,9 +21,9 @@ use Rattle.session_calls.specs.declared.request.Request.{Request}
 use Rattle.session_calls.specs.declared.request.Request.TheVariants.{Insert as ToInsert, Scan as ToScan, Bulk as ToBulk, Cleanup as ToCleanup}
 use Rattle.schedule.specs.Making.{EventDoes}
 use Rattle.schedule.specs.Events.{IsOfSession, Stays, MayBegin, StaysAsDue, StepIsFollowed, CallIsFollowed, session_at}
-use Rattle.schedule.specs.Spans.{IsNotDeleted, LowsStay, IsUnanswered, LeavesUnanswered, AllLeaveUnanswered, goes_on, steps_gone, IsStillDue, CallsComeInTime}
+use Rattle.schedule.specs.Spans.{IsNotDeleted, LowsStay, IsUnanswered, CallIsUnanswered, CallIsUnansweredAfterAll, goes_on, steps_gone, IsStillDue, CallsComeInTime}
 use Rattle.schedule.specs.Stands.{BeforeEach}
-use Rattle.schedule.specs.TheoremKinds.{Steps, Takes, GivesUp, Kind, BeginsCall, MovesCall, KeepsStore, kind_of}
+use Rattle.schedule.specs.TheoremKinds.{Steps, Takes, GivesUp, Kind, BeginsCall, MovesCall, MaintainsStore, kind_of}
 use Rattle.schedule.specs.TheoremMoments.{Moment}
 use Rattle.schedule.specs.TheoremRuns.{IsRun}
 use Rattle.schedule.specs.declared.event.Event.{Event}
@@ -72,7 +72,7 @@ history_grows g start told (event ∷ events) (answer ∷ answers) first last ru
 history_grows g start told [] (answer ∷ answers) first last run = absurd run
 history_grows g start told (event ∷ events) [] first last run = absurd run
 
--- a list that is no longer with more behind it is as it was
+-- a list that is no longer with more after it is as it was
 pub none_more : (acts history : List Action) → length (history ++ acts) ≤ length history → history ++ acts ≡ history
 none_more [] history le = append-nil history
 none_more (a ∷ acts) history le = absurd (let long : length (history ++ a ∷ acts) ≡ length history + suc (length acts) = length-append history (a ∷ acts) in omega arith)
@@ -138,9 +138,9 @@ module _ {S : Type 0} (g : Ghosts S) (start : Entry → Bool) (session : ℕ) (o
   own_step of (Refused (Blocked block)) is counts waits = (steps, omega arith, counts.due)
   own_step of answer is counts waits = absurd waits
 
-  event_due : (kind : Kind) (answer : Answer) → EventDoes g start kind answer old new → LeavesUnanswered session kind answer → Due (goes_on session kind answer)
-  event_due (KeepsStore upkeep) answer does waits =
-      as_before (elsewhere (KeepsStore upkeep) answer does (suc session) tt (λ e. absurd (let x : session ≡ suc session = e in omega arith)))
+  event_due : (kind : Kind) (answer : Answer) → EventDoes g start kind answer old new → CallIsUnanswered session kind answer → Due (goes_on session kind answer)
+  event_due (MaintainsStore upkeep) answer does waits =
+      as_before (elsewhere (MaintainsStore upkeep) answer does (suc session) tt (λ e. absurd (let x : session ≡ suc session = e in omega arith)))
   event_due (BeginsCall of request) answer does waits = elim (cases_eq of session) [
     | inl e ↦ (
         let runs = due_runs (g.state old.store) (slot_of old.slots session) (suc steps) due in
@@ -165,7 +165,7 @@ module _ {S : Type 0} (g : Ghosts S) (start : Entry → Bool) (session : ℕ) (o
 
 -- ... and so do all events of a run
 due_over : {S : Type 0} (g : Ghosts S) (start : Entry → Bool) (session : ℕ) (told : List Answer) (events : List Event) (answers : List Answer) (first last : Moment S)
-    → IsRun g start told events answers first last → last.history ≡ first.history → AllLeaveUnanswered session events answers → (steps : ℕ)
+    → IsRun g start told events answers first last → last.history ≡ first.history → CallIsUnansweredAfterAll session events answers → (steps : ℕ)
     → IsDueIn (g.state first.store) (slot_of first.slots session) (suc steps)
     → (left : ℕ) × (steps_gone session events answers + suc left ≡ suc steps) × IsDueIn (g.state last.store) (slot_of last.slots session) (suc left)
 due_over {S} g start session told [] [] first last run same waits steps due =

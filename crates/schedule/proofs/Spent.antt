@@ -7,7 +7,7 @@ use Rattle.index_model.specs.declared.format.Format.{Format}
 use Rattle.page_action.specs.States.{State}
 use Rattle.page_action.specs.declared.page_store.PageStore.{Ghosts}
 use Rattle.page_codec.specs.declared.page.Page.{Page}
-use Rattle.session_calls.specs.Sessions.{work_in, work_left, IsDrained, OwesLess, StepLeavesLess, GivesLess, ready_count}
+use Rattle.session_calls.specs.Sessions.{work_in, work_left, NothingIsReady, OwesLess, StepHasLessLeft, GivesLess, ready_count}
 use Rattle.session_calls.specs.Ops.{ready_of}
 use Rattle.session_calls.specs.Slots.{slot_of}
 use Rattle.session_calls.specs.declared.answer.Answer.{Answer}
@@ -18,11 +18,11 @@ use Rattle.session_calls.specs.declared.request.Request.{Request}
 use Rattle.schedule.specs.Making.{EventDoes}
 use Rattle.schedule.specs.Events.{IsOfSession, AnswersBeginning}
 use Rattle.schedule.specs.Spans.{spends, steps_spent, BeginsNone, WorkIsSpent}
-use Rattle.schedule.specs.TheoremKinds.{Steps, Takes, GivesUp, Kind, BeginsCall, MovesCall, KeepsStore, kind_of}
+use Rattle.schedule.specs.TheoremKinds.{Steps, Takes, GivesUp, Kind, BeginsCall, MovesCall, MaintainsStore, kind_of}
 use Rattle.schedule.specs.TheoremMoments.{Moment}
 use Rattle.schedule.specs.TheoremRuns.{Fits, IsRun}
 use Rattle.schedule.specs.declared.event.Event.{Event}
-use Rattle.schedule.proofs.Fitting.{goes_does, fits_behind}
+use Rattle.schedule.proofs.Fitting.{goes_does, fits_after}
 use Rattle.schedule.proofs.Spans.{first_quiet}
 
 -- the same call has as much left to do
@@ -91,7 +91,7 @@ module _ {S : Type 0} (g : Ghosts S) (start : Entry → Bool) (session : ℕ) (o
       ∙ ap (λ (most : ℕ). work_left most (g.state old.store).pages slot) (ap (λ (l : Format). l.pages) does.also.quiet.limits)
 
   same_acts : (kind : Kind) (answer : Answer) → EventDoes g start kind answer old new → (g.state new.store).acts ≡ (g.state old.store).acts
-  same_acts kind answer does = (fits_behind does).explains.count ∙ ap length quiet ∙ sym fits.explains.count
+  same_acts kind answer does = (fits_after does).explains.count ∙ ap length quiet ∙ sym fits.explains.count
 
   -- the slot is as it was
   kept : (kind : Kind) (answer : Answer) → EventDoes g start kind answer old new → after ≡ before → left ≤ was
@@ -103,7 +103,7 @@ module _ {S : Type 0} (g : Ghosts S) (start : Entry → Bool) (session : ℕ) (o
   elsewhere kind answer does of is apart = kept kind answer does (ap (λ (o : Option (Option Op)). unwrap_or o None) (does.also.always.others of is session apart))
 
   -- where as many entries are ready as none, all were taken
-  drained : (slot : Option Op) → ready_count slot ≡ 0 → IsDrained slot
+  drained : (slot : Option Op) → ready_count slot ≡ 0 → NothingIsReady slot
   drained None h = tt
   drained (Some op) h = empty (ready_of op) h
     where
@@ -112,7 +112,7 @@ module _ {S : Type 0} (g : Ghosts S) (start : Entry → Bool) (session : ℕ) (o
       empty (e ∷ l) h = absurd (omega (arith, h))
 
   -- its own step
-  own_step : (answer : Answer) → StepLeavesLess (g.state old.store) (g.state new.store) before after answer → OwesLess before (g.state old.store) (g.state new.store) → left ≤ was
+  own_step : (answer : Answer) → StepHasLessLeft (g.state old.store) (g.state new.store) before after answer → OwesLess before (g.state old.store) (g.state new.store) → left ≤ was
       → spends session (MovesCall session Steps) answer ready + left ≤ was
   own_step Going less owed most =
       (let one : spends session (MovesCall session Steps) Going ready ≡ 1 = ap (λ (b : Bool). if b then (let n : ℕ = 1 in n) else 0) (eq-eqb session session refl) in
@@ -145,8 +145,8 @@ module _ {S : Type 0} (g : Ghosts S) (start : Entry → Bool) (session : ℕ) (o
   begins request answer does none a is may = absurd may
 
   event_spends : (kind : Kind) (answer : Answer) → EventDoes g start kind answer old new → BeginsNone session kind answer → spends session kind answer ready + left ≤ was
-  event_spends (KeepsStore upkeep) answer does none =
-      (let most = elsewhere (KeepsStore upkeep) answer does (suc session) tt (λ e. absurd (let x : session ≡ suc session = e in omega arith)) in omega (arith, most))
+  event_spends (MaintainsStore upkeep) answer does none =
+      (let most = elsewhere (MaintainsStore upkeep) answer does (suc session) tt (λ e. absurd (let x : session ≡ suc session = e in omega arith)) in omega (arith, most))
   event_spends (BeginsCall of request) answer does none = elim (cases_eq of session) [
     | inl e ↦ (
         let its : EventDoes g start (BeginsCall session request) answer old new = subst (λ (s : ℕ). EventDoes g start (BeginsCall s request) answer old new) e does in
@@ -197,7 +197,7 @@ work_is_spent g start told (event ∷ events) (answer ∷ answers) first last fi
     let quiet = first_quiet g start told event events answer answers first last run same in
     let mid = honest_before g start (told ++ answer ∷ []) events answers run.1.0 last run.1.2 honest in
     let one = event_spends g start session first run.1.0 fits quiet mid (kind_of event) answer (goes_does run.1.1) none.0 in
-    let rest = work_is_spent g start (told ++ answer ∷ []) events answers run.1.0 last (fits_behind (goes_does run.1.1)) run.1.2 session honest (same ∙ sym quiet) none.1 in
+    let rest = work_is_spent g start (told ++ answer ∷ []) events answers run.1.0 last (fits_after (goes_does run.1.1)) run.1.2 session honest (same ∙ sym quiet) none.1 in
     omega (arith, one, rest)
 work_is_spent g start told [] (answer ∷ answers) first last fits run session honest same none = absurd run
 work_is_spent g start told (event ∷ events) [] first last fits run session honest same none = absurd run

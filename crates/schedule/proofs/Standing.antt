@@ -11,7 +11,7 @@ use Rattle.page_action.specs.States.{State}
 use Rattle.page_action.specs.declared.page_store.PageStore.{Ghosts}
 use Rattle.tree_acts.specs.Leaves.{IsLeafAt}
 use Rattle.tree_acts.proofs.Removing.{leaf_is}
-use Rattle.descent.specs.Shared.{IsInOrder}
+use Rattle.tree_acts.specs.StepEffects.{IsInOrder}
 use Rattle.scan.specs.Scans.{LeafIsLive, leaf_pinned}
 use Rattle.session_calls.specs.TheoremCalls.{DeadSets, acts_of}
 use Rattle.session_calls.specs.Ops.{op_before, asked_of}
@@ -23,14 +23,14 @@ use Rattle.session_calls.specs.declared.op.Op.TheVariants.{Insert, Scan, Bulk, C
 use Rattle.session_calls.specs.declared.request.Request.{Request}
 use Rattle.session_calls.specs.declared.request.Request.TheVariants.{Insert as ToInsert, Scan as ToScan, Bulk as ToBulk, Cleanup as ToCleanup}
 use Rattle.session_calls.proofs.Meeting.{grown}
-use Rattle.session_calls.proofs.Telling.{IsSameCall, told_same}
+use Rattle.session_calls.proofs.Meanings.{IsSameCall, told_same}
 use Rattle.schedule.specs.TheoremMoments.{Moment}
 use Rattle.schedule.specs.Making.{EventDoes}
 use Rattle.schedule.specs.TheoremRuns.{Fits}
 use Rattle.session_calls.specs.Slots.{slot_of, slot_vacuums, slot_has_call}
-use Rattle.schedule.specs.MomentInvariants.{SlotRuns, slot_sweeps}
+use Rattle.schedule.specs.MomentInvariants.{SlotRuns, slot_is_bulk_delete}
 use Rattle.vacuum.specs.declared.steps.BulkDeleteOp.{BulkDeleteOp}
-use Rattle.schedule.specs.TheoremKinds.{Move, Steps, Takes, GivesUp, Upkeep, Kind, BeginsCall, MovesCall, KeepsStore, kind_of}
+use Rattle.schedule.specs.TheoremKinds.{Move, Steps, Takes, GivesUp, Upkeep, Kind, BeginsCall, MovesCall, MaintainsStore, kind_of}
 use Rattle.schedule.specs.Events.{CallMoves, Stays, MovesOn, AnswersBeginning}
 use Rattle.schedule.specs.TheoremRuns.{IsRun}
 use Rattle.schedule.specs.Stands.{StandsOn, HasLeaf, BeforeEach, DoesNotFinish, NoneFinishes, HasNotCome, NoneHasCome, ScansStandOnLeaves, BulkDeletesWait, BegunBulkDeletesWait}
@@ -39,7 +39,7 @@ use Rattle.schedule.proofs.Frames.{slot_is}
 use Rattle.schedule.proofs.Leaves.{leaf_same}
 use Rattle.schedule.proofs.Lists.{get_set_same, get_set_other, get_within, same_some}
 use Rattle.schedule.proofs.Vacuums.{sweep_vacuums, asked_sweep}
-use Rattle.schedule.proofs.Fitting.{fits_behind, goes_does, running_of}
+use Rattle.schedule.proofs.Fitting.{fits_after, goes_does, running_of}
 
 true_false : true ≡ false → ⊥
 true_false h = cc
@@ -60,7 +60,7 @@ slot_found slots session op is = by (slice_get slots session) is
     by (Some slot) h = ap (λ (x : Option Op). Some x) h
 
 -- only a bulk delete comes anywhere
-not_sweep_come : (block : ℕ) (slot : Option Op) → slot_sweeps slot ≡ false → HasNotCome block slot
+not_sweep_come : (block : ℕ) (slot : Option Op) → slot_is_bulk_delete slot ≡ false → HasNotCome block slot
 not_sweep_come block None h = tt
 not_sweep_come block (Some (Insert op)) h = tt
 not_sweep_come block (Some (Scan op)) h = tt
@@ -112,12 +112,12 @@ module _ {S : Type 0} (g : Ghosts S) (start : Entry → Bool) where
       let runs : SlotRuns g start now session (Scan stands.op) = running_of fits session (Some (Scan stands.op)) (slot_found now.slots session (Scan stands.op) stands.runs) in
       subst (LeafIsLive (g.state now.store).pages) stands.leaf runs.runs.fits.live
 
-  -- behind an event of a session's running call, what it runs was asked the same
+  -- after an event of a session's running call, what it runs was asked the same
   moved_asks : (session : ℕ) (move : Move) (answer : Answer) (old new : Moment S) → Fits g start old → EventDoes g start (MovesCall session move) answer old new
       → (op next : Op) → slice_get old.slots session ≡ Some (Some op) → slice_get new.slots session ≡ Some (Some next) → asked_of new.sets next ≡ asked_of old.sets op
   moved_asks session move answer old new fits does op next was is =
       let before : SlotRuns g start old session op = running_of fits session (Some op) was in
-      let behind : SlotRuns g start new session next = running_of (fits_behind does) session (Some next) is in
+      let behind : SlotRuns g start new session next = running_of (fits_after does) session (Some next) is in
       let goes : CallMoves g start session answer old new = subst (λ (b : Bool). MovesOn g start b session answer old new) (ap slot_has_call was) does.also.happens in
       let number_is : goes.number ≡ before.number = before.only goes.number goes.call goes.is in
       let call_is : goes.call ≡ before.call =
@@ -138,22 +138,22 @@ module _ {S : Type 0} (g : Ghosts S) (start : Entry → Bool) where
 
   -- ... so it is a bulk delete only where it was one
   moved_sweep : (session : ℕ) (move : Move) (answer : Answer) (old new : Moment S) → Fits g start old → EventDoes g start (MovesCall session move) answer old new
-      → slot_sweeps (slot_of old.slots session) ≡ false → slot_sweeps (slot_of new.slots session) ≡ false
+      → slot_is_bulk_delete (slot_of old.slots session) ≡ false → slot_is_bulk_delete (slot_of new.slots session) ≡ false
   moved_sweep session move answer old new fits does idle = by (slice_get old.slots session) refl
     where
-      same_slots : (slot_has_call (slice_get old.slots session)) ≡ false → slot_sweeps (slot_of new.slots session) ≡ false
+      same_slots : (slot_has_call (slice_get old.slots session)) ≡ false → slot_is_bulk_delete (slot_of new.slots session) ≡ false
       same_slots none =
           let stays : Stays g answer old new = subst (λ (b : Bool). MovesOn g start b session answer old new) none does.also.happens in
-          ap (λ (l : List (Option Op)). slot_sweeps (slot_of l session)) stays.still.slots_is ∙ idle
+          ap (λ (l : List (Option Op)). slot_is_bulk_delete (slot_of l session)) stays.still.slots_is ∙ idle
 
-      to : (op : Op) → slice_get old.slots session ≡ Some (Some op) → (o : Option (Option Op)) → slice_get new.slots session ≡ o → slot_sweeps (unwrap_or o None) ≡ false
+      to : (op : Op) → slice_get old.slots session ≡ Some (Some op) → (o : Option (Option Op)) → slice_get new.slots session ≡ o → slot_is_bulk_delete (unwrap_or o None) ≡ false
       to op was None is = refl
       to op was (Some None) is = refl
       to op was (Some (Some next)) is =
           asked_sweep old.sets next op (subst (λ (sets : DeadSets). asked_of sets next ≡ asked_of old.sets op) does.means.sets (moved_asks session move answer old new fits does op next was is))
-          ∙ sym (ap slot_sweeps (slot_is old.slots session (Some op) was)) ∙ idle
+          ∙ sym (ap slot_is_bulk_delete (slot_is old.slots session (Some op) was)) ∙ idle
 
-      by : (o : Option (Option Op)) → slice_get old.slots session ≡ o → slot_sweeps (slot_of new.slots session) ≡ false
+      by : (o : Option (Option Op)) → slice_get old.slots session ≡ o → slot_is_bulk_delete (slot_of new.slots session) ≡ false
       by None was = same_slots (ap slot_has_call was)
       by (Some None) was = same_slots (ap slot_has_call was)
       by (Some (Some op)) was = to op was (slice_get new.slots session) refl
@@ -189,11 +189,11 @@ module _ {S : Type 0} (g : Ghosts S) (start : Entry → Bool) where
         by (Checkpointed n) is h = absurd h
 
     -- what is done for the store
-    upkeep_keeps : (upkeep : Upkeep) (answer : Answer) → EventDoes g start (KeepsStore upkeep) answer old new → NoneHasCome block new
+    upkeep_keeps : (upkeep : Upkeep) (answer : Answer) → EventDoes g start (MaintainsStore upkeep) answer old new → NoneHasCome block new
     upkeep_keeps upkeep answer does w = as_before w (does.also.always.others (suc w) tt w (λ e. absurd (let n : w ≡ suc w = e in omega arith)))
 
     -- a move of a call that is no bulk delete
-    calm_moves : (session : ℕ) (move : Move) (answer : Answer) → EventDoes g start (MovesCall session move) answer old new → slot_sweeps (slot_of old.slots session) ≡ false → NoneHasCome block new
+    calm_moves : (session : ℕ) (move : Move) (answer : Answer) → EventDoes g start (MovesCall session move) answer old new → slot_is_bulk_delete (slot_of old.slots session) ≡ false → NoneHasCome block new
     calm_moves session move answer does idle w = elim (cases_eq w session) [
       | inl e ↦ subst (λ (s : ℕ). HasNotCome block (slot_of new.slots s)) (sym e) (not_sweep_come block (slot_of new.slots session) (moved_sweep session move answer old new fits does idle))
       | inr n ↦ as_before w (does.also.always.others session refl w n)
@@ -222,17 +222,17 @@ module _ {S : Type 0} (g : Ghosts S) (start : Entry → Bool) where
     steps_keep : (session : ℕ) (answer : Answer) → EventDoes g start (MovesCall session Steps) answer old new → DoesNotFinish (MovesCall session Steps) answer old × NoneHasCome block new
     steps_keep session answer does = by (slot_of old.slots session) refl
       where
-        calm : slot_sweeps (slot_of old.slots session) ≡ false → DoesNotFinish (MovesCall session Steps) answer old × NoneHasCome block new
-        calm idle = (λ sweeps stats finished. true_false (sym sweeps ∙ idle), calm_moves session Steps answer does idle)
+        calm : slot_is_bulk_delete (slot_of old.slots session) ≡ false → DoesNotFinish (MovesCall session Steps) answer old × NoneHasCome block new
+        calm idle = (λ deletions stats finished. true_false (sym deletions ∙ idle), calm_moves session Steps answer does idle)
 
         by : (slot : Option Op) → slot_of old.slots session ≡ slot → DoesNotFinish (MovesCall session Steps) answer old × NoneHasCome block new
-        by None is = calm (ap slot_sweeps is)
-        by (Some (Insert op)) is = calm (ap slot_sweeps is)
-        by (Some (Scan op)) is = calm (ap slot_sweeps is)
-        by (Some (Cleanup op)) is = calm (ap slot_sweeps is)
+        by None is = calm (ap slot_is_bulk_delete is)
+        by (Some (Insert op)) is = calm (ap slot_is_bulk_delete is)
+        by (Some (Scan op)) is = calm (ap slot_is_bulk_delete is)
+        by (Some (Cleanup op)) is = calm (ap slot_is_bulk_delete is)
         by (Some (Bulk set op)) is =
             let before : IsStillBefore block (slot_of new.slots session) answer = step_before session set op answer does is in (
-              λ sweeps stats finished. subst (λ (a : Answer). IsStillBefore block (slot_of new.slots session) a) finished before,
+              λ deletions stats finished. subst (λ (a : Answer). IsStillBefore block (slot_of new.slots session) a) finished before,
               moved_come session Steps answer does (still_come block (slot_of new.slots session) answer before),
             )
 
@@ -255,10 +255,10 @@ module _ {S : Type 0} (g : Ghosts S) (start : Entry → Bool) where
         refused set op (Checkpointed n) is h = absurd h
 
         by : (slot : Option Op) → slot_of old.slots session ≡ slot → NoneHasCome block new
-        by None is = calm_moves session Takes answer does (ap slot_sweeps is)
-        by (Some (Insert op)) is = calm_moves session Takes answer does (ap slot_sweeps is)
-        by (Some (Scan op)) is = calm_moves session Takes answer does (ap slot_sweeps is)
-        by (Some (Cleanup op)) is = calm_moves session Takes answer does (ap slot_sweeps is)
+        by None is = calm_moves session Takes answer does (ap slot_is_bulk_delete is)
+        by (Some (Insert op)) is = calm_moves session Takes answer does (ap slot_is_bulk_delete is)
+        by (Some (Scan op)) is = calm_moves session Takes answer does (ap slot_is_bulk_delete is)
+        by (Some (Cleanup op)) is = calm_moves session Takes answer does (ap slot_is_bulk_delete is)
         by (Some (Bulk set op)) is = all_as_before (refused set op answer refl (subst (λ (o : Option Op). AnswersNext o answer) is does.also.always.answers))
 
     -- giving a call up
@@ -271,7 +271,7 @@ module _ {S : Type 0} (g : Ghosts S) (start : Entry → Bool) where
     event_keeps (MovesCall session Steps) answer does = steps_keep session answer does
     event_keeps (MovesCall session Takes) answer does = (tt, takes_keep session answer does)
     event_keeps (MovesCall session GivesUp) answer does = (tt, gives_up_keep session answer does)
-    event_keeps (KeepsStore upkeep) answer does = (tt, upkeep_keeps upkeep answer does)
+    event_keeps (MaintainsStore upkeep) answer does = (tt, upkeep_keeps upkeep answer does)
 
     -- where no act is done, pages are as they were
     leaf_quiet : (kind : Kind) (answer : Answer) → EventDoes g start kind answer old new → (g.state new.store).acts ≡ (g.state old.store).acts → HasLeaf g block new
@@ -287,7 +287,7 @@ module _ {S : Type 0} (g : Ghosts S) (start : Entry → Bool) where
     ]
     leaf_behind (MovesCall session Takes) answer does = leaf_quiet (MovesCall session Takes) answer does does.also.always.calm
     leaf_behind (MovesCall session GivesUp) answer does = leaf_quiet (MovesCall session GivesUp) answer does does.also.always.calm
-    leaf_behind (KeepsStore upkeep) answer does = leaf_quiet (KeepsStore upkeep) answer does does.also.always.calm
+    leaf_behind (MaintainsStore upkeep) answer does = leaf_quiet (MaintainsStore upkeep) answer does does.also.always.calm
 
 waits_on_leaf : {S : Type 0} (g : Ghosts S) (start : Entry → Bool) (told : List Answer) (events : List Event) (answers : List Answer) (first last : Moment S) → Fits g start first
     → (run : IsRun g start told events answers first last) → (session block : ℕ) → BeforeEach g start (StandsOn session block) told events answers first last run
@@ -297,7 +297,7 @@ waits_on_leaf {S} g start told [] [] first last fits run session block stands le
 waits_on_leaf g start told (event ∷ events) (answer ∷ answers) first last fits run session block stands leaf none =
     let one = event_keeps g start session block first run.1.0 fits stands.0 leaf none (kind_of event) answer (goes_does run.1.1) in
     let still = leaf_behind g start session block first run.1.0 fits stands.0 leaf none (kind_of event) answer (goes_does run.1.1) in
-    let rest = waits_on_leaf g start (told ++ answer ∷ []) events answers run.1.0 last (fits_behind (goes_does run.1.1)) run.1.2 session block stands.1 still one.1 in
+    let rest = waits_on_leaf g start (told ++ answer ∷ []) events answers run.1.0 last (fits_after (goes_does run.1.1)) run.1.2 session block stands.1 still one.1 in
     ((one.0, rest.0), rest.1, rest.2)
 waits_on_leaf g start told [] (answer ∷ answers) first last fits run session block stands leaf none = absurd run
 waits_on_leaf g start told (event ∷ events) [] first last fits run session block stands leaf none = absurd run
@@ -311,7 +311,7 @@ bulk_deletes_wait g start told events answers first last fits run session block 
 
 pub begun_bulk_deletes_wait : {S : Type 0} (g : Ghosts S) → BegunBulkDeletesWait g
 begun_bulk_deletes_wait {S} g start told vacuumer set events answers first last fits run session block stands =
-    let rest = waits_on_leaf g start (told ++ Begun ∷ []) events answers next last (fits_behind does) run.1.2 session block stands.1 still none in
+    let rest = waits_on_leaf g start (told ++ Begun ∷ []) events answers next last (fits_after does) run.1.2 session block stands.1 still none in
     ((tt, rest.0), rest.1, rest.2)
   where
     next : Moment S
@@ -331,9 +331,9 @@ begun_bulk_deletes_wait {S} g start told vacuumer set events answers first last 
 
     -- only the one that has begun runs
     none : NoneHasCome block next
-    none w = by (slot_sweeps (slot_of next.slots w)) refl
+    none w = by (slot_is_bulk_delete (slot_of next.slots w)) refl
       where
-        by : (b : Bool) → slot_sweeps (slot_of next.slots w) ≡ b → HasNotCome block (slot_of next.slots w)
+        by : (b : Bool) → slot_is_bulk_delete (slot_of next.slots w) ≡ b → HasNotCome block (slot_of next.slots w)
         by false is = not_sweep_come block (slot_of next.slots w) is
         by true is =
             let here : slot_of next.slots vacuumer ≡ Some (op_before vacuumer (ToBulk set)) = does.also.always.fresh refl in

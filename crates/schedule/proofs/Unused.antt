@@ -7,13 +7,13 @@ use Rattle.page_action.specs.States.{State}
 use Rattle.page_action.specs.declared.page_store.PageStore.{Ghosts}
 use Rattle.vacuum.specs.declared.steps.BulkDeleteOp.{BulkDeleteOp}
 use Rattle.session_calls.specs.TheoremCalls.{DeadSets}
-use Rattle.session_calls.specs.Ops.{is_sweeping}
+use Rattle.session_calls.specs.Ops.{runs_bulk_delete}
 use Rattle.session_calls.specs.declared.op.Op.{Op}
 use Rattle.session_calls.specs.declared.op.Op.TheVariants.{Insert, Scan, Bulk, Cleanup}
 use Rattle.schedule.specs.TheoremMoments.{Moment, snapshot_of}
 use Rattle.schedule.specs.TheoremRuns.{Fits}
 use Rattle.session_calls.specs.Slots.{slot_of, slot_vacuums}
-use Rattle.schedule.specs.MomentInvariants.{SlotRuns, SlotMatches, IsUnused, here_with, one_sweeps}
+use Rattle.schedule.specs.MomentInvariants.{SlotRuns, SlotMatches, IsUnused, here_with, one_is_bulk_delete}
 use Rattle.schedule.specs.TheoremCrashes.{KeepsHistory}
 use Rattle.session_calls.specs.Sessions.{Matches}
 use Rattle.schedule.proofs.Keeping.{Laws, kept_at_start}
@@ -34,7 +34,7 @@ empty_at n i slots is = of (slice_get slots i) refl
     of None at = refl
     of (Some o) at = in_replicate n None o i (ap (λ (l : List (Option Op)). slice_get l i) (sym is) ∙ at)
 
-none_sweeps : (n : ℕ) → one_sweeps (replicate n None) ≡ false
+none_sweeps : (n : ℕ) → one_is_bulk_delete (replicate n None) ≡ false
 none_sweeps zero = refl
 none_sweeps (suc n) = none_sweeps n
 
@@ -61,7 +61,7 @@ unused_fits {S} g store slots sets n is unused = fits_from (record {
   running = λ session slot h. of session slot (in_replicate n None slot session (ap (λ (l : List (Option Op)). slice_get l session) (sym is) ∙ h));
   vacuums = record {
     alone = λ session other h k. absurd (let none : slot_vacuums (slot_of slots session) ≡ false = ap slot_vacuums (empty_at n session slots is) in cc);
-    cycle = ap (λ (c : ℕ). is_cycle c) unused.cycle ∙ sym (ap one_sweeps is ∙ none_sweeps n);
+    cycle = ap (λ (c : ℕ). is_cycle c) unused.cycle ∙ sym (ap one_is_bulk_delete is ∙ none_sweeps n);
   };
   beyond = λ session h. unused.idle session;
   known = λ number call h. absurd cc;
@@ -70,7 +70,7 @@ unused_fits {S} g store slots sets n is unused = fits_from (record {
 })
   where
     is_cycle : ℕ → Bool
-    is_cycle c = is_sweeping (record (g.state store) { cycle = c })
+    is_cycle c = runs_bulk_delete (record (g.state store) { cycle = c })
 
     of : (session : ℕ) (slot : Option Op) → slot ≡ None → SlotMatches g (entry_on_live_leaf (g.state store).pages) (snapshot_of (here_with store slots sets) [] []) session slot
     of session None e = record { none = λ number call h. (let f = h.found in absurd cc); idle = unused.idle session }
@@ -91,7 +91,7 @@ module _ {S : Type 0} (g : Ghosts S) (start : Entry → Bool) (now : Moment S) (
         only = h.only;
         runs =
             record { ask = h.runs.ask; session = h.runs.session; added = h.runs.added; started = h.runs.started; fits = h.runs.fits; knows = h.runs.knows };
-        sweeps = tt;
+        deletions = tt;
       }
   same_slot session (Some (Scan op)) without h =
       record {
@@ -101,7 +101,7 @@ module _ {S : Type 0} (g : Ghosts S) (start : Entry → Bool) (now : Moment S) (
         only = h.only;
         runs =
             record { ask = h.runs.ask; session = h.runs.session; added = h.runs.added; started = h.runs.started; fits = h.runs.fits; knows = h.runs.knows };
-        sweeps = tt;
+        deletions = tt;
       }
   same_slot session (Some (Cleanup op)) without h =
       record {
@@ -111,7 +111,7 @@ module _ {S : Type 0} (g : Ghosts S) (start : Entry → Bool) (now : Moment S) (
         only = h.only;
         runs =
             record { ask = h.runs.ask; session = h.runs.session; added = h.runs.added; started = h.runs.started; fits = h.runs.fits; knows = h.runs.knows };
-        sweeps = tt;
+        deletions = tt;
       }
   same_slot session (Some (Bulk set op)) without h = absurd (without set op refl)
 
@@ -132,6 +132,6 @@ pub no_set_runs : {S : Type 0} (g : Ghosts S) (start : Entry → Bool) (now : Mo
     → (session set : ℕ) (op : BulkDeleteOp) → slice_get now.slots session ≡ Some (Some (Bulk set op)) → ⊥
 no_set_runs g start now none fits session set op at =
     let runs : SlotRuns g start now session (Bulk set op) = running_of fits session (Some (Bulk set op)) at in
-    let within : set < length now.sets = runs.sweeps.0 in
+    let within : set < length now.sets = runs.deletions.0 in
     let zero_is : length now.sets ≡ 0 = ap (λ (l : DeadSets). length l) none in
     omega (arith, within, zero_is)

@@ -1,4 +1,4 @@
--- Which session runs a bulk delete or a cleanup, behind a slot that is set.
+-- Which session runs a bulk delete or a cleanup, after a slot that is set.
 use Rattle.std.specs.Prelude.{unwrap_or}
 use Rattle.std.specs.List.{list_any}
 use Rattle.std.proofs.Common.{◌≡◌, ◌≢◌, ℕ, zero, suc, ◌<◌, ◌||◌, ◌&&◌, Bool, true, false, Option, Some, None, List, [], ◌∷◌, length, slice_set, refl, sym, ap, subst, arith, inl, inr, ◌∙◌}
@@ -6,14 +6,14 @@ use Rattle.std.proofs.lemmas.Bool.{cases_eq}
 use Rattle.index_model.specs.Calls.{Ask, AskInsert, AskScan, AskBulkDelete, AskCleanup}
 use Rattle.page_action.specs.States.{State}
 use Rattle.session_calls.specs.TheoremCalls.{DeadSets}
-use Rattle.session_calls.specs.Ops.{asked_of, op_before, asks_vacuum, asks_sweep, is_vacuum, is_sweep, is_sweeping}
-use Rattle.session_calls.specs.Sessions.{cycle_behind, asks_cleanup}
+use Rattle.session_calls.specs.Ops.{asked_of, op_before, asks_vacuum, asks_bulk_delete, is_vacuum, is_bulk_delete, runs_bulk_delete}
+use Rattle.session_calls.specs.Sessions.{cycle_after, asks_cleanup}
 use Rattle.session_calls.specs.declared.op.Op.{Op}
 use Rattle.session_calls.specs.declared.op.Op.TheVariants.{Insert, Scan, Bulk, Cleanup}
 use Rattle.session_calls.specs.declared.request.Request.{Request}
 use Rattle.session_calls.specs.declared.request.Request.TheVariants.{Insert as ToInsert, Scan as ToScan, Bulk as ToBulk, Cleanup as ToCleanup}
 use Rattle.session_calls.specs.Slots.{slot_of, slot_vacuums, one_vacuums}
-use Rattle.schedule.specs.MomentInvariants.{slot_sweeps, one_sweeps, OneVacuums}
+use Rattle.schedule.specs.MomentInvariants.{slot_is_bulk_delete, one_is_bulk_delete, OneVacuums}
 use Rattle.schedule.proofs.Lists.{get_set_same, get_set_other}
 
 true_false : true ≡ false → ⊥
@@ -65,7 +65,7 @@ module _ (test : Option Op → Bool) (none_fails : test None ≡ false) where
   set_any (x ∷ xs) (suc session) slot within same = ap (λ (b : Bool). test x || b) (set_any xs session slot (omega arith) same)
 
 -- a bulk delete vacuums
-pub sweep_vacuums : (slot : Option Op) → slot_sweeps slot ≡ true → slot_vacuums slot ≡ true
+pub sweep_vacuums : (slot : Option Op) → slot_is_bulk_delete slot ≡ true → slot_vacuums slot ≡ true
 sweep_vacuums None h = absurd (true_false (sym h))
 sweep_vacuums (Some (Insert op)) h = absurd (true_false (sym h))
 sweep_vacuums (Some (Scan op)) h = absurd (true_false (sym h))
@@ -73,14 +73,14 @@ sweep_vacuums (Some (Cleanup op)) h = absurd (true_false (sym h))
 sweep_vacuums (Some (Bulk set op)) h = refl
 
 -- the cycle number is of the state alone
-cycle_same : (old new : State) → new.cycle ≡ old.cycle → is_sweeping new ≡ is_sweeping old
-cycle_same old new cycle = ap (λ (n : ℕ). is_sweeping (record old { cycle = n })) cycle
+cycle_same : (old new : State) → new.cycle ≡ old.cycle → runs_bulk_delete new ≡ runs_bulk_delete old
+cycle_same old new cycle = ap (λ (n : ℕ). runs_bulk_delete (record old { cycle = n })) cycle
 
 pub vacuums_still : (old new : State) (slots : List (Option Op)) (session : ℕ) (slot : Option Op) → session < length slots → slot_vacuums slot ≡ slot_vacuums (slot_of slots session)
-    → slot_sweeps slot ≡ slot_sweeps (slot_of slots session) → new.cycle ≡ old.cycle → OneVacuums old slots → OneVacuums new (slice_set slots session slot)
-vacuums_still old new slots session slot within same sweeps cycle h = record {
+    → slot_is_bulk_delete slot ≡ slot_is_bulk_delete (slot_of slots session) → new.cycle ≡ old.cycle → OneVacuums old slots → OneVacuums new (slice_set slots session slot)
+vacuums_still old new slots session slot within same deletions cycle h = record {
   alone = λ a b va vb. h.alone a b (sym (set_same slot_vacuums refl slots session slot within same a) ∙ va) (sym (set_same slot_vacuums refl slots session slot within same b) ∙ vb);
-  cycle = cycle_same old new cycle ∙ h.cycle ∙ sym (set_any slot_sweeps refl slots session slot within sweeps);
+  cycle = cycle_same old new cycle ∙ h.cycle ∙ sym (set_any slot_is_bulk_delete refl slots session slot within deletions);
 }
 
 -- the one that runs ends
@@ -91,12 +91,12 @@ module _ (old : State) (slots : List (Option Op)) (session : ℕ) (within : sess
     | inr n ↦ n (h.alone a session (sym (ap slot_vacuums (set_other slots session a None n)) ∙ va) was)
   ]
 
-  none_sweeps : one_sweeps (slice_set slots session None) ≡ false
-  none_sweeps = not_true (one_sweeps (slice_set slots session None)) (λ one.
-      (let some = any_true slot_sweeps refl (slice_set slots session None) one in
+  none_sweeps : one_is_bulk_delete (slice_set slots session None) ≡ false
+  none_sweeps = not_true (one_is_bulk_delete (slice_set slots session None)) (λ one.
+      (let some = any_true slot_is_bulk_delete refl (slice_set slots session None) one in
       none_behind some.0 (sweep_vacuums (slot_of (slice_set slots session None) some.0) some.1)))
 
-  pub vacuums_end : (new : State) → is_sweeping new ≡ false → OneVacuums new (slice_set slots session None)
+  pub vacuums_end : (new : State) → runs_bulk_delete new ≡ false → OneVacuums new (slice_set slots session None)
   vacuums_end new cycle = record { alone = λ a b va vb. absurd (none_behind a va); cycle = cycle ∙ sym none_sweeps }
 
 -- none runs where none of the slots vacuums
@@ -104,9 +104,9 @@ pub none_runs : (slots : List (Option Op)) → one_vacuums slots ≡ false → (
 none_runs slots idle session vacuums = true_false (sym (true_any slot_vacuums refl slots session vacuums) ∙ idle)
 
 -- ... so there is no cycle number
-pub none_sweeping : (st : State) (slots : List (Option Op)) → OneVacuums st slots → one_vacuums slots ≡ false → is_sweeping st ≡ false
-none_sweeping st slots h idle = h.cycle ∙ not_true (one_sweeps slots) (λ one.
-    (let some = any_true slot_sweeps refl slots one in none_runs slots idle some.0 (sweep_vacuums (slot_of slots some.0) some.1)))
+pub none_sweeping : (st : State) (slots : List (Option Op)) → OneVacuums st slots → one_vacuums slots ≡ false → runs_bulk_delete st ≡ false
+none_sweeping st slots h idle = h.cycle ∙ not_true (one_is_bulk_delete slots) (λ one.
+    (let some = any_true slot_is_bulk_delete refl slots one in none_runs slots idle some.0 (sweep_vacuums (slot_of slots some.0) some.1)))
 
 -- one begins, where none ran
 module _ (old : State) (slots : List (Option Op)) (session : ℕ) (slot : Option Op) (within : session < length slots)
@@ -118,23 +118,23 @@ module _ (old : State) (slots : List (Option Op)) (session : ℕ) (slot : Option
   ]
 
   -- a bulk delete, which gets a cycle number
-  pub sweep_begins : (new : State) → slot_sweeps slot ≡ true → is_sweeping new ≡ true → OneVacuums new (slice_set slots session slot)
-  sweep_begins new sweeps runs = record {
+  pub sweep_begins : (new : State) → slot_is_bulk_delete slot ≡ true → runs_bulk_delete new ≡ true → OneVacuums new (slice_set slots session slot)
+  sweep_begins new deletions runs = record {
     alone = λ a b va vb. only_this a va ∙ sym (only_this b vb);
-    cycle = runs ∙ sym (true_any slot_sweeps refl (slice_set slots session slot) session (ap slot_sweeps (set_is slots session slot within) ∙ sweeps));
+    cycle = runs ∙ sym (true_any slot_is_bulk_delete refl (slice_set slots session slot) session (ap slot_is_bulk_delete (set_is slots session slot within) ∙ deletions));
   }
 
-  none_else : slot_sweeps slot ≡ false → (a : ℕ) → slot_sweeps (slot_of (slice_set slots session slot) a) ≡ true → ⊥
-  none_else calm a sweeps =
-      let same : a ≡ session = only_this a (sweep_vacuums (slot_of (slice_set slots session slot) a) sweeps) in
-      true_false (sym (subst (λ (s : ℕ). slot_sweeps (slot_of (slice_set slots session slot) s) ≡ true) same sweeps) ∙ ap slot_sweeps (set_is slots session slot within) ∙ calm)
+  none_else : slot_is_bulk_delete slot ≡ false → (a : ℕ) → slot_is_bulk_delete (slot_of (slice_set slots session slot) a) ≡ true → ⊥
+  none_else calm a deletions =
+      let same : a ≡ session = only_this a (sweep_vacuums (slot_of (slice_set slots session slot) a) deletions) in
+      true_false (sym (subst (λ (s : ℕ). slot_is_bulk_delete (slot_of (slice_set slots session slot) s) ≡ true) same deletions) ∙ ap slot_is_bulk_delete (set_is slots session slot within) ∙ calm)
 
   -- a cleanup, which gets none
-  pub cleanup_begins : (new : State) → slot_sweeps slot ≡ false → new.cycle ≡ old.cycle → OneVacuums new (slice_set slots session slot)
+  pub cleanup_begins : (new : State) → slot_is_bulk_delete slot ≡ false → new.cycle ≡ old.cycle → OneVacuums new (slice_set slots session slot)
   cleanup_begins new calm cycle = record {
     alone = λ a b va vb. only_this a va ∙ sym (only_this b vb);
-    cycle = cycle_same old new cycle ∙ none_sweeping old slots h idle ∙ sym (not_true (one_sweeps (slice_set slots session slot)) (λ one.
-        (let some = any_true slot_sweeps refl (slice_set slots session slot) one in none_else calm some.0 some.1)));
+    cycle = cycle_same old new cycle ∙ none_sweeping old slots h idle ∙ sym (not_true (one_is_bulk_delete (slice_set slots session slot)) (λ one.
+        (let some = any_true slot_is_bulk_delete refl (slice_set slots session slot) one in none_else calm some.0 some.1)));
   }
 
 -- what was asked tells whether it is a bulk delete or a cleanup
@@ -144,7 +144,7 @@ ask_sweeps (AskScan range) = false
 ask_sweeps (AskBulkDelete dead) = true
 ask_sweeps AskCleanup = false
 
-sweeps_as : (sets : DeadSets) (op : Op) → is_sweep op ≡ ask_sweeps (asked_of sets op)
+sweeps_as : (sets : DeadSets) (op : Op) → is_bulk_delete op ≡ ask_sweeps (asked_of sets op)
 sweeps_as sets (Insert op) = refl
 sweeps_as sets (Scan op) = refl
 sweeps_as sets (Bulk set op) = refl
@@ -156,7 +156,7 @@ vacuums_as sets (Scan op) = refl
 vacuums_as sets (Bulk set op) = refl
 vacuums_as sets (Cleanup op) = refl
 
-pub asked_sweep : (sets : DeadSets) (a b : Op) → asked_of sets a ≡ asked_of sets b → is_sweep a ≡ is_sweep b
+pub asked_sweep : (sets : DeadSets) (a b : Op) → asked_of sets a ≡ asked_of sets b → is_bulk_delete a ≡ is_bulk_delete b
 asked_sweep sets a b h = sweeps_as sets a ∙ ap ask_sweeps h ∙ sym (sweeps_as sets b)
 
 asked_vacuum : (sets : DeadSets) (a b : Op) → asked_of sets a ≡ asked_of sets b → is_vacuum a ≡ is_vacuum b
@@ -168,14 +168,14 @@ before_vacuum session (ToScan range) = refl
 before_vacuum session (ToBulk set) = refl
 before_vacuum session ToCleanup = refl
 
-pub before_sweep : (session : ℕ) (request : Request) → is_sweep (op_before session request) ≡ asks_sweep request
+pub before_sweep : (session : ℕ) (request : Request) → is_bulk_delete (op_before session request) ≡ asks_bulk_delete request
 before_sweep session (ToInsert e) = refl
 before_sweep session (ToScan range) = refl
 before_sweep session (ToBulk set) = refl
 before_sweep session ToCleanup = refl
 
 -- what is no vacuum is no bulk delete, and was no cleanup to ask for
-pub calm_sweep : (op : Op) → is_vacuum op ≡ false → is_sweep op ≡ false
+pub calm_sweep : (op : Op) → is_vacuum op ≡ false → is_bulk_delete op ≡ false
 calm_sweep (Insert op) h = refl
 calm_sweep (Scan op) h = refl
 calm_sweep (Bulk set op) h = absurd (true_false h)
@@ -187,7 +187,7 @@ calm_cleanup sets (Scan op) h = refl
 calm_cleanup sets (Bulk set op) h = refl
 calm_cleanup sets (Cleanup op) h = absurd (true_false h)
 
-pub calm_request : (request : Request) → asks_vacuum request ≡ false → asks_sweep request ≡ false
+pub calm_request : (request : Request) → asks_vacuum request ≡ false → asks_bulk_delete request ≡ false
 calm_request (ToInsert e) h = refl
 calm_request (ToScan range) h = refl
 calm_request (ToBulk set) h = absurd (true_false h)
@@ -198,45 +198,45 @@ pub not_excluded : (asks runs : Bool) → (asks && runs) ≡ false → asks ≡ 
 not_excluded true runs h is = h
 not_excluded false runs h is = absurd (true_false (sym is))
 
--- behind an event of a call that is no bulk delete the cycle number is as it was
-pub cycle_kept : (sets : DeadSets) (op : Op) (slot : Option Op) (cycle : ℕ) → is_sweep op ≡ false → cycle_behind (asked_of sets op) slot cycle ≡ cycle
+-- after an event of a call that is no bulk delete the cycle number is as it was
+pub cycle_kept : (sets : DeadSets) (op : Op) (slot : Option Op) (cycle : ℕ) → is_bulk_delete op ≡ false → cycle_after (asked_of sets op) slot cycle ≡ cycle
 cycle_kept sets (Insert op) slot cycle h = refl
 cycle_kept sets (Scan op) slot cycle h = refl
 cycle_kept sets (Cleanup op) slot cycle h = refl
 cycle_kept sets (Bulk set op) slot cycle h = absurd (true_false h)
 
--- behind an event of a session's call
+-- after an event of a session's call
 pub vacuums_go : (old new : State) (sets : DeadSets) (slots : List (Option Op)) (session : ℕ) (op : Op) (slot : Option Op) → session < length slots → slot_of slots session ≡ Some op
-    → new.cycle ≡ cycle_behind (asked_of sets op) slot old.cycle → ((after : Op) → slot ≡ Some after → asked_of sets after ≡ asked_of sets op)
+    → new.cycle ≡ cycle_after (asked_of sets op) slot old.cycle → ((after : Op) → slot ≡ Some after → asked_of sets after ≡ asked_of sets op)
     → OneVacuums old slots → OneVacuums new (slice_set slots session slot)
 vacuums_go old new sets slots session op slot within was cycle asks h = by slot refl (is_vacuum op) refl
   where
-    cycle_of : (x : Option Op) → slot ≡ x → new.cycle ≡ cycle_behind (asked_of sets op) x old.cycle
-    cycle_of x is = subst (λ (y : Option Op). new.cycle ≡ cycle_behind (asked_of sets op) y old.cycle) is cycle
+    cycle_of : (x : Option Op) → slot ≡ x → new.cycle ≡ cycle_after (asked_of sets op) x old.cycle
+    cycle_of x is = subst (λ (y : Option Op). new.cycle ≡ cycle_after (asked_of sets op) y old.cycle) is cycle
 
-    going : (o : Op) (after : Op) (n : ℕ) → cycle_behind (asked_of sets o) (Some after) n ≡ n
+    going : (o : Op) (after : Op) (n : ℕ) → cycle_after (asked_of sets o) (Some after) n ≡ n
     going (Insert o) after n = refl
     going (Scan o) after n = refl
     going (Bulk set o) after n = refl
     going (Cleanup o) after n = refl
 
     -- the store of one that ends has no cycle number
-    ending : (o : Op) → is_vacuum o ≡ true → slot_of slots session ≡ Some o → new.cycle ≡ cycle_behind (asked_of sets o) None old.cycle → is_sweeping new ≡ false
+    ending : (o : Op) → is_vacuum o ≡ true → slot_of slots session ≡ Some o → new.cycle ≡ cycle_after (asked_of sets o) None old.cycle → runs_bulk_delete new ≡ false
     ending (Insert o) is at now = absurd (true_false (sym is))
     ending (Scan o) is at now = absurd (true_false (sym is))
-    ending (Bulk set o) is at now = ap (λ (n : ℕ). is_sweeping (record old { cycle = n })) now
-    ending (Cleanup o) is at now = cycle_same old new now ∙ h.cycle ∙ not_true (one_sweeps slots) (λ one. others_calm (any_true slot_sweeps refl slots one))
+    ending (Bulk set o) is at now = ap (λ (n : ℕ). runs_bulk_delete (record old { cycle = n })) now
+    ending (Cleanup o) is at now = cycle_same old new now ∙ h.cycle ∙ not_true (one_is_bulk_delete slots) (λ one. others_calm (any_true slot_is_bulk_delete refl slots one))
       where
-        others_calm : ((a : ℕ) × (slot_sweeps (slot_of slots a) ≡ true)) → ⊥
+        others_calm : ((a : ℕ) × (slot_is_bulk_delete (slot_of slots a) ≡ true)) → ⊥
         others_calm some =
             let same : some.0 ≡ session = h.alone some.0 session (sweep_vacuums (slot_of slots some.0) some.1) (ap slot_vacuums at) in
-            true_false (sym (subst (λ (s : ℕ). slot_sweeps (slot_of slots s) ≡ true) same some.1) ∙ ap slot_sweeps at)
+            true_false (sym (subst (λ (s : ℕ). slot_is_bulk_delete (slot_of slots s) ≡ true) same some.1) ∙ ap slot_is_bulk_delete at)
 
     by : (x : Option Op) → slot ≡ x → (b : Bool) → is_vacuum op ≡ b → OneVacuums new (slice_set slots session slot)
     by (Some after) at b is = vacuums_still old new slots session slot within
-        (ap slot_vacuums at ∙ asked_vacuum sets after op (asks after at) ∙ sym (ap slot_vacuums was)) (ap slot_sweeps at ∙ asked_sweep sets after op (asks after at) ∙ sym (ap slot_sweeps was))
+        (ap slot_vacuums at ∙ asked_vacuum sets after op (asks after at) ∙ sym (ap slot_vacuums was)) (ap slot_is_bulk_delete at ∙ asked_sweep sets after op (asks after at) ∙ sym (ap slot_is_bulk_delete was))
         (cycle_of (Some after) at ∙ going op after old.cycle) h
-    by None at false is = vacuums_still old new slots session slot within (ap slot_vacuums at ∙ sym (ap slot_vacuums was ∙ is)) (ap slot_sweeps at ∙ sym (ap slot_sweeps was ∙ calm_sweep op is))
+    by None at false is = vacuums_still old new slots session slot within (ap slot_vacuums at ∙ sym (ap slot_vacuums was ∙ is)) (ap slot_is_bulk_delete at ∙ sym (ap slot_is_bulk_delete was ∙ calm_sweep op is))
         (cycle_of None at ∙ cycle_kept sets op None old.cycle (calm_sweep op is)) h
     by None at true is = subst (λ (x : Option Op). OneVacuums new (slice_set slots session x)) (sym at)
         (vacuums_end old slots session within (ap slot_vacuums was ∙ is) h new (ending op is was (cycle_of None at)))

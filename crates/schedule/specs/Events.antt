@@ -8,26 +8,26 @@ use Rattle.index_model.specs.declared.fault.Fault.{Fault}
 use Rattle.index_model.specs.declared.fault.Fault.TheVariants.{Stopped}
 use Rattle.page_action.specs.Causes.{nothing_wrong, causes_of_forced}
 use Rattle.page_action.specs.Order.{IsRestOf}
-use Rattle.page_action.specs.Room.{KeepsRoom, HasWholeRoom}
+use Rattle.page_action.specs.Room.{KeepsRoom, LogIsClosed}
 use Rattle.page_action.specs.States.{State, IsLater}
 use Rattle.page_action.specs.declared.page_store.PageStore.{Ghosts}
 use Rattle.latch_table.specs.Holdings.{has_pin, holding_of}
 use Rattle.page_codec.specs.declared.page.Page.{Page}
 use Rattle.tree_acts.specs.Leaves.{IsLeafAt, WasLeaf}
 use Rattle.tree_acts.specs.Lows.{NoLowRises}
-use Rattle.descent.specs.Shared.{OthersRely}
+use Rattle.tree_acts.specs.StepEffects.{OthersRely}
 use Rattle.session_calls.specs.Due.{IsDueIn, DueCountsDown, HasSteps}
-use Rattle.session_calls.specs.Following.{StepTells}
+use Rattle.session_calls.specs.Following.{StepAnswerMeans}
 use Rattle.session_calls.specs.TheoremCalls.{DeadSets, asked_by, acts_of, begun_call}
-use Rattle.session_calls.specs.Ops.{op_before, asks_vacuum, asked_of, causes_of_stepped, causes_of_asked_next, causes_of_beginning, RunsOn, IsCaused, StoppedAnswersFirst, asks_sweep, no_call_begins}
-use Rattle.session_calls.specs.Sessions.{Told, IsAsked, MovesShape, is_busy, slot_add, StepLeavesLess, LeavesNoMore, GivesLess, AnswersStep, AnswersNext, AnswersEnd, RefusalChangesNothing, RunsUntilLast, leaf_of, StandsByAnswer, OnlyWritersAct, OnlyOwnAreFlagged, LeavesOwnFlagged, KeepsBeforePins, CountsEntries, CountsPages, TellsFree, SparesLeaves, after_slot, after_request}
+use Rattle.session_calls.specs.Ops.{op_before, asks_vacuum, asked_of, causes_of_stepped, causes_of_asked_next, causes_of_beginning, RunsOn, IsCaused, StoppedAnswersFirst, asks_bulk_delete, no_call_begins}
+use Rattle.session_calls.specs.Sessions.{AnswerMeans, IsAsked, MovesShape, is_busy, slot_add, StepHasLessLeft, NoMoreIsLeft, GivesLess, AnswersStep, AnswersNext, AnswersEnd, RefusalChangesNothing, RunsUntilLast, leaf_of, StandsByAnswer, OnlyWritersAct, OnlyOwnAreIncomplete, LeavesOwnIncomplete, KeepsBeforePins, CountsEntries, CountsPages, CountsFree, SparesLeaves, after_slot, after_request}
 use Rattle.session_calls.specs.declared.answer.Answer.{Answer}
 use Rattle.session_calls.specs.declared.answer.Answer.TheVariants.{Begun, Forced, Flushed, Checkpointed, Refused}
 use Rattle.session_calls.specs.declared.op.Op.{Op}
 use Rattle.session_calls.specs.declared.request.Request.{Request}
 use Rattle.schedule.specs.TheoremMoments.{StoreAndSlots, Moment, IsRunningCall}
-use Rattle.schedule.specs.TheoremKinds.{Move, Steps, Takes, GivesUp, Upkeep, Forces, Flushes, Checkpoints, Kind, BeginsCall, MovesCall, KeepsStore, kind_of}
-use Rattle.schedule.specs.TheoremEvents.{IsStill, IsDurable}
+use Rattle.schedule.specs.TheoremKinds.{Move, Steps, Takes, GivesUp, Upkeep, Forces, Flushes, Checkpoints, Kind, BeginsCall, MovesCall, MaintainsStore, kind_of}
+use Rattle.schedule.specs.TheoremEvents.{IsSameState, IsDurable}
 use Rattle.session_calls.specs.Slots.{slot_of, has_call, one_vacuums, is_of_sets, session_to_begin}
 use Rattle.schedule.specs.MomentInvariants.{here_at, Invariant}
 use Rattle.schedule.specs.declared.event.Event.{Event}
@@ -36,7 +36,7 @@ use Rattle.schedule.specs.declared.event.Event.{Event}
 abbrev pub IsOfSession : ℕ → Kind → Type 0
 IsOfSession session (BeginsCall of request) = of ≡ session
 IsOfSession session (MovesCall of move) = of ≡ session
-IsOfSession session (KeepsStore upkeep) = Unit {0}
+IsOfSession session (MaintainsStore upkeep) = Unit {0}
 
 -- the event is one of this session, or one of the store
 abbrev pub IsOf : ℕ → Event → Type 0
@@ -56,7 +56,7 @@ pub record CallMoves {S : Type 0} (g : Ghosts S) (start : Entry → Bool) (sessi
   pub effect : Option Effect
   pub after : Call
   pub asked : IsAsked (contents_after start old.history) call.ask call.added effect
-  pub told : Told answer (length old.history) effect call after
+  pub told : AnswerMeans answer (length old.history) effect call after
   pub history_is : new.history ≡ old.history ++ acts_of number effect
   pub calls_is : new.calls ≡ slice_set old.calls number after
   pub others : OthersRely session (g.state old.store) (g.state new.store)
@@ -73,7 +73,7 @@ pub record CallBegins {S : Type 0} (g : Ghosts S) (session : ℕ) (request : Req
 pub record Stays {S : Type 0} (g : Ghosts S) (answer : Answer) (old new : Moment S) : Type 0 where
   pub fault : Fault
   pub refused : answer ≡ Refused fault
-  pub still : IsStill g old new
+  pub still : IsSameState g old new
 
 -- what is answered where so many actions are durable; a flush tells no such number
 abbrev pub kept_answer : Upkeep → ℕ → Option Answer
@@ -82,20 +82,20 @@ kept_answer Flushes count = None
 kept_answer Checkpoints count = Some (Checkpointed count)
 
 -- all actions are durable, and so many
-pub record IsToldDurable {S : Type 0} (g : Ghosts S) (upkeep : Upkeep) (answer : Answer) (old new : Moment S) : Type 0 where
+pub record UpkeepIsDurable {S : Type 0} (g : Ghosts S) (upkeep : Upkeep) (answer : Answer) (old new : Moment S) : Type 0 where
   pub told : kept_answer upkeep (length old.history) ≡ Some answer
   pub durable : (g.backing new.store).durable ≡ length old.history
 
 -- what is told of it: a flush answers the block of the page that waited longest, or that none waited
-abbrev pub UpkeepIsTold : {S : Type 0} → Ghosts S → Upkeep → Answer → Moment S → Moment S → Type 0
-UpkeepIsTold g Forces answer old new = IsToldDurable g Forces answer old new
-UpkeepIsTold g Flushes answer old new = answer ≡ Flushed (slice_get (g.backing old.store).changed 0)
-UpkeepIsTold g Checkpoints answer old new = IsToldDurable g Checkpoints answer old new
+abbrev pub UpkeepAnswerMeans : {S : Type 0} → Ghosts S → Upkeep → Answer → Moment S → Moment S → Type 0
+UpkeepAnswerMeans g Forces answer old new = UpkeepIsDurable g Forces answer old new
+UpkeepAnswerMeans g Flushes answer old new = answer ≡ Flushed (slice_get (g.backing old.store).changed 0)
+UpkeepAnswerMeans g Checkpoints answer old new = UpkeepIsDurable g Checkpoints answer old new
 
 -- what was to be done for the store is done; nothing that a history tells of is changed
 pub record UpkeepIsDone {S : Type 0} (g : Ghosts S) (upkeep : Upkeep) (answer : Answer) (old new : Moment S) : Type 0 where
-  pub tells : UpkeepIsTold g upkeep answer old new
-  pub still : IsStill g old new
+  pub tells : UpkeepAnswerMeans g upkeep answer old new
+  pub still : IsSameState g old new
 
 -- What was done for the store, whatever the pages are: these are as they were; where it is told as done, so many acts were
 -- done, and all are durable; a refusal has its cause.
@@ -116,10 +116,10 @@ pub record IsFlushed {S : Type 0} (g : Ghosts S) (block : Option ℕ) (old new :
   pub others : (g.backing new).changed ≡ drop 1 (g.backing old).changed
   pub room : KeepsRoom (g.state old) (g.backing old) (g.backing new)
 
--- behind a checkpoint no page waits, and the log has its whole room
+-- after a checkpoint no page waits, and the log has its whole room
 pub record IsCheckpointed {S : Type 0} (g : Ghosts S) (old new : S) : Type 0 where
   pub none : (g.backing new).changed ≡ []
-  pub room : HasWholeRoom (g.state old).limits (g.backing new)
+  pub room : LogIsClosed (g.state old).limits (g.backing new)
 
 -- a force that fails leaves the log stopped
 pub record IsNotForced {S : Type 0} (g : Ghosts S) (old new : S) : Type 0 where
@@ -139,24 +139,24 @@ pub record IsNotCheckpointed {S : Type 0} (g : Ghosts S) (old new : S) : Type 0 
   pub room : KeepsRoom (g.state old) (g.backing old) (g.backing new)
 
 -- what an event of the store does to the pages that wait to be written and to the log's room, by what it answers
-abbrev pub UpkeepLeaves : {S : Type 0} → Ghosts S → Upkeep → Answer → S → S → Type 0
-UpkeepLeaves g Forces (Forced count) old new = IsForced g old new
-UpkeepLeaves g Flushes (Flushed block) old new = IsFlushed g block old new
-UpkeepLeaves g Checkpoints (Checkpointed count) old new = IsCheckpointed g old new
-UpkeepLeaves g Forces (Refused fault) old new = IsNotForced g old new
-UpkeepLeaves g Flushes (Refused fault) old new = IsNotFlushed g old new
-UpkeepLeaves g Checkpoints (Refused fault) old new = IsNotCheckpointed g old new
-UpkeepLeaves g upkeep answer old new = ⊥
+abbrev pub UpkeepChanges : {S : Type 0} → Ghosts S → Upkeep → Answer → S → S → Type 0
+UpkeepChanges g Forces (Forced count) old new = IsForced g old new
+UpkeepChanges g Flushes (Flushed block) old new = IsFlushed g block old new
+UpkeepChanges g Checkpoints (Checkpointed count) old new = IsCheckpointed g old new
+UpkeepChanges g Forces (Refused fault) old new = IsNotForced g old new
+UpkeepChanges g Flushes (Refused fault) old new = IsNotFlushed g old new
+UpkeepChanges g Checkpoints (Refused fault) old new = IsNotCheckpointed g old new
+UpkeepChanges g upkeep answer old new = ⊥
 
 -- what was done for the store is told as it was done, and a refusal of it has its cause; of an event of a call nothing is said
 abbrev pub UpkeepIsKept : {S : Type 0} → Ghosts S → Kind → Answer → S → S → Type 0
-UpkeepIsKept g (KeepsStore upkeep) answer old new = StoreIsKept g upkeep answer old new
+UpkeepIsKept g (MaintainsStore upkeep) answer old new = StoreIsKept g upkeep answer old new
 UpkeepIsKept g kind answer old new = Unit {0}
 
 -- ... of an event of a call nothing is said
-abbrev pub KeepsUp : {S : Type 0} → Ghosts S → Kind → Answer → S → S → Type 0
-KeepsUp g (KeepsStore upkeep) answer old new = UpkeepLeaves g upkeep answer old new
-KeepsUp g kind answer old new = Unit {0}
+abbrev pub UpkeepMeans : {S : Type 0} → Ghosts S → Kind → Answer → S → S → Type 0
+UpkeepMeans g (MaintainsStore upkeep) answer old new = UpkeepChanges g upkeep answer old new
+UpkeepMeans g kind answer old new = Unit {0}
 
 -- a session's running call goes on; without one the event is refused
 abbrev pub MovesOn : {S : Type 0} → Ghosts S → (Entry → Bool) → Bool → ℕ → Answer → Moment S → Moment S → Type 0
@@ -173,7 +173,7 @@ MayBegin g (Some (Some op)) session request answer old new = Stays g answer old 
 abbrev pub Happens : {S : Type 0} → Ghosts S → (Entry → Bool) → Kind → Answer → Moment S → Moment S → Type 0
 Happens g start (BeginsCall session request) answer old new = MayBegin g (slice_get old.slots session) session request answer old new
 Happens g start (MovesCall session move) answer old new = MovesOn g start (has_call old.slots session) session answer old new
-Happens g start (KeepsStore upkeep) answer old new = UpkeepIsDone g upkeep answer old new ⊎ Stays g answer old new
+Happens g start (MaintainsStore upkeep) answer old new = UpkeepIsDone g upkeep answer old new ⊎ Stays g answer old new
 
 -- the circumstances where there is no such session, or no call in it
 abbrev pub causes_of_no_call : Bool → Circumstances
@@ -205,7 +205,7 @@ abbrev pub causes_of_happening : {S : Type 0} → Ghosts S → Kind → StoreAnd
 causes_of_happening g (BeginsCall session request) old new =
     causes_of_begun_at g old.store (one_vacuums old.slots) old.sets request (slice_get old.slots session)
 causes_of_happening g (MovesCall session move) old new = causes_of_moving g old.sets old.store new.store move (slice_get old.slots session)
-causes_of_happening g (KeepsStore upkeep) old new = causes_of_forced (g.backing old.store) (g.backing new.store)
+causes_of_happening g (MaintainsStore upkeep) old new = causes_of_forced (g.backing old.store) (g.backing new.store)
 
 -- a beginning is told as begun, or refused
 abbrev pub AnswersBeginning : Answer → Type 0
@@ -231,17 +231,17 @@ AnswersMove GivesUp before after answer = AnswersEnd before answer
 abbrev pub AnswersEvent : Kind → Answer → List (Option Op) → List (Option Op) → Type 0
 AnswersEvent (BeginsCall session request) answer old new = AnswersBeginning answer
 AnswersEvent (MovesCall session move) answer old new = AnswersMove move (slot_of old session) (slot_of new session) answer
-AnswersEvent (KeepsStore upkeep) answer old new = AnswersUpkeep upkeep answer
+AnswersEvent (MaintainsStore upkeep) answer old new = AnswersUpkeep upkeep answer
 
--- behind a move of its call a session has one exactly if it had one, and the answer isn't the last of it
+-- after a move of its call a session has one exactly if it had one, and the answer isn't the last of it
 abbrev pub MoveRunsUntilLast : Kind → Option Op → Option Op → Answer → Type 0
 MoveRunsUntilLast (MovesCall session move) before after answer = RunsUntilLast before after answer
 MoveRunsUntilLast kind before after answer = Unit {0}
 
 -- what the answer of a step says
-abbrev pub EventTells : Kind → Bool → State → State → Option Op → Option Op → Answer → Type 0
-EventTells (MovesCall session Steps) is_stopped old new before after answer = StepTells is_stopped old new before after answer
-EventTells kind is_stopped old new before after answer = Unit {0}
+abbrev pub EventAnswerMeans : Kind → Bool → State → State → Option Op → Option Op → Answer → Type 0
+EventAnswerMeans (MovesCall session Steps) is_stopped old new before after answer = StepAnswerMeans is_stopped old new before after answer
+EventAnswerMeans kind is_stopped old new before after answer = Unit {0}
 
 -- where the log failed before, this is refused with Stopped, whatever else is so
 abbrev pub RefusesStopped : Bool → Answer → Type 0
@@ -254,10 +254,10 @@ StopsFirst (BeginsCall session request) is_stopped answer slots = RefusesStopped
 StopsFirst (MovesCall session Steps) is_stopped answer slots = is_stopped ≡ true → StoppedAnswersFirst (slot_add (slot_of slots session)) answer
 StopsFirst (MovesCall session Takes) is_stopped answer slots = Unit {0}
 StopsFirst (MovesCall session GivesUp) is_stopped answer slots = Unit {0}
-StopsFirst (KeepsStore upkeep) is_stopped answer slots = RefusesStopped is_stopped answer
+StopsFirst (MaintainsStore upkeep) is_stopped answer slots = RefusesStopped is_stopped answer
 
 -- neither the pages, calls and holdings of the store nor a slot are changed
-pub record IsUnchanged {S : Type 0} (g : Ghosts S) (old new : StoreAndSlots S) : Type 0 where
+pub record IsSameStore {S : Type 0} (g : Ghosts S) (old new : StoreAndSlots S) : Type 0 where
   pub state_is : g.state new.store ≡ g.state old.store
   pub slots_is : new.slots ≡ old.slots
 
@@ -265,15 +265,15 @@ pub record IsUnchanged {S : Type 0} (g : Ghosts S) (old new : StoreAndSlots S) :
 abbrev pub RefusalKeeps : {S : Type 0} → Ghosts S → Kind → Answer → StoreAndSlots S → StoreAndSlots S → Type 0
 RefusalKeeps g (MovesCall session Steps) answer old new =
     RefusalChangesNothing (g.state old.store) (g.state new.store) (slot_of old.slots session) (slot_of new.slots session) answer
-RefusalKeeps g kind answer old new = (fault : Fault) → answer ≡ Refused fault → IsUnchanged g old new
+RefusalKeeps g kind answer old new = (fault : Fault) → answer ≡ Refused fault → IsSameStore g old new
 
 -- while no act is done, a step that ends no call leaves less to do, and so does an entry that is given
 abbrev pub IsLessLeft : Bool → Kind → Answer → State → State → Option Op → Option Op → Type 0
-IsLessLeft honest (MovesCall session Steps) answer old new before after = honest ≡ true → StepLeavesLess old new before after answer
+IsLessLeft honest (MovesCall session Steps) answer old new before after = honest ≡ true → StepHasLessLeft old new before after answer
 IsLessLeft honest (MovesCall session Takes) answer old new before after = GivesLess before after answer
 IsLessLeft honest kind answer old new before after = Unit {0}
 
--- behind an `End` the session runs nothing, and what its call held is let go; nothing of the log, and no count of calls, is
+-- after an `End` the session runs nothing, and what its call held is let go; nothing of the log, and no count of calls, is
 -- changed
 pub record IsEnded {S : Type 0} (g : Ghosts S) (session : ℕ) (old new : StoreAndSlots S) : Type 0 where
   pub over : slot_of new.slots session ≡ None
@@ -281,7 +281,7 @@ pub record IsEnded {S : Type 0} (g : Ghosts S) (session : ℕ) (old new : StoreA
   pub begun : (g.state new.store).begun ≡ (g.state old.store).begun
   pub state_is : g.state new.store ≡ after_slot (slot_of old.slots session) (g.state old.store)
 
--- what is so behind an event: an end leaves its session nothing to run; asking for the next entry leaves the pages, calls and
+-- what is so after an event: an end leaves its session nothing to run; asking for the next entry leaves the pages, calls and
 -- holdings of the store as they were
 abbrev pub IsLeftByEvent : {S : Type 0} → Ghosts S → Kind → StoreAndSlots S → StoreAndSlots S → Type 0
 IsLeftByEvent g (MovesCall session GivesUp) old new = IsEnded g session old new
@@ -296,7 +296,7 @@ OthersStay session old new = (other : ℕ) → other ≢ session → slice_get n
 abbrev pub session_at : Kind → ℕ
 session_at (BeginsCall session request) = session
 session_at (MovesCall session move) = session
-session_at (KeepsStore upkeep) = 0
+session_at (MaintainsStore upkeep) = 0
 
 -- an event does one act at most, and with none the pages are as they were; so are limits and frames
 pub record DoesOneAct (old new : State) : Type 0 where
@@ -333,10 +333,10 @@ StartsFresh kind answer after = Unit {0}
 -- a call that has begun has the count of calls begun before it for its start number, and a bulk delete the next cycle number;
 -- nothing else of the store is changed
 abbrev pub GetsNumber : Kind → Answer → State → State → Type 0
-GetsNumber (BeginsCall session request) answer old new = answer ≡ Begun → new ≡ after_request (asks_sweep request) session old
+GetsNumber (BeginsCall session request) answer old new = answer ≡ Begun → new ≡ after_request (asks_bulk_delete request) session old
 GetsNumber kind answer old new = Unit {0}
 
--- behind a move of its call a session runs nothing, or a call of the same kind
+-- after a move of its call a session runs nothing, or a call of the same kind
 abbrev pub MoveRunsOn : Kind → Option Op → Option Op → Type 0
 MoveRunsOn (MovesCall session move) before after = RunsOn before after
 MoveRunsOn kind before after = Unit {0}
@@ -350,12 +350,12 @@ MoveStands kind before after = Unit {0}
 pub record EventAlways {S : Type 0} (g : Ghosts S) (kind : Kind) (answer : Answer) (old new : StoreAndSlots S) : Type 0 where
   -- it answers what its kind may
   pub answers : AnswersEvent kind answer old.slots new.slots
-  -- behind a move of its call its session runs one exactly if it ran one, and the answer isn't the last of it
+  -- after a move of its call its session runs one exactly if it ran one, and the answer isn't the last of it
   pub until_last : MoveRunsUntilLast kind (slot_of old.slots (session_at kind)) (slot_of new.slots (session_at kind)) answer
   -- asking for the next entry leaves its session's scan where it stands
   pub stands : MoveStands kind (slot_of old.slots (session_at kind)) (slot_of new.slots (session_at kind))
   -- what the answer of a step says
-  pub tells : EventTells kind (g.backing old.store).stopped (g.state old.store) (g.state new.store) (slot_of old.slots (session_at kind)) (slot_of new.slots (session_at kind)) answer
+  pub tells : EventAnswerMeans kind (g.backing old.store).stopped (g.state old.store) (g.state new.store) (slot_of old.slots (session_at kind)) (slot_of new.slots (session_at kind)) answer
   -- a refusal changes nothing, but that a step ends its call unless it was refused with Blocked or NoSession
   pub refused : RefusalKeeps g kind answer old new
   -- on a log that has failed, a beginning, a step, a force, a flush and a checkpoint are refused for that before all else
@@ -368,7 +368,7 @@ pub record EventAlways {S : Type 0} (g : Ghosts S) (kind : Kind) (answer : Answe
   pub calm : OnlyStepsAct kind (slot_of old.slots (session_at kind)) (g.state old.store) (g.state new.store)
   -- no other session's slot is changed
   pub others : (session : ℕ) → IsOfSession session kind → OthersStay session old.slots new.slots
-  -- behind an end its session runs nothing, and the log is as it was
+  -- after an end its session runs nothing, and the log is as it was
   pub left : IsLeftByEvent g kind old new
   -- a beginning that is refused has its cause
   pub causes : BeginningIsCaused g kind answer old
@@ -382,8 +382,8 @@ pub record EventAlways {S : Type 0} (g : Ghosts S) (kind : Kind) (answer : Answe
   -- a force and a checkpoint tell how many actions are durable, and these are; a refusal of them, and of a flush, has its cause
   pub upkept : UpkeepIsKept g kind answer old.store new.store
   -- what a force, a flush and a checkpoint do to the pages that wait to be written, and to the log's room
-  pub keeps_up : KeepsUp g kind answer old.store new.store
-  -- behind a move of its call a session runs nothing, or a call of the same kind
+  pub keeps_up : UpkeepMeans g kind answer old.store new.store
+  -- after a move of its call a session runs nothing, or a call of the same kind
   pub runs_on : MoveRunsOn kind (slot_of old.slots (session_at kind)) (slot_of new.slots (session_at kind))
 
 -- a call that was due is due after as many steps
@@ -395,9 +395,9 @@ pub record StepIsFollowed (sets : DeadSets) (old new : State) (before after : Op
   -- a call that was due comes to what is awaited at its last step, and each step before leaves one fewer
   pub due : (left : ℕ) → IsDueIn old before (suc left) → DueCountsDown old new before after left answer
   -- while no action is logged, no more is left to do than before, whether it was due or not
-  pub no_more : LeavesNoMore old new before after
-  -- where only pages were flagged whose splits its insert is to finish, only such are; and none behind its end, unless it tells of a fault
-  pub flagged : OnlyOwnAreFlagged old before → LeavesOwnFlagged new before after answer
+  pub no_more : NoMoreIsLeft old new before after
+  -- where only pages had incomplete splits that its insert is to finish, only such are; and none after its end, unless it tells of a fault
+  pub incomplete : OnlyOwnAreIncomplete old before → LeavesOwnIncomplete new before after answer
   -- a scan that has read a leaf stands on it, and on none where it goes on to another page
   pub stands : StandsByAnswer new before after answer
   -- a bulk delete doesn't come past a leaf that another session has pinned, nor to its end
@@ -408,8 +408,8 @@ pub record StepIsFollowed (sets : DeadSets) (old new : State) (before after : Op
   -- a cleanup counts the pages that it deletes, and tells how many they were
   pub deletes : CountsPages old new before after answer
   -- a bulk delete or a cleanup that has finished tells how many deleted pages may be used again now
-  pub frees : TellsFree new before answer
-  -- where nobody else holds a page, a cleanup leaves no empty leaf behind it that might leave the tree
+  pub frees : CountsFree new before answer
+  -- where nobody else holds a page, a cleanup leaves no empty leaf after it that might leave the tree
   pub spares : SparesLeaves old new before after answer
 
 -- what is followed of a session's call, by its event: a beginning says after how many steps it is due, each step follows on, and asking
@@ -419,7 +419,7 @@ CallIsFollowed (BeginsCall session request) sets answer old new before after = a
 CallIsFollowed (MovesCall session Steps) sets answer old new before after = StepIsFollowed sets old new before after answer
 CallIsFollowed (MovesCall session Takes) sets answer old new before after = StaysAsDue old new before after
 CallIsFollowed (MovesCall session GivesUp) sets answer old new before after = Unit {0}
-CallIsFollowed (KeepsStore upkeep) sets answer old new before after = Unit {0}
+CallIsFollowed (MaintainsStore upkeep) sets answer old new before after = Unit {0}
 
 -- a live leaf that another session has pinned stays one
 abbrev pub KeepsPinnedLeaves : Kind → State → State → Type 0
@@ -429,7 +429,7 @@ KeepsPinnedLeaves kind old new =
 
 -- What an event leaves as it was: the limits and the number of frames; and where it appends no action, the pages. So an event
 -- of others that appends no action costs a call that is due no step.
-pub record LeavesBe {S : Type 0} (g : Ghosts S) (kind : Kind) (old new : Moment S) : Type 0 where
+pub record SameButForActs {S : Type 0} (g : Ghosts S) (kind : Kind) (old new : Moment S) : Type 0 where
   pub limits : (g.state new.store).limits ≡ (g.state old.store).limits
   pub frames : (g.state new.store).frames ≡ (g.state old.store).frames
   pub pages : new.history ≡ old.history → (g.state new.store).pages ≡ (g.state old.store).pages
@@ -459,11 +459,11 @@ pub record EventAlso {S : Type 0} (g : Ghosts S) (start : Entry → Bool) (kind 
   -- no low of a page that isn't deleted rises
   pub lows : NoLowRises (g.state old.store).pages (g.state new.store).pages
   -- the limits and the number of frames are as they were; so are the pages, where it appends no action
-  pub quiet : LeavesBe g kind old new
+  pub quiet : SameButForActs g kind old new
   -- a number that it answers as durable is
   pub durable : IsDurable (g.backing new.store).durable answer
   -- its store follows the one before, and no count goes back
   pub follows : g.follows old.store new.store
   pub later : IsLater (g.backing old.store) (g.backing new.store)
-  -- what is known behind it
+  -- what is known after it
   pub invariant : Invariant g start new

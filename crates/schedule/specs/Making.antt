@@ -24,7 +24,7 @@ pub record EventRuns {S : Type 0} (g : Ghosts S) (old new : StoreAndSlots S) (ki
   pub does : EventDoes g start kind answer (snapshot_of old history calls) (snapshot_of new then_history then_calls)
 
 -- an event of this kind with this answer: what always holds of it, and what it does to whatever fitted before
-pub record Makes {S : Type 0} (g : Ghosts S) (kind : Kind) (answer : Answer) (old new : StoreAndSlots S) : Type 0 where
+pub record EventEffect {S : Type 0} (g : Ghosts S) (kind : Kind) (answer : Answer) (old new : StoreAndSlots S) : Type 0 where
   pub sessions : length new.slots ≡ length old.slots
   pub always : EventAlways g kind answer old new
   pub does : ForEachHistory g old new (EventRuns g old new kind answer)
@@ -37,6 +37,6 @@ EachAlways {S} g (event ∷ events) (answer ∷ answers) first last =
 EachAlways g [] (answer ∷ answers) first last = ⊥
 EachAlways g (event ∷ events) [] first last = ⊥
 
--- the answers that a run has put behind those that were there
-abbrev pub answers_behind : List Answer → List Answer → List Answer
-answers_behind before after = drop (length before) after
+-- the answers that a run has put after those that were there
+abbrev pub answers_after : List Answer → List Answer → List Answer
+answers_after before after = drop (length before) after

@@ -7,12 +7,12 @@ use Rattle.index_model.specs.declared.entry.Entry.{Entry}
 use Rattle.page_action.specs.States.{State}
 use Rattle.page_action.specs.declared.page_store.PageStore.{Ghosts}
 use Rattle.tree_acts.specs.Deletions.{StartsAreBelow}
-use Rattle.descent.specs.Shared.{IsInOrder}
+use Rattle.tree_acts.specs.StepEffects.{IsInOrder}
 use Rattle.session_calls.specs.TheoremCalls.{DeadSets}
-use Rattle.session_calls.specs.Ops.{is_sweep, is_sweeping}
+use Rattle.session_calls.specs.Ops.{is_bulk_delete, runs_bulk_delete}
 use Rattle.session_calls.specs.Sessions.{OpRuns, IsIdle}
 use Rattle.session_calls.specs.Slots.{slot_of, slot_vacuums}
-use Rattle.session_calls.specs.Sweeps.{OpSweeps}
+use Rattle.session_calls.specs.BulkDeletions.{OpDeletions}
 use Rattle.session_calls.specs.declared.op.Op.{Op}
 use Rattle.schedule.specs.TheoremMoments.{StoreAndSlots, Moment, RunsOne, IsRunningCall}
 
@@ -32,7 +32,7 @@ pub record SlotRuns {S : Type 0} (g : Ghosts S) (start : Entry → Bool) (now : 
   pub is : IsRunningCall now.calls session number call
   pub only : (other : ℕ) (c : Call) → IsRunningCall now.calls session other c → other ≡ number
   pub runs : OpRuns (g.state now.store) now.sets start now.history call op
-  pub sweeps : OpSweeps (g.state now.store) now.sets start now.history number call.began op
+  pub deletions : OpDeletions (g.state now.store) now.sets start now.history number call.began op
 
 -- the session has no running call; it holds nothing, and has no start number
 pub record IsFreeSession {S : Type 0} (g : Ghosts S) (now : Moment S) (session : ℕ) : Type 0 where
@@ -45,18 +45,18 @@ SlotMatches g start now session None = IsFreeSession g now session
 SlotMatches g start now session (Some op) = SlotRuns g start now session op
 
 -- what a session runs is a bulk delete
-abbrev pub slot_sweeps : Option Op → Bool
-slot_sweeps None = false
-slot_sweeps (Some op) = is_sweep op
+abbrev pub slot_is_bulk_delete : Option Op → Bool
+slot_is_bulk_delete None = false
+slot_is_bulk_delete (Some op) = is_bulk_delete op
 
 -- some session runs a bulk delete
-abbrev pub one_sweeps : List (Option Op) → Bool
-one_sweeps slots = list_any slot_sweeps slots
+abbrev pub one_is_bulk_delete : List (Option Op) → Bool
+one_is_bulk_delete slots = list_any slot_is_bulk_delete slots
 
 -- one session at most runs a bulk delete or a cleanup, and the store has a cycle number exactly while one runs a bulk delete
 pub record OneVacuums (st : State) (slots : List (Option Op)) : Type 0 where
   pub alone : (session other : ℕ) → slot_vacuums (slot_of slots session) ≡ true → slot_vacuums (slot_of slots other) ≡ true → session ≡ other
-  pub cycle : is_sweeping st ≡ one_sweeps slots
+  pub cycle : runs_bulk_delete st ≡ one_is_bulk_delete slots
 
 -- what is known between events: pages and holdings are in order, and each running call began before so many calls had begun; each
 -- session's running call knows what it needs of the pages, and what it is to remove still; a session without one holds nothing, and has
@@ -65,7 +65,7 @@ pub record Invariant {S : Type 0} (g : Ghosts S) (start : Entry → Bool) (now :
   pub order : IsInOrder (g.state now.store)
   pub starts : StartsAreBelow (g.state now.store)
   pub runs : (session number : ℕ) (call : Call) (op : Op) → slice_get now.slots session ≡ Some (Some op) → IsRunningCall now.calls session number call
-      → OpRuns (g.state now.store) now.sets start now.history call op × OpSweeps (g.state now.store) now.sets start now.history number call.began op
+      → OpRuns (g.state now.store) now.sets start now.history call op × OpDeletions (g.state now.store) now.sets start now.history number call.began op
   pub idle : (session : ℕ) → (RunsOne now.slots session → ⊥) → IsIdle (g.state now.store) session
   pub vacuums : OneVacuums (g.state now.store) now.slots
 

@@ -9,7 +9,7 @@ use Rattle.page_action.specs.declared.page_store.PageStore.{Ghosts}
 use Rattle.tree_shape.specs.Nodes.{nodes_of}
 use Rattle.tree_shape.specs.Walks.{entry_aim, bound_aim, frontier_aim}
 use Rattle.tree_acts.specs.Trees.{HasCover}
-use Rattle.descent.specs.declared.way.Way.{Way}
+use Rattle.descent.specs.declared.way.Position.{Position}
 use Rattle.split_finish.specs.Targets.{targets_of}
 use Rattle.split_finish.specs.declared.finish.FinishAt.{FinishAt}
 use Rattle.split_finish.specs.declared.finish.FinishAt.TheVariants.{Start as FinishStart, Down as FinishDown, Link, Root}
@@ -19,7 +19,7 @@ use Rattle.insert_split.specs.declared.insert.InsertAt.TheVariants.{Coming, Fini
 use Rattle.insert_split.specs.declared.insert.Stage.TheVariants.{Start as InsertStart, At as InsertsAt, Holding as Holds}
 use Rattle.scan.specs.declared.steps.ScanAt.{ScanAt}
 use Rattle.scan.specs.declared.steps.ScanAt.TheVariants.{Start as ScanStart, At as ScansAt, Last}
-use Rattle.vacuum.specs.declared.steps.Back.{Back}
+use Rattle.vacuum.specs.declared.steps.Backtrack.{Backtrack}
 use Rattle.page_delete.specs.declared.steps.CleanupAt.{CleanupAt}
 use Rattle.page_delete.specs.declared.steps.CleanupAt.TheVariants.{Look, Start as CleanupStart, Down as CleanupDown, Judge, Unlink}
 use Rattle.session_calls.specs.Slots.{slot_of}
@@ -39,7 +39,7 @@ pub record KeptNumber : Type 0 where
   pub sought : Sought
 
 -- ... of the page that is read next on a way to what is looked for
-abbrev pub number_on : Way → (Bound → Bool) → KeptNumber
+abbrev pub number_on : Position → (Bound → Bool) → KeptNumber
 number_on way aim = record { block = way.block; sought = cover_of way.level aim }
 
 -- ... of a page whose split is to be finished
@@ -71,7 +71,7 @@ scan_numbers frontier (ScansAt way) = number_on way (frontier_aim frontier) ∷ 
 scan_numbers frontier Last = []
 
 -- those of a bulk delete, which may go back; in block order it keeps none
-abbrev pub back_numbers : Option Back → List KeptNumber
+abbrev pub back_numbers : Option Backtrack → List KeptNumber
 back_numbers None = []
 back_numbers (Some back) = leaf_number back.block ∷ []
 
@@ -105,7 +105,7 @@ IsKeptFor st (page_of level) page = StandsOnLevel st level page
 -- right links lead from the first block to the second; neither is one that `fresh` may name, nor is any between them
 pub data LeadsPast (st : State) : ℕ → ℕ → Type 0 where
   there : {d : ℕ} → (IsFresh st d → ⊥) → LeadsPast st d d
-  onward : {b r d : ℕ} → (IsFresh st b → ⊥) → (nodes_of st.pages b).right ≡ Some r → LeadsPast st r d → LeadsPast st b d
+  next_page : {b r d : ℕ} → (IsFresh st b → ⊥) → (nodes_of st.pages b).right ≡ Some r → LeadsPast st r d → LeadsPast st b d
 
 -- the number leads on to its page
 pub record NumberLeads (st : State) (kept : KeptNumber) : Type 0 where

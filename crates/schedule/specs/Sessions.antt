@@ -16,6 +16,6 @@ abbrev pub op_of : Calls → ℕ → Option Op
 op_of calls session = slot_of calls.slots.items session
 
 -- the sessions are the same, and each other one runs what it ran
-pub record KeepsOthers (session : ℕ) (old new : Calls) : Type 0 where
+pub record SameOthers (session : ℕ) (old new : Calls) : Type 0 where
   pub sessions : length new.slots.items ≡ length old.slots.items
   pub others : OthersStay session old.slots.items new.slots.items

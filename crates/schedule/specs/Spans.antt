@@ -8,17 +8,18 @@ use Rattle.page_codec.specs.declared.page.PageState.TheVariants.{Deleted}
 use Rattle.page_action.specs.declared.page_store.PageStore.{Ghosts}
 use Rattle.tree_shape.specs.Nodes.{nodes_of}
 use Rattle.tree_acts.specs.Lows.{HasLow, HasLowUpTo}
-use Rattle.descent.specs.Ways.{root_level, NoneIsFlagged}
+use Rattle.tree_acts.specs.Levels.{root_level}
+use Rattle.tree_acts.specs.Ways.{NoneIsIncomplete}
 use Rattle.session_calls.specs.Due.{IsDueIn, IsServable, steps_for}
 use Rattle.session_calls.specs.Ops.{ends_call}
-use Rattle.session_calls.specs.Sessions.{OnlyOwnAreFlagged, ready_count, work_in}
+use Rattle.session_calls.specs.Sessions.{OnlyOwnAreIncomplete, ready_count, work_in}
 use Rattle.session_calls.specs.Slots.{slot_of}
 use Rattle.session_calls.specs.declared.answer.Answer.{Answer}
 use Rattle.session_calls.specs.declared.answer.Answer.TheVariants.{Begun, Going, Added, Ready, Refused}
 use Rattle.session_calls.specs.declared.request.Request.{Request}
 use Rattle.schedule.specs.Events.{IsOf}
 use Rattle.schedule.specs.Stands.{BeforeEach}
-use Rattle.schedule.specs.TheoremKinds.{Steps, Takes, GivesUp, Kind, BeginsCall, MovesCall, KeepsStore, kind_of}
+use Rattle.schedule.specs.TheoremKinds.{Steps, Takes, GivesUp, Kind, BeginsCall, MovesCall, MaintainsStore, kind_of}
 use Rattle.schedule.specs.TheoremMoments.{Moment}
 use Rattle.schedule.specs.TheoremRuns.{Fits, IsRun}
 use Rattle.schedule.specs.declared.event.Event.{Event}
@@ -40,18 +41,18 @@ IsUnanswered Going = Unit {0}
 IsUnanswered (Refused (Blocked block)) = Unit {0}
 IsUnanswered answer = ⊥
 
--- the session's call still waits for its answer behind this event: a step of it goes on or is blocked, and it isn't given up
-abbrev pub LeavesUnanswered : ℕ → Kind → Answer → Type 0
-LeavesUnanswered session (MovesCall of Steps) answer = of ≡ session → IsUnanswered answer
-LeavesUnanswered session (MovesCall of GivesUp) answer = of ≢ session
-LeavesUnanswered session (MovesCall of Takes) answer = Unit {0}
-LeavesUnanswered session (BeginsCall of request) answer = Unit {0}
-LeavesUnanswered session (KeepsStore upkeep) answer = Unit {0}
+-- the session's call still waits for its answer after this event: a step of it goes on or is blocked, and it isn't given up
+abbrev pub CallIsUnanswered : ℕ → Kind → Answer → Type 0
+CallIsUnanswered session (MovesCall of Steps) answer = of ≡ session → IsUnanswered answer
+CallIsUnanswered session (MovesCall of GivesUp) answer = of ≢ session
+CallIsUnanswered session (MovesCall of Takes) answer = Unit {0}
+CallIsUnanswered session (BeginsCall of request) answer = Unit {0}
+CallIsUnanswered session (MaintainsStore upkeep) answer = Unit {0}
 
--- ... behind each of these
-abbrev pub AllLeaveUnanswered : ℕ → List Event → List Answer → Type 0
-AllLeaveUnanswered session (event ∷ events) (answer ∷ answers) = LeavesUnanswered session (kind_of event) answer × AllLeaveUnanswered session events answers
-AllLeaveUnanswered session events answers = Unit {0}
+-- ... after each of these
+abbrev pub CallIsUnansweredAfterAll : ℕ → List Event → List Answer → Type 0
+CallIsUnansweredAfterAll session (event ∷ events) (answer ∷ answers) = CallIsUnanswered session (kind_of event) answer × CallIsUnansweredAfterAll session events answers
+CallIsUnansweredAfterAll session events answers = Unit {0}
 
 -- an event is a step of the session that goes on: 1, else 0
 abbrev pub goes_on : ℕ → Kind → Answer → ℕ
@@ -63,42 +64,42 @@ abbrev pub steps_gone : ℕ → List Event → List Answer → ℕ
 steps_gone session (event ∷ events) (answer ∷ answers) = goes_on session (kind_of event) answer + steps_gone session events answers
 steps_gone session events answers = 0
 
--- behind a run from the beginning of a session's call on, one step more at least is to be made, and so many are made and to be
+-- after a run from the beginning of a session's call on, one step more at least is to be made, and so many are made and to be
 -- made in sum
 pub record IsStillDue {S : Type 0} (g : Ghosts S) (session steps gone : ℕ) (last : Moment S) : Type 0 where
   pub left : ℕ
   pub due : IsDueIn (g.state last.store) (slot_of last.slots session) (suc left)
   pub sum : gone + suc left ≡ steps
 
--- In time: a call begins where no page is flagged and its leaf can serve it, and then no action is logged. Of its steps, blocked ones
--- not counted, fewer than the root's level and a few go on, 2 of a scan, 3 of an insert: the next one behind these brings what is
+-- In time: a call begins where no page has an incomplete split and its leaf can serve it, and then no action is logged. Of its steps, blocked ones
+-- not counted, fewer than the root's level and a few go on, 2 of a scan, 3 of an insert: the next one after these brings what is
 -- awaited (`CountsDown`), entries that are ready, or the entry added and nothing left unfinished, unless the device, the log or the
 -- frames hinder it.
 abbrev pub CallsComeInTime : {S : Type 0} → Ghosts S → Type 0
 CallsComeInTime {S} g =
     (start : Entry → Bool) (told : List Answer) (event : Event) (events : List Event) (answers : List Answer) (first last : Moment S) (session : ℕ) (request : Request)
     → IsRun g start told (event ∷ events) (Begun ∷ answers) first last → kind_of event ≡ BeginsCall session request
-    → NoneIsFlagged (g.state first.store).pages → IsServable (g.state first.store) request → last.history ≡ first.history → AllLeaveUnanswered session events answers
+    → NoneIsIncomplete (g.state first.store).pages → IsServable (g.state first.store) request → last.history ≡ first.history → CallIsUnansweredAfterAll session events answers
     → IsStillDue g session (root_level (g.state first.store).pages + steps_for request) (steps_gone session events answers) last
 
--- a step behind which no split is left unfinished: no fault ends its call, nor stands in the answer of an insert
+-- a step after which no split is left unfinished: no fault ends its call, nor stands in the answer of an insert
 abbrev pub IsUnfailed : Answer → Type 0
 IsUnfailed (Added action (Some fault)) = ⊥
 IsUnfailed (Refused fault) = ends_call fault ≡ false
 IsUnfailed answer = Unit {0}
 
--- behind this event the session's call has left no split unfinished: no fault ends it, and it isn't given up
-abbrev pub LeavesNoneUnfinished : ℕ → Kind → Answer → Type 0
-LeavesNoneUnfinished session (MovesCall of Steps) answer = of ≡ session → IsUnfailed answer
-LeavesNoneUnfinished session (MovesCall of GivesUp) answer = of ≢ session
-LeavesNoneUnfinished session (MovesCall of Takes) answer = Unit {0}
-LeavesNoneUnfinished session (BeginsCall of request) answer = Unit {0}
-LeavesNoneUnfinished session (KeepsStore upkeep) answer = Unit {0}
+-- after this event the session's call has left no split unfinished: no fault ends it, and it isn't given up
+abbrev pub LeavesNoneIncomplete : ℕ → Kind → Answer → Type 0
+LeavesNoneIncomplete session (MovesCall of Steps) answer = of ≡ session → IsUnfailed answer
+LeavesNoneIncomplete session (MovesCall of GivesUp) answer = of ≢ session
+LeavesNoneIncomplete session (MovesCall of Takes) answer = Unit {0}
+LeavesNoneIncomplete session (BeginsCall of request) answer = Unit {0}
+LeavesNoneIncomplete session (MaintainsStore upkeep) answer = Unit {0}
 
--- ... behind each of these
-abbrev pub AllLeaveNoneUnfinished : ℕ → List Event → List Answer → Type 0
-AllLeaveNoneUnfinished session (event ∷ events) (answer ∷ answers) = LeavesNoneUnfinished session (kind_of event) answer × AllLeaveNoneUnfinished session events answers
-AllLeaveNoneUnfinished session events answers = Unit {0}
+-- ... after each of these
+abbrev pub AllLeaveNoneIncomplete : ℕ → List Event → List Answer → Type 0
+AllLeaveNoneIncomplete session (event ∷ events) (answer ∷ answers) = LeavesNoneIncomplete session (kind_of event) answer × AllLeaveNoneIncomplete session events answers
+AllLeaveNoneIncomplete session events answers = Unit {0}
 
 -- no event of another session appends an action in a run
 abbrev pub OthersLogNothing : {S : Type 0} (g : Ghosts S) (start : Entry → Bool) (session : ℕ) (told : List Answer) (events : List Event) (answers : List Answer) (first last : Moment S)
@@ -110,19 +111,19 @@ OthersLogNothing g start session told [] (answer ∷ answers) first last run = �
 OthersLogNothing g start session told (event ∷ events) [] first last run = ⊥
 
 -- Over a run in which no other session appends an action, and no call of this one is given up or ended by a fault: where at first only
--- those pages are flagged whose splits the session's insert is to finish, so it is at last. So none is flagged where the session runs
+-- those pages have incomplete splits that the session's insert is to finish, so it is at last. So none has an incomplete split where the session runs
 -- nothing then.
 abbrev pub SplitsAreFinished : {S : Type 0} → Ghosts S → Type 0
 SplitsAreFinished {S} g =
     (start : Entry → Bool) (told : List Answer) (events : List Event) (answers : List Answer) (first last : Moment S) (run : IsRun g start told events answers first last) (session : ℕ)
-    → OthersLogNothing g start session told events answers first last run → AllLeaveNoneUnfinished session events answers
-    → OnlyOwnAreFlagged (g.state first.store) (slot_of first.slots session) → OnlyOwnAreFlagged (g.state last.store) (slot_of last.slots session)
+    → OthersLogNothing g start session told events answers first last run → AllLeaveNoneIncomplete session events answers
+    → OnlyOwnAreIncomplete (g.state first.store) (slot_of first.slots session) → OnlyOwnAreIncomplete (g.state last.store) (slot_of last.slots session)
 
 -- no call begins in the session by this event
 abbrev pub BeginsNone : ℕ → Kind → Answer → Type 0
 BeginsNone session (BeginsCall of request) answer = of ≡ session → answer ≢ Begun
 BeginsNone session (MovesCall of move) answer = Unit {0}
-BeginsNone session (KeepsStore upkeep) answer = Unit {0}
+BeginsNone session (MaintainsStore upkeep) answer = Unit {0}
 
 -- ... nor by any of these
 abbrev pub NoneBegins : ℕ → List Event → List Answer → Type 0

@@ -12,7 +12,7 @@ use Rattle.session_calls.specs.declared.op.Op.TheVariants.{Insert, Scan, Bulk, C
 use Rattle.schedule.specs.TheoremMoments.{Moment}
 use Rattle.schedule.specs.TheoremRuns.{Fits}
 use Rattle.session_calls.specs.Slots.{slot_of}
-use Rattle.schedule.specs.MomentInvariants.{slot_sweeps}
+use Rattle.schedule.specs.MomentInvariants.{slot_is_bulk_delete}
 use Rattle.schedule.specs.TheoremKinds.{Steps, Kind, MovesCall, kind_of}
 use Rattle.schedule.specs.TheoremRuns.{IsRun}
 use Rattle.schedule.specs.declared.event.Event.{Event}
@@ -39,7 +39,7 @@ BeforeEach g start Holds told (event ∷ events) [] first last run = ⊥
 
 -- an event of this kind isn't a step with which a session's bulk delete finishes
 abbrev pub DoesNotFinish : {S : Type 0} → Kind → Answer → Moment S → Type 0
-DoesNotFinish (MovesCall session Steps) answer now = slot_sweeps (slot_of now.slots session) ≡ true → (stats : VacuumStats) → answer ≢ Finished stats
+DoesNotFinish (MovesCall session Steps) answer now = slot_is_bulk_delete (slot_of now.slots session) ≡ true → (stats : VacuumStats) → answer ≢ Finished stats
 DoesNotFinish kind answer now = Unit {0}
 
 -- no bulk delete finishes in a run

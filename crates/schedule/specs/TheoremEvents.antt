@@ -15,11 +15,11 @@ use Rattle.session_calls.specs.declared.answer.Answer.TheVariants.{Begun, Added,
 use Rattle.session_calls.specs.declared.op.Op.{Op}
 use Rattle.session_calls.specs.declared.request.Request.{Request}
 use Rattle.schedule.specs.TheoremMoments.{Moment, RunsOne, IsRunningCall, Explains}
-use Rattle.schedule.specs.TheoremKinds.{Move, Forces, Flushes, Checkpoints, Kind, BeginsCall, MovesCall, KeepsStore}
+use Rattle.schedule.specs.TheoremKinds.{Move, Forces, Flushes, Checkpoints, Kind, BeginsCall, MovesCall, MaintainsStore}
 use Rattle.schedule.specs.TheoremRefusals.{MoveFails, EventFails}
 
 -- neither the pages, holdings and counts of the store are changed, nor what the sessions run, nor what tells of it
-pub record IsStill {S : Type 0} (g : Ghosts S) (old new : Moment S) : Type 0 where
+pub record IsSameState {S : Type 0} (g : Ghosts S) (old new : Moment S) : Type 0 where
   pub state_is : g.state new.store ≡ g.state old.store
   pub slots_is : new.slots ≡ old.slots
   pub history_is : new.history ≡ old.history
@@ -31,7 +31,7 @@ pub record CallIsBegun {S : Type 0} (session : ℕ) (request : Request) (old new
   pub history_is : new.history ≡ old.history
   pub calls_is : new.calls ≡ old.calls ++ begun_call session (asked_by old.sets request) (length old.history) ∷ []
 
--- one split is finished: one page is no longer flagged, and one page at most is now that wasn't, one level higher
+-- one split is finished: one page no longer has an incomplete split, and one page at most is now that wasn't, one level higher
 pub record ClearsOneSplit (old new : ℕ → Node) : Type 0 where
   pub cleared : ℕ
   pub was : (old cleared).split ≡ true
@@ -61,7 +61,7 @@ IsRefusedFor Fails answer = Unit {0}
 
 -- The session's running call goes on: one action at most is appended, which is its own, and the call is what the answer makes of it,
 -- with the number of its Add, if it has one then. A refusal has its cause.
-pub record CallGoesOn {S : Type 0} (g : Ghosts S) (session : ℕ) (move : Move) (answer : Answer) (old new : Moment S) : Type 0 where
+pub record CallContinues {S : Type 0} (g : Ghosts S) (session : ℕ) (move : Move) (answer : Answer) (old new : Moment S) : Type 0 where
   pub op : Op
   pub runs : slice_get old.slots session ≡ Some (Some op)
   pub number : ℕ
@@ -77,7 +77,7 @@ pub record CallGoesOn {S : Type 0} (g : Ghosts S) (session : ℕ) (move : Move) 
 
 -- so many actions there are, and all are durable
 pub record AllAreDurable {S : Type 0} (g : Ghosts S) (count : ℕ) (old new : Moment S) : Type 0 where
-  pub still : IsStill g old new
+  pub still : IsSameState g old new
   pub count_is : count ≡ length old.history
   pub durable : (g.backing new.store).durable ≡ count
 
@@ -85,17 +85,17 @@ pub record AllAreDurable {S : Type 0} (g : Ghosts S) (count : ℕ) (old new : Mo
 -- tells which of the changed pages it wrote, the one that waited longest.
 abbrev pub Means : {S : Type 0} → Ghosts S → Kind → Answer → Moment S → Moment S → Type 0
 Means g (BeginsCall session request) Begun old new = CallIsBegun session request old new
-Means g (BeginsCall session request) (Refused fault) old new = IsStill g old new × EventFails g (BeginsCall session request) old new.store fault
+Means g (BeginsCall session request) (Refused fault) old new = IsSameState g old new × EventFails g (BeginsCall session request) old new.store fault
 Means g (BeginsCall session request) answer old new = ⊥
 Means g (MovesCall session move) (Refused fault) old new =
-    CallGoesOn g session move (Refused fault) old new
-    ⊎ ((RunsOne old.slots session → ⊥) × IsStill g old new × EventFails g (MovesCall session move) old new.store fault)
-Means g (MovesCall session move) answer old new = CallGoesOn g session move answer old new
-Means g (KeepsStore Forces) (Forced count) old new = AllAreDurable g count old new
-Means g (KeepsStore Flushes) (Flushed block) old new = IsStill g old new × (block ≡ slice_get (g.backing old.store).changed 0)
-Means g (KeepsStore Checkpoints) (Checkpointed count) old new = AllAreDurable g count old new
-Means g (KeepsStore upkeep) (Refused fault) old new = IsStill g old new × EventFails g (KeepsStore upkeep) old new.store fault
-Means g (KeepsStore upkeep) answer old new = ⊥
+    CallContinues g session move (Refused fault) old new
+    ⊎ ((RunsOne old.slots session → ⊥) × IsSameState g old new × EventFails g (MovesCall session move) old new.store fault)
+Means g (MovesCall session move) answer old new = CallContinues g session move answer old new
+Means g (MaintainsStore Forces) (Forced count) old new = AllAreDurable g count old new
+Means g (MaintainsStore Flushes) (Flushed block) old new = IsSameState g old new × (block ≡ slice_get (g.backing old.store).changed 0)
+Means g (MaintainsStore Checkpoints) (Checkpointed count) old new = AllAreDurable g count old new
+Means g (MaintainsStore upkeep) (Refused fault) old new = IsSameState g old new × EventFails g (MaintainsStore upkeep) old new.store fault
+Means g (MaintainsStore upkeep) answer old new = ⊥
 
 -- a number of actions that was answered as durable is not above this
 abbrev pub IsDurable : ℕ → Answer → Type 0
@@ -103,7 +103,7 @@ IsDurable durable (Forced count) = count ≤ durable
 IsDurable durable (Checkpointed count) = count ≤ durable
 IsDurable durable answer = Unit {0}
 
--- an event of this kind with this answer: what it means, by a history and calls that explain the moment behind it
+-- an event of this kind with this answer: what it means, by a history and calls that explain the moment after it
 pub record EventMeans {S : Type 0} (g : Ghosts S) (start : Entry → Bool) (kind : Kind) (answer : Answer) (old new : Moment S) : Type 0 where
   pub means : Means g kind answer old new
   pub sets : new.sets ≡ old.sets

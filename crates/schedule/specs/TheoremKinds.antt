@@ -21,7 +21,7 @@ pub data Upkeep : Type 0 where
 pub data Kind : Type 0 where
   BeginsCall : ℕ → Request → Kind
   MovesCall : ℕ → Move → Kind
-  KeepsStore : Upkeep → Kind
+  MaintainsStore : Upkeep → Kind
 
 -- the kind of an event
 abbrev pub kind_of : Event → Kind
@@ -32,6 +32,6 @@ kind_of (Cleanup session) = BeginsCall session ToCleanup
 kind_of (Step session) = MovesCall session Steps
 kind_of (Next session) = MovesCall session Takes
 kind_of (End session) = MovesCall session GivesUp
-kind_of Force = KeepsStore Forces
-kind_of Flush = KeepsStore Flushes
-kind_of Checkpoint = KeepsStore Checkpoints
+kind_of Force = MaintainsStore Forces
+kind_of Flush = MaintainsStore Flushes
+kind_of Checkpoint = MaintainsStore Checkpoints

@@ -16,12 +16,12 @@ use Rattle.session_calls.specs.declared.op.Op.{Op}
 use Rattle.session_calls.specs.declared.op.Op.TheVariants.{Insert, Scan, Bulk, Cleanup}
 use Rattle.session_calls.specs.declared.request.Request.TheVariants.{Bulk as ToBulk}
 use Rattle.schedule.specs.TheoremMoments.{Moment, RunsOne, IsRunningCall}
-use Rattle.schedule.specs.TheoremKinds.{Move, Steps, Takes, Kind, BeginsCall, MovesCall, KeepsStore}
+use Rattle.schedule.specs.TheoremKinds.{Move, Steps, Takes, Kind, BeginsCall, MovesCall, MaintainsStore}
 
 -- what stands in the way of a call that was asked this: a latch of the block; of a bulk delete also a pin
-abbrev pub StandsInWay : Ask → Holding → ℕ → Type 0
-StandsInWay (AskBulkDelete dead) holding block = IsIn block (map (λ latch. latch.block) holding.latches) ⊎ IsIn block holding.pins
-StandsInWay ask holding block = IsIn block (map (λ latch. latch.block) holding.latches)
+abbrev pub BlocksCall : Ask → Holding → ℕ → Type 0
+BlocksCall (AskBulkDelete dead) holding block = IsIn block (map (λ latch. latch.block) holding.latches) ⊎ IsIn block holding.pins
+BlocksCall ask holding block = IsIn block (map (λ latch. latch.block) holding.latches)
 
 -- what another session holds stands in the way
 pub record IsHeldByAnother (table : Table) (session : ℕ) (ask : Ask) (block : ℕ) : Type 0 where
@@ -29,7 +29,7 @@ pub record IsHeldByAnother (table : Table) (session : ℕ) (ask : Ask) (block : 
   pub apart : other ≢ session
   pub holding : Holding
   pub held : slice_get table other ≡ Some holding
-  pub stands : StandsInWay ask holding block
+  pub stands : BlocksCall ask holding block
 
 -- no block is unused, and the page of each deleted one may still be come to by a running call, which began before it was deleted
 pub record HasNoBlock (st : State) : Type 0 where
@@ -87,6 +87,6 @@ EventFails g (BeginsCall session request) old new VacuumRunning =
     Vacuums (asked_by old.sets request) × ((other number : ℕ) × (call : Call) × IsRunningCall old.calls other number call × Vacuums call.ask)
 EventFails g (MovesCall session move) old new NoSession = Unit {0}
 EventFails g (MovesCall session Steps) old new Stopped = (g.backing old.store).stopped ≡ true
-EventFails g (KeepsStore upkeep) old new Io = (g.backing old.store).failures < (g.backing new).failures
-EventFails g (KeepsStore upkeep) old new Stopped = (g.backing old.store).stopped ≡ true
+EventFails g (MaintainsStore upkeep) old new Io = (g.backing old.store).failures < (g.backing new).failures
+EventFails g (MaintainsStore upkeep) old new Stopped = (g.backing old.store).stopped ≡ true
 EventFails g kind old new fault = ⊥

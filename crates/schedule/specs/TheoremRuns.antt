@@ -25,18 +25,18 @@ AreDurable durable (answer ∷ answers) = IsDurable durable answer × AreDurable
 
 -- One event with its answer: what it means, and what it also leaves; and what a crash at any moment of it leaves, where the history was
 -- kept before.
-pub record EventGoes {S : Type 0} (g : Ghosts S) (start : Entry → Bool) (event : Event) (answer : Answer) (old new : Moment S) : Type 0 where
+pub record EventIsRun {S : Type 0} (g : Ghosts S) (start : Entry → Bool) (event : Event) (answer : Answer) (old new : Moment S) : Type 0 where
   pub means : EventMeans g start (kind_of event) answer old new
   pub also : EventAlso g start (kind_of event) answer old new
   pub crash : KeepsHistory g start old → IsCrashSafe g start old new
 
--- A run behind these answers: events with an answer each, from one moment to another, each store following the one before.
+-- A run after these answers: events with an answer each, from one moment to another, each store following the one before.
 -- Before each event, every number of actions that was told as durable is.
 abbrev pub IsRun : {S : Type 0} → Ghosts S → (Entry → Bool) → List Answer → List Event → List Answer → Moment S → Moment S → Type 0
 IsRun g start told [] [] first last = first ≡ last
 IsRun {S} g start told (event ∷ events) (answer ∷ answers) first last =
     AreDurable (g.backing first.store).durable told
-    × ((next : Moment S) × EventGoes g start event answer first next × IsRun g start (told ++ answer ∷ []) events answers next last)
+    × ((next : Moment S) × EventIsRun g start event answer first next × IsRun g start (told ++ answer ∷ []) events answers next last)
 IsRun g start told [] (answer ∷ answers) first last = ⊥
 IsRun g start told (event ∷ events) [] first last = ⊥
 
@@ -66,5 +66,5 @@ pub record Runs {S : Type 0} (g : Ghosts S) (old new : StoreAndSlots S) (events 
 pub record EventFollows {S : Type 0} (g : Ghosts S) (old new : StoreAndSlots S) (event : Event) (answer : Answer) (start : Entry → Bool) (history : List Action) (calls : List Call) : Type 0 where
   pub then_history : List Action
   pub then_calls : List Call
-  pub goes : EventGoes g start event answer (snapshot_of old history calls) (snapshot_of new then_history then_calls)
+  pub goes : EventIsRun g start event answer (snapshot_of old history calls) (snapshot_of new then_history then_calls)
   pub fits : Fits g start (snapshot_of new then_history then_calls)

@@ -56,13 +56,14 @@ pub fn lows_stay<S: PageStore>()
 {}
 
 /// Does nothing: its clause says that a scan's entries are ready at its step whose number is the root's level and 2, and an
-/// insert whose leaf has room is added at the root's level and 3, where no page is flagged and no action is logged meanwhile.
+/// insert whose leaf has room is added at the root's level and 3, where no page has an incomplete split and no action is logged
+/// meanwhile.
 pub fn calls_come_in_time<S: PageStore>()
     ensures { CallsComeInTime S.PageStore }
 {}
 
-/// Does nothing: its clause says that an insert leaves no page flagged that it began to split, over a run in which no other
-/// session's event appends an action, unless a fault ends it or stands in its answer, or it is given up.
+/// Does nothing: its clause says that an insert leaves no page with an incomplete split that it began to split, over a run in which
+/// no other session's event appends an action, unless a fault ends it or stands in its answer, or it is given up.
 pub fn splits_are_finished<S: PageStore>()
     ensures { SplitsAreFinished S.PageStore }
 {}

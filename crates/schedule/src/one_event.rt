@@ -1,15 +1,15 @@
 //! One event of a store with its sessions, and lists of them.
 
 ghost use Rattle.std.specs.Prelude.{◌≡◌, ◌≤◌, ◌+◌, ℕ, List, Option, IfErr, IsOk, OnOk, OnErr, length, take, vec_len, vec_capacity};
-ghost use Rattle.page_action.specs.Room.{HasWholeRoom};
+ghost use Rattle.page_action.specs.Room.{LogIsClosed};
 ghost use Rattle.page_action.specs.States.{Continues};
 ghost use Rattle.session_calls.specs.TheoremCalls.{DeadSets};
 ghost use Rattle.session_calls.specs.declared.op.Op.{Op};
 ghost use Rattle.schedule.specs.Sessions.{here};
 ghost use Rattle.schedule.specs.MomentInvariants.{here_with};
-ghost use Rattle.schedule.specs.TheoremKinds.{BeginsCall, KeepsStore, Forces, Flushes, Checkpoints, kind_of};
+ghost use Rattle.schedule.specs.TheoremKinds.{BeginsCall, MaintainsStore, Forces, Flushes, Checkpoints, kind_of};
 ghost use Rattle.schedule.specs.Events.{AnswersUpkeep, StoreIsKept};
-ghost use Rattle.schedule.specs.Making.{Makes, EachAlways, answers_behind};
+ghost use Rattle.schedule.specs.Making.{EventEffect, EachAlways, answers_after};
 ghost use Rattle.schedule.specs.TheoremRuns.{ForEachHistory, Runs};
 
 use crate::event::Event;
@@ -28,7 +28,7 @@ pub fn one<S: PageStore, T: DeadRows>(
     event: Event,
 ) -> Answer
     ensures steps { Continues S.follows store.old store.new }
-    ensures makes { Makes S.PageStore (kind_of event) result
+    ensures makes { EventEffect S.PageStore (kind_of event) result
         (here T.DeadRows store.old calls.old sets.now)
         (here T.DeadRows store.new calls.new sets.now) }
 {
@@ -58,7 +58,7 @@ pub fn begin<S: PageStore, T: DeadRows>(
     request: Request,
 ) -> Answer
     ensures steps { Continues S.follows store.old store.new }
-    ensures makes { Makes S.PageStore (BeginsCall session request) result
+    ensures makes { EventEffect S.PageStore (BeginsCall session request) result
         (here T.DeadRows store.old calls.old sets.now)
         (here T.DeadRows store.new calls.new sets.now) }
 {
@@ -75,7 +75,7 @@ pub fn step<S: PageStore, T: DeadRows>(
     session: u32,
 ) -> Answer
     ensures steps { Continues S.follows store.old store.new }
-    ensures makes { Makes S.PageStore (kind_of (Event.Step session)) result
+    ensures makes { EventEffect S.PageStore (kind_of (Event.Step session)) result
         (here T.DeadRows store.old calls.old sets.now)
         (here T.DeadRows store.new calls.new sets.now) }
 {
@@ -91,14 +91,14 @@ pub fn next<S: PageStore, T: DeadRows>(
     session: u32,
 ) -> Answer
     ensures steps { Continues S.follows store.old store.new }
-    ensures makes { Makes S.PageStore (kind_of (Event.Next session)) result
+    ensures makes { EventEffect S.PageStore (kind_of (Event.Next session)) result
         (here T.DeadRows store.old calls.old sets.now)
         (here T.DeadRows store.new calls.new sets.now) }
 {
     calls.next(session)
 }
 
-/// Does these events one after the other, each as `one` does, and puts an answer for each behind the answers that are
+/// Does these events one after the other, each as `one` does, and puts an answer for each after the answers that are
 /// there. Refused with `NoMemory` (1) where there is no room for the answers: nothing is done then.
 pub fn run<S: PageStore, T: DeadRows>(
     store: &mut S,
@@ -113,11 +113,11 @@ pub fn run<S: PageStore, T: DeadRows>(
         (let old = here T.DeadRows store.old calls.old sets.now in
         let new = here T.DeadRows store.new calls.new sets.now in
         ForEachHistory S.PageStore old new (Runs S.PageStore old new events.now
-        (answers_behind answers.old.items answers.new.items))) }
+        (answers_after answers.old.items answers.new.items))) }
     // Of each event holds what always holds, whatever the pages are.
     ensures always { OnOk result
         (EachAlways S.PageStore events.now
-        (answers_behind answers.old.items answers.new.items)
+        (answers_after answers.old.items answers.new.items)
         (here T.DeadRows store.old calls.old sets.now)
         (here T.DeadRows store.new calls.new sets.now)) }
     ensures each { OnOk result (length answers.new.items
@@ -144,7 +144,7 @@ pub fn run<S: PageStore, T: DeadRows>(
 pub fn force<S: PageStore>(store: &mut S) -> Answer
     ensures steps { Continues S.follows store.old store.new }
     ensures makes { (slots : List (Option Op)) (sets : DeadSets)
-        → Makes S.PageStore (KeepsStore Forces) result
+        → EventEffect S.PageStore (MaintainsStore Forces) result
         (here_with store.old slots sets) (here_with store.new slots sets) }
     ensures answers { AnswersUpkeep Forces result }
     ensures kept { StoreIsKept S.PageStore Forces result store.old store.new }
@@ -160,12 +160,12 @@ pub fn force<S: PageStore>(store: &mut S) -> Answer
 pub fn checkpoint<S: PageStore>(store: &mut S) -> Answer
     ensures steps { Continues S.follows store.old store.new }
     ensures makes { (slots : List (Option Op)) (sets : DeadSets)
-        → Makes S.PageStore (KeepsStore Checkpoints) result
+        → EventEffect S.PageStore (MaintainsStore Checkpoints) result
         (here_with store.old slots sets) (here_with store.new slots sets) }
     ensures answers { AnswersUpkeep Checkpoints result }
     ensures kept { StoreIsKept S.PageStore Checkpoints result store.old store.new }
     ensures room { (count : ℕ) → result ≡ Answer.Checkpointed count
-        → HasWholeRoom (S.state store.old).limits (S.backing store.new) }
+        → LogIsClosed (S.state store.old).limits (S.backing store.new) }
 {
     match store.checkpoint() {
         Ok(count) => Answer::Checkpointed(count),
@@ -176,7 +176,7 @@ pub fn checkpoint<S: PageStore>(store: &mut S) -> Answer
 fn flush<S: PageStore>(store: &mut S) -> Answer
     ensures steps { Continues S.follows store.old store.new }
     ensures makes { (slots : List (Option Op)) (sets : DeadSets)
-        → Makes S.PageStore (KeepsStore Flushes) result
+        → EventEffect S.PageStore (MaintainsStore Flushes) result
         (here_with store.old slots sets) (here_with store.new slots sets) }
 {
     match store.flush() {

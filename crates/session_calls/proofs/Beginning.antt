@@ -2,7 +2,7 @@
 use Rattle.std.proofs.Common.{◌≡◌, ◌+◌, ◌≤◌, ℕ, slice_get, ◌<◌, Bool, true, false, not, Option, Some, None, List, [], ◌∷◌, length, refl, sym, ap, subst, ◌∙◌, arith, length-set}
 use Rattle.std.specs.Prelude.{unwrap_or}
 use Rattle.index_model.specs.Actions.{Action}
-use Rattle.index_model.specs.Calls.{Running, GivesOnly, Meets}
+use Rattle.index_model.specs.Calls.{GivesOnly, Meets}
 use Rattle.index_model.specs.Order.{is_past}
 use Rattle.index_model.specs.Range.{matches, from_admits, below_admits, start_of}
 use Rattle.index_model.specs.declared.entry.Entry.{Entry}
@@ -13,16 +13,17 @@ use Rattle.tree_acts.proofs.Leaving.{leaves_same}
 use Rattle.tree_acts.proofs.Lows.{lows_same}
 use Rattle.vacuum.proofs.Lasting.{all_to_come}
 use Rattle.page_codec.specs.declared.page.Page.{Page}
-use Rattle.descent.specs.Shared.{NumbersStay, IsInOrder, OthersRely}
+use Rattle.tree_acts.specs.StepEffects.{NumbersStay, IsInOrder, OthersRely}
 use Rattle.insert_split.proofs.Lasting.{bounded as insert_bounded}
 use Rattle.scan.proofs.Lasting.{bounded as scan_bounded}
-use Rattle.descent.specs.Ways.{root_level, NoneIsFlagged}
+use Rattle.tree_acts.specs.Levels.{root_level}
+use Rattle.tree_acts.specs.Ways.{NoneIsIncomplete}
 use Rattle.session_calls.specs.Due.{IsServable, IsDueIn, steps_for, HasSteps}
 use Rattle.session_calls.proofs.Counting.{due_still}
 use Rattle.session_calls.specs.Ops.{set_at}
 use Rattle.session_calls.specs.TheoremCalls.{DeadSets, asked_by, begun_call}
-use Rattle.session_calls.specs.Ops.{op_before, IsOfSets, asks_sweep}
-use Rattle.session_calls.specs.Sweeps.{IsSweepSoFar, SlotSweeps}
+use Rattle.session_calls.specs.Ops.{op_before, IsOfSets, asks_bulk_delete}
+use Rattle.session_calls.specs.BulkDeletions.{IsBulkDeleteSoFar, SlotDeletions}
 use Rattle.session_calls.proofs.Bounds.{bulk_few, cleanup_few}
 use Rattle.session_calls.proofs.Starting.{starts_kept, starts_begun, tree_begun}
 use Rattle.session_calls.specs.Sessions.{Matches, IsIdle, OpRuns, work_left, work_in, after_request, SessionBegins}
@@ -117,8 +118,8 @@ requested_cycle false st session none = refl
 requested_cycle true st session none = absurd cc
 
 -- a cycle number isn't 0
-cycle_runs : (counter : ℕ) → nat_lt 0 (next_cycle counter) ≡ true
-cycle_runs counter = elim (counter == 4294967295) as (λ b. nat_lt 0 (if b then 1 else suc counter) ≡ true) [ true ↦ refl | false ↦ lt-ltb 0 (suc counter) (omega arith) ]
+cycle_runs : (last_cycle : ℕ) → nat_lt 0 (next_cycle last_cycle) ≡ true
+cycle_runs last_cycle = elim (last_cycle == 4294967295) as (λ b. nat_lt 0 (if b then 1 else suc last_cycle) ≡ true) [ true ↦ refl | false ↦ lt-ltb 0 (suc last_cycle) (omega arith) ]
 
 -- an entry lies beyond the start of a range exactly if its key isn't before the range
 pub past_start : (range : Range) (e : Entry) → is_past (start_of range) e ≡ from_admits range.from e.key
@@ -143,7 +144,7 @@ nothing_given start history range began = record { ascending = tt; matched = λ 
 
 module _ (old : State) (sets : DeadSets) (start : Entry → Bool) (history : List Action) (number session : ℕ) (low : session < 64) (m : Matches old start history) (idle : IsIdle old session) where
   abbrev then_state : Request → State
-  then_state request = after_request (asks_sweep request) session old
+  then_state request = after_request (asks_bulk_delete request) session old
 
   starts : slice_get (after_begin session old).running session ≡ Some (Some old.begun)
   starts = (let many : length old.running ≡ 64 = m.order.calls in get_set_same old.running session (Some old.begun) (omega arith))
@@ -184,7 +185,7 @@ module _ (old : State) (sets : DeadSets) (start : Entry → Bool) (history : Lis
       was_there = λ e h. absurd cc;
       complete = λ e behind match through. absurd (not_before range e match behind);
       reached = λ e h. absurd cc;
-      onward = λ e not. tt;
+      next_page = λ e not. tt;
     };
   }
   begun_runs (ToBulk set) =
@@ -209,35 +210,32 @@ module _ (old : State) (sets : DeadSets) (start : Entry → Bool) (history : Lis
       }
 
   begun_sweep : (set : ℕ)
-      → IsSweepSoFar (after_start_cycle (after_begin session old)) (set_at sets set) start history number (length history)
+      → IsBulkDeleteSoFar (after_start_cycle (after_begin session old)) (set_at sets set) start history number (length history)
       (record { session = session; cursor = 1; back = None; left = 0; removed = 0 })
   begun_sweep set = record {
-    runs = cycle_runs old.counter;
+    runs = cycle_runs old.last_cycle;
     to_come = λ due are. all_to_come due (after_start_cycle (after_begin session old)) session (cycled_order (after_begin session old) (begun_order old session low m.order));
     removed = sym (ap (λ (l : List Action). removed_by number l) (drop_all (length history) history (omega arith)));
   }
 
-  begun_sweeps : (request : Request) → IsOfSets sets request → SlotSweeps (then_state request) sets start history number (length history) (Some (op_before session request))
+  begun_sweeps : (request : Request) → IsOfSets sets request → SlotDeletions (then_state request) sets start history number (length history) (Some (op_before session request))
   begun_sweeps (ToInsert e) there = tt
   begun_sweeps (ToScan range) there = tt
   begun_sweeps ToCleanup there = tt
   begun_sweeps (ToBulk set) there = (there, begun_sweep set)
 
-  running_from : (request : Request) → (begun_call session (asked_by sets request) (length history)).ending ≡ Running
-  running_from request = refl
-
-  pub begins : (new : State) (request : Request) (slot : Option Op) → new ≡ after_request (asks_sweep request) session old
+  pub begins : (new : State) (request : Request) (slot : Option Op) → new ≡ after_request (asks_bulk_delete request) session old
       → slot ≡ Some (op_before session request) → SessionBegins old new sets start history number session request slot
   begins new request slot is slot_is =
       subst (λ (st : State). SessionBegins old st sets start history number session request slot) (sym is)
       (subst (λ (x : Option Op). SessionBegins old (then_state request) sets start history number session request x) (sym slot_is) (record {
-        world = requested_matches (asks_sweep request) old session start history low m;
-        others = requested_others (asks_sweep request) old session;
+        world = requested_matches (asks_bulk_delete request) old session start history low m;
+        others = requested_others (asks_bulk_delete request) old session;
         meets = begun_meets request;
         holds = (refl, begun_runs request);
-        cycle = requested_cycle (asks_sweep request) old session;
-        leaves = leaves_same old (then_state request) (requested_pages (asks_sweep request) old session);
-        sweeps = begun_sweeps request;
+        cycle = requested_cycle (asks_bulk_delete request) old session;
+        leaves = leaves_same old (then_state request) (requested_pages (asks_bulk_delete request) old session);
+        deletions = begun_sweeps request;
       }))
 
 few_from : (most : ℕ) (pages : List Page) (session : ℕ) (request : Request) → most ≤ 65536 → length pages ≤ 65536 → work_left most pages (Some (op_before session request)) < 281474976710656
@@ -247,7 +245,7 @@ few_from most pages session (ToBulk set) low few = (let k = bulk_few most (lengt
 few_from most pages session ToCleanup low few = cleanup_few most (length pages) 1 low few
 
 -- a request that its leaf can serve is due after so many steps
-due_from : (old : State) (session : ℕ) (request : Request) → NoneIsFlagged old.pages → IsServable old request
+due_from : (old : State) (session : ℕ) (request : Request) → NoneIsIncomplete old.pages → IsServable old request
     → IsDueIn old (Some (op_before session request)) (root_level old.pages + steps_for request)
 due_from old session (ToInsert e) whole servable = record { steps_are = refl; whole = whole; way = tt; absent = servable.0; key_absent = servable.1; room = servable.2 }
 due_from old session (ToScan range) whole servable = record { steps_are = refl; whole = whole; way = tt; none = refl }
@@ -259,13 +257,13 @@ few_begun : (v : Bool) (old : State) (session : ℕ) (request : Request) → old
 few_begun false old session request low few = few_from old.limits.pages old.pages session request low few
 few_begun true old session request low few = few_from old.limits.pages old.pages session request low few
 
-pub has_steps : (old new : State) (session : ℕ) (request : Request) (slot : Option Op) → new ≡ after_request (asks_sweep request) session old → slot ≡ Some (op_before session request)
+pub has_steps : (old new : State) (session : ℕ) (request : Request) (slot : Option Op) → new ≡ after_request (asks_bulk_delete request) session old → slot ≡ Some (op_before session request)
     → old.limits.pages ≤ 65536 → length old.pages ≤ 65536 → HasSteps old new request slot
 has_steps old new session request slot is slot_is low few =
-    subst (λ (st : State). HasSteps old st request slot) (sym is) (subst (λ (x : Option Op). HasSteps old (after_request (asks_sweep request) session old) request x) (sym slot_is)
+    subst (λ (st : State). HasSteps old st request slot) (sym is) (subst (λ (x : Option Op). HasSteps old (after_request (asks_bulk_delete request) session old) request x) (sym slot_is)
     (record {
       due = λ whole servable.
-          due_still old (after_request (asks_sweep request) session old) (Some (op_before session request)) (root_level old.pages + steps_for request)
-          (requested_limits (asks_sweep request) old session) (requested_pages (asks_sweep request) old session) (due_from old session request whole servable);
-      bounded = few_begun (asks_sweep request) old session request low few;
+          due_still old (after_request (asks_bulk_delete request) session old) (Some (op_before session request)) (root_level old.pages + steps_for request)
+          (requested_limits (asks_bulk_delete request) old session) (requested_pages (asks_bulk_delete request) old session) (due_from old session request whole servable);
+      bounded = few_begun (asks_bulk_delete request) old session request low few;
     }))

@@ -3,7 +3,7 @@ use Rattle.std.proofs.Common.{ℕ, suc, ◌+◌, ◌-◌, ◌<◌, ◌≤◌, Op
 use Rattle.std.proofs.lemmas.Nat.{mul-le}
 use Rattle.tree_acts.proofs.Sizes.{pages_few}
 use Rattle.vacuum.specs.Work.{moves_left, bulk_delete_left}
-use Rattle.vacuum.specs.declared.steps.Back.{Back}
+use Rattle.vacuum.specs.declared.steps.Backtrack.{Backtrack}
 use Rattle.insert_split.proofs.Lasting.{bounded_at_each_moment as insert_bounded}
 use Rattle.scan.proofs.Lasting.{bounded_at_each_moment as scan_bounded}
 use Rattle.page_delete.proofs.Lasting.{cleanups_bounded}
@@ -12,12 +12,12 @@ use Rattle.page_delete.specs.declared.steps.CleanupAt.TheVariants.{Look}
 use Rattle.session_calls.specs.Bounds.{CallsAreBounded}
 use Rattle.session_calls.specs.declared.op.Op.TheVariants.{Insert, Scan, Bulk, Cleanup}
 
-moves_few : (most : ℕ) (back : Option Back) → moves_left most back ≤ suc (suc most)
+moves_few : (most : ℕ) (back : Option Backtrack) → moves_left most back ≤ suc (suc most)
 moves_few most None = omega arith
 moves_few most (Some back) = omega arith
 
 -- a bulk delete has no more left than each page and each move back
-pub bulk_few : (most used cursor : ℕ) (back : Option Back) → most ≤ 65536 → used ≤ 65536 → bulk_delete_left most used cursor back < 4398046511104
+pub bulk_few : (most used cursor : ℕ) (back : Option Backtrack) → most ≤ 65536 → used ≤ 65536 → bulk_delete_left most used cursor back < 4398046511104
 bulk_few most used cursor back low few =
     let blocks = mul-le (used - cursor) (most + 3) 65536 65539 (omega arith) (omega arith) in
     let moves = moves_few most back in

@@ -1,5 +1,5 @@
 -- The steps of a cleanup over histories.
-use Rattle.std.proofs.Common.{◌≡◌, ℕ, suc, Bool, true, false, if◌then◌else◌, Option, Some, None, List, [], length, refl, sym, ap, subst, ◌∙◌, arith}
+use Rattle.std.proofs.Common.{◌≡◌, ℕ, suc, Bool, true, false, if◌then◌else◌, Option, Some, None, List, length, refl, sym, ap, subst, arith}
 use Rattle.std.proofs.lemmas.List.{append-nil}
 use Rattle.index_model.specs.Actions.{Effect, Add, Remove, Shape, Action, contents_after}
 use Rattle.index_model.specs.Calls.{Ask, AskCleanup, Vacuumed, Call, AnswersRight, Meets}
@@ -8,17 +8,15 @@ use Rattle.index_model.specs.declared.entry.Entry.{Entry}
 use Rattle.index_model.specs.declared.fault.Fault.{Fault}
 use Rattle.index_model.specs.declared.stats.VacuumStats.{VacuumStats}
 use Rattle.page_action.specs.States.{State, Backing}
-use Rattle.split_finish.specs.Targets.{OnlyTargetsAreFlagged}
-use Rattle.descent.specs.Steps.{Changes}
-use Rattle.descent.specs.Shared.{DeletesLeaves, is_flagged}
-use Rattle.page_delete.specs.Cleanups.{CleanupGoesOn, CleanupEnds, CleanupStays, causes_of_cleaning}
+use Rattle.tree_acts.specs.StepEffects.{DeletesLeaves}
+use Rattle.page_delete.specs.Cleanups.{CleanupContinues, CleanupEnds, CleanupStays, causes_of_cleaning}
 use Rattle.page_delete.specs.Counts.{IsCleaned}
 use Rattle.page_delete.specs.declared.steps.CleanupOp.{CleanupOp}
-use Rattle.page_delete.specs.Parts.{PinnedLeavesStay}
+use Rattle.page_delete.specs.Parts.{PinnedLeafPagesStay}
 use Rattle.session_calls.specs.Ops.{ends_call}
 use Rattle.session_calls.specs.TheoremCalls.{DeadSets}
 use Rattle.session_calls.specs.Ops.{causes_of_stepped}
-use Rattle.session_calls.specs.Sessions.{CallFits, IsAsked, add_after, ended, OpGoes, slot_after, SlotIsCounted}
+use Rattle.session_calls.specs.Sessions.{CallFits, IsAsked, add_after, ended, OpEvent, slot_after, SlotIsCounted}
 use Rattle.session_calls.specs.declared.answer.Answer.TheVariants.{Going, Finished, Refused}
 use Rattle.session_calls.specs.declared.op.Op.TheVariants.{Cleanup}
 use Rattle.session_calls.proofs.Effects.{works_cleaning, works_nothing}
@@ -41,13 +39,6 @@ none_added action old new (Some (Add e)) h = absurd h
 none_added action old new (Some (Remove es)) h = absurd h
 none_added action old new (Some Shape) h = refl
 
--- no page is flagged behind a step of a cleanup, where none was before
-pub still_unflagged : (old new : State) (effect : Option Effect) → Changes effect old new → DeletesLeaves effect old new → OnlyTargetsAreFlagged old [] → OnlyTargetsAreFlagged new []
-still_unflagged old new None changes h none block is = none block (subst (λ (st : State). is_flagged st block ≡ true) changes is)
-still_unflagged old new (Some (Add e)) changes h none block is = absurd h
-still_unflagged old new (Some (Remove es)) changes h none block is = absurd h
-still_unflagged old new (Some Shape) changes h none block is = none block (sym (h.flags.flags block) ∙ is)
-
 -- what it has cleaned, where it is refused
 pub cleaned_still : (sets : DeadSets) (st : State) (op : CleanupOp) (fault : Fault) → IsCleaned st op → SlotIsCounted sets st (slot_after (Refused fault) (Cleanup op))
 cleaned_still sets st op fault h = by (ends_call fault)
@@ -64,12 +55,12 @@ module _ {sets : DeadSets} (old new : State) (first second : Backing) (start : E
   asked : (effect : Option Effect) → DeletesLeaves effect old new → IsAsked (contents_after start history) call.ask call.added effect
   asked effect h = subst (λ (a : Ask). IsAsked (contents_after start history) a call.added effect) (sym fits.runs.ask) (may_do (contents_after start history) call.added old new effect h)
 
-  pub cleanup_goes_on : CleanupGoesOn old new before after → PinnedLeavesStay before.session old new → OpGoes at_op old new sets start history number call (Cleanup after) Going
+  pub cleanup_goes_on : CleanupContinues old new before after → PinnedLeafPagesStay before.session old new → OpEvent at_op old new sets start history number call (Cleanup after) Going
   cleanup_goes_on step pinned =
       step_goes_on at_op old new start history number call (Cleanup before) (Cleanup after) fits session refl step.effect (works_cleaning before.session step.effect old new step.does pinned)
       (asked step.effect step.does.deletes) (none_added (suc (length history)) old new step.effect step.does.deletes) step.fits tt tt
 
-  pub cleanup_finishes : (stats : VacuumStats) → CleanupEnds old new before after → OpGoes at_op old new sets start history number call (Cleanup after) (Finished stats)
+  pub cleanup_finishes : (stats : VacuumStats) → CleanupEnds old new before after → OpEvent at_op old new sets start history number call (Cleanup after) (Finished stats)
   cleanup_finishes stats step = record {
     effect = None;
     then_call = ended call (Vacuumed stats) (length history);
@@ -83,11 +74,11 @@ module _ {sets : DeadSets} (old new : State) (first second : Backing) (start : E
       right = subst (λ (a : Ask). AnswersRight start history number call.began (length history) a call.given call.added (Vacuumed stats)) (sym fits.runs.ask) tt;
     });
     holds = λ h. cc;
-    sweeps = λ more. absurd (true_false more);
+    deletions = λ more. absurd (true_false more);
   }
 
   pub cleanup_is_refused : (fault : Fault) → CleanupStays old new before after → HasCause (causes_of_cleaning old first second before) fault
-      → OpGoes at_op old new sets start history number call (Cleanup after) (Refused fault)
+      → OpEvent at_op old new sets start history number call (Cleanup after) (Refused fault)
   cleanup_is_refused fault stays cause =
       step_is_refused at_op old new start history number call (Cleanup before) (Cleanup after) fits session refl fault stays.state
       (ap (λ (op : CleanupOp). Cleanup op) stays.op) cause (λ ends. refl) (λ e asks there. absurd cc) (λ e asks r there. absurd cc)

@@ -12,10 +12,10 @@ use Rattle.page_action.specs.Contents.{entry_on_live_leaf}
 use Rattle.page_action.specs.States.{State}
 use Rattle.tree_shape.specs.Nodes.{nodes_of, node_from}
 use Rattle.tree_acts.specs.Trees.{HasCover}
-use Rattle.descent.specs.Steps.{Changes}
-use Rattle.descent.specs.Shared.{MovesFlags}
-use Rattle.descent.specs.Ways.{NoneIsFlagged}
-use Rattle.insert_split.specs.Inserts.{IsNoted, IsToCome, InsertGoesOn}
+use Rattle.tree_acts.specs.Steps.{HasEffect}
+use Rattle.tree_acts.specs.StepEffects.{MovesFlags}
+use Rattle.tree_acts.specs.Ways.{NoneIsIncomplete}
+use Rattle.insert_split.specs.Inserts.{IsNoted, IsToCome, InsertContinues}
 use Rattle.insert_split.specs.Straight.{straight_steps as insert_steps, IsStraight as IsOnEntryWay, HasRoomFor}
 use Rattle.insert_split.specs.declared.insert.InsertAt.{InsertAt}
 use Rattle.insert_split.specs.declared.insert.InsertAt.TheVariants.{Coming, Finishing}
@@ -29,7 +29,7 @@ use Rattle.scan.specs.declared.steps.ScanOp.{ScanOp}
 use Rattle.session_calls.specs.Due.{IsKeyAbsent, InsertIsDue, ScanIsDue, IsDueIn, IsHindered, DueCountsDown}
 use Rattle.index_model.specs.declared.fault.Fault.{Fault}
 use Rattle.index_model.specs.declared.fault.Fault.TheVariants.{NoMemory, Io, Stopped, Blocked, Exists, KeyTooLong, BadRow, IndexFull, LogFull, NoFrame, VacuumRunning, NoSession, SessionBusy, BadSuper, BadVersion, LogDamaged, PageDamaged, BadLimits, TooTall, DeviceTooSmall, KeyExists}
-use Rattle.session_calls.specs.Sessions.{OnlyOwnAreFlagged, LeavesOwnFlagged}
+use Rattle.session_calls.specs.Sessions.{OnlyOwnAreIncomplete, LeavesOwnIncomplete}
 use Rattle.session_calls.specs.declared.answer.Answer.{Answer}
 use Rattle.session_calls.specs.declared.answer.Answer.TheVariants.{Begun, Going, Added, Ready, Done, Finished, Gave, Ended, Forced, Flushed, Checkpointed, Refused}
 use Rattle.session_calls.specs.declared.op.Op.{Op}
@@ -73,7 +73,7 @@ due_still old new (Some (Bulk set op)) steps limits same due = absurd due
 due_still old new (Some (Cleanup op)) steps limits same due = absurd due
 due_still old new (Some (Insert op)) steps limits same due = record {
   steps_are = due.steps_are ∙ sym (ap (λ (ps : List Page). insert_steps ps op.at) same);
-  whole = subst NoneIsFlagged (sym same) due.whole;
+  whole = subst NoneIsIncomplete (sym same) due.whole;
   way = insert_way_still old new op.entry op.at same due.way;
   absent = ap (λ (ps : List Page). entry_on_live_leaf ps op.entry) same ∙ due.absent;
   key_absent = key_still old new op.entry limits same due.key_absent;
@@ -81,7 +81,7 @@ due_still old new (Some (Insert op)) steps limits same due = record {
 }
 due_still old new (Some (Scan op)) steps limits same due = record {
   steps_are = due.steps_are ∙ sym (ap (λ (ps : List Page). scan_steps ps op.at) same);
-  whole = subst NoneIsFlagged (sym same) due.whole;
+  whole = subst NoneIsIncomplete (sym same) due.whole;
   way = scan_way_still old new op.frontier op.at same due.way;
   none = due.none;
 }
@@ -89,8 +89,8 @@ due_still old new (Some (Scan op)) steps limits same due = record {
 true_false : {b : Bool} → b ≡ false → b ≡ true → ⊥
 true_false falls holds = cc
 
-none_flagged : (pages : List Page) (block : ℕ) → NoneIsFlagged pages → (nodes_of pages block).split ≡ false
-none_flagged pages block whole = by (slice_get pages block) refl
+none_incomplete : (pages : List Page) (block : ℕ) → NoneIsIncomplete pages → (nodes_of pages block).split ≡ false
+none_incomplete pages block whole = by (slice_get pages block) refl
   where
     by : (found : Option Page) → slice_get pages block ≡ found → (node_from found).split ≡ false
     by None is = refl
@@ -103,13 +103,13 @@ not_logged st e (Coming (InsertReads w)) added way h = h
 not_logged st e (Coming (Holding block)) added way h = h
 not_logged st e (Finishing op) added way h = absurd way
 
--- so a step on that way does no act, where no page is flagged
-quiet_on_way : (old new : State) (e : Entry) (was now : Option ℕ) (effect : Option Effect) → Changes effect old new → MovesFlags effect old new
-    → IsNoted effect old.acts e was now → now ≡ None → NoneIsFlagged old.pages → new.pages ≡ old.pages
+-- so a step on that way does no act, where no page has an incomplete split
+quiet_on_way : (old new : State) (e : Entry) (was now : Option ℕ) (effect : Option Effect) → HasEffect effect old new → MovesFlags effect old new
+    → IsNoted effect old.acts e was now → now ≡ None → NoneIsIncomplete old.pages → new.pages ≡ old.pages
 quiet_on_way old new e was now None changes flags noted none whole = ap (λ (st : State). st.pages) changes
 quiet_on_way old new e was now (Some (Add x)) changes flags noted none whole = absurd (let is : Some (suc old.acts) ≡ None = sym noted.2 ∙ none in cc)
 quiet_on_way old new e was now (Some (Remove es)) changes flags noted none whole = absurd noted
-quiet_on_way old new e was now (Some Shape) changes flags noted none whole = absurd (true_false (none_flagged old.pages flags.cleared whole) flags.was)
+quiet_on_way old new e was now (Some Shape) changes flags noted none whole = absurd (true_false (none_incomplete old.pages flags.cleared whole) flags.was)
 
 some_steps : (st : State) (e : Entry) (at : InsertAt) → IsOnEntryWay st e at → 0 < insert_steps st.pages at
 some_steps st e (Coming InsertStart) way = omega arith
@@ -118,7 +118,7 @@ some_steps st e (Coming (Holding block)) way = omega arith
 some_steps st e (Finishing op) way = absurd way
 
 -- an insert that goes on is due one step sooner
-pub insert_counts : (old new : State) (before after : InsertOp) (left : ℕ) → InsertIsDue old before (suc left) → after.entry ≡ before.entry → InsertGoesOn old new before after
+pub insert_counts : (old new : State) (before after : InsertOp) (left : ℕ) → InsertIsDue old before (suc left) → after.entry ≡ before.entry → InsertContinues old new before after
     → IsOnEntryWay new after.entry after.at → suc (insert_steps new.pages after.at) ≡ insert_steps old.pages before.at
     → DueCountsDown old new (Some (Insert before)) (Some (Insert after)) left Going
 insert_counts old new before after left due same step way fewer =
@@ -131,7 +131,7 @@ insert_counts old new before after left due same step way fewer =
         limits = step.does.limits;
         due = record {
           steps_are = left_is;
-          whole = subst NoneIsFlagged (sym pages) due.whole;
+          whole = subst NoneIsIncomplete (sym pages) due.whole;
           way = way;
           absent = ap (λ (ps : List Page). entry_on_live_leaf ps after.entry) pages ∙ ap (entry_on_live_leaf old.pages) same ∙ due.absent;
           key_absent = key_still old new after.entry step.does.limits pages (subst (IsKeyAbsent old) (sym same) due.key_absent);
@@ -162,25 +162,25 @@ scan_counts old new before after left due step way fewer =
       record { pages = pages; limits = step.does.limits; due = due_still old new (Some (Scan after)) left step.does.limits pages then_due },
     )
 
--- what is flagged is of the pages alone
-own_on : (mid new : State) (slot : Option Op) → new.pages ≡ mid.pages → OnlyOwnAreFlagged mid slot → OnlyOwnAreFlagged new slot
+-- what has an incomplete split is of the pages alone
+own_on : (mid new : State) (slot : Option Op) → new.pages ≡ mid.pages → OnlyOwnAreIncomplete mid slot → OnlyOwnAreIncomplete new slot
 own_on mid new None same h = λ block is. h block (subst (λ (ps : List Page). (nodes_of ps block).split ≡ true) same is)
 own_on mid new (Some op) same h = λ block is. h block (subst (λ (ps : List Page). (nodes_of ps block).split ≡ true) same is)
 
-pub flagged_on : (mid new : State) (before after : Option Op) (answer : Answer) → new.pages ≡ mid.pages → LeavesOwnFlagged mid before after answer → LeavesOwnFlagged new before after answer
-flagged_on mid new before after (Added action (Some fault)) same h = own_on mid new before same h
-flagged_on mid new before after (Added action None) same h = own_on mid new None same h
-flagged_on mid new before after (Refused fault) same h = own_on mid new before same h
-flagged_on mid new before after Begun same h = own_on mid new after same h
-flagged_on mid new before after Going same h = own_on mid new after same h
-flagged_on mid new before after (Ready count) same h = own_on mid new after same h
-flagged_on mid new before after Done same h = own_on mid new after same h
-flagged_on mid new before after (Finished stats) same h = own_on mid new after same h
-flagged_on mid new before after (Gave entry) same h = own_on mid new after same h
-flagged_on mid new before after Ended same h = own_on mid new after same h
-flagged_on mid new before after (Forced count) same h = own_on mid new after same h
-flagged_on mid new before after (Flushed block) same h = own_on mid new after same h
-flagged_on mid new before after (Checkpointed count) same h = own_on mid new after same h
+pub incomplete_on : (mid new : State) (before after : Option Op) (answer : Answer) → new.pages ≡ mid.pages → LeavesOwnIncomplete mid before after answer → LeavesOwnIncomplete new before after answer
+incomplete_on mid new before after (Added action (Some fault)) same h = own_on mid new before same h
+incomplete_on mid new before after (Added action None) same h = own_on mid new None same h
+incomplete_on mid new before after (Refused fault) same h = own_on mid new before same h
+incomplete_on mid new before after Begun same h = own_on mid new after same h
+incomplete_on mid new before after Going same h = own_on mid new after same h
+incomplete_on mid new before after (Ready count) same h = own_on mid new after same h
+incomplete_on mid new before after Done same h = own_on mid new after same h
+incomplete_on mid new before after (Finished stats) same h = own_on mid new after same h
+incomplete_on mid new before after (Gave entry) same h = own_on mid new after same h
+incomplete_on mid new before after Ended same h = own_on mid new after same h
+incomplete_on mid new before after (Forced count) same h = own_on mid new after same h
+incomplete_on mid new before after (Flushed block) same h = own_on mid new after same h
+incomplete_on mid new before after (Checkpointed count) same h = own_on mid new after same h
 
 -- a call that is over isn't due
 hindered_over : (old mid new : State) (steps : ℕ) (fault : Fault) → IsHindered old mid None steps fault → IsHindered old new None steps fault

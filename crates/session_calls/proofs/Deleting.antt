@@ -17,21 +17,21 @@ use Rattle.index_model.proofs.Ascending.{same_entry-is, same_entry-self}
 use Rattle.index_model.proofs.Histories.{there_now}
 use Rattle.page_action.specs.Contents.{entry_on_live_leaf}
 use Rattle.page_action.specs.States.{State, Backing}
-use Rattle.descent.specs.Steps.{Changes}
-use Rattle.vacuum.specs.BulkDeletes.{BulkDeleteGoesOn, BulkDeleteEnds, BulkDeleteStays, removes, dead_at, causes_of_deleting, IsDueOf}
+use Rattle.tree_acts.specs.Steps.{HasEffect}
+use Rattle.vacuum.specs.BulkDeletes.{BulkDeleteContinues, BulkDeleteEnds, BulkDeleteStays, removes, dead_at, causes_of_deleting, IsDueOf}
 use Rattle.page_codec.specs.declared.page.Page.{Page}
 use Rattle.vacuum.specs.Counts.{stats_of, IsCounted, entries_below}
 use Rattle.vacuum.specs.Ops.{next_block}
-use Rattle.vacuum.specs.Sweeping.{DueIsToCome}
+use Rattle.vacuum.specs.Vacuuming.{DueIsToCome}
 use Rattle.vacuum.specs.declared.steps.BulkDeleteOp.{BulkDeleteOp}
 use Rattle.page_delete.specs.Counts.{AllIsCleaned}
 use Rattle.page_delete.proofs.Tallying.{deleted_alike}
 use Rattle.session_calls.specs.Ops.{set_at, ends_call}
 use Rattle.session_calls.specs.TheoremCalls.{DeadSets, acts_of}
-use Rattle.session_calls.specs.Ops.{causes_of_stepped, is_sweeping}
-use Rattle.session_calls.specs.Sessions.{CallFits, IsAsked, add_after, ended, OpGoes, let_go, slot_after, SlotIsCounted, TellsAllEntries, TellsAllCleaned, CountsPages, CountsEntries, SparesLeaves, LeavesNeeded}
+use Rattle.session_calls.specs.Ops.{causes_of_stepped, runs_bulk_delete}
+use Rattle.session_calls.specs.Sessions.{CallFits, IsAsked, add_after, ended, OpEvent, let_go, slot_after, SlotIsCounted, CountsAllEntries, CountsAllCleaned, CountsPages, CountsEntries, SparesLeaves, OnlyNeededAreLeft}
 use Rattle.page_delete.specs.Spares.{OnlyNeededStay}
-use Rattle.session_calls.specs.Sweeps.{IsDue, IsSweepSoFar}
+use Rattle.session_calls.specs.BulkDeletions.{IsDue, IsBulkDeleteSoFar}
 use Rattle.session_calls.specs.declared.answer.Answer.{Answer}
 use Rattle.session_calls.specs.declared.answer.Answer.TheVariants.{Begun, Going, Added, Ready, Done, Finished, Gave, Ended, Forced, Flushed, Checkpointed, Refused}
 use Rattle.session_calls.specs.declared.op.Op.{Op}
@@ -39,7 +39,7 @@ use Rattle.session_calls.specs.declared.op.Op.TheVariants.{Insert, Scan, Bulk, C
 use Rattle.session_calls.proofs.Effects.{works_on, works_nothing, go_pages}
 use Rattle.session_calls.proofs.Going.{step_goes_on, step_is_refused}
 use Rattle.session_calls.proofs.Meeting.{began_before}
-use Rattle.session_calls.proofs.Sweeping.{due_before, longer_by, removed_append}
+use Rattle.session_calls.proofs.Vacuuming.{due_before, longer_by, removed_append}
 
 true_false : true ≡ false → ⊥
 true_false h = cc
@@ -79,11 +79,11 @@ added_or (a ∷ l) e = by (adds_or a.effect e) (added_or l e)
     by (inr not) (inl h) = inl (inr h)
     by (inr not) (inr none) = inr (λ h. elim h [ inl is ↦ not is | inr more ↦ none more ])
 
--- what was counted behind a step, by the set at its place
+-- what was counted after a step, by the set at its place
 pub counted_on : (sets : DeadSets) (set : ℕ) (dead : Row → Bool) (new : State) (after : BulkDeleteOp) → dead ≡ set_at sets set → IsCounted dead new after → IsCounted (set_at sets set) new after
 counted_on sets set dead new after is h = subst (λ (d : Row → Bool). IsCounted d new after) is h
 
--- ... behind one that is refused
+-- ... after one that is refused
 pub counted_still : (sets : DeadSets) (st : State) (set : ℕ) (op : BulkDeleteOp) (fault : Fault) → IsCounted (set_at sets set) st op → SlotIsCounted sets st (slot_after (Refused fault) (Bulk set op))
 counted_still sets st set op fault h = by (ends_call fault)
   where
@@ -104,7 +104,7 @@ spares_over v session old mid (Some (Scan op)) after answer h = tt
 spares_over v session old mid (Some (Bulk set op)) after answer h = tt
 spares_over v session old mid (Some (Cleanup op)) after answer h = λ order below fits alone sparing. (tt, needs answer (h order below fits alone sparing).1)
   where
-    needs : (a : Answer) → LeavesNeeded mid a → LeavesNeeded (let_go v session mid) a
+    needs : (a : Answer) → OnlyNeededAreLeft mid a → OnlyNeededAreLeft (let_go v session mid) a
     needs Begun t = tt
     needs Going t = tt
     needs (Added x u) t = tt
@@ -138,7 +138,7 @@ tells_over sets v session old mid (Some (Insert op)) after answer h = tt
 tells_over sets v session old mid (Some (Scan op)) after answer h = tt
 tells_over sets v session old mid (Some (Cleanup op)) after answer h = λ fits cleaned. (tt, tells answer (h fits cleaned).1)
   where
-    tells : (a : Answer) → TellsAllCleaned mid a → TellsAllCleaned (let_go v session mid) a
+    tells : (a : Answer) → CountsAllCleaned mid a → CountsAllCleaned (let_go v session mid) a
     tells Begun t = tt
     tells Going t = tt
     tells (Added x u) t = tt
@@ -153,10 +153,10 @@ tells_over sets v session old mid (Some (Cleanup op)) after answer h = λ fits c
     tells (Refused f) t = tt
 tells_over sets v session old mid (Some (Bulk set op)) after answer h = λ counted. (tt, tells (h counted).1)
   where
-    tells : TellsAllEntries mid answer → TellsAllEntries (let_go v session mid) answer
+    tells : CountsAllEntries mid answer → CountsAllEntries (let_go v session mid) answer
     tells told = by answer told
       where
-        by : (a : Answer) → TellsAllEntries mid a → TellsAllEntries (let_go v session mid) a
+        by : (a : Answer) → CountsAllEntries mid a → CountsAllEntries (let_go v session mid) a
         by Begun t = tt
         by Going t = tt
         by (Added x u) t = tt
@@ -181,12 +181,12 @@ module _ {sets : DeadSets} (old new : State) (first second : Backing) (start : E
   within : call.began ≤ length history
   within = began_before start history number call fits.meets fits.running
 
-  asked_of_rows : (es : List Entry) → Changes (removes es) old new → ((e : Entry) → is_among es e ≡ true → dead e.row ≡ true)
+  asked_of_rows : (es : List Entry) → HasEffect (removes es) old new → ((e : Entry) → is_among es e ≡ true → dead e.row ≡ true)
       → IsAsked (contents_after start history) (AskBulkDelete dead) call.added (removes es)
   asked_of_rows [] changes rows = tt
   asked_of_rows (e ∷ es) changes rows = (rows, (changes.apt.0, changes.apt.1, λ x among. sym (fits.world.contents x) ∙ changes.apt.2 x among))
 
-  asked : (es : List Entry) → Changes (removes es) old new → ((e : Entry) → is_among es e ≡ true → dead e.row ≡ true)
+  asked : (es : List Entry) → HasEffect (removes es) old new → ((e : Entry) → is_among es e ≡ true → dead e.row ≡ true)
       → IsAsked (contents_after start history) call.ask call.added (removes es)
   asked es changes rows = subst (λ (a : Ask). IsAsked (contents_after start history) a call.added (removes es)) (sym fits.runs.ask) (asked_of_rows es changes rows)
 
@@ -194,31 +194,31 @@ module _ {sets : DeadSets} (old new : State) (first second : Backing) (start : E
   none_added [] = refl
   none_added (e ∷ es) = refl
 
-  -- what is due is to come behind a step
-  module _ (step : BulkDeleteGoesOn dead old new before after)
+  -- what is due is to come after a step
+  module _ (step : BulkDeleteContinues dead old new before after)
       (comes : (due : Entry → Bool) → IsDueOf dead due → DueIsToCome due old before.cursor before.back → DueIsToCome due new after.cursor after.back) where
     abbrev gone : List Entry
     gone = dead_at dead old (next_block before.cursor before.back)
 
-    sweep : IsSweepSoFar new dead start (history ++ acts_of number (removes gone)) number call.began after
-    sweep = record {
-      runs = ap (λ (c : ℕ). is_sweeping (record old { cycle = c })) step.does.leaves.cycle ∙ fits.sweeps.1.runs;
+    so_far : IsBulkDeleteSoFar new dead start (history ++ acts_of number (removes gone)) number call.began after
+    so_far = record {
+      runs = ap (λ (c : ℕ). runs_bulk_delete (record old { cycle = c })) step.does.leaves.cycle ∙ fits.deletions.1.runs;
       to_come = λ due are. comes due (λ e is. (are e is).row)
-          (fits.sweeps.1.to_come due (λ e is. due_before dead start history number call.began (removes gone) within e (are e is)));
+          (fits.deletions.1.to_come due (λ e is. due_before dead start history number call.began (removes gone) within e (are e is)));
       removed = (
           let more = ap (removed_by number) (longer_by dead start history number call.began (removes gone) within) in
           let sum = removed_append number (drop call.began history) (acts_of number (removes gone)) in
           let own = own_removed number gone in
-          let was : before.removed ≡ removed_by number (drop call.began history) = fits.sweeps.1.removed in
+          let was : before.removed ≡ removed_by number (drop call.began history) = fits.deletions.1.removed in
           let is : after.removed ≡ before.removed + length gone = step.count in
           omega (arith, more, sum, own, was, is)
           );
     }
 
-    pub bulk_goes_on : OpGoes at_op old new sets start history number call (Bulk set after) Going
+    pub bulk_goes_on : OpEvent at_op old new sets start history number call (Bulk set after) Going
     bulk_goes_on = step_goes_on at_op old new start history number call (Bulk set before) (Bulk set after) fits session refl (removes gone)
         (works_on before.session (AskBulkDelete dead) (removes gone) old new refl step.does)
-        (asked gone step.does.changes step.dead_rows) (none_added gone) step.fits tt (fits.sweeps.0, sweep)
+        (asked gone step.does.changes step.dead_rows) (none_added gone) step.fits tt (fits.deletions.0, so_far)
 
   -- at the end none is there that was due
   module _ (stats : VacuumStats) (step : BulkDeleteEnds old new before after) (told : stats ≡ stats_of old before)
@@ -233,7 +233,7 @@ module _ {sets : DeadSets} (old new : State) (first second : Backing) (start : E
     not_there e is =
         let one : (x : Entry) → same_entry e x ≡ true → IsDue dead start history call.began x = is_one e is in
         sym (fits.world.contents e) ∙ ap (λ (st : State). entry_on_live_leaf st.pages e) (sym step.state)
-        ∙ gone (same_entry e) (λ x same. (one x same).row) (fits.sweeps.1.to_come (same_entry e) one) e (same_entry-self e)
+        ∙ gone (same_entry e) (λ x same. (one x same).row) (fits.deletions.1.to_come (same_entry e) one) e (same_entry-self e)
 
     gone_or_added : (e : Entry) → IsAddedOr (drop call.began history) e → dead e.row ≡ true → is_there_after start history call.began e ≡ true
         → is_there_after start history (length history) e ≡ true → IsAddedIn (drop call.began history) e
@@ -244,10 +244,10 @@ module _ {sets : DeadSets} (old new : State) (first second : Backing) (start : E
     answer : IsBulkDeleteAnswer start history number call.began (length history) dead stats
     answer = record {
       gone = λ e row was still. subst (λ (l : List Action). IsAddedIn l e) (sym now_is) (gone_or_added e (added_or (drop call.began history) e) row was still);
-      removed = ap (λ (s : VacuumStats). s.tuples_removed) told ∙ fits.sweeps.1.removed ∙ ap (removed_by number) (sym now_is);
+      removed = ap (λ (s : VacuumStats). s.tuples_removed) told ∙ fits.deletions.1.removed ∙ ap (removed_by number) (sym now_is);
     }
 
-    pub bulk_finishes : OpGoes at_op old new sets start history number call (Bulk set after) (Finished stats)
+    pub bulk_finishes : OpEvent at_op old new sets start history number call (Bulk set after) (Finished stats)
     bulk_finishes = record {
       effect = None;
       then_call = ended call (Vacuumed stats) (length history);
@@ -261,11 +261,11 @@ module _ {sets : DeadSets} (old new : State) (first second : Backing) (start : E
         right = subst (λ (a : Ask). AnswersRight start history number call.began (length history) a call.given call.added (Vacuumed stats)) (sym fits.runs.ask) answer;
       });
       holds = λ h. cc;
-      sweeps = λ more. absurd (true_false more);
+      deletions = λ more. absurd (true_false more);
     }
 
   pub bulk_is_refused : (fault : Fault) → BulkDeleteStays old new before after → HasCause (causes_of_deleting dead old first second before) fault
-      → OpGoes at_op old new sets start history number call (Bulk set after) (Refused fault)
+      → OpEvent at_op old new sets start history number call (Bulk set after) (Refused fault)
   bulk_is_refused fault stays cause =
       step_is_refused at_op old new start history number call (Bulk set before) (Bulk set after) fits session refl fault stays.state
       (ap (λ (op : BulkDeleteOp). Bulk set op) stays.op) cause (λ ends. refl) (λ e asks there. absurd cc) (λ e asks r there. absurd cc)

@@ -11,18 +11,18 @@ use Rattle.latch_table.proofs.Tables.{length-with_holding, holding_of-with_holdi
 use Rattle.page_action.specs.States.{State, after_end, after_stop_cycle}
 use Rattle.page_codec.specs.declared.page.Page.{Page}
 use Rattle.page_codec.specs.declared.page.PageState.{PageState}
-use Rattle.tree_acts.specs.Deletions.{OneStateMoves, OneLeafDies, OneLeafGoes}
-use Rattle.tree_acts.specs.Leaves.{IsLeafAt, WasLeaf, LeavesStay}
+use Rattle.tree_acts.specs.Deletions.{OneStateMoves, OneLeafDies, OneLeafIsDeleted}
+use Rattle.tree_acts.specs.Leaves.{IsLeafAt, WasLeaf, LeafPagesStay}
 use Rattle.tree_acts.specs.Lows.{NoLowRises}
 use Rattle.tree_acts.proofs.Lows.{lows_same}
-use Rattle.descent.specs.Shared.{IsRaised, NumbersStay, IsInOrder, MayRely, OthersRely, MovesFlags, level_in, Does, DeletesLeaves, CleansUp}
+use Rattle.tree_acts.specs.StepEffects.{IsRaised, NumbersStay, IsInOrder, MayRely, OthersRely, MovesFlags, level_in, StepEffect, DeletesLeaves, CleanupEffect}
 use Rattle.descent.proofs.Acting.{nothing_else}
 use Rattle.descent.proofs.Tables.{apart_nothing}
 use Rattle.index_model.specs.Calls.{Ask, AskInsert, AskScan, AskBulkDelete, AskCleanup}
-use Rattle.page_delete.specs.Parts.{PinnedLeavesStay}
+use Rattle.page_delete.specs.Parts.{PinnedLeafPagesStay}
 use Rattle.session_calls.specs.TheoremCalls.{DeadSets, acts_of}
-use Rattle.session_calls.specs.Ops.{asked_of, is_sweep}
-use Rattle.session_calls.specs.Sessions.{Matches, IsIdle, HasStarted, let_go, cycle_behind, asks_cleanup, MovesShape, Works}
+use Rattle.session_calls.specs.Ops.{asked_of, is_bulk_delete}
+use Rattle.session_calls.specs.Sessions.{Matches, IsIdle, HasStarted, let_go, cycle_after, asks_cleanup, MovesShape, CallEffect}
 use Rattle.session_calls.specs.declared.op.Op.{Op}
 use Rattle.session_calls.specs.declared.op.Op.TheVariants.{Insert, Scan, Bulk, Cleanup}
 use Rattle.session_calls.proofs.Lists.{get_set_same, get_set_other}
@@ -44,11 +44,11 @@ shape_of (AskInsert e) effect old new other h = h
 shape_of (AskScan range) effect old new other h = h
 shape_of (AskBulkDelete dead) effect old new other h = h
 
-leaf_on : (effect : Option Effect) (old new : State) → LeavesStay effect old new → (block : ℕ) (page : Page) → IsLeafAt old.pages block page → WasLeaf new.pages block
+leaf_on : (effect : Option Effect) (old new : State) → LeafPagesStay effect old new → (block : ℕ) (page : Page) → IsLeafAt old.pages block page → WasLeaf new.pages block
 leaf_on effect old new stay block page at = (let go = stay.each block page at in record { page = go.new; was = go.there })
 
 -- a step of an operation that is no cleanup
-pub works_on : (session : ℕ) (ask : Ask) (effect : Option Effect) (old new : State) → asks_cleanup ask ≡ false → Does session effect old new → Works session ask effect old new
+pub works_on : (session : ℕ) (ask : Ask) (effect : Option Effect) (old new : State) → asks_cleanup ask ≡ false → StepEffect session effect old new → CallEffect session ask effect old new
 works_on session ask effect old new other does = record {
   changes = does.changes;
   shape = shape_of ask effect old new other does.flags;
@@ -64,7 +64,7 @@ works_on session ask effect old new other does = record {
 }
 
 -- ... of a cleanup
-pub works_cleaning : (session : ℕ) (effect : Option Effect) (old new : State) → CleansUp session effect old new → PinnedLeavesStay session old new → Works session AskCleanup effect old new
+pub works_cleaning : (session : ℕ) (effect : Option Effect) (old new : State) → CleanupEffect session effect old new → PinnedLeafPagesStay session old new → CallEffect session AskCleanup effect old new
 works_cleaning session effect old new does pinned = record {
   changes = does.changes;
   shape = does.deletes;
@@ -80,7 +80,7 @@ works_cleaning session effect old new does pinned = record {
 }
 
 -- ... that changes nothing
-pub works_nothing : (session : ℕ) (ask : Ask) (old new : State) → new ≡ old → IsInOrder old → Works session ask None old new
+pub works_nothing : (session : ℕ) (ask : Ask) (old new : State) → new ≡ old → IsInOrder old → CallEffect session ask None old new
 works_nothing session ask old new same order =
     let does = nothing_else session old new same order in
     record {
@@ -99,7 +99,7 @@ works_nothing session ask old new same order =
 
 -- the pages match the history with the event's action
 pub matches_after : (session : ℕ) (ask : Ask) (effect : Option Effect) (old new : State) (start : Entry → Bool) (history : List Action) (number : ℕ)
-    → Matches old start history → Works session ask effect old new → Matches new start (history ++ acts_of number effect)
+    → Matches old start history → CallEffect session ask effect old new → Matches new start (history ++ acts_of number effect)
 matches_after session ask None old new start history number m does = subst (λ (l : List Action). Matches new start l) (sym (append-nil history)) (record {
   contents = λ e. rw does.changes (m.contents e);
   count = ap (λ (st : State). st.acts) does.changes ∙ m.count;
@@ -118,10 +118,10 @@ matches_after session ask (Some effect) old new start history number m does = re
     length_more x = omega (arith, length-append history (acts_of number (Some x)))
 
 -- a call goes on having its start number
-pub started_after : (session of : ℕ) (ask : Ask) (effect : Option Effect) (old new : State) → Works session ask effect old new → HasStarted old of → HasStarted new of
+pub started_after : (session of : ℕ) (ask : Ask) (effect : Option Effect) (old new : State) → CallEffect session ask effect old new → HasStarted old of → HasStarted new of
 started_after session of ask effect old new does h = record { number = h.number; is = rw does.running h.is }
 
--- what may be relied on over a step, and over what changes no page behind it
+-- what may be relied on over a step, and over what changes no page after it
 pub rely_trans : (session : ℕ) (a b c : State) → c.pages ≡ b.pages → MayRely session a b → MayRely session b c → MayRely session a c
 rely_trans session a b c same one two = record {
   held = two.held ∙ one.held;
@@ -138,7 +138,7 @@ rely_trans session a b c same one two = record {
 }
 
 -- a step with no effect leaves the pages
-pub pages_stay : (session : ℕ) (ask : Ask) (old new : State) → Works session ask None old new → new.pages ≡ old.pages
+pub pages_stay : (session : ℕ) (ask : Ask) (old new : State) → CallEffect session ask None old new → new.pages ≡ old.pages
 pages_stay session ask old new does = ap (λ (st : State). st.pages) does.changes
 
 -- the numbers that calls keep depend on the pages alone
@@ -247,7 +247,7 @@ go_state : (v : Bool) (was is : PageState) (old new : State) (session : ℕ) →
 go_state false was is old new session h = record { block = h.block; used = h.used; inside = h.inside; before = h.before; after = h.after; others = h.others }
 go_state true was is old new session h = record { block = h.block; used = h.used; inside = h.inside; before = h.before; after = h.after; others = h.others }
 
-go_leaf : (v : Bool) (old new : State) (session : ℕ) → OneLeafDies old new ⊎ OneLeafGoes old new → OneLeafDies old (let_go v session new) ⊎ OneLeafGoes old (let_go v session new)
+go_leaf : (v : Bool) (old new : State) (session : ℕ) → OneLeafDies old new ⊎ OneLeafIsDeleted old new → OneLeafDies old (let_go v session new) ⊎ OneLeafIsDeleted old (let_go v session new)
 go_leaf v old new session (inl dies) = inl (go_state v _ _ old new session dies)
 go_leaf v old new session (inr goes) = inr (go_state v _ _ old new session goes)
 
@@ -266,7 +266,7 @@ go_shape v (AskInsert e) old new session effect h = go_flags v old new session e
 go_shape v (AskScan range) old new session effect h = go_flags v old new session effect h
 go_shape v (AskBulkDelete dead) old new session effect h = go_flags v old new session effect h
 
-pub go_pinned : (v : Bool) (old new : State) (session : ℕ) → PinnedLeavesStay session old new → PinnedLeavesStay session old (let_go v session new)
+pub go_pinned : (v : Bool) (old new : State) (session : ℕ) → PinnedLeafPagesStay session old new → PinnedLeafPagesStay session old (let_go v session new)
 go_pinned false old new session h = h
 go_pinned true old new session h = h
 
@@ -297,19 +297,19 @@ go_pages false session st = refl
 go_pages true session st = refl
 
 -- leaves stay, as the pages do
-pub go_leaves : (v : Bool) (old mid : State) (session : ℕ) (effect : Option Effect) → LeavesStay effect old mid
-    → (let_go v session mid).cycle ≡ old.cycle → LeavesStay effect old (let_go v session mid)
+pub go_leaves : (v : Bool) (old mid : State) (session : ℕ) (effect : Option Effect) → LeafPagesStay effect old mid
+    → (let_go v session mid).cycle ≡ old.cycle → LeafPagesStay effect old (let_go v session mid)
 go_leaves false old mid session effect h same = record { cycle = same; each = h.each; others = h.others }
 go_leaves true old mid session effect h same = record { cycle = same; each = h.each; others = h.others }
 
 -- the end of a bulk delete alone moves the cycle number
-pub go_cycle : (sets : DeadSets) (op : Op) (mid : State) (session cycle : ℕ) → mid.cycle ≡ cycle → (let_go (is_sweep op) session mid).cycle ≡ cycle_behind (asked_of sets op) None cycle
+pub go_cycle : (sets : DeadSets) (op : Op) (mid : State) (session cycle : ℕ) → mid.cycle ≡ cycle → (let_go (is_bulk_delete op) session mid).cycle ≡ cycle_after (asked_of sets op) None cycle
 go_cycle sets (Insert op) mid session cycle same = same
 go_cycle sets (Scan op) mid session cycle same = same
 go_cycle sets (Bulk set op) mid session cycle same = refl
 go_cycle sets (Cleanup op) mid session cycle same = same
 
-pub cycle_stays : (ask : Ask) (op : Op) (cycle : ℕ) → cycle ≡ cycle_behind ask (Some op) cycle
+pub cycle_stays : (ask : Ask) (op : Op) (cycle : ℕ) → cycle ≡ cycle_after ask (Some op) cycle
 cycle_stays (AskInsert e) op cycle = refl
 cycle_stays (AskScan range) op cycle = refl
 cycle_stays (AskBulkDelete dead) op cycle = refl

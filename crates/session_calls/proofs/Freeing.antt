@@ -1,4 +1,4 @@
--- What may be used again behind a bulk delete or a cleanup that has finished.
+-- What may be used again after a bulk delete or a cleanup that has finished.
 use Rattle.std.specs.Prelude.{slice_index}
 use Rattle.std.proofs.Common.{◌≡◌, ℕ, zero, suc, ◌+◌, ◌<◌, ◌&&◌, ◌||◌, ◌==◌, Bool, true, false, if◌then◌else◌, Option, Some, None, List, [], ◌∷◌, length, slice_set, refl, sym, ap, subst, inl, inr, ◌∙◌, arith}
 use Rattle.std.proofs.lemmas.Bool.{eq-eqb}
@@ -11,11 +11,11 @@ use Rattle.index_model.specs.declared.stats.VacuumStats.{VacuumStats}
 use Rattle.page_action.specs.Reuse.{is_deleted, began_after, others_began_after, is_reusable, is_reusable_without}
 use Rattle.page_action.specs.States.{State, with_table}
 use Rattle.page_codec.specs.declared.page.Page.{Page}
-use Rattle.descent.specs.Steps.{Changes}
+use Rattle.tree_acts.specs.Steps.{HasEffect}
 use Rattle.vacuum.specs.Counts.{free_count}
 use Rattle.session_calls.specs.TheoremCalls.{DeadSets}
 use Rattle.session_calls.specs.Ops.{session_of, is_last}
-use Rattle.session_calls.specs.Sessions.{let_go, reusable_count, reusable_in, TellsStats, TellsFree, OpGoes}
+use Rattle.session_calls.specs.Sessions.{let_go, reusable_count, reusable_in, CountsStats, CountsFree, OpEvent}
 use Rattle.session_calls.specs.declared.answer.Answer.{Answer}
 use Rattle.session_calls.specs.declared.answer.Answer.TheVariants.{Finished}
 use Rattle.session_calls.specs.declared.op.Op.{Op}
@@ -25,7 +25,7 @@ use Rattle.session_calls.proofs.Effects.{go_pages}
 differ : (a b : ℕ) → (a ≡ b → ⊥) → (a == b) ≡ false
 differ a b ne = elim (eqb_tells a b) [ inl k ↦ absurd (ne k.1) | inr k ↦ k.0 ]
 
--- of the sessions behind this one none is it
+-- of the sessions after this one none is it
 others_past : (number from but : ℕ) (running : List (Option ℕ)) → but < from → others_began_after number from (Some but) running ≡ others_began_after number from None running
 others_past number from but [] past = refl
 others_past number from but (call ∷ running) past =
@@ -56,7 +56,7 @@ module _ (session : ℕ) (old new : State) (pages : new.pages ≡ old.pages) (co
   free_many (suc block) =
       ap (λ (b : Bool). (if b then 1 else 0) + free_count old session block) (free_one block) ∙ ap (λ (k : ℕ). (if is_reusable new block then 1 else 0) + k) (free_many block)
 
-  -- what would be free, were the call not running, is so behind it
+  -- what would be free, were the call not running, is so after it
   free_all : free_count old session (length old.pages) ≡ reusable_in new
   free_all = free_many (length old.pages) ∙ ap (λ (l : List Page). reusable_count new (length l)) (sym pages)
 
@@ -72,23 +72,23 @@ go_running false session st = refl
 module _ {at : Circumstances} {sets : DeadSets} {start : Entry → Bool} {history : List Action} {number : ℕ} {call : Call} (v : Bool) (session : ℕ)
     (old mid new : State) (after : Op) (new_is : new ≡ let_go v session mid) where
   told_free : (stats : VacuumStats) (own : ℕ) → session ≡ own → stats.pages_free ≡ free_count old own (length old.pages)
-      → OpGoes at old mid sets start history number call after (Finished stats) → stats.pages_free ≡ reusable_in new
+      → OpEvent at old mid sets start history number call after (Finished stats) → stats.pages_free ≡ reusable_in new
   told_free stats own is told goes =
-      let quiet : mid ≡ with_table old mid.table = subst (λ (effect : Option Effect). Changes effect old mid) goes.told.none goes.works.changes in
+      let quiet : mid ≡ with_table old mid.table = subst (λ (effect : Option Effect). HasEffect effect old mid) goes.told.none goes.works.changes in
       told ∙ free_all own old new
       (ap (λ (st : State). st.pages) new_is ∙ (go_pages v session mid ∙ ap (λ (st : State). st.pages) quiet))
       (ap (λ (st : State). st.counted) new_is ∙ (go_counted v session mid ∙ ap (λ (st : State). st.counted) quiet))
       (ap (λ (st : State). st.running) new_is ∙ (go_running v session mid
       ∙ (ap (λ (st : State). slice_set st.running session None) quiet ∙ ap (λ (s : ℕ). slice_set old.running s None) is)))
 
-  pub frees_over : (before : Op) (answer : Answer) → session ≡ session_of before → TellsStats old (Some before) answer
-      → OpGoes at old mid sets start history number call after answer → TellsFree new (Some before) answer
+  pub frees_over : (before : Op) (answer : Answer) → session ≡ session_of before → CountsStats old (Some before) answer
+      → OpEvent at old mid sets start history number call after answer → CountsFree new (Some before) answer
   frees_over (Bulk set op) (Finished stats) own told goes = told_free stats op.session own (ap (λ (s : VacuumStats). s.pages_free) told) goes
   frees_over (Cleanup op) (Finished stats) own told goes = told_free stats op.session own (ap (λ (s : VacuumStats). s.pages_free) told) goes
   frees_over before answer own told goes = tt
 
 -- one that goes on tells nothing of it
-pub tells_no_more : (st : State) (before : Option Op) (answer : Answer) → is_last answer ≡ false → TellsFree st before answer
+pub tells_no_more : (st : State) (before : Option Op) (answer : Answer) → is_last answer ≡ false → CountsFree st before answer
 tells_no_more st (Some (Bulk set op)) (Finished stats) more = absurd cc
 tells_no_more st (Some (Cleanup op)) (Finished stats) more = absurd cc
 tells_no_more st before answer more = tt

@@ -5,8 +5,8 @@ use Rattle.index_model.specs.Faults.{HasCause}
 use Rattle.index_model.specs.declared.fault.Fault.{Fault}
 use Rattle.index_model.specs.declared.fault.Fault.TheVariants.{NoMemory, Io, Stopped, Blocked, Exists, KeyTooLong, BadRow, IndexFull, LogFull, NoFrame, VacuumRunning, NoSession, SessionBusy, BadSuper, BadVersion, LogDamaged, PageDamaged, BadLimits, TooTall, DeviceTooSmall, KeyExists}
 use Rattle.page_action.specs.States.{State, Backing}
-use Rattle.descent.specs.Shared.{IsInOrder, is_out_of_blocks}
-use Rattle.descent.specs.Ways.{root_level}
+use Rattle.tree_acts.specs.StepEffects.{IsInOrder, is_out_of_blocks}
+use Rattle.tree_acts.specs.Levels.{root_level}
 use Rattle.insert_split.specs.Inserts.{InsertInvariant, InsertStays, takes_block_at, splits_root_at, causes_of_inserting}
 use Rattle.insert_split.specs.declared.insert.InsertOp.{InsertOp}
 use Rattle.insert_split.proofs.Roomy.{straight_takes_none}

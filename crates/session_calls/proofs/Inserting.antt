@@ -9,14 +9,14 @@ use Rattle.index_model.specs.declared.fault.Fault.TheVariants.{NoMemory, Io, Sto
 use Rattle.page_action.specs.Causes.{other_row_is_there}
 use Rattle.page_action.specs.Contents.{entry_on_live_leaf}
 use Rattle.page_action.specs.States.{State, Backing}
-use Rattle.descent.specs.Steps.{Changes}
-use Rattle.insert_split.specs.Inserts.{IsNoted, IsLeft, InsertGoesOn, InsertEnds, InsertStays, causes_of_inserting}
+use Rattle.tree_acts.specs.Steps.{HasEffect}
+use Rattle.insert_split.specs.Inserts.{IsNoted, IsLeft, InsertContinues, InsertEnds, InsertStays, causes_of_inserting}
 use Rattle.insert_split.specs.Turns.{is_blocked, IsRefusedRightly}
 use Rattle.insert_split.specs.declared.insert.InsertOp.{InsertOp}
 use Rattle.session_calls.specs.Ops.{ends_call}
 use Rattle.session_calls.specs.TheoremCalls.{DeadSets}
 use Rattle.session_calls.specs.Ops.{causes_of_stepped, once_added, IsFaultCaused}
-use Rattle.session_calls.specs.Sessions.{CallFits, IsAsked, add_after, OpGoes}
+use Rattle.session_calls.specs.Sessions.{CallFits, IsAsked, add_after, OpEvent}
 use Rattle.session_calls.specs.declared.answer.Answer.TheVariants.{Going, Added, Refused}
 use Rattle.session_calls.specs.declared.op.Op.TheVariants.{Insert}
 use Rattle.session_calls.proofs.Effects.{works_on}
@@ -63,20 +63,20 @@ module _ {sets : DeadSets} (old new : State) (first second : Backing) (start : E
   noted_is (Some (Remove es)) now h = absurd h
   noted_is (Some Shape) now h = h
 
-  asked_of_entry : (effect : Option Effect) (now : Option ℕ) → Changes effect old new → IsNoted effect old.acts before.entry before.added now
+  asked_of_entry : (effect : Option Effect) (now : Option ℕ) → HasEffect effect old new → IsNoted effect old.acts before.entry before.added now
       → IsAsked (contents_after start history) (AskInsert before.entry) before.added effect
   asked_of_entry None now changes h = tt
   asked_of_entry (Some (Add x)) now changes h = ((sym h.0, h.1), sym (fits.world.contents x) ∙ changes.apt)
   asked_of_entry (Some (Remove es)) now changes h = absurd h
   asked_of_entry (Some Shape) now changes h = (tt, tt)
 
-  asked : (effect : Option Effect) (now : Option ℕ) → Changes effect old new → IsNoted effect old.acts before.entry before.added now
+  asked : (effect : Option Effect) (now : Option ℕ) → HasEffect effect old new → IsNoted effect old.acts before.entry before.added now
       → IsAsked (contents_after start history) call.ask call.added effect
   asked effect now changes h =
       subst (λ (a : Ask). IsAsked (contents_after start history) a call.added effect) (sym fits.runs.ask)
       (subst (λ (o : Option ℕ). IsAsked (contents_after start history) (AskInsert before.entry) o effect) (sym fits.runs.added) (asked_of_entry effect now changes h))
 
-  pub insert_goes_on : InsertGoesOn old new before after → OpGoes at_op old new sets start history number call (Insert after) Going
+  pub insert_goes_on : InsertContinues old new before after → OpEvent at_op old new sets start history number call (Insert after) Going
   insert_goes_on step =
       step_goes_on at_op old new start history number call (Insert before) (Insert after) fits session (ap AskInsert entry) step.effect
       (works_on before.session (AskInsert before.entry) step.effect old new refl step.does)
@@ -91,7 +91,7 @@ module _ {sets : DeadSets} (old new : State) (first second : Backing) (start : E
   left_quiet effect (Some fault) h some = h.0
 
   pub insert_ends : (action : ℕ) (unfinished : Option Fault) → InsertEnds old first new second before action unfinished
-      → OpGoes at_op old new sets start history number call (Insert after) (Added action unfinished)
+      → OpEvent at_op old new sets start history number call (Insert after) (Added action unfinished)
   insert_ends action unfinished step =
       step_adds at_op old new start history number call (Insert before) (Insert after) fits session (ap AskInsert entry) before.entry action
       unfinished step.effect refl (works_on before.session (AskInsert before.entry) step.effect old new refl step.does)
@@ -99,7 +99,7 @@ module _ {sets : DeadSets} (old new : State) (first second : Backing) (start : E
       (left_quiet step.effect unfinished step.left)
 
   pub insert_is_refused : (fault : Fault) → InsertStays old new before after → IsRefusedRightly before.added (Err fault)
-      → HasCause (causes_of_inserting old first second before.session before.entry before.at) fault → OpGoes at_op old new sets start history number call (Insert after) (Refused fault)
+      → HasCause (causes_of_inserting old first second before.session before.entry before.at) fault → OpEvent at_op old new sets start history number call (Insert after) (Refused fault)
   insert_is_refused fault stays rightly cause =
       step_is_refused at_op old new start history number call (Insert before) (Insert after) fits session (ap AskInsert entry) fault stays.state
       (ap Insert stays.op) cause (none_logged before.added fault rightly)

@@ -1,13 +1,13 @@
 pub mod Lists
 pub mod Slots
 pub mod Starting
-pub mod Telling
+pub mod Meanings
 pub mod Meeting
 pub mod Effects
 pub mod Going
 pub mod Inserting
 pub mod Scanning
-pub mod Sweeping
+pub mod Vacuuming
 pub mod Deleting
 pub mod Cleaning
 pub mod Undisturbed

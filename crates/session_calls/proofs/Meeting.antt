@@ -1,4 +1,4 @@
--- What a running call means still holds behind an event of its own, and what it means when it ends.
+-- What a running call means still holds after an event of its own, and what it means when it ends.
 use Rattle.std.proofs.Common.{◌≡◌, ◌≢◌, ℕ, suc, ◌+◌, ◌≤◌, Bool, true, false, not, ◌&&◌, Option, Some, None, List, [], ◌∷◌, ◌++◌, length, inl, inr, refl, sym, ap, subst, ◌∙◌, arith, length-append}
 use Rattle.std.proofs.lemmas.Bool.{and_parts, cases_Bool}
 use Rattle.index_model.specs.Actions.{Effect, Add, Remove, Shape, Action, contents_after, ThereAtSomeMoment}
@@ -63,7 +63,7 @@ module _ (start : Entry → Bool) (history : List Action) (number : ℕ) (call :
   only_inserts_add e (AskBulkDelete dead) is h = absurd h.0
   only_inserts_add e AskCleanup is h = absurd h.0
 
-  -- a call goes on meeting its definition behind what it was asked to do
+  -- a call goes on meeting its definition after what it was asked to do
   pub meets_noted : (effect : Option Effect) → IsAsked (contents_after start history) call.ask call.added effect
       → Meets start (history ++ acts_of number effect) number (noted call (length history) effect)
   meets_noted None h = meets_later start history (acts_of number None) number call meets

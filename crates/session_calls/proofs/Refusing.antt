@@ -6,14 +6,14 @@ use Rattle.index_model.specs.declared.fault.Fault.{Fault}
 use Rattle.index_model.specs.declared.fault.Fault.TheVariants.{Stopped, NoSession}
 use Rattle.page_action.specs.States.{State, Continues}
 use Rattle.page_action.specs.declared.page_store.PageStore.{Ghosts}
-use Rattle.descent.specs.Shared.{IsOneStep, causes_of_writing_any}
+use Rattle.tree_acts.specs.StepEffects.{IsOneActAtMost, causes_of_writing_any}
 use Rattle.insert_split.specs.Inserts.{AnswersStopped as InsertAnswersStopped}
 use Rattle.insert_split.specs.Turns.{IsRefusedRightly}
 use Rattle.scan.specs.Scans.{waiting, ScanWaits}
 use Rattle.scan.specs.declared.steps.ScanOp.{ScanOp}
 use Rattle.session_calls.specs.Ops.{ends_call}
-use Rattle.session_calls.specs.Ops.{OpAnswers, session_of, is_sweep, call_kind, add_of, causes_of_stepped_any, StoppedAnswersFirst, AnswersLogged}
-use Rattle.session_calls.specs.Sessions.{OpSteps, OnlyWritersAct, TellsStats, WaitsToGive, work_in}
+use Rattle.session_calls.specs.Ops.{OpAnswers, session_of, is_bulk_delete, call_kind, add_of, causes_of_stepped_any, StoppedAnswersFirst, AnswersLogged}
+use Rattle.session_calls.specs.Sessions.{OpSteps, OnlyWritersAct, CountsStats, WaitsToGive, work_in}
 use Rattle.session_calls.specs.declared.answer.Answer.TheVariants.{Refused}
 use Rattle.session_calls.specs.declared.op.Op.{Op}
 use Rattle.session_calls.specs.declared.op.Op.TheVariants.{Insert, Scan, Bulk, Cleanup}
@@ -24,7 +24,7 @@ answers (Scan op) after fault = tt
 answers (Bulk set op) after fault = tt
 answers (Cleanup op) after fault = tt
 
-no_stats : (st : State) (op : Op) (fault : Fault) → TellsStats st (Some op) (Refused fault)
+no_stats : (st : State) (op : Op) (fault : Fault) → CountsStats st (Some op) (Refused fault)
 no_stats st (Insert op) fault = tt
 no_stats st (Scan op) fault = tt
 no_stats st (Bulk set op) fault = tt
@@ -42,14 +42,14 @@ no_more true before after old new same op = omega arith
 no_more false before after old new same op = rw (same, op) (omega arith)
 
 -- what a refused step says, of whichever operation
-pub refused_steps : {S : Type 0} (g : Ghosts S) (before after : Op) (old new : S) (fault : Fault) → Continues g.follows old new → IsOneStep (g.state old) (g.state new)
+pub refused_steps : {S : Type 0} (g : Ghosts S) (before after : Op) (old new : S) (fault : Fault) → Continues g.follows old new → IsOneActAtMost (g.state old) (g.state new)
     → g.state new ≡ g.state old → after ≡ before → ((g.backing old).stopped ≡ true → StoppedAnswersFirst (add_of before) (Refused fault))
     → WaitsToGive (g.backing old).stopped (g.state old) (g.state new) (Some before) (Some after) (Refused fault)
     → HasCause (causes_of_stepped_any before) fault → AnswersLogged (add_of before) (Refused fault) → OpSteps g before after old new (Refused fault)
 refused_steps g before after old new fault steps kept same op stopped waits cause logged = record {
   steps = steps;
   session = ap session_of op;
-  sweep = ap is_sweep op;
+  same_bulk = ap is_bulk_delete op;
   one_kind = ap call_kind op;
   kind = answers before after fault;
   refused = λ other is. (same, op);

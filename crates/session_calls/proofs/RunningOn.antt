@@ -1,4 +1,4 @@
--- What a session runs on behind events of its call.
+-- What a session runs on after events of its call.
 use Rattle.std.proofs.Common.{◌≡◌, Bool, true, false, Option, Some, None, refl, ap, subst, sym, ◌∙◌}
 use Rattle.session_calls.specs.Ops.{CallKind, InsertKind, ScanKind, BulkKind, CleanupKind, call_kind, is_vacuum, RunsOn}
 use Rattle.session_calls.specs.Sessions.{RunsUntilLast}

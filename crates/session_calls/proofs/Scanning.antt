@@ -18,14 +18,14 @@ use Rattle.page_action.specs.Contents.{entry_on_live_leaf}
 use Rattle.page_action.specs.States.{State}
 use Rattle.page_codec.specs.declared.page.Page.{Page}
 use Rattle.tree_acts.specs.Leaves.{IsLeafAt}
-use Rattle.descent.specs.declared.way.Way.{Way}
-use Rattle.scan.specs.Scans.{waiting, gone_to, ScanInvariant, IsNext, IsBehind, LeafIsRead, IsUnderway, IsMoving, IsReading, IsWaiting, IsDone}
+use Rattle.descent.specs.declared.way.Position.{Position}
+use Rattle.scan.specs.Scans.{waiting, moved_to, ScanInvariant, IsNext, IsAfter, LeafIsRead, IsUnderway, IsMoving, IsReading, IsWaiting, IsDone}
 use Rattle.scan.specs.declared.steps.ScanAt.{ScanAt}
 use Rattle.scan.specs.declared.steps.ScanAt.TheVariants.{Start, At, Last}
 use Rattle.scan.specs.declared.steps.ScanOp.{ScanOp}
 use Rattle.session_calls.specs.TheoremCalls.{DeadSets}
 use Rattle.session_calls.specs.Ops.{IsScanSoFar, asked_of, causes_of_asked_next, is_last}
-use Rattle.session_calls.specs.Sessions.{Matches, OpRuns, CallFits, ended, given_one, SessionGoes, StandsOnLeaf, StandsByAnswer, OpGoes}
+use Rattle.session_calls.specs.Sessions.{Matches, OpRuns, CallFits, ended, given_one, SessionEvent, StandsOnLeaf, StandsByAnswer, OpEvent}
 use Rattle.session_calls.specs.declared.answer.Answer.{Answer}
 use Rattle.session_calls.specs.declared.answer.Answer.TheVariants.{Begun, Going, Added, Ready, Done, Finished, Gave, Ended, Forced, Flushed, Checkpointed, Refused}
 use Rattle.session_calls.specs.declared.op.Op.{Op}
@@ -67,10 +67,10 @@ at_or_before b x e up h =
     ]
 
 -- what isn't beyond an entry that the scan has read beyond, it has read beyond too
-behind_falls : (frontier : Bound) (at : ScanAt) (x e : Entry) → is_past (bound_of e) x ≡ false → IsBehind frontier at e → IsBehind frontier at x
-behind_falls frontier Start x e up h = at_or_before frontier x e up h
-behind_falls frontier (At block) x e up h = at_or_before frontier x e up h
-behind_falls frontier Last x e up h = tt
+after_falls : (frontier : Bound) (at : ScanAt) (x e : Entry) → is_past (bound_of e) x ≡ false → IsAfter frontier at e → IsAfter frontier at x
+after_falls frontier Start x e up h = at_or_before frontier x e up h
+after_falls frontier (At block) x e up h = at_or_before frontier x e up h
+after_falls frontier Last x e up h = tt
 
 -- what lies beyond each of these entries lies beyond the last
 last_past : (low : Option Bound) (xs : List Entry) (e : Entry) → IsPast low e → ((x : Entry) → is_among xs x ≡ true → is_past (bound_of x) e ≡ true) → IsPast (last_or low xs) e
@@ -80,7 +80,7 @@ last_past low (x ∷ xs) e h all =
 
 -- a leaf brings a scan on
 module _ (st : State) (start : Entry → Bool) (history : List Action) (began : ℕ) (given : List Entry) (before after : ScanOp) (m : Matches st start history) (le : began ≤ length history)
-    (range : after.range ≡ before.range) (none : waiting before ≡ []) (way : Way) (from : before.at ≡ At way) (read : LeafIsRead st before after)
+    (range : after.range ≡ before.range) (none : waiting before ≡ []) (way : Position) (from : before.at ≡ At way) (read : LeafIsRead st before after)
     (far : IsScanSoFar start history began given before) where
   was_given : given ++ waiting before ≡ given
   was_given = ap (λ (xs : List Entry). given ++ xs) none ∙ append-nil given
@@ -88,7 +88,7 @@ module _ (st : State) (start : Entry → Bool) (history : List Action) (began : 
   -- what lies beyond the frontier lies beyond the last that was given
   beyond_last : (e : Entry) → is_past before.frontier e ≡ true → IsPast (last_or None given) e
   beyond_last e past = subst (λ (xs : List Entry). IsPast (last_or None xs) e) was_given
-      (far.onward e (λ behind. true_false (sym past ∙ subst (λ (a : ScanAt). IsBehind before.frontier a e) from behind)))
+      (far.next_page e (λ behind. true_false (sym past ∙ subst (λ (a : ScanAt). IsAfter before.frontier a e) from behind)))
 
   fresh_ascend : AscendsPast (last_or None given) (waiting after)
   fresh_ascend = AscendsPast-from (Some before.frontier) (last_or None given) (waiting after) read.ascends
@@ -101,14 +101,14 @@ module _ (st : State) (start : Entry → Bool) (history : List Action) (began : 
   old_or_fresh e h = or_cases (is_among given e) (is_among (waiting after) e) (sym (is_among-append given (waiting after) e) ∙ h)
 
   -- it has read beyond all that it has given or holds ready
-  all_reached : (e : Entry) → is_among (given ++ waiting after) e ≡ true → IsBehind after.frontier after.at e
-  all_reached e h = elim (old_or_fresh e h) [ inl a ↦ read.forward e (far.reached e (given_before e a)) | inr b ↦ read.onward e b ]
+  all_reached : (e : Entry) → is_among (given ++ waiting after) e ≡ true → IsAfter after.frontier after.at e
+  all_reached e h = elim (old_or_fresh e h) [ inl a ↦ read.forward e (far.reached e (given_before e a)) | inr b ↦ read.next_page e b ]
 
   -- so what it hasn't read beyond lies beyond each of that
-  beyond_all : (e : Entry) → (IsBehind after.frontier after.at e → ⊥) → (x : Entry) → is_among (given ++ waiting after) x ≡ true → is_past (bound_of x) e ≡ true
+  beyond_all : (e : Entry) → (IsAfter after.frontier after.at e → ⊥) → (x : Entry) → is_among (given ++ waiting after) x ≡ true → is_past (bound_of x) e ≡ true
   beyond_all e not x h = elim (cases_Bool (is_past (bound_of x) e)) [
     | inl past ↦ past
-    | inr up ↦ absurd (not (behind_falls after.frontier after.at e x up (all_reached x h)))
+    | inr up ↦ absurd (not (after_falls after.frontier after.at e x up (all_reached x h)))
   ]
 
   pub so_far_read : IsScanSoFar start history began given after
@@ -124,7 +124,7 @@ module _ (st : State) (start : Entry → Bool) (history : List Action) (began : 
           | inr fresh ↦ or_right (is_among given e) (is_among (waiting after) e) fresh
         ];
     reached = all_reached;
-    onward = λ e not. last_past None (given ++ waiting after) e tt (beyond_all e not);
+    next_page = λ e not. last_past None (given ++ waiting after) e tt (beyond_all e not);
   }
 
 -- one entry more is given
@@ -160,7 +160,7 @@ module _ (start : Entry → Bool) (history : List Action) (began : ℕ) (given r
     };
     all = λ x within match through.
         let up : is_past (bound_of e) x ≡ false = up_to_last x within in
-        let behind : IsBehind op.frontier op.at x = behind_falls op.frontier op.at x e up (far.reached e (given_among e e_among)) in
+        let behind : IsAfter op.frontier op.at x = after_falls op.frontier op.at x e up (far.reached e (given_among e e_among)) in
         let among : is_among ((given ++ e ∷ []) ++ rest) x ≡ true = subst (λ (xs : List Entry). is_among xs x ≡ true) (sym joined) (far.complete x behind match through) in
         elim (or_cases (is_among (given ++ e ∷ []) x) (is_among rest x) (sym (is_among-append (given ++ e ∷ []) rest x) ∙ among)) [
           | inl a ↦ a
@@ -174,7 +174,7 @@ given_fits st op f = record { session = f.session; start = f.start; running = f.
 
 -- an entry is given
 pub gave_goes : {sets : DeadSets} (at : Circumstances) (st : State) (start : Entry → Bool) (history : List Action) (number : ℕ) (call : Call) (before after : ScanOp) (e : Entry)
-    → CallFits st sets start history number call (Scan before) → IsNext before (Some e) after → SessionGoes at st st sets start history number call (Some (Scan after)) (Gave (Some e))
+    → CallFits st sets start history number call (Scan before) → IsNext before (Some e) after → SessionEvent at st st sets start history number call (Some (Scan after)) (Gave (Some e))
 gave_goes {sets} at st start history number call before after e fits next =
     let far = fits.runs.knows in
     let same : (call.given ++ e ∷ []) ++ waiting after ≡ call.given ++ waiting before = joined start history call.began call.given (waiting after) e before far next.0 in
@@ -201,52 +201,52 @@ gave_goes {sets} at st start history number call before after e fits next =
         was_there = rw same far.was_there;
         complete = rw (same, range, frontier, where_at) far.complete;
         reached = rw (same, frontier, where_at) far.reached;
-        onward = rw (same, frontier, where_at) far.onward;
+        next_page = rw (same, frontier, where_at) far.next_page;
       };
     }) tt
 
 -- what `next` answers
 pub next_goes : {sets : DeadSets} (at : Circumstances) (st : State) (start : Entry → Bool) (history : List Action) (number : ℕ) (call : Call) (before after : ScanOp) (answer : Option Entry)
-    → CallFits st sets start history number call (Scan before) → IsNext before answer after → SessionGoes at st st sets start history number call (Some (Scan after)) (Gave answer)
+    → CallFits st sets start history number call (Scan before) → IsNext before answer after → SessionEvent at st st sets start history number call (Some (Scan after)) (Gave answer)
 next_goes {sets} at st start history number call before after None fits next =
     event_of_nothing at st st start history number call call (Scan after) (Gave None) fits.world refl (record { none = refl; after_is = refl }) tt fits.meets fits.running
     (subst (λ (op : ScanOp). OpRuns st sets start history call (Scan op)) (sym next.1) fits.runs) tt
 next_goes {sets} at st start history number call before after (Some e) fits next = gave_goes at st start history number call before after e fits next
 
 -- on a way a scan has read beyond what isn't beyond its frontier
-behind_on : (frontier : Bound) (at : ScanAt) (e : Entry) → IsUnderway at → IsBehind frontier at e → is_past frontier e ≡ false
-behind_on frontier Start e under h = h
-behind_on frontier (At way) e under h = h
-behind_on frontier Last e under h = absurd under
+after_on : (frontier : Bound) (at : ScanAt) (e : Entry) → IsUnderway at → IsAfter frontier at e → is_past frontier e ≡ false
+after_on frontier Start e under h = h
+after_on frontier (At way) e under h = h
+after_on frontier Last e under h = absurd under
 
-on_behind : (frontier : Bound) (at : ScanAt) (e : Entry) → IsUnderway at → is_past frontier e ≡ false → IsBehind frontier at e
-on_behind frontier Start e under h = h
-on_behind frontier (At way) e under h = h
-on_behind frontier Last e under h = absurd under
+on_after : (frontier : Bound) (at : ScanAt) (e : Entry) → IsUnderway at → is_past frontier e ≡ false → IsAfter frontier at e
+on_after frontier Start e under h = h
+on_after frontier (At way) e under h = h
+on_after frontier Last e under h = absurd under
 
 -- a scan that goes on to another page has read nothing more
-goes_to : (start : Entry → Bool) (history : List Action) (began : ℕ) (given : List Entry) (op : ScanOp) (way : Way) → IsUnderway op.at
-    → IsScanSoFar start history began given op → IsScanSoFar start history began given (gone_to op way)
+goes_to : (start : Entry → Bool) (history : List Action) (began : ℕ) (given : List Entry) (op : ScanOp) (way : Position) → IsUnderway op.at
+    → IsScanSoFar start history began given op → IsScanSoFar start history began given (moved_to op way)
 goes_to start history began given op way under far = record {
   ascending = far.ascending;
   matched = far.matched;
   was_there = far.was_there;
-  complete = λ e behind. far.complete e (on_behind op.frontier op.at e under behind);
-  reached = λ e h. behind_on op.frontier op.at e under (far.reached e h);
-  onward = λ e not. far.onward e (λ behind. not (behind_on op.frontier op.at e under behind));
+  complete = λ e behind. far.complete e (on_after op.frontier op.at e under behind);
+  reached = λ e h. after_on op.frontier op.at e under (far.reached e h);
+  next_page = λ e not. far.next_page e (λ behind. not (after_on op.frontier op.at e under behind));
 }
 
 -- the steps of a scan
 module _ {sets : DeadSets} (at : Circumstances) (old new : State) (start : Entry → Bool) (history : List Action) (number : ℕ) (call : Call) (before after : ScanOp)
     (fits : CallFits old sets start history number call (Scan before)) (session : after.session ≡ before.session) (range : after.range ≡ before.range) where
-  pub reading_goes : (count : ℕ) → IsReading old new before after count → OpGoes at old new sets start history number call (Scan after) (Ready count)
+  pub reading_goes : (count : ℕ) → IsReading old new before after count → OpEvent at old new sets start history number call (Scan after) (Ready count)
   reading_goes count step =
       step_is_ready at old new start history number call (Scan before) (Scan after) fits session (ap AskScan range) count
       (works_on before.session (AskScan before.range) None old new refl step.does) refl step.fits
       (so_far_read old start history call.began call.given before after fits.world (began_before start history number call fits.meets fits.running)
       range step.none step.way step.from step.read fits.runs.knows) tt
 
-  pub ready_goes : (count : ℕ) → IsWaiting old new before after count ⊎ IsReading old new before after count → OpGoes at old new sets start history number call (Scan after) (Ready count)
+  pub ready_goes : (count : ℕ) → IsWaiting old new before after count ⊎ IsReading old new before after count → OpEvent at old new sets start history number call (Scan after) (Ready count)
   ready_goes count (inr step) = reading_goes count step
   ready_goes count (inl step) = step_is_ready at old new start history number call (Scan before) (Scan after) fits session (ap AskScan range) count
       (works_nothing before.session (AskScan before.range) old new step.state fits.world.order) refl
@@ -254,7 +254,7 @@ module _ {sets : DeadSets} (at : Circumstances) (old new : State) (start : Entry
       (subst (λ (op : ScanOp). IsScanSoFar start history call.began call.given op) (sym step.op) fits.runs.knows) tt
 
   -- the step that finds all given
-  pub done_goes : IsDone old new before after → OpGoes at old new sets start history number call (Scan after) Done
+  pub done_goes : IsDone old new before after → OpEvent at old new sets start history number call (Scan after) Done
   done_goes step =
       let far = fits.runs.knows in
       let all : call.given ++ waiting before ≡ call.given = ap (λ (xs : List Entry). call.given ++ xs) step.none ∙ append-nil call.given in
@@ -264,7 +264,7 @@ module _ {sets : DeadSets} (at : Circumstances) (old new : State) (start : Entry
           matched = λ e h. far.matched e (subst (λ (xs : List Entry). is_among xs e ≡ true) (sym all) h);
           was_there = λ e h. far.was_there e (subst (λ (xs : List Entry). is_among xs e ≡ true) (sym all) h);
         };
-        all = λ e within match through. subst (λ (xs : List Entry). is_among xs e ≡ true) all (far.complete e (subst (λ (a : ScanAt). IsBehind before.frontier a e) (sym step.last) tt) match through);
+        all = λ e within match through. subst (λ (xs : List Entry). is_among xs e ≡ true) all (far.complete e (subst (λ (a : ScanAt). IsAfter before.frontier a e) (sym step.last) tt) match through);
       } in
       record {
         effect = None;
@@ -279,11 +279,11 @@ module _ {sets : DeadSets} (at : Circumstances) (old new : State) (start : Entry
           right = subst (λ (a : Ask). AnswersRight start history number call.began (length history) a call.given call.added EndsFinished) (sym fits.runs.ask) answer;
         });
         holds = λ h. cc;
-        sweeps = λ more. absurd (let k : true ≡ false = more in cc);
+        deletions = λ more. absurd (let k : true ≡ false = more in cc);
       }
 
   -- a step that goes on to another page
-  pub moving_goes : IsMoving old new before after → OpGoes at old new sets start history number call (Scan after) Going
+  pub moving_goes : IsMoving old new before after → OpEvent at old new sets start history number call (Scan after) Going
   moving_goes step = step_goes_on at old new start history number call (Scan before) (Scan after) fits session (ap AskScan range) None
       (works_on before.session (AskScan before.range) None old new refl step.does) tt refl step.fits
       (subst (λ (l : List Action). IsScanSoFar start l call.began call.given after) (sym (append-nil history))
@@ -297,10 +297,10 @@ no_scan_next sets (Bulk set op) none = refl
 no_scan_next sets (Cleanup op) none = refl
 
 pub next_refused : {sets : DeadSets} (st : State) (start : Entry → Bool) (history : List Action) (number : ℕ) (call : Call) (op : Op) → ((scan : ScanOp) → op ≡ Scan scan → ⊥)
-    → CallFits st sets start history number call op → SessionGoes (causes_of_asked_next call.ask) st st sets start history number call (Some op) (Refused NoSession)
+    → CallFits st sets start history number call op → SessionEvent (causes_of_asked_next call.ask) st st sets start history number call (Some op) (Refused NoSession)
 next_refused {sets} st start history number call op none fits =
     event_of_nothing (causes_of_asked_next call.ask) st st start history number call call op (Refused NoSession) fits.world refl (refl, refl)
-    (ap (λ (a : Ask). (causes_of_asked_next a).no_such_session) fits.runs.ask ∙ no_scan_next sets op none) fits.meets fits.running fits.runs fits.sweeps
+    (ap (λ (a : Ask). (causes_of_asked_next a).no_such_session) fits.runs.ask ∙ no_scan_next sets op none) fits.meets fits.running fits.runs fits.deletions
 
 -- a scan that goes on to another page stands on no leaf,
 pub moving_stands : (old new : State) (before after : ScanOp) → IsMoving old new before after → after.leaf ≡ None
@@ -336,8 +336,3 @@ stands_over new (Some (Scan op)) (Forced count) last = tt
 stands_over new (Some (Scan op)) (Flushed block) last = tt
 stands_over new (Some (Scan op)) (Checkpointed count) last = tt
 stands_over new (Some (Scan op)) (Refused fault) last = tt
-
--- what is given leaves a scan where it stands
-pub next_stands : (before after : ScanOp) (answer : Option Entry) → IsNext before answer after → after.leaf ≡ before.leaf
-next_stands before after None next = ap (λ (op : ScanOp). op.leaf) next.1
-next_stands before after (Some e) next = ap (λ (op : ScanOp). op.leaf) next.1

@@ -5,10 +5,10 @@ use Rattle.index_model.specs.Actions.{Action}
 use Rattle.index_model.specs.declared.entry.Entry.{Entry}
 use Rattle.index_model.proofs.Histories.{at_some_moment_later, gives_all_later}
 use Rattle.page_action.specs.States.{State}
-use Rattle.descent.specs.Shared.{MayRely}
+use Rattle.tree_acts.specs.StepEffects.{MayRely}
 use Rattle.insert_split.proofs.Lasting.{undisturbed as insert_undisturbed}
 use Rattle.scan.specs.Laws.{PinnedLeavesLast}
-use Rattle.scan.specs.Scans.{IsBehind, waiting}
+use Rattle.scan.specs.Scans.{IsAfter, waiting}
 use Rattle.scan.specs.declared.steps.ScanOp.{ScanOp}
 use Rattle.scan.proofs.Lasting.{undisturbed as scan_undisturbed}
 use Rattle.vacuum.proofs.Lasting.{undisturbed as bulk_undisturbed}
@@ -27,9 +27,9 @@ so_far_later start history acts began given op h =
       ascending = h.ascending;
       matched = h.matched;
       was_there = λ e a. at_some_moment_later start history acts began (length history) (length (history ++ acts)) e (omega arith) longer (h.was_there e a);
-      complete = gives_all_later start history acts op.range began (length history) (length (history ++ acts)) (given ++ waiting op) (IsBehind op.frontier op.at) (omega arith) longer h.complete;
+      complete = gives_all_later start history acts op.range began (length history) (length (history ++ acts)) (given ++ waiting op) (IsAfter op.frontier op.at) (omega arith) longer h.complete;
       reached = h.reached;
-      onward = h.onward;
+      next_page = h.next_page;
     }
 
 -- a call goes on standing on what it stood on, whatever other sessions do

@@ -1,7 +1,7 @@
 -- What is left to do for a running call has a bound at each moment.
 use Rattle.std.specs.Prelude.{◌<◌, ◌≤◌, Some}
 use Rattle.page_action.specs.States.{State}
-use Rattle.descent.specs.Shared.{IsInOrder}
+use Rattle.tree_acts.specs.StepEffects.{IsInOrder}
 use Rattle.session_calls.specs.Ops.{OpInvariant}
 use Rattle.session_calls.specs.Sessions.{work_in}
 use Rattle.session_calls.specs.declared.op.Op.{Op}

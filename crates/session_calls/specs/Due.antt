@@ -7,7 +7,8 @@ use Rattle.index_model.specs.declared.fault.Fault.TheVariants.{Io, Stopped, Bloc
 use Rattle.page_action.specs.Causes.{with_row}
 use Rattle.page_action.specs.Contents.{entry_on_live_leaf}
 use Rattle.page_action.specs.States.{State}
-use Rattle.descent.specs.Ways.{root_level, NoneIsFlagged}
+use Rattle.tree_acts.specs.Levels.{root_level}
+use Rattle.tree_acts.specs.Ways.{NoneIsIncomplete}
 use Rattle.insert_split.specs.Straight.{straight_steps as insert_steps, IsStraight as IsOnEntryWay, HasRoomFor}
 use Rattle.insert_split.specs.declared.insert.InsertOp.{InsertOp}
 use Rattle.scan.specs.Scans.{waiting}
@@ -26,20 +27,20 @@ abbrev pub IsKeyAbsent : State → Entry → Type 0
 IsKeyAbsent st e =
     st.limits.unique ≡ true → (r : Row) → entry_on_live_leaf st.pages (with_row e r) ≡ false
 
--- no page is flagged, neither the entry nor, on a unique index, its key is there, its leaf has room, the insert is on its
+-- no page has an incomplete split, neither the entry nor, on a unique index, its key is there, its leaf has room, the insert is on its
 -- way: after so many steps it is added
 pub record InsertIsDue (st : State) (op : InsertOp) (steps : ℕ) : Type 0 where
   pub steps_are : steps ≡ insert_steps st.pages op.at
-  pub whole : NoneIsFlagged st.pages
+  pub whole : NoneIsIncomplete st.pages
   pub way : IsOnEntryWay st op.entry op.at
   pub absent : entry_on_live_leaf st.pages op.entry ≡ false
   pub key_absent : IsKeyAbsent st op.entry
   pub room : HasRoomFor st op.entry
 
--- no page is flagged, nothing waits, the scan is on its way: after so many steps entries are ready
+-- no page has an incomplete split, nothing waits, the scan is on its way: after so many steps entries are ready
 pub record ScanIsDue (st : State) (op : ScanOp) (steps : ℕ) : Type 0 where
   pub steps_are : steps ≡ scan_steps st.pages op.at
-  pub whole : NoneIsFlagged st.pages
+  pub whole : NoneIsIncomplete st.pages
   pub way : IsOnFrontierWay st op.frontier op.at
   pub none : waiting op ≡ []
 
@@ -74,7 +75,7 @@ IsHindered old new slot steps LogFull = Unit {0}
 IsHindered old new slot steps NoFrame = Unit {0}
 IsHindered old new slot steps fault = ⊥
 
--- A step of a call that is due, with so many steps left behind it: the last brings what is awaited, and each before it
+-- A step of a call that is due, with so many steps left after it: the last brings what is awaited, and each before it
 -- answers `Going` and leaves one fewer.
 abbrev pub DueCountsDown : State → State → Option Op → Option Op → ℕ → Answer → Type 0
 DueCountsDown old new before after left Going = (0 < left) × StaysDue old new after left
@@ -96,8 +97,8 @@ IsServable st (ToScan range) = Unit {0}
 IsServable st (ToBulk set) = ⊥
 IsServable st ToCleanup = ⊥
 
--- A call has begun: where no page is flagged and its leaf can serve it, it is due after so many steps more than the root's
+-- A call has begun: where no page has an incomplete split and its leaf can serve it, it is due after so many steps more than the root's
 -- level. What is left to do for it has a bound, whatever the pages are.
 pub record HasSteps (old new : State) (request : Request) (slot : Option Op) : Type 0 where
-  pub due : NoneIsFlagged old.pages → IsServable old request → IsDueIn new slot (root_level old.pages + steps_for request)
+  pub due : NoneIsIncomplete old.pages → IsServable old request → IsDueIn new slot (root_level old.pages + steps_for request)
   pub bounded : work_in new slot < 281474976710656

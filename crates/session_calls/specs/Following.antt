@@ -8,20 +8,20 @@ use Rattle.page_action.specs.declared.page_store.PageStore.{Ghosts}
 use Rattle.session_calls.specs.TheoremCalls.{DeadSets}
 use Rattle.session_calls.specs.Due.{IsDueIn, DueCountsDown}
 use Rattle.session_calls.specs.Ops.{causes_of_slot_stepped_any, RunsOn, IsCaused, StoppedAnswersFirst, AnswersLogged, is_last}
-use Rattle.session_calls.specs.Sessions.{SlotFits, KeepsPages, OnlyWritersAct, OnlyOwnAreFlagged, LeavesOwnFlagged, KeepsBeforePins, CountsEntries, CountsPages, TellsFree, SparesLeaves, StepLeavesLess, LeavesNoMore, AnswersStep, RefusalChangesNothing, RunsUntilLast, UnfinishedChangesNothing, TellsStats, WaitsToGive, StandsByAnswer, no_call, slot_add}
+use Rattle.session_calls.specs.Sessions.{SlotFits, KeepsPages, OnlyWritersAct, OnlyOwnAreIncomplete, LeavesOwnIncomplete, KeepsBeforePins, CountsEntries, CountsPages, CountsFree, SparesLeaves, StepHasLessLeft, NoMoreIsLeft, AnswersStep, RefusalChangesNothing, RunsUntilLast, IncompleteChangesNothing, CountsStats, WaitsToGive, StandsByAnswer, no_call, slot_add}
 use Rattle.session_calls.specs.declared.answer.Answer.{Answer}
 use Rattle.session_calls.specs.declared.op.Op.{Op}
 
 -- what the answer of a step says, whatever the pages are
-pub record StepTells (is_stopped : Bool) (old new : State) (before after : Option Op) (answer : Answer) : Type 0 where
+pub record StepAnswerMeans (is_stopped : Bool) (old new : State) (before after : Option Op) (answer : Answer) : Type 0 where
   -- which faults it may tell of
   pub faults : IsCaused (causes_of_slot_stepped_any before) answer
   -- once the entry of an insert is logged only a page that is blocked refuses it, and it ends with the number of that action
   pub logged : AnswersLogged (slot_add before) answer
   -- a fault that leaves a split unfinished leaves all as it was, but that the call is over
-  pub unfinished : UnfinishedChangesNothing old new before answer
+  pub unfinished : IncompleteChangesNothing old new before answer
   -- a bulk delete or a cleanup that has finished tells what it has counted, and how many pages are in use, deleted and free
-  pub stats : TellsStats old before answer
+  pub stats : CountsStats old before answer
   -- while a scan has entries ready it tells how many, and changes nothing
   pub waits : WaitsToGive is_stopped old new before after answer
   -- where it isn't the last of its call, each running call keeps its start number
@@ -41,13 +41,13 @@ pub record StepAlways {S : Type 0} (g : Ghosts S) (old new : S) (before after : 
   -- it goes on exactly if the answer isn't its last
   pub until_last : RunsUntilLast before after answer
   -- what its answer says
-  pub tells : StepTells (g.backing old).stopped (g.state old) (g.state new) before after answer
+  pub tells : StepAnswerMeans (g.backing old).stopped (g.state old) (g.state new) before after answer
   -- it does one act at most, and only a call that writes does one
   pub kept : KeepsPages (g.state old) (g.state new)
   pub calm : OnlyWritersAct before (g.state old) (g.state new)
   -- over a device that keeps its model less is left to do, where it goes on, and no more in any case
-  pub less : (g.backing new).honest ≡ true → StepLeavesLess (g.state old) (g.state new) before after answer
-  pub no_more : (g.backing new).honest ≡ true → LeavesNoMore (g.state old) (g.state new) before after
+  pub less : (g.backing new).honest ≡ true → StepHasLessLeft (g.state old) (g.state new) before after answer
+  pub no_more : (g.backing new).honest ≡ true → NoMoreIsLeft (g.state old) (g.state new) before after
 
 -- some history fits what the session runs
 pub record IsFitted (st : State) (sets : DeadSets) (slot : Option Op) : Type 0 where
@@ -61,8 +61,8 @@ pub record IsFitted (st : State) (sets : DeadSets) (slot : Option Op) : Type 0 w
 pub record StepFollows (sets : DeadSets) (old new : State) (before after : Option Op) (answer : Answer) : Type 0 where
   -- the steps that it is due after: each counts down
   pub due : IsFitted old sets before → (left : ℕ) → IsDueIn old before (suc left) → DueCountsDown old new before after left answer
-  -- the pages that it leaves flagged: those whose splits it is to finish
-  pub flagged : IsFitted old sets before → OnlyOwnAreFlagged old before → LeavesOwnFlagged new before after answer
+  -- the pages that it leaves with incomplete splits: those whose splits it is to finish
+  pub incomplete : IsFitted old sets before → OnlyOwnAreIncomplete old before → LeavesOwnIncomplete new before after answer
   -- the leaf that a scan stands on
   pub stands : IsFitted old sets before → StandsByAnswer new before after answer
   -- the leaves that others have pinned, before which a bulk delete waits
@@ -71,7 +71,7 @@ pub record StepFollows (sets : DeadSets) (old new : State) (before after : Optio
   pub entries : CountsEntries sets old new before after answer
   -- the pages that a cleanup deletes
   pub deletes : CountsPages old new before after answer
-  -- how many deleted pages may be used again behind a bulk delete or a cleanup
-  pub frees : IsFitted old sets before → TellsFree new before answer
+  -- how many deleted pages may be used again after a bulk delete or a cleanup
+  pub frees : IsFitted old sets before → CountsFree new before answer
   -- the empty leaves that a cleanup leaves, where nobody else holds a page
   pub spares : SparesLeaves old new before after answer

@@ -1,6 +1,6 @@
 pub mod TheoremCalls
 pub mod Ops
-pub mod Sweeps
+pub mod BulkDeletions
 pub mod Sessions
 pub mod Due
 pub mod Undisturbed

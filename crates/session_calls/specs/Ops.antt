@@ -13,13 +13,13 @@ use Rattle.index_model.specs.declared.fault.Fault.TheVariants.{Stopped, Blocked,
 use Rattle.page_action.specs.Causes.{nothing_wrong, is_at_end}
 use Rattle.page_action.specs.States.{State, Backing}
 use Rattle.page_codec.specs.declared.page.Page.{Page}
-use Rattle.descent.specs.Shared.{causes_of_reading_any, causes_of_writing_any}
+use Rattle.tree_acts.specs.StepEffects.{causes_of_reading_any, causes_of_writing_any}
 use Rattle.split_finish.specs.declared.finish.Target.{Target}
 use Rattle.insert_split.specs.Inserts.{InsertInvariant, targets_at, insert_left, causes_of_inserting, causes_of_inserting_any}
 use Rattle.insert_split.specs.Turns.{is_blocked}
 use Rattle.insert_split.specs.declared.insert.InsertAt.TheVariants.{Coming}
 use Rattle.insert_split.specs.declared.insert.Stage.TheVariants.{Start}
-use Rattle.scan.specs.Scans.{ScanInvariant, IsBehind, waiting, fresh_scan, causes_of_scanning}
+use Rattle.scan.specs.Scans.{ScanInvariant, IsAfter, waiting, fresh_scan, causes_of_scanning}
 use Rattle.scan.specs.Work.{scan_left}
 use Rattle.scan.specs.declared.steps.ScanOp.{ScanOp}
 use Rattle.vacuum.specs.BulkDeletes.{BulkDeleteInvariant, causes_of_deleting}
@@ -55,11 +55,11 @@ asks_vacuum (ToBulk set) = true
 asks_vacuum ToCleanup = true
 
 -- a request of a bulk delete, which has a cycle number
-abbrev pub asks_sweep : Request → Bool
-asks_sweep (ToInsert e) = false
-asks_sweep (ToScan range) = false
-asks_sweep (ToBulk set) = true
-asks_sweep ToCleanup = false
+abbrev pub asks_bulk_delete : Request → Bool
+asks_bulk_delete (ToInsert e) = false
+asks_bulk_delete (ToScan range) = false
+asks_bulk_delete (ToBulk set) = true
+asks_bulk_delete ToCleanup = false
 
 -- the operation of a session's request, before its first step
 abbrev pub op_before : ℕ → Request → Op
@@ -83,11 +83,11 @@ is_vacuum (Bulk set op) = true
 is_vacuum (Cleanup op) = true
 
 -- it is a bulk delete, which has a cycle number
-abbrev pub is_sweep : Op → Bool
-is_sweep (Insert op) = false
-is_sweep (Scan op) = false
-is_sweep (Bulk set op) = true
-is_sweep (Cleanup op) = false
+abbrev pub is_bulk_delete : Op → Bool
+is_bulk_delete (Insert op) = false
+is_bulk_delete (Scan op) = false
+is_bulk_delete (Bulk set op) = true
+is_bulk_delete (Cleanup op) = false
 
 -- the kinds of calls, a bulk delete's with the place of its set
 pub data CallKind : Type 0 where
@@ -102,7 +102,7 @@ call_kind (Scan op) = ScanKind
 call_kind (Bulk set op) = BulkKind set
 call_kind (Cleanup op) = CleanupKind
 
--- behind an event of its call a session runs nothing, or a call of the same kind
+-- after an event of its call a session runs nothing, or a call of the same kind
 abbrev pub RunsOn : Option Op → Option Op → Type 0
 RunsOn before None = Unit {0}
 RunsOn None (Some op) = ⊥
@@ -141,9 +141,9 @@ pub record IsScanSoFar (start : Entry → Bool) (history : List Action) (began :
   pub ascending : IsAscending (given ++ waiting op)
   pub matched : (e : Entry) → is_among (given ++ waiting op) e ≡ true → matches op.range e ≡ true
   pub was_there : (e : Entry) → is_among (given ++ waiting op) e ≡ true → ThereAtSomeMoment start history began (length history) e
-  pub complete : GivesAll start history op.range began (length history) (given ++ waiting op) (IsBehind op.frontier op.at)
-  pub reached : (e : Entry) → is_among (given ++ waiting op) e ≡ true → IsBehind op.frontier op.at e
-  pub onward : (e : Entry) → (IsBehind op.frontier op.at e → ⊥) → IsPast (last_or None (given ++ waiting op)) e
+  pub complete : GivesAll start history op.range began (length history) (given ++ waiting op) (IsAfter op.frontier op.at)
+  pub reached : (e : Entry) → is_among (given ++ waiting op) e ≡ true → IsAfter op.frontier op.at e
+  pub next_page : (e : Entry) → (IsAfter op.frontier op.at e → ⊥) → IsPast (last_or None (given ++ waiting op)) e
 
 -- what it knows of the moments since it began
 abbrev pub OpKnows : (Entry → Bool) → List Action → ℕ → List Entry → Op → Type 0
@@ -180,14 +180,14 @@ abbrev pub causes_of_beginning : State → Backing → Bool → Circumstances
 causes_of_beginning st old busy = record nothing_wrong { is_stopped = no_call_begins st old; session_has_a_call = busy }
 
 -- a bulk delete runs: the store has its cycle number
-abbrev pub is_sweeping : State → Bool
-is_sweeping st = nat_lt 0 st.cycle
+abbrev pub runs_bulk_delete : State → Bool
+runs_bulk_delete st = nat_lt 0 st.cycle
 
 -- ... of a call, which may be excluded by a bulk delete or a cleanup that runs
 abbrev pub causes_of_requesting : Bool → State → Backing → Bool → Circumstances
 causes_of_requesting excluded st old busy = record (causes_of_beginning st old busy) { vacuum_runs = excluded }
 
--- a fault that is left behind has its cause
+-- a fault that is left after has its cause
 abbrev pub IsFaultCaused : Circumstances → Option Fault → Type 0
 IsFaultCaused at None = Unit {0}
 IsFaultCaused at (Some fault) = HasCause at fault

@@ -14,23 +14,23 @@ use Rattle.page_action.specs.States.{State, Backing, Continues, after_begin, aft
 use Rattle.page_action.specs.declared.page_store.PageStore.{Ghosts}
 use Rattle.page_codec.specs.Edits.{entries_of}
 use Rattle.page_codec.specs.declared.page.Page.{Page}
-use Rattle.split_finish.specs.Targets.{OnlyTargetsAreFlagged}
+use Rattle.split_finish.specs.Targets.{OnlyTargetsAreIncomplete}
 use Rattle.tree_acts.specs.Deletions.{StartsAreBelow}
-use Rattle.descent.specs.Steps.{IsApt, Changes}
-use Rattle.descent.specs.Shared.{IsInOrder, OthersRely, MovesFlags, DeletesLeaves, IsOneStep}
+use Rattle.tree_acts.specs.Steps.{IsApt, HasEffect}
+use Rattle.tree_acts.specs.StepEffects.{IsInOrder, OthersRely, MovesFlags, DeletesLeaves, IsOneActAtMost}
 use Rattle.page_delete.specs.Cleanups.{CleanupInvariant}
 use Rattle.page_delete.specs.Counts.{IsCleaned, AllIsCleaned, deleted_in}
 use Rattle.page_delete.specs.Ops.{cleanup_stats}
-use Rattle.page_delete.specs.Parts.{PinnedLeavesStay}
+use Rattle.page_delete.specs.Parts.{PinnedLeafPagesStay}
 use Rattle.page_delete.specs.Spares.{IsAlone, IsSparing, OnlyNeededStay}
 use Rattle.page_delete.specs.declared.steps.CleanupOp.{CleanupOp}
 use Rattle.scan.specs.Scans.{waiting}
 use Rattle.vacuum.specs.Counts.{IsCounted, entries_below, stats_of}
 use Rattle.session_calls.specs.Ops.{set_at, ends_call}
 use Rattle.session_calls.specs.TheoremCalls.{DeadSets, asked_by, begun_call, acts_of}
-use Rattle.session_calls.specs.Ops.{op_before, session_of, asked_of, add_of, ready_of, OpInvariant, OpKnows, causes_of_requesting, causes_of_stepped_any, asks_sweep, is_sweep, IsOfSets, call_kind, IsCaused, is_last, OpAnswers, StoppedAnswersFirst, AnswersLogged, op_work, op_targets}
-use Rattle.tree_acts.specs.Leaves.{LeavesStay, IsLeafAt}
-use Rattle.session_calls.specs.Sweeps.{OpSweeps, SlotSweeps}
+use Rattle.session_calls.specs.Ops.{op_before, session_of, asked_of, add_of, ready_of, OpInvariant, OpKnows, causes_of_requesting, causes_of_stepped_any, asks_bulk_delete, is_bulk_delete, IsOfSets, call_kind, IsCaused, is_last, OpAnswers, StoppedAnswersFirst, AnswersLogged, op_work, op_targets}
+use Rattle.tree_acts.specs.Leaves.{LeafPagesStay, IsLeafAt}
+use Rattle.session_calls.specs.BulkDeletions.{OpDeletions, SlotDeletions}
 use Rattle.session_calls.specs.declared.answer.Answer.{Answer}
 use Rattle.session_calls.specs.declared.answer.Answer.TheVariants.{Begun, Going, Added, Ready, Done, Finished, Gave, Ended, Forced, Flushed, Checkpointed, Refused}
 use Rattle.session_calls.specs.declared.op.Op.{Op}
@@ -74,7 +74,7 @@ pub record CallFits (st : State) (sets : DeadSets) (start : Entry → Bool) (his
   pub running : call.ending ≡ Running
   pub meets : Meets start history number call
   pub runs : OpRuns st sets start history call op
-  pub sweeps : OpSweeps st sets start history number call.began op
+  pub deletions : OpDeletions st sets start history number call.began op
 
 -- the session's slot runs this call
 abbrev pub SlotFits : State → DeadSets → (Entry → Bool) → List Action → ℕ → Call → Option Op → Type 0
@@ -140,20 +140,20 @@ pub record OnlyBecomes (effect : Option Effect) (becomes after : Call) : Type 0 
   pub after_is : after ≡ becomes
 
 -- What an answer says of the effect of an event, and of the call before and after it, with so many actions before.
-abbrev pub Told : Answer → ℕ → Option Effect → Call → Call → Type 0
-Told Begun count effect call after = ⊥
-Told Going count effect call after = after ≡ noted call count effect
-Told (Added action unfinished) count effect call after = EndsWithAdd action unfinished count effect call after
-Told (Ready ready) count effect call after = OnlyBecomes effect call after
-Told Done count effect call after = OnlyBecomes effect (ended call EndsFinished count) after
-Told (Finished stats) count effect call after = OnlyBecomes effect (ended call (Vacuumed stats) count) after
-Told (Gave None) count effect call after = OnlyBecomes effect call after
-Told (Gave (Some e)) count effect call after = OnlyBecomes effect (given_one call e) after
-Told Ended count effect call after = OnlyBecomes effect (ended call GivenUp count) after
-Told (Forced count') count effect call after = ⊥
-Told (Flushed block) count effect call after = ⊥
-Told (Checkpointed count') count effect call after = ⊥
-Told (Refused fault) count effect call after = (effect ≡ None) × Refuses fault count call after
+abbrev pub AnswerMeans : Answer → ℕ → Option Effect → Call → Call → Type 0
+AnswerMeans Begun count effect call after = ⊥
+AnswerMeans Going count effect call after = after ≡ noted call count effect
+AnswerMeans (Added action unfinished) count effect call after = EndsWithAdd action unfinished count effect call after
+AnswerMeans (Ready ready) count effect call after = OnlyBecomes effect call after
+AnswerMeans Done count effect call after = OnlyBecomes effect (ended call EndsFinished count) after
+AnswerMeans (Finished stats) count effect call after = OnlyBecomes effect (ended call (Vacuumed stats) count) after
+AnswerMeans (Gave None) count effect call after = OnlyBecomes effect call after
+AnswerMeans (Gave (Some e)) count effect call after = OnlyBecomes effect (given_one call e) after
+AnswerMeans Ended count effect call after = OnlyBecomes effect (ended call GivenUp count) after
+AnswerMeans (Forced count') count effect call after = ⊥
+AnswerMeans (Flushed block) count effect call after = ⊥
+AnswerMeans (Checkpointed count') count effect call after = ⊥
+AnswerMeans (Refused fault) count effect call after = (effect ≡ None) × Refuses fault count call after
 
 -- what is left to do for a call on these pages, of which there are at most so many: steps, and entries to give
 abbrev pub work_left : ℕ → List Page → Option Op → ℕ
@@ -165,9 +165,9 @@ abbrev pub work_in : State → Option Op → ℕ
 work_in st slot = work_left st.limits.pages st.pages slot
 
 -- no entry is ready
-abbrev pub IsDrained : Option Op → Type 0
-IsDrained None = Unit {0}
-IsDrained (Some op) = ready_of op ≡ []
+abbrev pub NothingIsReady : Option Op → Type 0
+NothingIsReady None = Unit {0}
+NothingIsReady (Some op) = ready_of op ≡ []
 
 -- where a step that goes on owes to leave less to do: each of a bulk delete and of a cleanup does, any other where no act is
 -- done
@@ -180,19 +180,19 @@ OwesLess (Some (Cleanup op)) old new = Unit {0}
 
 -- a step that ends no call leaves less to do: each `Going` that owes it, and each `Ready` where all that was ready had been
 -- given
-abbrev pub StepLeavesLess : State → State → Option Op → Option Op → Answer → Type 0
-StepLeavesLess old new before after Going = OwesLess before old new → work_in new after < work_in old before
-StepLeavesLess old new before after (Ready count) = IsDrained before → work_in new after < work_in old before
-StepLeavesLess old new before after answer = Unit {0}
+abbrev pub StepHasLessLeft : State → State → Option Op → Option Op → Answer → Type 0
+StepHasLessLeft old new before after Going = OwesLess before old new → work_in new after < work_in old before
+StepHasLessLeft old new before after (Ready count) = NothingIsReady before → work_in new after < work_in old before
+StepHasLessLeft old new before after answer = Unit {0}
 
 -- while no act is done, no step leaves more to do
-abbrev pub LeavesNoMore : State → State → Option Op → Option Op → Type 0
-LeavesNoMore old new before after = new.acts ≡ old.acts → work_in new after ≤ work_in old before
+abbrev pub NoMoreIsLeft : State → State → Option Op → Option Op → Type 0
+NoMoreIsLeft old new before after = new.acts ≡ old.acts → work_in new after ≤ work_in old before
 
 -- an entry that was given leaves less to do; where none is given, none is ready, and nothing is changed
 abbrev pub GivesLess : Option Op → Option Op → Answer → Type 0
 GivesLess before after (Gave (Some e)) = (most : ℕ) (pages : List Page) → work_left most pages after < work_left most pages before
-GivesLess before after answer = (after ≡ before) × IsDrained before
+GivesLess before after answer = (after ≡ before) × NothingIsReady before
 
 -- what is ready, where the slot runs a call
 abbrev pub slot_ready : Option Op → List Entry
@@ -212,7 +212,7 @@ pub record StepWaits (old new : State) (before after : Option Op) (answer : Answ
 
 -- ... unless the log has stopped
 abbrev pub WaitsToGive : Bool → State → State → Option Op → Option Op → Answer → Type 0
-WaitsToGive is_stopped old new before after answer = is_stopped ≡ false → (IsDrained before → ⊥) → StepWaits old new before after answer
+WaitsToGive is_stopped old new before after answer = is_stopped ≡ false → (NothingIsReady before → ⊥) → StepWaits old new before after answer
 
 -- what a step may answer, by what the session runs before and after
 abbrev pub AnswersStep : Option Op → Option Op → Answer → Type 0
@@ -255,7 +255,7 @@ let_go false session st = after_end session st
 let_go true session st = after_stop_cycle (after_end session st)
 
 abbrev pub op_after_call : Op → State → State
-op_after_call op st = let_go (is_sweep op) (session_of op) st
+op_after_call op st = let_go (is_bulk_delete op) (session_of op) st
 
 -- ... of what a session runs, if anything
 abbrev pub after_slot : Option Op → State → State
@@ -274,9 +274,9 @@ RefusalChangesNothing old new None after answer = (new ≡ old) × (after ≡ No
 RefusalChangesNothing old new (Some op) after answer = Unit {0}
 
 -- a step that tells of a fault which leaves a split unfinished has changed nothing, but that the call is over
-abbrev pub UnfinishedChangesNothing : State → State → Option Op → Answer → Type 0
-UnfinishedChangesNothing old new (Some op) (Added action (Some fault)) = new ≡ op_after_call op old
-UnfinishedChangesNothing old new before answer = Unit {0}
+abbrev pub IncompleteChangesNothing : State → State → Option Op → Answer → Type 0
+IncompleteChangesNothing old new (Some op) (Added action (Some fault)) = new ≡ op_after_call op old
+IncompleteChangesNothing old new before answer = Unit {0}
 
 -- On any pages an event does one act at most, and with none the pages are as they were; so are limits, frames and the
 -- count of calls.
@@ -294,23 +294,23 @@ OnlyWritersAct (Some (Bulk set op)) old new = Unit {0}
 OnlyWritersAct (Some (Cleanup op)) old new = Unit {0}
 OnlyWritersAct slot old new = new.acts ≡ old.acts
 
--- only those pages are flagged whose splits the session's insert is to finish
-abbrev pub OnlyOwnAreFlagged : State → Option Op → Type 0
-OnlyOwnAreFlagged st None = OnlyTargetsAreFlagged st []
-OnlyOwnAreFlagged st (Some op) = OnlyTargetsAreFlagged st (op_targets op)
+-- only those pages have incomplete splits that the session's insert is to finish
+abbrev pub OnlyOwnAreIncomplete : State → Option Op → Type 0
+OnlyOwnAreIncomplete st None = OnlyTargetsAreIncomplete st []
+OnlyOwnAreIncomplete st (Some op) = OnlyTargetsAreIncomplete st (op_targets op)
 
--- Which pages are flagged behind a step, by what it answers: those alone whose splits the insert is to finish yet; none
+-- Which pages have incomplete splits after a step, by what it answers: those alone whose splits the insert is to finish yet; none
 -- where its entry is added and nothing is left unfinished; where a fault ends it, those whose splits it was to finish.
-abbrev pub LeavesOwnFlagged : State → Option Op → Option Op → Answer → Type 0
-LeavesOwnFlagged new before after (Added action (Some fault)) = OnlyOwnAreFlagged new before
-LeavesOwnFlagged new before after (Added action None) = OnlyOwnAreFlagged new None
-LeavesOwnFlagged new before after (Refused fault) = OnlyOwnAreFlagged new before
-LeavesOwnFlagged new before after answer = OnlyOwnAreFlagged new after
+abbrev pub LeavesOwnIncomplete : State → Option Op → Option Op → Answer → Type 0
+LeavesOwnIncomplete new before after (Added action (Some fault)) = OnlyOwnAreIncomplete new before
+LeavesOwnIncomplete new before after (Added action None) = OnlyOwnAreIncomplete new None
+LeavesOwnIncomplete new before after (Refused fault) = OnlyOwnAreIncomplete new before
+LeavesOwnIncomplete new before after answer = OnlyOwnAreIncomplete new after
 
--- the cycle number behind an event: it is as it was, but none behind the end of a bulk delete
-abbrev pub cycle_behind : Ask → Option Op → ℕ → ℕ
-cycle_behind (AskBulkDelete dead) None cycle = 0
-cycle_behind ask slot cycle = cycle
+-- the cycle number after an event: it is as it was, but none after the end of a bulk delete
+abbrev pub cycle_after : Ask → Option Op → ℕ → ℕ
+cycle_after (AskBulkDelete dead) None cycle = 0
+cycle_after ask slot cycle = cycle
 
 -- what was asked is a cleanup, whose acts delete leaves
 abbrev pub asks_cleanup : Ask → Bool
@@ -328,13 +328,13 @@ MovesShape (AskScan range) effect old new = MovesFlags effect old new
 MovesShape (AskBulkDelete dead) effect old new = MovesFlags effect old new
 
 -- A step of a session's call, by what was asked, with one effect at most: the pages are a tree again; what it does to their
--- shape; leaves stay, or are split as a bulk delete beside it needs, but for a cleanup's, and those that others have pinned
+-- shape; leaves stay, or are split as a bulk delete beside it needs, except for a cleanup's, and those that others have pinned
 -- stay in any case; calls, limits and the cycle number are as they were, and every other session may rely on what it held.
-pub record Works (session : ℕ) (ask : Ask) (effect : Option Effect) (old new : State) : Type 0 where
-  pub changes : Changes effect old new
+pub record CallEffect (session : ℕ) (ask : Ask) (effect : Option Effect) (old new : State) : Type 0 where
+  pub changes : HasEffect effect old new
   pub shape : MovesShape ask effect old new
-  pub leaves : asks_cleanup ask ≡ false → LeavesStay effect old new
-  pub pinned : PinnedLeavesStay session old new
+  pub leaves : asks_cleanup ask ≡ false → LeafPagesStay effect old new
+  pub pinned : PinnedLeafPagesStay session old new
   pub cycle : new.cycle ≡ old.cycle
   pub limits : new.limits ≡ old.limits
   pub frames : new.frames ≡ old.frames
@@ -346,14 +346,14 @@ pub record Works (session : ℕ) (ask : Ask) (effect : Option Effect) (old new :
 -- One event of a running call: it appends at most one action, which the call was asked for; what is told of it; its cause;
 -- the pages match the longer history; what it does to their shape; the limits stay, and where no action is logged, the pages;
 -- others may rely; the cycle number stays until a bulk delete ends, and with it leaves stay, or are split as a bulk delete
--- needs, but for a cleanup's; those that others have pinned stay; the call goes on meeting its definition; what the slot holds
+-- needs, except for a cleanup's; those that others have pinned stay; the call goes on meeting its definition; what the slot holds
 -- then; and what a bulk delete is to remove still.
-pub record SessionGoes (at : Circumstances) (old new : State) (sets : DeadSets) (start : Entry → Bool) (history : List Action) (number : ℕ)
+pub record SessionEvent (at : Circumstances) (old new : State) (sets : DeadSets) (start : Entry → Bool) (history : List Action) (number : ℕ)
     (call : Call) (slot : Option Op) (answer : Answer) : Type 0 where
   pub effect : Option Effect
   pub after : Call
   pub asked : IsAsked (contents_after start history) call.ask call.added effect
-  pub told : Told answer (length history) effect call after
+  pub told : AnswerMeans answer (length history) effect call after
   pub caused : IsCaused at answer
   pub world : Matches new start (history ++ acts_of number effect)
   pub shape : MovesShape call.ask effect old new
@@ -361,12 +361,12 @@ pub record SessionGoes (at : Circumstances) (old new : State) (sets : DeadSets) 
   pub frames : new.frames ≡ old.frames
   pub pages : effect ≡ None → new.pages ≡ old.pages
   pub others : OthersRely call.session old new
-  pub cycle : new.cycle ≡ cycle_behind call.ask slot old.cycle
-  pub leaves : asks_cleanup call.ask ≡ false → new.cycle ≡ old.cycle → LeavesStay effect old new
-  pub pinned : PinnedLeavesStay call.session old new
+  pub cycle : new.cycle ≡ cycle_after call.ask slot old.cycle
+  pub leaves : asks_cleanup call.ask ≡ false → new.cycle ≡ old.cycle → LeafPagesStay effect old new
+  pub pinned : PinnedLeafPagesStay call.session old new
   pub meets : Meets start (history ++ acts_of number effect) number after
   pub holds : SlotIs new sets start (history ++ acts_of number effect) after slot
-  pub sweeps : SlotSweeps new sets start (history ++ acts_of number effect) number after.began slot
+  pub deletions : SlotDeletions new sets start (history ++ acts_of number effect) number after.began slot
 
 -- it is still before the leaf, if it is a bulk delete that runs on
 abbrev pub IsStillBefore : ℕ → Option Op → Answer → Type 0
@@ -404,7 +404,7 @@ StandsByAnswer new (Some (Scan op)) after (Ready count) = waiting op ≡ [] → 
 StandsByAnswer new before after answer = Unit {0}
 
 -- what it has counted are the entries that it has left, if it is a bulk delete that runs on; a cleanup leaves no half-dead page
--- behind it either
+-- after it either
 abbrev pub SlotIsCounted : DeadSets → State → Option Op → Type 0
 SlotIsCounted sets st None = Unit {0}
 SlotIsCounted sets st (Some (Insert op)) = Unit {0}
@@ -413,20 +413,20 @@ SlotIsCounted sets st (Some (Bulk set op)) = IsCounted (set_at sets set) st op
 SlotIsCounted sets st (Some (Cleanup op)) = IsCleaned st op
 
 -- one that has finished tells how many entries there are
-abbrev pub TellsAllEntries : State → Answer → Type 0
-TellsAllEntries st (Finished stats) = stats.num_index_tuples ≡ entries_below st.pages (length st.pages)
-TellsAllEntries st answer = Unit {0}
+abbrev pub CountsAllEntries : State → Answer → Type 0
+CountsAllEntries st (Finished stats) = stats.num_index_tuples ≡ entries_below st.pages (length st.pages)
+CountsAllEntries st answer = Unit {0}
 
 -- a cleanup that has finished tells so too, and no half-dead page is left
-abbrev pub TellsAllCleaned : State → Answer → Type 0
-TellsAllCleaned st (Finished stats) = AllIsCleaned st stats.num_index_tuples
-TellsAllCleaned st answer = Unit {0}
+abbrev pub CountsAllCleaned : State → Answer → Type 0
+CountsAllCleaned st (Finished stats) = AllIsCleaned st stats.num_index_tuples
+CountsAllCleaned st answer = Unit {0}
 
 -- a bulk delete or a cleanup that has finished tells what it has counted, and how many pages are in use, deleted and free
-abbrev pub TellsStats : State → Option Op → Answer → Type 0
-TellsStats st (Some (Bulk set op)) (Finished stats) = stats ≡ stats_of st op
-TellsStats st (Some (Cleanup op)) (Finished stats) = stats ≡ cleanup_stats st op
-TellsStats st before answer = Unit {0}
+abbrev pub CountsStats : State → Option Op → Answer → Type 0
+CountsStats st (Some (Bulk set op)) (Finished stats) = stats ≡ stats_of st op
+CountsStats st (Some (Cleanup op)) (Finished stats) = stats ≡ cleanup_stats st op
+CountsStats st before answer = Unit {0}
 
 -- how many of the first so many blocks may be used again
 abbrev pub reusable_count : State → ℕ → ℕ
@@ -438,12 +438,12 @@ abbrev pub reusable_in : State → ℕ
 reusable_in st = reusable_count st (length st.pages)
 
 -- a bulk delete or a cleanup that has finished, and runs no more, tells how many deleted pages may be used again now
-abbrev pub TellsFree : State → Option Op → Answer → Type 0
-TellsFree st (Some (Bulk set op)) (Finished stats) = stats.pages_free ≡ reusable_in st
-TellsFree st (Some (Cleanup op)) (Finished stats) = stats.pages_free ≡ reusable_in st
-TellsFree st before answer = Unit {0}
+abbrev pub CountsFree : State → Option Op → Answer → Type 0
+CountsFree st (Some (Bulk set op)) (Finished stats) = stats.pages_free ≡ reusable_in st
+CountsFree st (Some (Cleanup op)) (Finished stats) = stats.pages_free ≡ reusable_in st
+CountsFree st before answer = Unit {0}
 
--- as many more pages are deleted behind a step of a cleanup as it has counted more, where it runs on
+-- as many more pages are deleted after a step of a cleanup as it has counted more, where it runs on
 abbrev pub CountsPagesOn : State → State → CleanupOp → Option Op → Type 0
 CountsPagesOn old new before (Some (Cleanup after)) = deleted_in new + before.deleted ≡ deleted_in old + after.deleted
 CountsPagesOn old new before after = Unit {0}
@@ -458,12 +458,12 @@ CountsPages old new before after answer = Unit {0}
 -- and a cleanup leaves no half-dead page
 abbrev pub CountsEntries : DeadSets → State → State → Option Op → Option Op → Answer → Type 0
 CountsEntries sets old new (Some (Bulk set op)) after answer =
-    IsCounted (set_at sets set) old op → SlotIsCounted sets new after × TellsAllEntries new answer
+    IsCounted (set_at sets set) old op → SlotIsCounted sets new after × CountsAllEntries new answer
 CountsEntries sets old new (Some (Cleanup op)) after answer =
-    CleanupInvariant old op → IsCleaned old op → SlotIsCounted sets new after × TellsAllCleaned new answer
+    CleanupInvariant old op → IsCleaned old op → SlotIsCounted sets new after × CountsAllCleaned new answer
 CountsEntries sets old new before after answer = Unit {0}
 
--- a cleanup that runs on leaves no empty leaf behind it that might leave the tree
+-- a cleanup that runs on leaves no empty leaf after it that might leave the tree
 abbrev pub SlotIsSparing : State → Option Op → Type 0
 SlotIsSparing st None = Unit {0}
 SlotIsSparing st (Some (Insert op)) = Unit {0}
@@ -472,23 +472,23 @@ SlotIsSparing st (Some (Bulk set op)) = Unit {0}
 SlotIsSparing st (Some (Cleanup op)) = IsSparing st op
 
 -- one that has finished has left none
-abbrev pub LeavesNeeded : State → Answer → Type 0
-LeavesNeeded st (Finished stats) = OnlyNeededStay st
-LeavesNeeded st answer = Unit {0}
+abbrev pub OnlyNeededAreLeft : State → Answer → Type 0
+OnlyNeededAreLeft st (Finished stats) = OnlyNeededStay st
+OnlyNeededAreLeft st answer = Unit {0}
 
 -- where nobody else holds a page, and no page was half-dead when it began, a cleanup leaves no empty leaf that might leave the
 -- tree
 abbrev pub SparesLeaves : State → State → Option Op → Option Op → Answer → Type 0
 SparesLeaves old new (Some (Cleanup op)) after answer =
     IsInOrder old → StartsAreBelow old → CleanupInvariant old op → IsAlone old op.session → IsSparing old op
-    → SlotIsSparing new after × LeavesNeeded new answer
+    → SlotIsSparing new after × OnlyNeededAreLeft new answer
 SparesLeaves old new before after answer = Unit {0}
 
 abbrev pub is_busy : Option Op → Bool
 is_busy None = false
 is_busy (Some op) = true
 
--- behind an event of its call a session has one exactly if it had one, and the answer isn't the last of it
+-- after an event of its call a session has one exactly if it had one, and the answer isn't the last of it
 abbrev pub RunsUntilLast : Option Op → Option Op → Answer → Type 0
 RunsUntilLast before after answer = is_busy after ≡ (is_busy before && not (is_last answer))
 
@@ -500,7 +500,7 @@ after_request true session st = after_start_cycle (after_begin session st)
 -- a call has begun that isn't excluded: it gets a start number, a bulk delete a cycle number, and the session's slot runs it
 -- from its first step on
 pub record IsBegun (old new : State) (session : ℕ) (request : Request) (excluded : Bool) (before after : Option Op) : Type 0 where
-  pub state : new ≡ after_request (asks_sweep request) session old
+  pub state : new ≡ after_request (asks_bulk_delete request) session old
   pub was_free : before ≡ None
   pub alone : excluded ≡ false
   pub runs : after ≡ Some (op_before session request)
@@ -518,15 +518,15 @@ BeginsBy old old_backing new session request excluded before after (Refused faul
 BeginsBy old old_backing new session request excluded before after answer = ⊥
 
 -- a call that has begun over a history of so many actions: the pages match it still, others may rely, the call meets its
--- definition, and the slot runs it; but for a bulk delete's the cycle number stays; and all that is due to it is to come
+-- definition, and the slot runs it; except for a bulk delete's the cycle number stays; and all that is due to it is to come
 pub record SessionBegins (old new : State) (sets : DeadSets) (start : Entry → Bool) (history : List Action) (number session : ℕ) (request : Request) (slot : Option Op) : Type 0 where
   pub world : Matches new start history
   pub others : OthersRely session old new
   pub meets : Meets start history number (begun_call session (asked_by sets request) (length history))
   pub holds : SlotIs new sets start history (begun_call session (asked_by sets request) (length history)) slot
-  pub cycle : asks_sweep request ≡ false → new.cycle ≡ old.cycle
-  pub leaves : new.cycle ≡ old.cycle → LeavesStay None old new
-  pub sweeps : IsOfSets sets request → SlotSweeps new sets start history number (length history) slot
+  pub cycle : asks_bulk_delete request ≡ false → new.cycle ≡ old.cycle
+  pub leaves : new.cycle ≡ old.cycle → LeafPagesStay None old new
+  pub deletions : IsOfSets sets request → SlotDeletions new sets start history number (length history) slot
 
 -- what an operation runs after a step: nothing, where its answer is the last
 abbrev pub slot_after : Answer → Op → Option Op
@@ -538,7 +538,7 @@ slot_after answer op = if is_last answer then None else Some op
 pub record OpSteps {S : Type 0} (g : Ghosts S) (before after : Op) (old new : S) (answer : Answer) : Type 0 where
   pub steps : Continues g.follows old new
   pub session : session_of after ≡ session_of before
-  pub sweep : is_sweep after ≡ is_sweep before
+  pub same_bulk : is_bulk_delete after ≡ is_bulk_delete before
   pub one_kind : call_kind after ≡ call_kind before
   pub kind : OpAnswers before after answer
   pub refused : (fault : Fault) → answer ≡ Refused fault → (g.state new ≡ g.state old) × (after ≡ before)
@@ -546,26 +546,26 @@ pub record OpSteps {S : Type 0} (g : Ghosts S) (before after : Op) (old new : S)
   pub unfinished : (action : ℕ) (fault : Fault) → answer ≡ Added action (Some fault) → g.state new ≡ g.state old
   pub faults : IsCaused (causes_of_stepped_any before) answer
   pub logged : AnswersLogged (add_of before) answer
-  pub stats : TellsStats (g.state old) (Some before) answer
+  pub stats : CountsStats (g.state old) (Some before) answer
   pub waits : WaitsToGive (g.backing old).stopped (g.state old) (g.state new) (Some before) (Some after) answer
-  pub kept : IsOneStep (g.state old) (g.state new)
+  pub kept : IsOneActAtMost (g.state old) (g.state new)
   pub calm : OnlyWritersAct (Some before) (g.state old) (g.state new)
-  pub less : (g.backing new).honest ≡ true → StepLeavesLess (g.state old) (g.state new) (Some before) (Some after) answer
-  pub no_more : (g.backing new).honest ≡ true → LeavesNoMore (g.state old) (g.state new) (Some before) (slot_after answer after)
+  pub less : (g.backing new).honest ≡ true → StepHasLessLeft (g.state old) (g.state new) (Some before) (Some after) answer
+  pub no_more : (g.backing new).honest ≡ true → NoMoreIsLeft (g.state old) (g.state new) (Some before) (slot_after answer after)
 
--- what the operation and its call are behind a step: the call is over, or the operation runs it on
+-- what the operation and its call are after a step: the call is over, or the operation runs it on
 abbrev pub HoldsOn : Bool → State → DeadSets → (Entry → Bool) → List Action → Call → Op → Type 0
 HoldsOn true st sets start history call op = call.ending ≢ Running
 HoldsOn false st sets start history call op = (call.ending ≡ Running) × OpRuns st sets start history call op
 
 -- a step of an operation over a history, before what it holds is let go at its end
-pub record OpGoes (at : Circumstances) (old new : State) (sets : DeadSets) (start : Entry → Bool) (history : List Action) (number : ℕ) (call : Call) (op : Op) (answer : Answer) : Type 0 where
+pub record OpEvent (at : Circumstances) (old new : State) (sets : DeadSets) (start : Entry → Bool) (history : List Action) (number : ℕ) (call : Call) (op : Op) (answer : Answer) : Type 0 where
   pub effect : Option Effect
   pub then_call : Call
-  pub works : Works call.session call.ask effect old new
+  pub works : CallEffect call.session call.ask effect old new
   pub asked : IsAsked (contents_after start history) call.ask call.added effect
-  pub told : Told answer (length history) effect call then_call
+  pub told : AnswerMeans answer (length history) effect call then_call
   pub caused : IsCaused at answer
   pub meets : Meets start (history ++ acts_of number effect) number then_call
   pub holds : HoldsOn (is_last answer) new sets start (history ++ acts_of number effect) then_call op
-  pub sweeps : is_last answer ≡ false → OpSweeps new sets start (history ++ acts_of number effect) number then_call.began op
+  pub deletions : is_last answer ≡ false → OpDeletions new sets start (history ++ acts_of number effect) number then_call.began op

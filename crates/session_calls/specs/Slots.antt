@@ -12,7 +12,7 @@ use Rattle.page_action.specs.declared.page_store.PageStore.{Ghosts}
 use Rattle.session_calls.specs.Due.{IsDueIn, HasSteps}
 use Rattle.session_calls.specs.Following.{StepAlways, StepFollows}
 use Rattle.session_calls.specs.Ops.{is_vacuum, causes_of_slot_stepped, causes_of_asked_next, RunsOn}
-use Rattle.session_calls.specs.Sessions.{Matches, IsIdle, SlotFits, SessionGoes, SessionBegins, BeginsBy, GivesLess, AnswersNext, AnswersEnd, RunsUntilLast, leaf_of, op_after_call, is_busy}
+use Rattle.session_calls.specs.Sessions.{Matches, IsIdle, SlotFits, SessionEvent, SessionBegins, BeginsBy, GivesLess, AnswersNext, AnswersEnd, RunsUntilLast, leaf_of, op_after_call, is_busy}
 use Rattle.session_calls.specs.TheoremCalls.{DeadSets}
 use Rattle.session_calls.specs.declared.answer.Answer.{Answer}
 use Rattle.session_calls.specs.declared.answer.Answer.TheVariants.{Begun}
@@ -77,7 +77,7 @@ pub record SlotBegins {S : Type 0} (g : Ghosts S) (old new : S) (session : ℕ) 
 pub record SlotSteps {S : Type 0} (g : Ghosts S) (sets : DeadSets) (old new : S) (answer : Answer) (before after : Option Op) : Type 0 where
   pub always : StepAlways g old new before after answer
   pub goes : (g.backing new).honest ≡ true → (start : Entry → Bool) (history : List Action) (number : ℕ) (call : Call) → SlotFits (g.state old) sets start history number call before
-      → SessionGoes (causes_of_slot_stepped sets before (g.state old) (g.backing old) (g.backing new)) (g.state old) (g.state new) sets start history number call after answer
+      → SessionEvent (causes_of_slot_stepped sets before (g.state old) (g.backing old) (g.backing new)) (g.state old) (g.state new) sets start history number call after answer
   pub follows : (g.backing new).honest ≡ true → StepFollows sets (g.state old) (g.state new) before after answer
 
 -- what a slot runs is asked for its next entry, which changes no pages
@@ -87,7 +87,7 @@ pub record SlotGives (answer : Answer) (before after : Option Op) : Type 0 where
   pub until_last : RunsUntilLast before after answer
   pub less : GivesLess before after answer
   pub goes : (st : State) (sets : DeadSets) (start : Entry → Bool) (history : List Action) (number : ℕ) (call : Call) → SlotFits st sets start history number call before
-      → SessionGoes (causes_of_asked_next call.ask) st st sets start history number call after answer
+      → SessionEvent (causes_of_asked_next call.ask) st st sets start history number call after answer
   pub due : (st : State) (steps : ℕ) → IsDueIn st before steps → IsDueIn st after steps
   pub stands : leaf_of after ≡ leaf_of before
 
@@ -98,4 +98,4 @@ pub record SlotEnds {S : Type 0} (g : Ghosts S) (old new : S) (answer : Answer) 
   pub backing : g.backing new ≡ g.backing old
   pub given_up : (op : Op) → before ≡ Some op → g.state new ≡ op_after_call op (g.state old)
   pub goes : (sets : DeadSets) (start : Entry → Bool) (history : List Action) (number : ℕ) (call : Call) → SlotFits (g.state old) sets start history number call before
-      → SessionGoes nothing_wrong (g.state old) (g.state new) sets start history number call after answer
+      → SessionEvent nothing_wrong (g.state old) (g.state new) sets start history number call after answer

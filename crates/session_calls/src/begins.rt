@@ -7,7 +7,7 @@ ghost use Rattle.index_model.specs.declared.entry.Entry.{Entry};
 ghost use Rattle.page_action.specs.States.{Continues};
 ghost use Rattle.session_calls.specs.Due.{HasSteps};
 ghost use Rattle.session_calls.specs.TheoremCalls.{DeadSets};
-ghost use Rattle.session_calls.specs.Ops.{op_before, asks_sweep, no_call_begins, causes_of_requesting};
+ghost use Rattle.session_calls.specs.Ops.{op_before, asks_bulk_delete, no_call_begins, causes_of_requesting};
 ghost use Rattle.session_calls.specs.Sessions.{Matches, IsIdle, BeginsBy, SessionBegins, after_request};
 ghost use Rattle.session_calls.specs.declared.request.Request.TheVariants.{Insert as ToInsert, Scan as ToScan, Bulk as ToBulk, Cleanup as ToCleanup};
 
@@ -61,7 +61,7 @@ pub(crate) fn begin<S: PageStore>(
         session,
         slot.is_busy(),
         excluded,
-        asks_sweep(&request),
+        asks_bulk_delete(&request),
     ) {
         return Answer::Refused(fault);
     }
@@ -71,8 +71,8 @@ pub(crate) fn begin<S: PageStore>(
 }
 
 // Whether it is a request of a bulk delete, which needs a cycle number.
-fn asks_sweep(request: &Request) -> bool
-    ensures { result ≡ asks_sweep request.now }
+fn asks_bulk_delete(request: &Request) -> bool
+    ensures { result ≡ asks_bulk_delete request.now }
 {
     matches!(request, Request::Bulk(_))
 }
@@ -136,14 +136,14 @@ fn start<S: PageStore>(
     session: Session,
     busy: bool,
     excluded: bool,
-    sweeps: bool,
+    is_bulk: bool,
 ) -> Result<(), Fault>
     ensures steps { Continues S.follows store.old store.new }
     ensures backing { S.backing store.new ≡ S.backing store.old }
     ensures free { OnOk result (busy ≡ false) }
     ensures alone { OnOk result (excluded ≡ false) }
     ensures done { OnOk result (S.state store.new
-        ≡ after_request sweeps session (S.state store.old)) }
+        ≡ after_request is_bulk session (S.state store.old)) }
     ensures low { session < 64 }
     ensures limits { (S.state store.old).limits.pages ≤ 65536 }
     ensures few { length (S.state store.old).pages ≤ 65536 }
@@ -165,7 +165,7 @@ fn start<S: PageStore>(
         return Err(Fault::VacuumRunning);
     }
     store.begin(session)?;
-    if sweeps {
+    if is_bulk {
         store.start_cycle();
     }
     Ok(())

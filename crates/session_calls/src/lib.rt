@@ -16,4 +16,4 @@ pub use bounded::calls_are_bounded;
 pub use calls::Calls;
 pub use op::Op;
 pub use request::Request;
-pub use stable::{calls_are_undisturbed, sweeps_are_undisturbed};
+pub use stable::{calls_are_undisturbed, deletions_are_undisturbed};

@@ -10,7 +10,7 @@ ghost use Rattle.session_calls.specs.Due.{IsDueIn};
 ghost use Rattle.session_calls.specs.Following.{StepAlways, StepFollows};
 ghost use Rattle.session_calls.specs.TheoremCalls.{DeadSets};
 ghost use Rattle.session_calls.specs.Ops.{causes_of_slot_stepped, causes_of_asked_next, is_last, RunsOn};
-ghost use Rattle.session_calls.specs.Sessions.{SlotFits, SessionGoes, GivesLess, AnswersNext, AnswersEnd, RunsUntilLast, leaf_of, no_call, op_after_call};
+ghost use Rattle.session_calls.specs.Sessions.{SlotFits, SessionEvent, GivesLess, AnswersNext, AnswersEnd, RunsUntilLast, leaf_of, no_call, op_after_call};
 ghost use Rattle.session_calls.specs.declared.op.Op.{Op};
 
 use crate::answer::Answer;
@@ -40,7 +40,7 @@ pub(crate) fn step<S: PageStore, T: DeadRows>(
     ensures goes { (S.backing store.new).honest ≡ true
         → (start : Entry → Bool) (history : List Action) (number : ℕ) (call : Call)
         → SlotFits (S.state store.old) (map T.is_in sets.now) start history number call slot.old
-        → SessionGoes (causes_of_slot_stepped (map T.is_in sets.now) slot.old (S.state store.old)
+        → SessionEvent (causes_of_slot_stepped (map T.is_in sets.now) slot.old (S.state store.old)
         (S.backing store.old) (S.backing store.new))
         (S.state store.old) (S.state store.new) (map T.is_in sets.now) start history number call
         slot.new result }
@@ -70,7 +70,7 @@ fn let_go<S: PageStore>(store: &mut S, op: &Op)
     ensures state { S.state store.new ≡ op_after_call op.now (S.state store.old) }
 {
     store.end(op.session());
-    if op.is_sweep() {
+    if op.is_bulk_delete() {
         store.stop_cycle();
     }
 }
@@ -97,7 +97,7 @@ pub(crate) fn next(slot: &mut Slot) -> Answer
     ensures goes { (st : State) (sets : DeadSets) (start : Entry → Bool) (history : List Action)
         (number : ℕ) (call : Call)
         → SlotFits st sets start history number call slot.old
-        → SessionGoes (causes_of_asked_next call.ask) st st sets start history number call slot.new
+        → SessionEvent (causes_of_asked_next call.ask) st st sets start history number call slot.new
         result }
     ensures due { (st : State) (steps : ℕ) → IsDueIn st slot.old steps
         → IsDueIn st slot.new steps }
@@ -126,7 +126,7 @@ pub(crate) fn end<S: PageStore>(store: &mut S, slot: &mut Slot) -> Answer
     ensures goes { (sets : DeadSets) (start : Entry → Bool) (history : List Action) (number : ℕ)
         (call : Call)
         → SlotFits (S.state store.old) sets start history number call slot.old
-        → SessionGoes nothing_wrong (S.state store.old)
+        → SessionEvent nothing_wrong (S.state store.old)
         (S.state store.new) sets start history number call slot.new result }
 {
     if !slot.is_running {

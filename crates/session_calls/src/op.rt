@@ -5,7 +5,7 @@ ghost use Rattle.index_model.specs.Actions.{Action};
 ghost use Rattle.index_model.specs.Calls.{Call};
 ghost use Rattle.index_model.specs.declared.entry.Entry.{Entry};
 ghost use Rattle.tree_acts.specs.Deletions.{StartsAreBelow};
-ghost use Rattle.descent.specs.Shared.{IsInOrder};
+ghost use Rattle.tree_acts.specs.StepEffects.{IsInOrder};
 ghost use Rattle.session_calls.specs.Sessions.{no_call};
 
 use crate::answer::Answer;
@@ -30,8 +30,8 @@ pub enum Op {
 
 impl Op {
     ghost use Rattle.session_calls.specs.Due.{IsDueIn, DueCountsDown};
-    ghost use Rattle.session_calls.specs.Ops.{op_before, session_of, is_vacuum, is_sweep, add_of, ready_of, OpInvariant, causes_of_stepped};
-    ghost use Rattle.session_calls.specs.Sessions.{CallFits, OpSteps, OpGoes, OnlyOwnAreFlagged, LeavesOwnFlagged, StandsByAnswer, KeepsBeforePins, CountsEntries, CountsPages, SparesLeaves, slot_after};
+    ghost use Rattle.session_calls.specs.Ops.{op_before, session_of, is_vacuum, is_bulk_delete, add_of, ready_of, OpInvariant, causes_of_stepped};
+    ghost use Rattle.session_calls.specs.Sessions.{CallFits, OpSteps, OpEvent, OnlyOwnAreIncomplete, LeavesOwnIncomplete, StandsByAnswer, KeepsBeforePins, CountsEntries, CountsPages, SparesLeaves, slot_after};
 
     /// The call that a session asks for, before its first step.
     pub fn new(session: Session, request: Request) -> Op
@@ -68,8 +68,8 @@ impl Op {
     }
 
     // Whether it is a bulk delete, for which the store has a cycle number.
-    pub(crate) fn is_sweep(&self) -> bool
-        ensures { result ≡ is_sweep self.now }
+    pub(crate) fn is_bulk_delete(&self) -> bool
+        ensures { result ≡ is_bulk_delete self.now }
     {
         matches!(self, Op::Bulk { .. })
     }
@@ -94,7 +94,8 @@ impl Op {
         }
     }
 
-    // One step. After an answer that is its last, what the session holds is still held. What the draft and the pages hold has no meaning.
+    // One step. After an answer that is its last, what the session holds is still held. What the draft and the pages hold has no
+    // meaning.
     pub(crate) fn step<S: PageStore, T: DeadRows>(
         &mut self,
         store: &mut S,
@@ -106,14 +107,14 @@ impl Op {
         ensures goes { (S.backing store.new).honest ≡ true
             → (start : Entry → Bool) (history : List Action) (number : ℕ) (call : Call)
             → CallFits (S.state store.old) (map T.is_in sets.now) start history number call self.old
-            → OpGoes (causes_of_stepped (map T.is_in sets.now) self.old (S.state store.old)
+            → OpEvent (causes_of_stepped (map T.is_in sets.now) self.old (S.state store.old)
             (S.backing store.old) (S.backing store.new))
             (S.state store.old) (S.state store.new) (map T.is_in sets.now) start history number
             call self.new result }
-        ensures flagged { (S.backing store.new).honest ≡ true → IsInOrder (S.state store.old)
+        ensures incomplete { (S.backing store.new).honest ≡ true → IsInOrder (S.state store.old)
             → StartsAreBelow (S.state store.old) → OpInvariant (S.state store.old) self.old
-            → OnlyOwnAreFlagged (S.state store.old) (Some self.old)
-            → LeavesOwnFlagged (S.state store.new) (Some self.old) (slot_after result self.new)
+            → OnlyOwnAreIncomplete (S.state store.old) (Some self.old)
+            → LeavesOwnIncomplete (S.state store.new) (Some self.old) (slot_after result self.new)
             result }
         ensures stands { (S.backing store.new).honest ≡ true → IsInOrder (S.state store.old)
             → OpInvariant (S.state store.old) self.old

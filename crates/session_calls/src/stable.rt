@@ -1,6 +1,6 @@
 //! What a running call may count on.
 
-ghost use Rattle.session_calls.specs.Undisturbed.{CallsAreUndisturbed, SweepsAreUndisturbed};
+ghost use Rattle.session_calls.specs.Undisturbed.{CallsAreUndisturbed, DeletionsAreUndisturbed};
 
 /// Does nothing: its clause says that what others do leaves a running call what it stands on.
 pub fn calls_are_undisturbed()
@@ -8,6 +8,6 @@ pub fn calls_are_undisturbed()
 {}
 
 /// Does nothing: its clause says that others whose acts leave its leaves leave a bulk delete what it is to remove.
-pub fn sweeps_are_undisturbed()
-    ensures { SweepsAreUndisturbed }
+pub fn deletions_are_undisturbed()
+    ensures { DeletionsAreUndisturbed }
 {}

@@ -1,4 +1,4 @@
--- What was done for the records and the jobs that run, behind some more transitions of one session.
+-- What was done for the records and the jobs that run, after some more transitions of one session.
 use Rattle.std.proofs.Common.{◌≡◌, ◌≢◌, ◌==◌, if◌then◌else◌, Bool, true, false, ℕ, ◌<◌, ◌≤◌, List, [], ◌∷◌, ◌++◌, length, map, Option, Some, None, slice_get, slice_set, vec_capacity, refl, sym, ap, ◌∙◌, subst, inl, inr, ⊎_elim, arith, length-append, append_assoc}
 use Rattle.std.proofs.lemmas.List.{append-nil}
 use Rattle.std.specs.List.{AllByRecursion}
@@ -6,7 +6,7 @@ use Rattle.index_model.specs.declared.entry.Entry.{Entry}
 use Rattle.page_action.specs.declared.page_store.PageStore.{Ghosts}
 use Rattle.session_calls.specs.declared.answer.Answer.{Answer}
 use Rattle.session_calls.specs.declared.answer.Answer.TheVariants.{Begun}
-use Rattle.schedule.specs.Making.{Makes}
+use Rattle.schedule.specs.Making.{EventEffect}
 use Rattle.schedule.specs.TheoremKinds.{kind_of}
 use Rattle.schedule.specs.TheoremMoments.{StoreAndSlots}
 use Rattle.worker_seats.proofs.Queueing.{nat_cases}
@@ -28,7 +28,7 @@ some_same e = cc
 apart : (b : Bool) → b ≡ false → b ≡ true → ⊥
 apart b e f = absurd cc
 
--- one path behind the other
+-- one path after the other
 pub path_append : {S : Type 0} (g : Ghosts S) (a : LockMoment S) (xs ys : List (Transition S)) (b c : LockMoment S) → IsPath g a xs b → IsPath g b ys c → IsPath g a (xs ++ ys) c
 path_append {S} g a [] ys b c one two = subst (λ (m : LockMoment S). IsPath g m ys c) one two
 path_append g a (x ∷ xs) ys b c one two = (one.0, one.1, path_append g x.behind xs ys b c one.2 two)
@@ -97,7 +97,7 @@ module _ {S : Type 0} (g : Ghosts S) (handed : Handed) (jobs : List Job) (w v : 
   -- a job begins in a session
   pub acts_begun : (s : ℕ) (p : Pending) (job : Job) → slice_get pending s ≡ Some None → slice_get jobs p.job ≡ Some job
       → IsRoomOf job (vec_capacity p.given) → p.from ≡ (g.state w.store).acts → p.seen ≡ n → p.given.items ≡ []
-      → Makes g (kind_of (event_of s job)) Begun w v → HasActed g handed jobs v (slice_set pending s (Some p)) records
+      → EventEffect g (kind_of (event_of s job)) Begun w v → HasActed g handed jobs v (slice_set pending s (Some p)) records
   acts_begun s p job idle is room from seen none makes =
       let t : Transition S = record { event = event_of s job; answer = Begun; before = moment_of w n; behind = moment_of v n } in
       let us : List (Transition S) = t ∷ [] in
@@ -130,7 +130,7 @@ module _ {S : Type 0} (g : Ghosts S) (handed : Handed) (jobs : List Job) (w v : 
 
   -- a job is done by one event, or refused as it begins
   pub acts_at_once : (s : ℕ) (p : Pending) (job : Job) (answer : Answer) → slice_get jobs p.job ≡ Some job → p.from ≡ (g.state w.store).acts → p.seen ≡ n → p.given.items ≡ [] → (answer ≡ Begun → ⊥)
-      → (g.state v.store).acts ≡ p.from → Makes g (kind_of (event_of s job)) answer w v → HasActed g handed jobs v pending (records ++ record_of s p answer p.from ∷ [])
+      → (g.state v.store).acts ≡ p.from → EventEffect g (kind_of (event_of s job)) answer w v → HasActed g handed jobs v pending (records ++ record_of s p answer p.from ∷ [])
   acts_at_once s p job answer is from seen none never to makes =
       let r = record_of s p answer p.from in
       let m = length (records ++ r ∷ []) in

@@ -27,13 +27,13 @@ use Rattle.sessions.specs.declared.job.Job.{Job}
 use Rattle.sessions.specs.declared.job.Job.TheVariants.{Scan}
 use Rattle.sessions.specs.declared.record.Record.{Record}
 use Rattle.sessions.specs.declared.record.Pending.{Pending}
-use Rattle.sessions.specs.Doing.{IsEventDone, MayBeDone, HasTaken, IsFullScan, given_behind}
+use Rattle.sessions.specs.Doing.{IsEventDone, MayBeDone, HasTaken, IsFullScan, given_after}
 use Rattle.sessions.specs.Jobs.{IsRoomOf, request_of}
 use Rattle.sessions.specs.Kept.{IsCut, KeepsAll, record_of}
 use Rattle.sessions.proofs.Happening.{keeps_going, keeps_ended}
 use Rattle.sessions.proofs.Keeping.{some_same}
 use Rattle.sessions.proofs.Noting.{set_same, busy_is, last_of, OthersRunOn, others_run_on}
-use Rattle.sessions.proofs.Telling.{MovesOnTo, moved, moved_on, moved_last}
+use Rattle.sessions.proofs.Meanings.{MovesOnTo, moved, moved_on, moved_last}
 
 not_last : (b a l : Bool) → a ≡ (b && not l) → a ≡ b → b ≡ true → l ≡ false
 not_last true a true until same busy = sym same ∙ until
@@ -96,7 +96,7 @@ module _ {S : Type 0} (g : Ghosts S) (laws : Laws g) (one : OneCallRuns g) (jobs
       let r = did.goes honest contents k.history k.calls k.fit in
       let was = snapshot_of w k.history k.calls in
       let new = snapshot_of v r.then_history r.then_calls in
-      let given : given_behind answer y.call.given ≡ q.given.items = ap (given_behind answer) y.given_is ∙ sym took.items in
+      let given : given_after answer y.call.given ≡ q.given.items = ap (given_after answer) y.given_is ∙ sym took.items in
       keeps_going g jobs contents acts calls (kept_then contents acts calls) w v sets start pending records k later.durable s p one q at new
       (subst (λ l. MovesOnTo y.number y.call l was new) given
       (moved_on y.number y.call answer was new (goes_on answer did) (moved g contents s Takes answer was new k.fit (goes_does r.goes) y.number y.call y.is)))

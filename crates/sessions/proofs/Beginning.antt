@@ -20,13 +20,13 @@ use Rattle.schedule.specs.CallLists.{RefusedCallsFit}
 use Rattle.schedule.specs.Events.{AnswersEvent, AnswersBeginning, EventAlways, UpkeepIsDone, Stays, kept_answer, causes_of_begun_at}
 use Rattle.schedule.specs.Making.{EventDoes}
 use Rattle.schedule.specs.TheoremCrashes.{KeepsHistory}
-use Rattle.schedule.specs.TheoremKinds.{Upkeep, Forces, Flushes, Checkpoints, Kind, BeginsCall, KeepsStore, kind_of}
+use Rattle.schedule.specs.TheoremKinds.{Upkeep, Forces, Flushes, Checkpoints, Kind, BeginsCall, MaintainsStore, kind_of}
 use Rattle.schedule.specs.TheoremMoments.{StoreAndSlots, Moment, snapshot_of}
 use Rattle.schedule.specs.TheoremRuns.{ForEachHistory, EventFollows, Fits}
 use Rattle.schedule.specs.declared.event.Event.{Event}
 use Rattle.schedule.proofs.Fitting.{goes_does}
 use Rattle.schedule.proofs.Keeping.{Laws}
-use Rattle.whole_calls.specs.Telling.{IsSilent, HasBegun, NothingTold, BeginTold, begun_of}
+use Rattle.whole_calls.specs.Meanings.{IsSameHistory, HasBegun, NothingIsDone, BeginMeans, begun_of}
 use Rattle.whole_calls.proofs.Tellings.{begins_told, keeps_silent}
 use Rattle.sessions.specs.declared.job.Job.{Job}
 use Rattle.sessions.specs.declared.job.Job.TheVariants.{Insert, Scan, Bulk, Cleanup, Commit, Checkpoint}
@@ -47,7 +47,7 @@ pub record AsksCall (s : ℕ) (job : Job) : Type 0 where
 pub record AsksStore (s : ℕ) (job : Job) : Type 0 where
   pub upkeep : Upkeep
   pub asks : upkeep_of job ≡ Some upkeep
-  pub kind : begins s job ≡ KeepsStore upkeep
+  pub kind : begins s job ≡ MaintainsStore upkeep
 
 pub asks_one : (s : ℕ) (job : Job) → AsksCall s job ⊎ AsksStore s job
 asks_one s (Insert entry) = inl (record { request = ToInsert entry; asks = refl; kind = refl })
@@ -70,7 +70,7 @@ begins_settled g store vacuums sets request None (Blocked block) cause h = absur
 begins_settled g store vacuums sets request (Some slot) (Blocked block) cause h = absurd (let no : false ≡ true = cause in cc)
 begins_settled g store vacuums sets request slot fault cause h = h
 
-upkeep_not_begun : (upkeep : Upkeep) (old new : List (Option Op)) → AnswersEvent (KeepsStore upkeep) Begun old new → ⊥
+upkeep_not_begun : (upkeep : Upkeep) (old new : List (Option Op)) → AnswersEvent (MaintainsStore upkeep) Begun old new → ⊥
 upkeep_not_begun Forces old new h = h
 upkeep_not_begun Flushes old new h = h
 upkeep_not_begun Checkpoints old new h = h
@@ -117,13 +117,13 @@ module _ {S : Type 0} (g : Ghosts S) (laws : Laws g) (jobs : List Job) (stood ke
           let was = snapshot_of w k.history k.calls in
           let new = snapshot_of v r.then_history r.then_calls in
           let does = subst (λ (kd : Kind). EventDoes g contents kd answer was new) (kind ∙ a.kind) (goes_does r.goes) in
-          let b : HasBegun s a.request was new = subst (λ (x : Answer). BeginTold s a.request (begun_of x) was new) told (begins_told g contents s a.request answer was new does) in
+          let b : HasBegun s a.request was new = subst (λ (x : Answer). BeginMeans s a.request (begun_of x) was new) told (begins_told g contents s a.request answer was new does) in
           keeps_begun g jobs contents acts calls (kept_then contents acts calls) w v sets start pending records k later.durable s p job a.request idle
           is a.asks (from ∙ k.fit.explains.count) seen given room
           (subst (λ (m : Moment S). Fits g contents m) (λ i. snapshot_of v (b.history_is i) (b.calls_is i)) r.fits)
           (λ h. subst (λ (m : Moment S). KeepsHistory g contents m) (λ i. snapshot_of v (b.history_is i) (b.calls_is i)) (r.goes.crash h).keeps)
       by (inr a) = absurd (upkeep_not_begun a.upkeep w.slots v.slots
-          (subst (λ (x : Answer). AnswersEvent (KeepsStore a.upkeep) x w.slots v.slots) told (subst (λ (kd : Kind). AnswersEvent kd answer w.slots v.slots) a.kind always.answers)))
+          (subst (λ (x : Answer). AnswersEvent (MaintainsStore a.upkeep) x w.slots v.slots) told (subst (λ (kd : Kind). AnswersEvent kd answer w.slots v.slots) a.kind always.answers)))
 
   -- it is refused as it begins, or is done whole
   pub begin_keeps_done : RefusedCallsFit g → (answer ≡ Begun → ⊥) → s < length v.slots → KeepsAll g stood kept_then jobs w start pending records
@@ -139,7 +139,7 @@ module _ {S : Type 0} (g : Ghosts S) (laws : Laws g) (jobs : List Job) (stood ke
           let new = snapshot_of v r.then_history r.then_calls in
           let does = subst (λ (kd : Kind). EventDoes g contents kd answer was new) (kind ∙ a.kind) (goes_does r.goes) in
           let f = refused_of answer (subst (λ (kd : Kind). AnswersEvent kd answer w.slots v.slots) a.kind always.answers) never in
-          let t : NothingTold f.0 was new = subst (λ (x : Answer). BeginTold s a.request (begun_of x) was new) f.1 (begins_told g contents s a.request answer was new does) in
+          let t : NothingIsDone f.0 was new = subst (λ (x : Answer). BeginMeans s a.request (begun_of x) was new) f.1 (begins_told g contents s a.request answer was new does) in
           let fits = subst (λ (m : Moment S). Fits g contents m) (λ i. snapshot_of v (t.silent.history_is i) (t.silent.calls_is i)) r.fits in
           let keeps = λ (h : KeepsHistory g contents was).
           subst (λ (m : Moment S). KeepsHistory g contents m) (λ i. snapshot_of v (t.silent.history_is i) (t.silent.calls_is i)) (r.goes.crash h).keeps in
@@ -157,7 +157,7 @@ module _ {S : Type 0} (g : Ghosts S) (laws : Laws g) (jobs : List Job) (stood ke
           let was = snapshot_of w k.history k.calls in
           let new = snapshot_of v r.then_history r.then_calls in
           let does = subst (λ (kd : Kind). EventDoes g contents kd answer was new) (kind ∙ a.kind) (goes_does r.goes) in
-          let silent : IsSilent was new = keeps_silent g contents a.upkeep answer was new does in
+          let silent : IsSameHistory was new = keeps_silent g contents a.upkeep answer was new does in
           let since : p.from ≡ length k.history = from ∙ k.fit.explains.count in
           keeps_upkept g jobs contents acts calls (kept_then contents acts calls) w v sets start pending records k later.durable s p job a.upkeep
           answer idle is a.asks since seen (ap (λ (l : List Entry). length l) given)
@@ -175,7 +175,7 @@ module _ {S : Type 0} (g : Ghosts S) (laws : Laws g) (jobs : List Job) (stood ke
           let m = subst (λ (kd : Kind). EventAlways g kd answer w v) a.kind always in
           (sym (busy_is v.slots s) ∙ rw (m.fresh told) refl, (λ t n. ap slot_has_call (m.others s refl t n)))
       by (inr a) = absurd (upkeep_not_begun a.upkeep w.slots v.slots
-          (subst (λ (x : Answer). AnswersEvent (KeepsStore a.upkeep) x w.slots v.slots) told (subst (λ (kd : Kind). AnswersEvent kd answer w.slots v.slots) a.kind always.answers)))
+          (subst (λ (x : Answer). AnswersEvent (MaintainsStore a.upkeep) x w.slots v.slots) told (subst (λ (kd : Kind). AnswersEvent kd answer w.slots v.slots) a.kind always.answers)))
 
   -- ... or all as before
   pub done_runs : (answer ≡ Begun → ⊥) → (t : ℕ) → has_call v.slots t ≡ has_call w.slots t

@@ -1,4 +1,4 @@
--- What is known of a world as it was handed in, behind an event.
+-- What is known of a world as it was handed in, after an event.
 use Rattle.std.proofs.Common.{◌≡◌, ◌∙◌, ℕ, List, Option, length, ap, subst}
 use Rattle.page_action.specs.States.{Continues, State, Backing, IsLater}
 use Rattle.page_action.specs.declared.page_store.PageStore.{Ghosts}

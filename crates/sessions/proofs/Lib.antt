@@ -1,7 +1,7 @@
 pub mod Noting
 pub mod Handing
 pub mod Keeping
-pub mod Telling
+pub mod Meanings
 pub mod Happening
 pub mod Stepping
 pub mod Asking

@@ -105,12 +105,6 @@ runs_there slots pending s p m e = yes (has_call slots s) (λ no. ∥∥₁_elim
     yes true f = refl
     yes false f = absurd (f refl)
 
-pub idle_there : (slots : List (Option Op)) (pending : List (Option Pending)) (s : ℕ) → ∥ MatchesPending slots pending ∥₁ → slice_get pending s ≡ Some None → has_call slots s ≡ false
-idle_there slots pending s m e = no (has_call slots s) (λ yes. ∥∥₁_elim m (λ x y. absurd x) (λ k. clash (has_call slots s) yes (k.rests s e)))
-  where
-    clash : (b : Bool) → b ≡ true → b ≡ false → ⊥
-    clash b h k = absurd cc
-
     no : (b : Bool) → (b ≡ true → ⊥) → b ≡ false
     no true f = absurd (f refl)
     no false f = refl

@@ -1,4 +1,4 @@
--- Whose transitions are, behind some more of them, and where a job that ran has become a record.
+-- Whose transitions are, after some more of them, and where a job that ran has become a record.
 use Rattle.std.proofs.Common.{◌≡◌, ◌≢◌, ◌==◌, if◌then◌else◌, Bool, true, false, ℕ, suc, List, [], ◌∷◌, ◌++◌, length, map, refl, sym, ap, ◌∙◌, arith}
 use Rattle.std.proofs.lemmas.Bool.Decides.{nat_tests}
 use Rattle.std.specs.List.{AllByRecursion}
@@ -18,7 +18,7 @@ is_owner-self : (owner : Owner) → is_owner owner owner ≡ true
 is_owner-self (OfRecord place) = same_test place place refl
 is_owner-self (OfSession session) = same_test session session refl
 
--- all of a list, and of one behind it
+-- all of a list, and of one after it
 pub all_both : {A : Type 0} (P : A → Type 0) (xs ys : List A) → AllByRecursion P xs → AllByRecursion P ys → AllByRecursion P (xs ++ ys)
 all_both P [] ys one two = two
 all_both P (x ∷ xs) ys one two = (one.0, all_both P xs ys one.1 two)
@@ -75,7 +75,7 @@ module _ {S : Type 0} where
   owned_nobody owner (x ∷ owners) (t ∷ ts) all =
       ap (λ (b : Bool). if b then t ∷ owned_by owner owners ts else owned_by owner owners ts) all.0 ∙ owned_nobody owner owners ts all.1
 
-  -- behind more of one owner: his own, and those of another
+  -- after more of one owner: his own, and those of another
   pub owned_own : (owner : Owner) (owners : List Owner) (ts us : List (Transition S)) → length owners ≡ length ts
       → owned_by owner (owners ++ owners_for owner us) (ts ++ us) ≡ owned_by owner owners ts ++ us
   owned_own owner owners ts us e = owned_append owner owners (owners_for owner us) ts us e ∙ ap (λ (l : List (Transition S)). owned_by owner owners ts ++ l) (owned_all owner us)

@@ -14,14 +14,14 @@ use Rattle.session_calls.specs.declared.op.Op.TheVariants.{Insert as Inserts, Sc
 use Rattle.schedule.specs.CallLists.{OneCallRuns}
 use Rattle.schedule.specs.TheoremMoments.{StoreAndSlots, Moment, snapshot_of}
 use Rattle.schedule.proofs.Keeping.{Laws}
-use Rattle.whole_calls.specs.Going.{CallGoes}
-use Rattle.whole_calls.specs.OneStep.{HasStepped, IsGivenUpFor, OneStepGoes}
+use Rattle.whole_calls.specs.Going.{CallIsRun}
+use Rattle.whole_calls.specs.OneStep.{HasStepped, IsGivenUpFor, OneStepIsRun}
 use Rattle.sessions.specs.declared.job.Job.{Job}
 use Rattle.sessions.specs.declared.record.Record.{Record}
 use Rattle.sessions.specs.declared.record.Pending.{Pending}
 use Rattle.sessions.specs.Kept.{KeepsFitting, KeepsAll, record_of}
 use Rattle.sessions.proofs.Noting.{set_same}
-use Rattle.sessions.proofs.Telling.{IsOfStep, MovesOnTo, EndsTo, short_ends, step_on, step_last, step_cut}
+use Rattle.sessions.proofs.Meanings.{IsOfStep, MovesOnTo, EndsTo, short_ends, step_on, step_last, step_cut}
 use Rattle.sessions.proofs.Happening.{keeps_going, keeps_ended}
 
 -- a step gives no call up by itself
@@ -41,7 +41,7 @@ apart b h k = absurd cc
 module _ {S : Type 0} (g : Ghosts S) (laws : Laws g) (one : OneCallRuns g) (jobs : List Job)
     (stood kept_then : (Entry → Bool) → List Action → List Call → Type 0) (w v : StoreAndSlots S) (steps : Continues g.follows w.store v.store) (sets : v.sets ≡ w.sets)
     (start : ℕ) (pending : List (Option Pending)) (records : List Record) (s : ℕ) (p : Pending) (at : slice_get pending s ≡ Some (Some p))
-    (answer : Answer) (goes : CallGoes g s (OneStepGoes g s 5 answer) None w v)
+    (answer : Answer) (goes : CallIsRun g s (OneStepIsRun g s 5 answer) None w v)
     (all : KeepsAll g stood kept_then jobs w start pending records) where
   later : IsLater (g.backing w.store) (g.backing v.store)
   later = laws.follows_later w.store v.store (steps w.store (laws.follows_same w.store))

@@ -9,7 +9,7 @@ use Rattle.session_calls.specs.Slots.{has_call, slot_of}
 use Rattle.session_calls.specs.declared.answer.Answer.{Answer}
 use Rattle.session_calls.specs.declared.answer.Answer.TheVariants.{Gave, Ended, Checkpointed, Refused}
 use Rattle.schedule.specs.Events.{EventAlways}
-use Rattle.schedule.specs.Making.{Makes}
+use Rattle.schedule.specs.Making.{EventEffect}
 use Rattle.schedule.specs.TheoremKinds.{kind_of}
 use Rattle.schedule.specs.TheoremMoments.{StoreAndSlots}
 use Rattle.schedule.specs.TheoremRuns.{ForEachHistory, EventFollows}
@@ -17,7 +17,7 @@ use Rattle.schedule.specs.declared.event.Event.{Event}
 use Rattle.schedule.specs.declared.event.Event.TheVariants.{Step, Next, End, Checkpoint}
 use Rattle.whole_calls.specs.OneStep.{IsMadeAsStep}
 use Rattle.sessions.specs.Acted.{HasActed}
-use Rattle.sessions.specs.Doing.{MayBeDone, HasTaken, IsFullScan, given_behind}
+use Rattle.sessions.specs.Doing.{MayBeDone, HasTaken, IsFullScan, given_after}
 use Rattle.sessions.specs.Handed.{Handed}
 use Rattle.sessions.specs.Jobs.{IsRoomOf, ScanIsFull}
 use Rattle.sessions.specs.Kept.{record_of}
@@ -28,12 +28,12 @@ use Rattle.sessions.specs.declared.record.Record.{Record}
 use Rattle.sessions.specs.declared.record.Pending.{Pending}
 use Rattle.sessions.proofs.Acting.{moment_of, acts_on, acts_ended}
 use Rattle.sessions.proofs.Noting.{set_same, busy_is}
-use Rattle.sessions.proofs.Telling.{IsOfStep}
+use Rattle.sessions.proofs.Meanings.{IsOfStep}
 
 -- an event of the world, as it promises it
 pub makes_of : {S : Type 0} (g : Ghosts S) (event : Event) (answer : Answer) (w v : StoreAndSlots S) → length v.slots ≡ length w.slots
     → ForEachHistory g w v (EventFollows g w v event answer) → EventAlways g (kind_of event) answer w v
-    → Makes g (kind_of event) answer w v
+    → EventEffect g (kind_of event) answer w v
 makes_of g event answer w v sessions goes always = record {
   sessions = sessions;
   always = always;
@@ -49,8 +49,8 @@ no_gift : (answer : Answer) → IsOfStep answer → gift_of answer ≡ []
 no_gift (Gave entry) h = absurd h
 no_gift answer h = refl
 
--- what an answer gives stands behind what was given
-given_more : (answer : Answer) (given : List Entry) → given_behind answer given ≡ given ++ gift_of answer
+-- what an answer gives stands after what was given
+given_more : (answer : Answer) (given : List Entry) → given_after answer given ≡ given ++ gift_of answer
 given_more (Gave (Some e)) given = refl
 given_more answer given = sym (append-nil given)
 
@@ -127,7 +127,7 @@ module _ {S : Type 0} (g : Ghosts S) (handed : Handed) (jobs : List Job) (w v : 
       (took.items ∙ given_more answer p.given.items ∙ ap (λ (l : List Entry). p.given.items ++ l) (sym (append-nil (gift_of answer))))
 
   -- giving a scan up
-  pub end_acts : (answer : Answer) → Makes g (kind_of (End s)) answer w v → answer ≡ Ended → (asked : Job) → slice_get jobs p.job ≡ Some asked
+  pub end_acts : (answer : Answer) → EventEffect g (kind_of (End s)) answer w v → answer ≡ Ended → (asked : Job) → slice_get jobs p.job ≡ Some asked
       → IsFullScan asked (Some p) (ready_count (slot_of w.slots s)) → (to : ℕ) → to ≡ (g.state v.store).acts
       → HasActed g handed jobs w pending records → HasActed g handed jobs v (slice_set pending s None) (records ++ record_of s p answer to ∷ [])
   end_acts answer makes ended asked is full to to_is a =

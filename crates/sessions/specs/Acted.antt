@@ -22,11 +22,11 @@ use Rattle.sessions.specs.Handed.{Handed, IsAsHanded}
 use Rattle.sessions.specs.Jobs.{event_of, IsRoomOf, IsWithinRoom, ScanIsFull}
 use Rattle.sessions.specs.Transitions.{LockMoment, Transition, IsPath, Owner, OfRecord, OfSession, owned_by, gifts_of}
 
--- no record is made behind it
+-- no record is made after it
 abbrev pub IsUnrecorded : {S : Type 0} → Transition S → Type 0
 IsUnrecorded t = t.behind.recorded ≡ t.before.recorded
 
--- the record at this place is made behind it; so many actions there are then
+-- the record at this place is made after it; so many actions there are then
 pub record MakesRecord {S : Type 0} (g : Ghosts S) (place to : ℕ) (t : Transition S) : Type 0 where
   pub place_is : t.before.recorded ≡ place
   pub next_is : t.behind.recorded ≡ suc place
@@ -45,15 +45,15 @@ HasRoomForStep g t = HasItsRoom 5 (kind_of t.event) (g.state t.before.here.store
 
 -- an event that leaves a session's call running: a step, or asking for the next entry, whose answer isn't the last; or a checkpoint that is
 -- made before a step
-abbrev pub EventGoesOn : ℕ → Event → Answer → Type 0
-EventGoesOn session (Step of) answer = (of ≡ session) × (is_last answer ≡ false)
-EventGoesOn session (Next of) answer = (of ≡ session) × (is_last answer ≡ false)
-EventGoesOn session Checkpoint (Checkpointed count) = Unit {0}
-EventGoesOn session event answer = ⊥
+abbrev pub EventKeepsCall : ℕ → Event → Answer → Type 0
+EventKeepsCall session (Step of) answer = (of ≡ session) × (is_last answer ≡ false)
+EventKeepsCall session (Next of) answer = (of ≡ session) × (is_last answer ≡ false)
+EventKeepsCall session Checkpoint (Checkpointed count) = Unit {0}
+EventKeepsCall session event answer = ⊥
 
 -- ... with no record made
 pub record KeepsRunning {S : Type 0} (g : Ghosts S) (session : ℕ) (t : Transition S) : Type 0 where
-  pub goes : EventGoesOn session t.event t.answer
+  pub goes : EventKeepsCall session t.event t.answer
   pub room : HasRoomForStep g t
   pub unrecorded : IsUnrecorded t
 

@@ -26,15 +26,15 @@ abbrev pub MayBeDone : {S : Type 0} → Ghosts S → Event → Option Answer →
 MayBeDone g event None old new = new ≡ old
 MayBeDone g event (Some answer) old new = IsEventDone g event answer old new
 
--- what was given, and the entry behind it that this answer gives
-abbrev pub given_behind : Answer → List Entry → List Entry
-given_behind (Gave (Some e)) given = given ++ e ∷ []
-given_behind answer given = given
+-- what was given, and the entry after it that this answer gives
+abbrev pub given_after : Answer → List Entry → List Entry
+given_after (Gave (Some e)) given = given ++ e ∷ []
+given_after answer given = given
 
 -- ... if there is an answer
-abbrev pub taken_behind : Option Answer → List Entry → List Entry
-taken_behind None given = given
-taken_behind (Some answer) given = given_behind answer given
+abbrev pub taken_after : Option Answer → List Entry → List Entry
+taken_after None given = given
+taken_after (Some answer) given = given_after answer given
 
 -- a running job has taken what was given, in the same room; where nothing was done, it is as it was
 pub record HasTaken (answer : Option Answer) (before after : Pending) : Type 0 where
@@ -42,7 +42,7 @@ pub record HasTaken (answer : Option Answer) (before after : Pending) : Type 0 w
   pub from : after.from ≡ before.from
   pub seen : after.seen ≡ before.seen
   pub room : vec_capacity after.given ≡ vec_capacity before.given
-  pub items : after.given.items ≡ taken_behind answer before.given.items
+  pub items : after.given.items ≡ taken_after answer before.given.items
   pub still : answer ≡ None → after ≡ before
 
 -- the job is a scan that runs, whose room is full and which has so many entries ready, one or more

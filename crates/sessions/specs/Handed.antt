@@ -25,7 +25,7 @@ nothing_handed = record {
     acts = 0;
     begun = 0;
     running = [];
-    counter = 0;
+    last_cycle = 0;
     cycle = 0;
     table = [];
   };

@@ -129,7 +129,7 @@ pub record IsPending (calls : List Call) (pending : List (Option Pending)) (numb
 abbrev pub IsOurs : List Call → List (Option ℕ) → List (Option Pending) → ℕ → Type 0
 IsOurs calls at pending number = ((place : ℕ) × (slice_get at place ≡ Some (Some number))) ⊎ IsPending calls pending number
 
--- a record comes behind all that its worker recorded before
+-- a record comes after all that its worker recorded before
 abbrev pub RecordFollows : List Record → ℕ → ℕ → ℕ → Type 0
 RecordFollows records worker seen from = (place : ℕ) (r : Record) → slice_get records place ≡ Some r → r.worker ≡ worker → (place < seen) × (r.to ≤ from)
 
@@ -169,7 +169,7 @@ pub record KeepsFitting {S : Type 0} (g : Ghosts S) (jobs : List Job) (contents 
   -- each pending job is a running call
   pub runs : (session : ℕ) (p : Pending) → slice_get pending session ≡ Some (Some p) → RunsJob now.sets jobs (length old_calls) calls session p
   pub since : (session : ℕ) (p : Pending) → slice_get pending session ≡ Some (Some p) → IsSince records (length history) session p.seen p.from
-  -- of one worker's records each lies behind the one before
+  -- of one worker's records each lies after the one before
   pub behind : (p q : ℕ) (r t : Record) → p < q → slice_get records p ≡ Some r → slice_get records q ≡ Some t → r.worker ≡ t.worker → (p < t.seen) × (r.to ≤ t.from)
   pub in_time : (place : ℕ) (r : Record) → slice_get records place ≡ Some r → IsInTime (length history) place r
 

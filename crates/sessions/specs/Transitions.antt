@@ -4,7 +4,7 @@ use Rattle.index_model.specs.declared.entry.Entry.{Entry}
 use Rattle.page_action.specs.declared.page_store.PageStore.{Ghosts}
 use Rattle.session_calls.specs.declared.answer.Answer.{Answer}
 use Rattle.session_calls.specs.declared.answer.Answer.TheVariants.{Gave}
-use Rattle.schedule.specs.Making.{Makes}
+use Rattle.schedule.specs.Making.{EventEffect}
 use Rattle.schedule.specs.TheoremKinds.{kind_of}
 use Rattle.schedule.specs.TheoremMoments.{StoreAndSlots}
 use Rattle.schedule.specs.declared.event.Event.{Event}
@@ -14,7 +14,7 @@ pub record LockMoment (S : Type 0) : Type 0 where
   pub here : StoreAndSlots S
   pub recorded : ℕ
 
--- one event with its answer, from the moment before it to the moment behind it
+-- one event with its answer, from the moment before it to the moment after it
 pub record Transition (S : Type 0) : Type 0 where
   pub event : Event
   pub answer : Answer
@@ -24,7 +24,7 @@ pub record Transition (S : Type 0) : Type 0 where
 -- they lead from one moment to another: each begins where the one before ended, and is what its event makes with its answer
 abbrev pub IsPath : {S : Type 0} → Ghosts S → LockMoment S → List (Transition S) → LockMoment S → Type 0
 IsPath g first [] last = last ≡ first
-IsPath g first (t ∷ ts) last = (t.before ≡ first) × Makes g (kind_of t.event) t.answer t.before.here t.behind.here × IsPath g t.behind ts last
+IsPath g first (t ∷ ts) last = (t.before ≡ first) × EventEffect g (kind_of t.event) t.answer t.before.here t.behind.here × IsPath g t.behind ts last
 
 -- whose a transition is: that of the record at this place, or of the job that this session runs now
 pub data Owner : Type 0 where

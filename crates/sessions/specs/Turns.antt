@@ -13,7 +13,7 @@ abbrev pub is_begun : Answer → Bool
 is_begun Begun = true
 is_begun answer = false
 
--- this record stands behind those that were there, at this place; without a place, none does
+-- this record stands after those that were there, at this place; without a place, none does
 abbrev pub IsRecordedAt : Record → Option ℕ → List Record → List Record → Type 0
 IsRecordedAt r None old new = new ≡ old
 IsRecordedAt r (Some place) old new = (place ≡ length old) × (new ≡ old ++ r ∷ [])
@@ -28,14 +28,14 @@ abbrev pub AreLeft : ℕ → Option ℕ → List (Option Pending) → List (Opti
 AreLeft session None before after = after ≡ before
 AreLeft session (Some place) before after = after ≡ slice_set before session None
 
--- a job begins, as the records and the actions are: behind it there is one job more that runs, or one record more, of no time at all
-pub record JobBeginTold (session : ℕ) (p : Pending) (answer : Answer) (place : Option ℕ) (old new : List Record) (before after : List (Option Pending)) : Type 0 where
+-- a job begins, as the records and the actions are: after it there is one job more that runs, or one record more, of no time at all
+pub record JobBeginMeans (session : ℕ) (p : Pending) (answer : Answer) (place : Option ℕ) (old new : List Record) (before after : List (Option Pending)) : Type 0 where
   pub history : IsRecordedAt (record_of session p answer p.from) place old new
   pub pending : AreBegun session p place before after
 
--- a turn of the job that the session runs: behind it there are the records and the jobs that were there; or one record more, of all that the
+-- a turn of the job that the session runs: after it there are the records and the jobs that were there; or one record more, of all that the
 -- job did, so many actions being there now, and one job fewer that runs
-pub record TurnTold (session job : ℕ) (answer : Answer) (to : ℕ) (place : Option ℕ) (old new : List Record) (before after : List (Option Pending)) : Type 0 where
+pub record TurnMeans (session job : ℕ) (answer : Answer) (to : ℕ) (place : Option ℕ) (old new : List Record) (before after : List (Option Pending)) : Type 0 where
   pub running : Pending
   pub found : slice_get before session ≡ Some (Some running)
   pub job_is : running.job ≡ job
@@ -43,7 +43,7 @@ pub record TurnTold (session job : ℕ) (answer : Answer) (to : ℕ) (place : Op
   pub pending : AreLeft session place before after
 
 -- the session's call was asked for its next entry, exactly where there was room for one; it has taken what that gave
-pub record TakeTold (session job : ℕ) (answer : Option Answer) (before after : List (Option Pending)) : Type 0 where
+pub record TakeMeans (session job : ℕ) (answer : Option Answer) (before after : List (Option Pending)) : Type 0 where
   pub running : Pending
   pub then_running : Pending
   pub found : slice_get before session ≡ Some (Some running)
@@ -63,6 +63,6 @@ pub record HasNotedAt (job place : ℕ) (before after : SeatView) : Type 0 where
   pub notes : after.notes ≡ before.notes ++ (place, job) ∷ []
 
 -- what a turn leaves of the seat
-abbrev pub SeatTold : ℕ → Option ℕ → SeatView → SeatView → Type 0
-SeatTold job None before after = SitsOn job before after
-SeatTold job (Some place) before after = HasNotedAt job place before after
+abbrev pub SeatMeans : ℕ → Option ℕ → SeatView → SeatView → Type 0
+SeatMeans job None before after = SitsOn job before after
+SeatMeans job (Some place) before after = HasNotedAt job place before after

@@ -39,10 +39,10 @@ fn give(group: &mut Group) -> bool {
     true
 }
 
-/// The baton of a run's workers. Each event is done under the one lock, so one worker at a time can go on anyway; where eight strive
-/// for the lock at each event, most of their time goes to handing it on. So a worker makes its events while it has the baton, and
-/// hands it on when it has made some in a row, is blocked, or is to wait for others. Who has waited longest gets it, but for those
-/// that came in the same while. A commit needs none.
+/// The baton of a run's workers. Each event is done under the one lock, so one worker at a time can go on anyway; where eight
+/// strive for the lock at each event, most of their time goes to handing it on. So a worker makes its events while it has the
+/// baton, and hands it on when it has made some in a row, is blocked, or is to wait for others. Who has waited longest gets it,
+/// except for those that came in the same while. A commit needs none.
 #[derive(Drop)]
 pub struct Baton {
     line: Mutex<Line>,
@@ -150,7 +150,7 @@ impl Stint {
         }
     }
 
-    /// Behind an event: the baton is handed on where the worker has made its share, and waits for it again.
+    /// After an event: the baton is handed on where the worker has made its share, and waits for it again.
     pub fn go_on<R: Wait>(&mut self, rt: &R, baton: &Baton) {
         self.left = self.left.saturating_sub(1);
         if self.left > 0 || !self.held {

@@ -18,7 +18,7 @@ pub trait Jobs: Run {
     /// These contents at the start, this history and these calls fitted the world.
     ghost stood: { (Entry → Bool) → List Action → List Call → Type 0 };
 
-    /// ... and each crash left a first part of the history.
+    /// ... and each crash left a prefix of the history.
     ghost kept_then: { (Entry → Bool) → List Action → List Call → Type 0 };
 
     /// How many workers there are.

@@ -32,7 +32,7 @@ fn begin_round(counts: &mut Counts) -> bool {
 
 /// The rounds of the workers' commits. A commit waits until no worker is at work: until each one inserts no more, and is about to
 /// commit too, does a longer job, or has left. Then all commits of the round go on, of which the first one forces what the others
-/// logged; and none of their workers goes on before all of them are done, so that none has to force what is logged behind it.
+/// logged; and none of their workers goes on before all of them are done, so that none has to force what is logged after it.
 ///
 /// A worker that waits here has no call, no latch and no pin, and one that is at work waits for none that waits here. A commit
 /// doesn't wait for a scan, a bulk delete, a cleanup or a checkpoint.
@@ -63,7 +63,7 @@ impl Rounds {
         counts.working = counts.working.saturating_add(1);
     }
 
-    /// A worker fewer is at work. Behind the last one those that are about to commit go on.
+    /// A worker fewer is at work. After the last one those that are about to commit go on.
     pub fn end_work<R: Wait>(&self, rt: &R) {
         let mut counts = self.counts.lock(rt);
         counts.working = counts.working.saturating_sub(1);
@@ -117,7 +117,7 @@ impl Rounds {
         }
     }
 
-    /// Behind this job of a worker, whatever it answered.
+    /// After this job of a worker, whatever it answered.
     pub fn after<R: Wait>(&self, rt: &R, job: &Job) {
         match job {
             Job::Insert(_) => {}

@@ -2,18 +2,18 @@
 
 ghost use Rattle.std.specs.Prelude.{◌≡◌, ◌≢◌, ◌<◌, ◌≤◌, ◌↔◌, ◌++◌, ◌∷◌, [], ℕ, true, false, length, Some, None, IsSome, slice_get, vec_len, vec_capacity};
 ghost use Rattle.page_action.specs.States.{Continues};
-ghost use Rattle.whole_calls.specs.Going.{CallGoes};
+ghost use Rattle.whole_calls.specs.Going.{CallIsRun};
 ghost use Rattle.whole_calls.specs.Made.{IsMadeOf};
-ghost use Rattle.whole_calls.specs.OneStep.{IsMadeAsStep, OneStepAlways, OneStepComesTo, OneStepGoes};
+ghost use Rattle.whole_calls.specs.OneStep.{IsMadeAsStep, OneStepAlways, OneStepComesTo, OneStepIsRun};
 ghost use Rattle.worker_seats.specs.Seats.{keeper_of, known_by};
-ghost use Rattle.world.specs.Worlds.{KeepsSessions, inside};
+ghost use Rattle.world.specs.Worlds.{SameSessions, inside};
 ghost use Rattle.sessions.specs.Acted.{HasActed};
-ghost use Rattle.sessions.specs.Doing.{HasTaken, IsEventDone, IsFullScan, IsToBeCut, MayBeDone, ended_at, given_behind};
+ghost use Rattle.sessions.specs.Doing.{HasTaken, IsEventDone, IsFullScan, IsToBeCut, MayBeDone, ended_at, given_after};
 ghost use Rattle.sessions.specs.Handed.{ComesOf};
 ghost use Rattle.sessions.specs.Jobs.{IsRoomOf, event_of};
 ghost use Rattle.sessions.specs.Kept.{KeepsAll, MatchesPending, record_of};
 ghost use Rattle.sessions.specs.Notes.{notes_of, jobs_of};
-ghost use Rattle.sessions.specs.Turns.{JobBeginTold, SeatTold, SitsOn, TakeTold, TurnTold, is_begun};
+ghost use Rattle.sessions.specs.Turns.{JobBeginMeans, SeatMeans, SitsOn, TakeMeans, TurnMeans, is_begun};
 
 use crate::job::Job;
 use crate::jobs::Jobs;
@@ -100,10 +100,10 @@ fn record(worker: u32, done: Pending, answer: &Answer, to: u64) -> Record
     }
 }
 
-// Puts the entry that an answer gives behind those that were given, where there is room.
+// Puts the entry that an answer gives after those that were given, where there is room.
 fn keep_gift(given: &mut Vec<Entry>, answer: &Answer)
     requires room { vec_len given.old < vec_capacity given.old }
-    ensures items { given.new.items ≡ given_behind answer.now given.old.items }
+    ensures items { given.new.items ≡ given_after answer.now given.old.items }
     ensures capacity { vec_capacity given.new ≡ vec_capacity given.old }
 {
     match answer {
@@ -112,14 +112,14 @@ fn keep_gift(given: &mut Vec<Entry>, answer: &Answer)
     }
 }
 
-// The next entry of the session's call, put behind those that it has given. Where their room is full, nothing is done.
+// The next entry of the session's call, put after those that it has given. Where their room is full, nothing is done.
 fn take_next<S: PageStore, T: DeadRows + Drop>(
     world: &mut World<S, T>,
     session: u32,
     running: &mut Pending,
 ) -> Option<Answer>
     ensures steps { Continues S.follows world.old.store world.new.store }
-    ensures same { KeepsSessions world.old world.new }
+    ensures same { SameSessions world.old world.new }
     ensures event { MayBeDone S.PageStore (Event.Next session) result
         (inside T.DeadRows world.old) (inside T.DeadRows world.new) }
     ensures taken { HasTaken result running.old running.new }
@@ -167,7 +167,7 @@ fn beginning(session: u32, job: Job) -> Event
 
 impl<S: PageStore, T: DeadRows + Drop, J: Jobs> Shared<S, T, J> {
     /// Begins a job: a call of the worker's session, or a commit or a checkpoint, which is done whole. Where that is refused,
-    /// and behind a commit and a checkpoint, it is recorded, and has its place.
+    /// and after a commit and a checkpoint, it is recorded, and has its place.
     pub fn begin<R: Wait>(
         &mut self,
         rt: &R,
@@ -188,7 +188,7 @@ impl<S: PageStore, T: DeadRows + Drop, J: Jobs> Shared<S, T, J> {
         ensures capacity { vec_capacity self.new.history ≡ vec_capacity self.old.history }
         ensures event { IsEventDone S.PageStore (event_of seat.worker asked) result.answer
             (inside T.DeadRows self.old.world) (inside T.DeadRows self.new.world) }
-        ensures told { JobBeginTold seat.worker
+        ensures told { JobBeginMeans seat.worker
             (record {
               job = job;
               given = given;
@@ -197,7 +197,7 @@ impl<S: PageStore, T: DeadRows + Drop, J: Jobs> Shared<S, T, J> {
             }) result.answer result.place
             self.old.history.items self.new.history.items
             self.old.pending.items self.new.pending.items }
-        ensures seat { SeatTold job result.place (known_by seat.pass) (known_by result.seat.pass) }
+        ensures seat { SeatMeans job result.place (known_by seat.pass) (known_by result.seat.pass) }
     {
         let worker = seat.worker;
         let from = self.world.actions();
@@ -243,8 +243,8 @@ impl<S: PageStore, T: DeadRows + Drop, J: Jobs> Shared<S, T, J> {
         ensures worker { result.seat.worker ≡ seat.worker }
         ensures start { self.new.start ≡ self.old.start }
         ensures capacity { vec_capacity self.new.history ≡ vec_capacity self.old.history }
-        ensures goes { CallGoes S.PageStore seat.worker
-            (OneStepGoes S.PageStore seat.worker 5 result.answer) None
+        ensures goes { CallIsRun S.PageStore seat.worker
+            (OneStepIsRun S.PageStore seat.worker 5 result.answer) None
             (inside T.DeadRows self.old.world) (inside T.DeadRows self.new.world) }
         ensures made { IsMadeOf S.PageStore seat.worker 5 (OneStepComesTo result.answer)
             (inside T.DeadRows self.old.world) (inside T.DeadRows self.new.world) }
@@ -252,10 +252,10 @@ impl<S: PageStore, T: DeadRows + Drop, J: Jobs> Shared<S, T, J> {
             (inside T.DeadRows self.old.world) (inside T.DeadRows self.new.world) }
         ensures always { OneStepAlways S.PageStore seat.worker result.answer
             (inside T.DeadRows self.old.world) (inside T.DeadRows self.new.world) }
-        ensures told { TurnTold seat.worker job result.answer
+        ensures told { TurnMeans seat.worker job result.answer
             (S.state self.new.world.store).acts result.place self.old.history.items
             self.new.history.items self.old.pending.items self.new.pending.items }
-        ensures seat { SeatTold job result.place (known_by seat.pass) (known_by result.seat.pass) }
+        ensures seat { SeatMeans job result.place (known_by seat.pass) (known_by result.seat.pass) }
     {
         let worker = seat.worker;
         let Shared {
@@ -284,7 +284,7 @@ impl<S: PageStore, T: DeadRows + Drop, J: Jobs> Shared<S, T, J> {
         told(seat, answer, Some(place))
     }
 
-    /// Asks the session's call for its next entry, which is put behind those that it has given. Where their room is full, nothing
+    /// Asks the session's call for its next entry, which is put after those that it has given. Where their room is full, nothing
     /// is done, and there is no answer.
     pub fn next<R: Wait>(
         &mut self,
@@ -300,7 +300,7 @@ impl<S: PageStore, T: DeadRows + Drop, J: Jobs> Shared<S, T, J> {
         ensures history { self.new.history ≡ self.old.history }
         ensures event { MayBeDone S.PageStore (Event.Next seat.worker) result.1
             (inside T.DeadRows self.old.world) (inside T.DeadRows self.new.world) }
-        ensures told { TakeTold seat.worker job result.1
+        ensures told { TakeMeans seat.worker job result.1
             self.old.pending.items self.new.pending.items }
         ensures seat { SitsOn job (known_by seat.pass) (known_by result.0.pass) }
     {
@@ -344,10 +344,10 @@ impl<S: PageStore, T: DeadRows + Drop, J: Jobs> Shared<S, T, J> {
             (inside T.DeadRows self.old.world) (inside T.DeadRows self.new.world) }
         ensures exactly { IsSome result.1 ↔ IsToBeCut asked seat.worker
             self.old.pending.items self.old.world.calls.slots.items }
-        ensures told { TurnTold seat.worker job Answer.Ended
+        ensures told { TurnMeans seat.worker job Answer.Ended
             (S.state self.new.world.store).acts result.1 self.old.history.items
             self.new.history.items self.old.pending.items self.new.pending.items }
-        ensures seat { SeatTold job result.1 (known_by seat.pass) (known_by result.0.pass) }
+        ensures seat { SeatMeans job result.1 (known_by seat.pass) (known_by result.0.pass) }
     {
         let worker = seat.worker;
         let Shared {

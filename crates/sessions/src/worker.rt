@@ -5,7 +5,7 @@ ghost use Rattle.crossbeam_queue.specs.Passes.{view, IsPassOf};
 ghost use Rattle.worker_seats.specs.Queue.{KnowsAll, jobs_in};
 ghost use Rattle.worker_seats.specs.Seats.{known_by};
 ghost use Rattle.sessions.specs.Jobs.{IsRoomOf};
-ghost use Rattle.sessions.specs.Turns.{SeatTold, SitsOn};
+ghost use Rattle.sessions.specs.Turns.{SeatMeans, SitsOn};
 
 use crate::baton::Stint;
 use crate::context::RunContext;
@@ -36,7 +36,7 @@ fn begin_in<S: PageStore, T: DeadRows + Drop, J: Jobs, K: JobList, G: Gate, R: W
     requires empty { room.items ≡ [] }
     requires holds { IsRoomOf asked.now (vec_capacity room) }
     ensures worker { result.seat.worker ≡ seat.worker }
-    ensures seat { SeatTold job result.place (known_by seat.pass) (known_by result.seat.pass) }
+    ensures seat { SeatMeans job result.place (known_by seat.pass) (known_by result.seat.pass) }
 {
     let mut guard = run
         .door
@@ -56,7 +56,7 @@ fn step_in<S: PageStore, T: DeadRows + Drop, J: Jobs, K: JobList, G: Gate, R: Wa
 ) -> Turn<J>
     requires runs { (known_by seat.pass).job ≡ Some job }
     ensures worker { result.seat.worker ≡ seat.worker }
-    ensures seat { SeatTold job result.place (known_by seat.pass) (known_by result.seat.pass) }
+    ensures seat { SeatMeans job result.place (known_by seat.pass) (known_by result.seat.pass) }
 {
     let mut guard = run
         .door
@@ -99,7 +99,7 @@ fn end_in<S: PageStore, T: DeadRows + Drop, J: Jobs, K: JobList, G: Gate, R: Wai
     requires runs { (known_by seat.pass).job ≡ Some job }
     requires job { slice_get J.jobs job ≡ Some asked.now }
     ensures worker { result.0.worker ≡ seat.worker }
-    ensures seat { SeatTold job result.1 (known_by seat.pass) (known_by result.0.pass) }
+    ensures seat { SeatMeans job result.1 (known_by seat.pass) (known_by result.0.pass) }
 {
     let mut guard = run
         .door
@@ -131,7 +131,7 @@ fn take_ready<S: PageStore, T: DeadRows + Drop, J: Jobs, K: JobList, G: Gate, R:
     mine
 }
 
-// A step, and what is to be done behind it: of a scan that has entries ready these are taken; where its room was full before, it is
+// A step, and what is to be done after it: of a scan that has entries ready these are taken; where its room was full before, it is
 // given up.
 fn turn<S: PageStore, T: DeadRows + Drop, J: Jobs, K: JobList, G: Gate, R: Wait>(
     run: &RunContext<S, T, J, K, G, R>,
@@ -143,7 +143,7 @@ fn turn<S: PageStore, T: DeadRows + Drop, J: Jobs, K: JobList, G: Gate, R: Wait>
     requires runs { (known_by seat.pass).job ≡ Some job }
     requires job { slice_get J.jobs job ≡ Some asked.now }
     ensures worker { result.0.worker ≡ seat.worker }
-    ensures seat { SeatTold job result.1 (known_by seat.pass) (known_by result.0.pass) }
+    ensures seat { SeatMeans job result.1 (known_by seat.pass) (known_by result.0.pass) }
 {
     let Turn {
         seat,

@@ -6,7 +6,7 @@ use Rattle.tree_shape.specs.Nodes.{Node, nodes_of}
 use Rattle.tree_shape.specs.Walks.{bound_aim}
 use Rattle.tree_acts.specs.Trees.{HasTree}
 use Rattle.tree_acts.proofs.Sizes.{low_level}
-use Rattle.descent.specs.Onward.{walk_length}
+use Rattle.descent.specs.NextPage.{walk_length}
 use Rattle.split_finish.specs.Targets.{targets_of, FinishStands, FinishInvariant, is_as_read, stale_count, is_ready, one_unless, detour, walks_left, walk_left, finish_left}
 use Rattle.split_finish.specs.declared.finish.FinishAt.{FinishAt}
 use Rattle.split_finish.specs.declared.finish.FinishAt.TheVariants.{Start, Down, Link, Root}

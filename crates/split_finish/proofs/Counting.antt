@@ -2,8 +2,8 @@
 use Rattle.std.proofs.Common.{◌≡◌, ℕ, suc, ◌+◌, ◌-◌, ◌*◌, ◌<◌, ◌≤◌, ◌==◌, true, false, List, [], ◌∷◌, ◌++◌, length, refl, sym, ap, ◌∙◌, arith, length-append}
 use Rattle.std.proofs.Math.Nat.{mul-le-mul_right}
 use Rattle.tree_shape.specs.Nodes.{Node}
-use Rattle.descent.specs.Onward.{IsShorter, way_left, walk_length}
-use Rattle.descent.specs.declared.way.Way.{Way}
+use Rattle.descent.specs.NextPage.{IsShorter, way_left, walk_length}
+use Rattle.descent.specs.declared.way.Position.{Position}
 use Rattle.descent.proofs.Shortening.{walk_is_long, way_shortens}
 use Rattle.split_finish.specs.Targets.{is_as_read, stale_count, is_ready, detour, walk_left}
 use Rattle.split_finish.specs.declared.finish.FinishAt.{FinishAt}
@@ -45,16 +45,16 @@ module _ (most : ℕ) (at : ℕ → Node) (below : List Target) (target : Target
   pub less_root : ((at 0).level == target.level) ≡ true → left most at below target Root < left most at below target Start
   less_root is = rw is (same_walks _ (walk_length most) 0 (walk_length most) (omega arith))
 
-  pub less_down : (way : Way) → way.level ≤ 255 → left most at below target (Down way) < left most at below target Start
+  pub less_down : (way : Position) → way.level ≤ 255 → left most at below target (Down way) < left most at below target Start
   less_down way low = same_walks _ (walk_length most) (way_left most way) (walk_length most) (walk_is_long most way low)
 
-  pub less_onward : (to : ℕ) (way on : Way) → IsShorter to most way on → left most at below target (Down on) < left most at below target (Down way)
+  pub less_onward : (to : ℕ) (way on : Position) → IsShorter to most way on → left most at below target (Down on) < left most at below target (Down way)
   less_onward to way on h = same_walks _ (walk_length most) (way_left most on) (way_left most way) (way_shortens to most way on h)
 
-  pub less_link : (way : Way) → is_ready (at way.block) (suc target.level) target.separator ≡ true → left most at below target (Link way) < left most at below target (Down way)
+  pub less_link : (way : Position) → is_ready (at way.block) (suc target.level) target.separator ≡ true → left most at below target (Link way) < left most at below target (Down way)
   less_link way is = rw is (same_walks _ (walk_length most) 0 (way_left most way) (omega arith))
 
-  pub less_back : (way : Way) → way.level ≤ 255 → is_ready (at way.block) (suc target.level) target.separator ≡ false → length below ≤ 31
+  pub less_back : (way : Position) → way.level ≤ 255 → is_ready (at way.block) (suc target.level) target.separator ≡ false → length below ≤ 31
       → left most at below target (Down way) < left most at below target (Link way)
   less_back way low is few = rw is (fewer_walks _ _ (walk_length most) (way_left most way) 0 (let m = many in omega arith) (let l = walk_is_long most way low in omega arith))
 

@@ -11,7 +11,7 @@ use Rattle.tree_shape.specs.Walks.{bound_aim}
 use Rattle.tree_shape.proofs.Fits.{bound_falls}
 use Rattle.tree_acts.specs.Acts.{TreeLasts}
 use Rattle.tree_acts.specs.Flags.{FlagsMove}
-use Rattle.descent.specs.Shared.{IsInOrder, Does, is_flagged, causes_of_acting}
+use Rattle.tree_acts.specs.StepEffects.{IsInOrder, StepEffect, is_incomplete, causes_of_acting}
 use Rattle.descent.proofs.Acting.{one_act}
 use Rattle.descent.proofs.Working.{act_cause_of}
 use Rattle.split_finish.specs.Targets.{FinishInvariant, IsTarget}
@@ -60,9 +60,9 @@ if_false true x h = absurd cc
 if_false false x h = (refl, h)
 
 -- only the newest target was cleared
-pub only_cleared : (old new : State) (cleared : ℕ) → FlagsMove None (Some cleared) old new → (block : ℕ) → is_flagged new block ≡ true → (is_flagged old block ≡ true) × (cleared ≡ block → ⊥)
+pub only_cleared : (old new : State) (cleared : ℕ) → FlagsMove None (Some cleared) old new → (block : ℕ) → is_incomplete new block ≡ true → (is_incomplete old block ≡ true) × (cleared ≡ block → ⊥)
 only_cleared old new cleared moves block h =
-    let k = if_false (block == cleared) (is_flagged old block) (sym (moves block) ∙ h) in
+    let k = if_false (block == cleared) (is_incomplete old block) (sym (moves block) ∙ h) in
     (k.1, λ same. no (sym (eq-eqb block cleared (sym same)) ∙ k.0))
   where
     no : true ≡ false → ⊥
@@ -70,7 +70,7 @@ only_cleared old new cleared moves block h =
 
 -- an act that clears the newest target, and nothing more
 pub clears : (old new : State) (old_backing new_backing : Backing) (op after : FinishOp) (step : FinishStep) → (fits : FinishInvariant old op)
-    → Does op.session (Some Shape) old new → new.table ≡ old.table
+    → StepEffect op.session (Some Shape) old new → new.table ≡ old.table
     → new.running ≡ old.running → TreeLasts old new → FlagsMove None (Some op.target.block) old new → Popped op after step
     → FinishStepped old old_backing new new_backing op after (Ok step)
 clears old new old_backing new_backing op after Going fits does table running lasts moves popped = record {

@@ -11,7 +11,7 @@ use Rattle.page_action.specs.Reuse.{IsFresh}
 use Rattle.page_action.specs.States.{State, Backing, after_act}
 use Rattle.page_action.proofs.Writable.{writable}
 use Rattle.tree_shape.specs.Tree.{IsMetaOf}
-use Rattle.tree_acts.specs.Acts.{IsUnfinished, MayActWith, RootIsSplit}
+use Rattle.tree_acts.specs.Acts.{IsIncompleteSplit, MayActWith, RootIsSplit}
 use Rattle.tree_acts.specs.Flags.{FlagsMove}
 use Rattle.tree_acts.specs.Trees.{HasTree}
 use Rattle.tree_acts.proofs.Leaving.{root_split_leaves}
@@ -19,7 +19,7 @@ use Rattle.tree_acts.proofs.Finishing.{root_split_lasts}
 use Rattle.tree_acts.proofs.Flagging.{root_split_flags}
 use Rattle.tree_acts.proofs.Weighed.{root_split_weighs}
 use Rattle.tree_acts.proofs.Overlays.{inside, node_there}
-use Rattle.descent.specs.Shared.{IsInOrder}
+use Rattle.tree_acts.specs.StepEffects.{IsInOrder}
 use Rattle.descent.proofs.Acting.{does_finish}
 use Rattle.split_finish.specs.Targets.{FinishInvariant}
 use Rattle.split_finish.specs.Turns.{IsReadyToGrow, Popped}
@@ -27,7 +27,7 @@ use Rattle.split_finish.specs.Finishes.{FinishStepped}
 use Rattle.split_finish.specs.Acting.{AreGrown, IsReadToChange}
 use Rattle.split_finish.specs.declared.finish.FinishOp.{FinishOp}
 use Rattle.split_finish.specs.declared.finish.FinishStep.{FinishStep}
-use Rattle.split_finish.proofs.Standing.{flagged_has, flagged_block, right_block, high_bound, fresh_not_live}
+use Rattle.split_finish.proofs.Standing.{incomplete_has, incomplete_block, right_block, high_bound, fresh_not_live}
 use Rattle.split_finish.proofs.Doing.{clears}
 use Rattle.tree_shape.specs.Nodes.{Node}
 
@@ -42,7 +42,7 @@ module _ (st : State) (op : FinishOp) (honest : Bool) (meta page : Page) (new fr
   found = subst (λ (b : ℕ). slice_get st.pages b ≡ Some page) (sym read.stored.block_is) (read.found sound)
 
   alive : page.state ≡ Live
-  alive = (flagged_has page read.stored.storable.admitted ready.flagged).1
+  alive = (incomplete_has page read.stored.storable.admitted ready.incomplete).1
 
   apart_page : page.block ≡ fresh → ⊥
   apart_page same = fresh_not_live st fresh page.block page has free_block found alive same
@@ -52,7 +52,7 @@ module _ (st : State) (op : FinishOp) (honest : Bool) (meta page : Page) (new fr
 
   pub may_grow : MayActWith st (grown.root ∷ grown.meta_after ∷ grown.page_after ∷ [])
   may_grow =
-      let blocked = flagged_block page read.stored.storable.admitted ready.flagged in
+      let blocked = incomplete_block page read.stored.storable.admitted ready.incomplete in
       let meta_at : grown.meta_after.block ≡ 0 = grown.meta_block ∙ read_meta.stored.block_is in
       let meta_in = inside st.pages 0 meta (read_meta.found sound) in
       let page_in = inside st.pages page.block page found in
@@ -80,11 +80,11 @@ module _ (st : State) (op : FinishOp) (honest : Bool) (meta page : Page) (new fr
         ),
       )
 
-  unfinished : IsUnfinished st fits.start meta.level op.target.separator page new
+  unfinished : IsIncompleteSplit st fits.start meta.level op.target.separator page new
   unfinished = record {
     found = found;
     place = rw (ready.root_level_is, read.stored.block_is) fits.newest.place;
-    flagged = ready.flagged;
+    incomplete = ready.incomplete;
     high_is = ready.high_is;
     right_is = right;
   }
@@ -117,7 +117,7 @@ module _ (st : State) (op : FinishOp) (honest : Bool) (meta page : Page) (new fr
       (does_finish st op.session changed order may_grow lasts.0 lasts.1
       (root_split_leaves st fits.start op.target.separator meta grown.meta_after page grown.page_after grown.root new has root_splits) (record {
         cleared = page.block;
-        was = ap (λ (n : Node). n.split) (node_there st.pages page.block page found) ∙ ready.flagged;
+        was = ap (λ (n : Node). n.split) (node_there st.pages page.block page found) ∙ ready.incomplete;
         raised = None;
         higher = tt;
         moves = moves;

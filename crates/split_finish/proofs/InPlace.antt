@@ -9,7 +9,7 @@ use Rattle.page_codec.specs.declared.page.Items.{Items}
 use Rattle.page_codec.specs.declared.page.Items.TheVariants.{Meta, Entries, Downlinks}
 use Rattle.page_codec.specs.declared.page.Page.{Page}
 use Rattle.tree_shape.specs.Edits.{IsLinkAdded, with_links}
-use Rattle.tree_shape.specs.LinkPlaces.{HasLinks, FitsBehind, child_at}
+use Rattle.tree_shape.specs.LinkPlaces.{HasLinks, FitsAfter, child_at}
 use Rattle.tree_shape.specs.Nodes.{node_of, links_of}
 use Rattle.tree_acts.specs.Acts.{IsClear}
 use Rattle.split_finish.specs.Acting.{IsLinkPlace}
@@ -55,7 +55,7 @@ pub record AreLinked (parent page : Page) (separator : Bound) (new : ℕ) (pages
   pub page_items : page_after.items ≡ page.items
   pub page_admitted : IsPage page → IsPage page_after
 
--- the parent before and behind, with the downlink put on it
+-- the parent before and after, with the downlink put on it
 pub record IsLinked (parent parent_after : Page) (separator : Bound) (at new : ℕ) : Type 0 where
   pub added : IsLinkAdded (child_at (links_of parent.items) at) new separator (links_of parent.items) (links_of parent_after.items)
   pub node_is : node_of parent_after ≡ with_links (node_of parent) (links_of parent_after.items)
@@ -63,7 +63,7 @@ pub record IsLinked (parent parent_after : Page) (separator : Bound) (at new : �
   pub block_is : parent_after.block ≡ parent.block
   pub count : length (links_of parent_after.items) ≡ length (links_of parent.items) + 1
   pub internal : HasLinks parent_after.items
-  pub admitted : IsPage parent → IsBlock new → IsBoundIn Two separator → FitsBehind (links_of parent.items) at separator parent.high → IsPage parent_after
+  pub admitted : IsPage parent → IsBlock new → IsBoundIn Two separator → FitsAfter (links_of parent.items) at separator parent.high → IsPage parent_after
 
 -- both pages of the act
 both_linked : (parent page parent_after page_after : Page) (separator : Bound) (at new : ℕ) → IsLinkPlace parent page.block separator at

@@ -11,21 +11,21 @@ use Rattle.page_codec.specs.declared.page.PageState.{PageState}
 use Rattle.page_codec.specs.declared.page.PageState.TheVariants.{Live, HalfDead, Deleted}
 use Rattle.page_action.specs.States.{State, Backing, after_act}
 use Rattle.page_action.proofs.Writable.{writable}
-use Rattle.tree_shape.specs.Nodes.{Node, node_of, links_of}
+use Rattle.tree_shape.specs.Nodes.{Node, node_of, links_of, is_live}
 use Rattle.tree_shape.specs.Walks.{bound_aim, is_within}
-use Rattle.tree_acts.specs.Acts.{IsUnfinished, MayActWith, SplitIsFinished}
+use Rattle.tree_acts.specs.Acts.{IsIncompleteSplit, MayActWith, SplitIsFinished}
 use Rattle.tree_acts.specs.Flags.{FlagsMove}
-use Rattle.tree_acts.specs.Trees.{HasTree, HasPlace, HasCover}
+use Rattle.tree_acts.specs.Trees.{HasTree, LeadsTo, HasCover}
 use Rattle.tree_acts.proofs.Leaving.{finish_leaves}
 use Rattle.tree_acts.proofs.Finishing.{finish_lasts}
 use Rattle.tree_acts.proofs.Flagging.{finish_flags}
 use Rattle.tree_acts.proofs.Weighed.{finish_weighs}
 use Rattle.tree_acts.proofs.Overlays.{inside, node_there}
-use Rattle.tree_acts.proofs.Telling.{live_tells}
-use Rattle.descent.specs.Shared.{IsInOrder}
-use Rattle.descent.specs.declared.way.Way.{Way}
+use Rattle.tree_acts.proofs.Meanings.{live_shows}
+use Rattle.tree_acts.specs.StepEffects.{IsInOrder}
+use Rattle.descent.specs.declared.way.Position.{Position}
 use Rattle.descent.proofs.Acting.{does_finish}
-use Rattle.split_finish.specs.Targets.{FinishInvariant, FinishStands, is_ready, is_live_state}
+use Rattle.split_finish.specs.Targets.{FinishInvariant, FinishStands, is_ready}
 use Rattle.split_finish.specs.Turns.{IsReadyToLink, Popped}
 use Rattle.split_finish.specs.Finishes.{FinishStepped}
 use Rattle.split_finish.specs.Acting.{IsReadToChange}
@@ -36,12 +36,12 @@ use Rattle.split_finish.proofs.Standing.{right_block, high_bound}
 use Rattle.split_finish.proofs.Doing.{clears}
 use Rattle.split_finish.proofs.InPlace.{AreLinked}
 
-live_is : (s : PageState) → is_live_state s ≡ true → s ≡ Live
+pub live_is : (s : PageState) → is_live s ≡ true → s ≡ Live
 live_is Live h = refl
 live_is HalfDead h = absurd cc
 live_is Deleted h = absurd cc
 
-not_is : (b : Bool) → not b ≡ true → b ≡ false
+pub not_is : (b : Bool) → not b ≡ true → b ≡ false
 not_is false h = refl
 not_is true h = absurd cc
 
@@ -54,13 +54,13 @@ pub record IsParent (node : Node) (level : ℕ) (separator : Bound) : Type 0 whe
 
 pub ready_is : (node : Node) (level : ℕ) (separator : Bound) → is_ready node level separator ≡ true → IsParent node level separator
 ready_is node level separator h =
-    let a = and_parts (is_live_state node.state && not node.split && (node.level == level)) (is_within (bound_aim separator) node.high) h in
-    let b = and_parts (is_live_state node.state && not node.split) (node.level == level) a.0 in
-    let c = and_parts (is_live_state node.state) (not node.split) b.0 in
+    let a = and_parts (is_live node.state && not node.split && (node.level == level)) (is_within (bound_aim separator) node.high) h in
+    let b = and_parts (is_live node.state && not node.split) (node.level == level) a.0 in
+    let c = and_parts (is_live node.state) (not node.split) b.0 in
     record { alive = live_is node.state c.0; whole = not_is node.split c.1; level_is = eqb-true node.level level b.1; within = a.1 }
 
 -- the target and its parent, as they were read in a tree
-module _ (st : State) (op : FinishOp) (honest : Bool) (way : Way) (page parent : Page) (new : ℕ) (order : IsInOrder st) (fits : FinishInvariant st op) (sound : honest ≡ true)
+module _ (st : State) (op : FinishOp) (honest : Bool) (way : Position) (page parent : Page) (new : ℕ) (order : IsInOrder st) (fits : FinishInvariant st op) (sound : honest ≡ true)
     (at : op.at ≡ Link way) (read : IsReadToChange st honest op.session op.target.block page)
     (read_parent : IsReadToChange st honest op.session way.block parent) (ready : IsReadyToLink page parent op op)
     (right : page.right ≡ Some new) where
@@ -76,20 +76,20 @@ module _ (st : State) (op : FinishOp) (honest : Bool) (way : Way) (page parent :
   pub is_parent : IsParent (node_of parent) (suc op.target.level) op.target.separator
   is_parent = ready_is (node_of parent) (suc op.target.level) op.target.separator ready.ready
 
-  pub parent_place : HasPlace st fits.start (suc op.target.level) (bound_aim op.target.separator) true parent.block
+  pub parent_place : LeadsTo st fits.start (suc op.target.level) (bound_aim op.target.separator) true parent.block
   parent_place =
       let stands = subst (FinishStands st fits.start op.target) at fits.stands in
-      subst (HasPlace st fits.start (suc op.target.level) (bound_aim op.target.separator) true) (sym read_parent.stored.block_is)
-      (subst (λ (n : ℕ). HasPlace st fits.start n (bound_aim op.target.separator) true way.block) stands.0 stands.1.place)
+      subst (LeadsTo st fits.start (suc op.target.level) (bound_aim op.target.separator) true) (sym read_parent.stored.block_is)
+      (subst (λ (n : ℕ). LeadsTo st fits.start n (bound_aim op.target.separator) true way.block) stands.0 stands.1.place)
 
   pub parent_covers : HasCover st (suc op.target.level) (bound_aim op.target.separator) parent.block
-  parent_covers = (live_tells st fits.start (suc op.target.level) (bound_aim op.target.separator) true parent has parent_found parent_place is_parent.alive).covers is_parent.within
+  parent_covers = (live_shows st fits.start (suc op.target.level) (bound_aim op.target.separator) true parent has parent_found parent_place is_parent.alive).covers is_parent.within
 
-  pub unfinished : IsUnfinished st fits.start op.target.level op.target.separator page new
+  pub unfinished : IsIncompleteSplit st fits.start op.target.level op.target.separator page new
   unfinished = record {
     found = found;
-    place = subst (HasPlace st fits.start op.target.level (bound_aim op.target.separator) true) (sym read.stored.block_is) fits.newest.place;
-    flagged = ready.flagged;
+    place = subst (LeadsTo st fits.start op.target.level (bound_aim op.target.separator) true) (sym read.stored.block_is) fits.newest.place;
+    incomplete = ready.incomplete;
     high_is = ready.high_is;
     right_is = right;
   }
@@ -101,7 +101,7 @@ module _ (st : State) (op : FinishOp) (honest : Bool) (way : Way) (page parent :
       (let a = ready.level_is in let b = is_parent.level_is in omega arith)
 
 -- ... with a downlink on the parent, which had room
-module _ (st : State) (op : FinishOp) (honest : Bool) (way : Way) (page parent : Page) (new : ℕ) (pages : List Page) (order : IsInOrder st) (fits : FinishInvariant st op) (sound : honest ≡ true)
+module _ (st : State) (op : FinishOp) (honest : Bool) (way : Position) (page parent : Page) (new : ℕ) (pages : List Page) (order : IsInOrder st) (fits : FinishInvariant st op) (sound : honest ≡ true)
     (at : op.at ≡ Link way) (read : IsReadToChange st honest op.session op.target.block page)
     (read_parent : IsReadToChange st honest op.session way.block parent) (ready : IsReadyToLink page parent op op)
     (right : page.right ≡ Some new) (few : length st.pages ≤ st.limits.pages) (room : length (links_of parent.items) < st.limits.items)
@@ -157,7 +157,7 @@ module _ (st : State) (op : FinishOp) (honest : Bool) (way : Way) (page parent :
       (does_finish st op.session changed order may_link lasts.0 lasts.1
       (finish_leaves st fits.start op.target.level op.target.separator page parent linked.page_after linked.parent_after new order.tree split_finishes) (record {
         cleared = page.block;
-        was = ap (λ (n : Node). n.split) (node_there st.pages page.block page (found st op honest way page parent new order fits sound at read read_parent ready right)) ∙ ready.flagged;
+        was = ap (λ (n : Node). n.split) (node_there st.pages page.block page (found st op honest way page parent new order fits sound at read read_parent ready right)) ∙ ready.incomplete;
         raised = None;
         higher = tt;
         moves = moves;

@@ -7,10 +7,10 @@ use Rattle.page_codec.specs.declared.page.Page.{Page}
 use Rattle.page_action.specs.States.{State}
 use Rattle.tree_shape.specs.Nodes.{Node, links_of, nodes_of}
 use Rattle.tree_acts.proofs.Overlays.{node_there}
-use Rattle.descent.specs.Shared.{fresh_block, sibling}
+use Rattle.tree_acts.specs.StepEffects.{fresh_block, sibling}
 use Rattle.descent.specs.Splitting.{RightIsStored}
-use Rattle.descent.specs.Ways.{level_of, level_with, root_level}
-use Rattle.descent.specs.declared.way.Way.{Way}
+use Rattle.tree_acts.specs.Levels.{level_of, level_with, root_level}
+use Rattle.descent.specs.declared.way.Position.{Position}
 use Rattle.split_finish.specs.Finishes.{finish_blocks, frames_of, takes_block_of, blocks_linked, is_full_parent, is_to_link, is_to_grow}
 use Rattle.split_finish.specs.Parting.{halves_and}
 use Rattle.split_finish.specs.Targets.{is_as_read, is_ready}
@@ -23,12 +23,12 @@ use Rattle.descent.proofs.Working.{frames_some}
 use Rattle.split_finish.proofs.Turning.{as_read}
 
 -- the target as it was read, and a parent that is ready: the downlink is put there
-module _ (st : State) (op : FinishOp) (way : Way) (page parent : Page) (found : slice_get st.pages op.target.block ≡ Some page) (there : slice_get st.pages way.block ≡ Some parent)
+module _ (st : State) (op : FinishOp) (way : Position) (page parent : Page) (found : slice_get st.pages op.target.block ≡ Some page) (there : slice_get st.pages way.block ≡ Some parent)
     (ready : IsReadyToLink page parent op op) where
   to_link : is_to_link st op.target way ≡ true
   to_link =
       and_from (is_as_read (nodes_of st.pages) op.target) (is_ready (nodes_of st.pages way.block) (suc op.target.level) op.target.separator)
-      (as_read st op.target page found ready.flagged ready.high_is)
+      (as_read st op.target page found ready.incomplete ready.high_is)
       (subst (λ (n : Node). is_ready n (suc op.target.level) op.target.separator ≡ true) (sym (node_there st.pages way.block parent there)) ready.ready)
 
   linked_if : (blocks : List ℕ) → blocks_linked st op.target way.block (slice_get st.pages way.block) ≡ blocks → finish_blocks st op.target (Link way) ≡ blocks
@@ -60,7 +60,7 @@ module _ (st : State) (op : FinishOp) (meta page : Page) (there : slice_get st.p
   to_grow =
       and_from (is_as_read (nodes_of st.pages) op.target && (root_level st.pages == op.target.level)) (nat_lt op.target.level 31)
       (and_from (is_as_read (nodes_of st.pages) op.target) (root_level st.pages == op.target.level)
-      (as_read st op.target page found ready.flagged ready.high_is)
+      (as_read st op.target page found ready.incomplete ready.high_is)
       (eq-eqb (root_level st.pages) op.target.level (level_is st meta there ready.meta_is ∙ ready.root_level_is)))
       (lt-ltb op.target.level 31 ready.low_enough)
 

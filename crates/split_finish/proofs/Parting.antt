@@ -8,8 +8,7 @@ use Rattle.latch_table.specs.declared.mode.Mode.TheVariants.{Exclusive}
 use Rattle.page_codec.specs.Grammar.{IsBlock, IsPage}
 use Rattle.page_codec.specs.Spelling.{count_of}
 use Rattle.page_codec.specs.declared.page.Page.{Page}
-use Rattle.page_codec.specs.declared.page.PageState.{PageState}
-use Rattle.page_codec.specs.declared.page.PageState.TheVariants.{Live, HalfDead, Deleted}
+use Rattle.page_codec.specs.declared.page.PageState.TheVariants.{Live, Deleted}
 use Rattle.page_action.specs.Reuse.{IsFresh}
 use Rattle.page_action.specs.States.{State, Continues, after_act}
 use Rattle.page_action.specs.Stored.{IsWritable, IsApartFrom, AreActable}
@@ -17,46 +16,38 @@ use Rattle.page_action.specs.declared.page_store.PageStore.{Ghosts}
 use Rattle.index_model.specs.declared.layout.Layout.TheVariants.{Two}
 use Rattle.page_action.proofs.Writable.{writable}
 use Rattle.tree_shape.specs.LinkPlaces.{LinkSplit, HasLinks}
-use Rattle.tree_shape.specs.Nodes.{Node, node_of, links_of}
+use Rattle.tree_shape.specs.Nodes.{Node, node_of, links_of, is_live}
 use Rattle.tree_shape.specs.Walks.{bound_aim, is_within}
 use Rattle.tree_shape.proofs.Fits.{bound_falls}
 use Rattle.tree_acts.specs.Acts.{ParentIsSplit, IsMended, IsClear}
 use Rattle.tree_acts.specs.Acts.IsMended.{rightmost, neighbour}
 use Rattle.tree_acts.specs.Flags.{FlagsMove, flag_after}
-use Rattle.tree_acts.specs.Trees.{HasPlace, IsStart}
+use Rattle.tree_acts.specs.Trees.{LeadsTo, IsStart}
 use Rattle.tree_acts.proofs.Finishing.{parent_split_lasts, parent_edit}
 use Rattle.tree_acts.proofs.Leaving.{parent_split_leaves}
 use Rattle.tree_acts.proofs.Flagging.{parent_split_flags}
 use Rattle.tree_acts.proofs.Weighed.{parent_split_weighs}
 use Rattle.tree_acts.proofs.Overlays.{pages_first, node_there, inside}
 use Rattle.tree_shape.specs.Halves.{left_count}
-use Rattle.descent.specs.Onward.{IsOnWay}
-use Rattle.split_finish.proofs.Standing.{flagged_has}
-use Rattle.tree_acts.proofs.Telling.{high_tells, neighbour_tells}
-use Rattle.descent.specs.Shared.{IsInOrder, Does, is_flagged}
+use Rattle.descent.specs.NextPage.{IsOnDescent}
+use Rattle.split_finish.proofs.Standing.{incomplete_has}
+use Rattle.tree_acts.proofs.Meanings.{high_key_shows, neighbour_shows}
+use Rattle.tree_acts.specs.StepEffects.{IsInOrder, StepEffect, is_incomplete}
 use Rattle.descent.specs.Splitting.{RightIsMendable, RightIsStored, RightIsFound, mended_to}
-use Rattle.descent.specs.declared.way.Way.{Way}
+use Rattle.descent.specs.declared.way.Position.{Position}
 use Rattle.descent.proofs.Acting.{AreFree, does_finish, one_act}
 use Rattle.descent.proofs.Mended.{fresh_apart, RightMay, right_may}
 use Rattle.split_finish.specs.Acting.{IsReadToChange, FinishActs}
 use Rattle.split_finish.specs.Parting.{halves_and}
-use Rattle.split_finish.specs.Targets.{targets_of, is_among_targets, OnlyTargetsAreFlagged, IsTarget, FinishStands, FinishInvariant, is_ready, is_live_state}
+use Rattle.split_finish.specs.Targets.{targets_of, is_among_targets, OnlyTargetsAreIncomplete, IsTarget, FinishStands, FinishInvariant, is_ready}
 use Rattle.split_finish.specs.Turns.{IsReadyToLink}
 use Rattle.split_finish.specs.declared.finish.FinishAt.TheVariants.{Start, Link}
 use Rattle.split_finish.specs.declared.finish.FinishOp.{FinishOp}
 use Rattle.split_finish.specs.declared.finish.FinishStep.TheVariants.{Going}
 use Rattle.split_finish.specs.declared.finish.Target.{Target}
 use Rattle.split_finish.proofs.InPlace.{links_count}
+use Rattle.split_finish.proofs.Linking.{live_is, not_is}
 use Rattle.split_finish.proofs.Turning.{among_more, among_fewer}
-
-live_is : (state : PageState) → is_live_state state ≡ true → state ≡ Live
-live_is Live h = refl
-live_is HalfDead h = absurd cc
-live_is Deleted h = absurd cc
-
-not_is : (b : Bool) → not b ≡ true → b ≡ false
-not_is true h = absurd cc
-not_is false h = refl
 
 -- what a parent is that is ready
 pub record ReadyParent (page : Page) (level : ℕ) (separator : Bound) : Type 0 where
@@ -67,9 +58,9 @@ pub record ReadyParent (page : Page) (level : ℕ) (separator : Bound) : Type 0 
 
 pub ready_parent : (page : Page) (level : ℕ) (separator : Bound) → is_ready (node_of page) level separator ≡ true → ReadyParent page level separator
 ready_parent page level separator h =
-    let c = and_parts (is_live_state page.state && not page.split && (page.level == level)) (is_within (bound_aim separator) page.high) h in
-    let b = and_parts (is_live_state page.state && not page.split) (page.level == level) c.0 in
-    let a = and_parts (is_live_state page.state) (not page.split) b.0 in
+    let c = and_parts (is_live page.state && not page.split && (page.level == level)) (is_within (bound_aim separator) page.high) h in
+    let b = and_parts (is_live page.state && not page.split) (page.level == level) c.0 in
+    let a = and_parts (is_live page.state) (not page.split) b.0 in
     record {
       alive = live_is page.state a.0;
       whole = not_is page.split a.1;
@@ -110,7 +101,7 @@ raised_block q p b was not_q h = elim (cases_eq b p) [
 ]
 
 -- the parts of an act that splits a parent
-pub record PartsParent (st : State) (honest : Bool) (session : ℕ) (op : FinishOp) (way : Way) (page parent left half clear : Page) (right : Option Page) (new : ℕ) : Type 0 where
+pub record PartsParent (st : State) (honest : Bool) (session : ℕ) (op : FinishOp) (way : Position) (page parent left half clear : Page) (right : Option Page) (new : ℕ) : Type 0 where
   pub read : IsReadToChange st honest session op.target.block page
   pub read_parent : IsReadToChange st honest session way.block parent
   pub ready : IsReadyToLink page parent op op
@@ -126,7 +117,7 @@ pub record PartsParent (st : State) (honest : Bool) (session : ℕ) (op : Finish
   pub clears : IsClear page clear
 
 -- the act that splits the parent, in a tree
-pub parent_split : (st : State) (session : ℕ) (op : FinishOp) (way : Way) (page parent left half clear : Page) (right : Option Page) (new : ℕ)
+pub parent_split : (st : State) (session : ℕ) (op : FinishOp) (way : Position) (page parent left half clear : Page) (right : Option Page) (new : ℕ)
     (order : IsInOrder st) (fits : FinishInvariant st op) → op.at ≡ Link way
     → PartsParent st true session op way page parent left half clear right new → AreActable st.limits (length st.pages) (halves_and left half right clear)
     → ParentIsSplit st fits.start op.target.level op.target.separator page parent clear left half (mended_to half.block right) new
@@ -138,14 +129,14 @@ parent_split st session op way page parent left half clear right new order fits 
     record {
       unfinished = record {
         found = subst (λ (b : ℕ). slice_get st.pages b ≡ Some page) (sym at_page) (h.read.found refl);
-        place = subst (HasPlace st fits.start op.target.level (bound_aim op.target.separator) true) (sym at_page) fits.newest.place;
-        flagged = h.ready.flagged;
+        place = subst (LeadsTo st fits.start op.target.level (bound_aim op.target.separator) true) (sym at_page) fits.newest.place;
+        incomplete = h.ready.incomplete;
         high_is = h.ready.high_is;
         right_is = h.right_is;
       };
       found = subst (λ (b : ℕ). slice_get st.pages b ≡ Some parent) (sym at_parent) (h.read_parent.found refl);
-      place = subst (HasPlace st fits.start (suc op.target.level) (bound_aim op.target.separator) true) (sym at_parent)
-          (subst (λ (l : ℕ). HasPlace st fits.start l (bound_aim op.target.separator) true way.block) stands.0 stands.1.place);
+      place = subst (LeadsTo st fits.start (suc op.target.level) (bound_aim op.target.separator) true) (sym at_parent)
+          (subst (λ (l : ℕ). LeadsTo st fits.start l (bound_aim op.target.separator) true way.block) stands.0 stands.1.place);
       alive = ready.alive;
       whole = ready.whole;
       links = h.split.added;
@@ -159,7 +150,7 @@ parent_split st session op way page parent left half clear right new order fits 
     }
 
 -- the act is done
-pub parts : {S : Type 0} (g : Ghosts S) (before after : FinishOp) (old new : S) (way : Way) (page parent left half clear : Page) (right : Option Page) (new_block : ℕ) (target : Target)
+pub parts : {S : Type 0} (g : Ghosts S) (before after : FinishOp) (old new : S) (way : Position) (page parent left half clear : Page) (right : Option Page) (new_block : ℕ) (target : Target)
     → Continues g.follows old new → before.at ≡ Link way → ((g.backing new).honest ≡ true → (g.backing old).honest ≡ true)
     → PartsParent (g.state old) (g.backing old).honest before.session before way page parent left half clear right new_block
     → AreActable (g.state old).limits (length (g.state old).pages) (halves_and left half right clear)
@@ -191,25 +182,25 @@ parts g before after old new way page parent left half clear right new_block tar
       let left_live : left.state ≡ Live = ap (λ (n : Node). n.state) h.split.halves.left_is in
       let left_level : left.level ≡ suc level = ap (λ (n : Node). n.level) h.split.halves.left_is ∙ (ready_parent parent (suc level) s h.ready.ready).level_is in
       let start : IsStart st.running fits.start = record { session = before.session; is = fits.running } in
-      let place : HasPlace added_to fits.start (suc level) (bound_aim s) true parent.block = lasts.0.places fits.start (suc level) (bound_aim s) true parent.block start (bound_falls s) split.place in
+      let place : LeadsTo added_to fits.start (suc level) (bound_aim s) true parent.block = lasts.0.places fits.start (suc level) (bound_aim s) true parent.block start (bound_falls s) split.place in
       let left_found : slice_get added_to.pages left.block ≡ Some left = subst (λ (b : ℕ). slice_get added_to.pages b ≡ Some left) (sym h.left_block) left_there in
-      let high : HasPlace added_to fits.start (suc level) (bound_aim target.separator) true left.block =
-      high_tells added_to fits.start (suc level) (bound_aim s) true left target.separator lasts.0.has left_found
-      (subst (HasPlace added_to fits.start (suc level) (bound_aim s) true) (sym h.left_block) place) left_live t_high in
+      let high : LeadsTo added_to fits.start (suc level) (bound_aim target.separator) true left.block =
+      high_key_shows added_to fits.start (suc level) (bound_aim s) true left target.separator lasts.0.has left_found
+      (subst (LeadsTo added_to fits.start (suc level) (bound_aim s) true) (sym h.left_block) place) left_live t_high in
       let newest : IsTarget added_to fits.start (length before.below.items) target = record {
         high_enough = (let a = fits.newest.high_enough in let b = t_level ∙ left_level in omega arith);
-        place = subst (λ (b : ℕ). HasPlace added_to fits.start target.level (bound_aim target.separator) true b) (sym t_block)
-            (subst (λ (l : ℕ). HasPlace added_to fits.start l (bound_aim target.separator) true left.block) (sym (t_level ∙ left_level)) high);
+        place = subst (λ (b : ℕ). LeadsTo added_to fits.start target.level (bound_aim target.separator) true b) (sym t_block)
+            (subst (λ (l : ℕ). LeadsTo added_to fits.start l (bound_aim target.separator) true left.block) (sym (t_level ∙ left_level)) high);
       } in
       record {
         effect = Some Shape;
         shapes = inr refl;
-        does = subst (λ (x : State). Does before.session (Some Shape) st x) (sym now)
+        does = subst (λ (x : State). StepEffect before.session (Some Shape) st x) (sym now)
             (does_finish st before.session changed order may lasts.0 lasts.1
             (parent_split_leaves st fits.start level s page parent clear left half mended new_block order.tree split)
             (record {
               cleared = page.block;
-              was = ap (λ (n : Node). n.split) (node_there st.pages page.block page split.unfinished.found) ∙ split.unfinished.flagged;
+              was = ap (λ (n : Node). n.split) (node_there st.pages page.block page split.unfinished.found) ∙ split.unfinished.incomplete;
               raised = Some parent.block;
               higher = (
                 ap (λ (n : Node). n.split) (node_there st.pages parent.block parent split.found) ∙ split.whole,
@@ -238,8 +229,8 @@ parts g before after old new way page parent left half clear right new_block tar
           };
           stands = tt;
         }));
-        flags = λ only. subst (λ (x : State). OnlyTargetsAreFlagged x (targets_of after)) (sym now) (subst (λ (o : FinishOp). OnlyTargetsAreFlagged added_to (targets_of o)) (sym after_is)
-            (λ b flagged. only_targets only moves b flagged));
+        flags = λ only. subst (λ (x : State). OnlyTargetsAreIncomplete x (targets_of after)) (sym now) (subst (λ (o : FinishOp). OnlyTargetsAreIncomplete added_to (targets_of o)) (sym after_is)
+            (λ b incomplete. only_targets only moves b incomplete));
       };
 }
   where
@@ -249,12 +240,12 @@ parts g before after old new way page parent left half clear right new_block tar
     changed : List Page
     changed = halves_and left half right clear
 
-    only_targets : OnlyTargetsAreFlagged st (targets_of before) → FlagsMove (Some parent.block) (Some page.block) st (after_act changed st) → (b : ℕ) → is_flagged (after_act changed st) b ≡ true
+    only_targets : OnlyTargetsAreIncomplete st (targets_of before) → FlagsMove (Some parent.block) (Some page.block) st (after_act changed st) → (b : ℕ) → is_incomplete (after_act changed st) b ≡ true
         → is_among_targets (before.below.items ++ target ∷ []) b ≡ true
-    only_targets only moves b flagged = elim (cases_eq b parent.block) [
+    only_targets only moves b incomplete = elim (cases_eq b parent.block) [
       | inl is_q ↦ among_end before.below.items target b (t_block ∙ h.left_block ∙ sym is_q)
       | inr not_q ↦ (
-          let was = raised_block parent.block page.block b (is_flagged st b) not_q (sym (moves b) ∙ flagged) in
+          let was = raised_block parent.block page.block b (is_incomplete st b) not_q (sym (moves b) ∙ incomplete) in
           among_more before.below.items (target ∷ []) b
           (among_fewer before.below.items before.target b (only b was.1) (λ same. was.0 (sym same ∙ sym h.read.stored.block_is))))
     ]
@@ -274,7 +265,7 @@ beside_may st session new (Some r) (Some page) clear stored may storable low ins
     (may.0, may.1, ((λ same. differ (ap Some (sym stored.0.block_is ∙ sym same))), tt), (storable, (low, inside), tt, tt))
 
 -- the pages of the act may be written
-pub parts_may : (st : State) (session : ℕ) (op : FinishOp) (way : Way) (page parent left half clear : Page) (right : Option Page) (new : ℕ)
+pub parts_may : (st : State) (session : ℕ) (op : FinishOp) (way : Position) (page parent left half clear : Page) (right : Option Page) (new : ℕ)
     (order : IsInOrder st) (fits : FinishInvariant st op) → op.at ≡ Link way
     → PartsParent st true session op way page parent left half clear right new → length st.pages ≤ st.limits.pages
     → IsPage left → IsPage half → HasLinks left.items → HasLinks half.items → HasLinks parent.items → 4 ≤ length (links_of parent.items)
@@ -290,7 +281,7 @@ parts_may st session op way page parent left half clear right new order fits at_
     let found_parent : slice_get st.pages parent.block ≡ Some parent = subst (λ (b : ℕ). slice_get st.pages b ≡ Some parent) (sym at_parent) (h.read_parent.found refl) in
     let used : page.block < length st.pages = inside st.pages page.block page found in
     let used_parent : parent.block < length st.pages = inside st.pages parent.block parent found_parent in
-    let alive = (flagged_has page h.read.stored.storable.admitted h.ready.flagged).1 in
+    let alive = (incomplete_has page h.read.stored.storable.admitted h.ready.incomplete).1 in
     let beside : RightMay st parent.block half.block right = right_may st session parent.block half.block parent.right right few h.fresh block mendable apart_q h.right_stored in
     let clear_is : clear.block ≡ page.block = h.clears.block_is in
     let levels : page.block ≢ parent.block = λ same. two_levels (subst (λ (b : ℕ). slice_get st.pages b ≡ Some parent) (sym same) found_parent) found ready.level_is h.ready.level_is in
@@ -328,7 +319,7 @@ pub record BesideParent (st : State) (page parent : Page) : Type 0 where
   pub apart_parent : parent.right ≢ Some parent.block
   pub apart_page : parent.right ≢ Some page.block
 
-pub beside_parent : (st : State) (session : ℕ) (honest : Bool) (op : FinishOp) (way : Way) (page parent : Page) (order : IsInOrder st) (fits : FinishInvariant st op) → op.at ≡ Link way → honest ≡ true
+pub beside_parent : (st : State) (session : ℕ) (honest : Bool) (op : FinishOp) (way : Position) (page parent : Page) (order : IsInOrder st) (fits : FinishInvariant st op) → op.at ≡ Link way → honest ≡ true
     → IsReadToChange st honest session op.target.block page → IsReadToChange st honest session way.block parent → IsReadyToLink page parent op op → BesideParent st page parent
 beside_parent st session honest op way page parent order fits at_is kept_model read read_parent ready_to =
     by parent.right refl
@@ -342,12 +333,12 @@ beside_parent st session honest op way page parent order fits at_is kept_model r
     found_parent : slice_get st.pages parent.block ≡ Some parent
     found_parent = subst (λ (b : ℕ). slice_get st.pages b ≡ Some parent) (sym read_parent.stored.block_is) (read_parent.found kept_model)
 
-    stands : (way.level ≡ suc op.target.level) × IsOnWay st fits.start (bound_aim op.target.separator) true (suc op.target.level) way
+    stands : (way.level ≡ suc op.target.level) × IsOnDescent st fits.start (bound_aim op.target.separator) true (suc op.target.level) way
     stands = subst (FinishStands st fits.start op.target) at_is fits.stands
 
-    place : HasPlace st fits.start (suc op.target.level) (bound_aim op.target.separator) true parent.block
-    place = subst (HasPlace st fits.start (suc op.target.level) (bound_aim op.target.separator) true) (sym read_parent.stored.block_is)
-        (subst (λ (l : ℕ). HasPlace st fits.start l (bound_aim op.target.separator) true way.block) stands.0 stands.1.place)
+    place : LeadsTo st fits.start (suc op.target.level) (bound_aim op.target.separator) true parent.block
+    place = subst (LeadsTo st fits.start (suc op.target.level) (bound_aim op.target.separator) true) (sym read_parent.stored.block_is)
+        (subst (λ (l : ℕ). LeadsTo st fits.start l (bound_aim op.target.separator) true way.block) stands.0 stands.1.place)
 
     none_some : (b : ℕ) → None ≡ Some b → ⊥
     none_some b k = cc
@@ -359,7 +350,7 @@ beside_parent st session honest op way page parent order fits at_is kept_model r
       apart_page = λ k. none_some page.block (sym is ∙ k);
     }
     by (Some r) is =
-        let n = neighbour_tells st fits.start (suc op.target.level) (bound_aim op.target.separator) true parent r order.tree found_parent place ready.alive is in
+        let n = neighbour_shows st fits.start (suc op.target.level) (bound_aim op.target.separator) true parent r order.tree found_parent place ready.alive is in
         record {
           mendable = subst (RightIsMendable st) (sym is) (record { page = n.page; found = n.found; mends = n.mends });
           apart_parent = λ k. n.apart (some_same r parent.block (sym is ∙ k));

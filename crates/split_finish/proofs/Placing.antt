@@ -1,4 +1,4 @@
--- In a tree there is a place for the downlink of a right half: a downlink leads to the left half, and the separator fits behind it.
+-- In a tree there is a place for the downlink of a right half: a downlink leads to the left half, and the separator fits after it.
 use Rattle.std.proofs.Common.{◌≡◌, ◌≢◌, inl, inr, ℕ, zero, suc, ◌+◌, ◌<◌, Option, Some, None, List, [], ◌∷◌, ◌++◌, length, take, drop, slice_get, refl, sym, ap, subst, ◌∙◌, arith}
 use Rattle.std.specs.Prelude.{All, slice_index_or}
 use Rattle.index_model.specs.declared.bound.Bound.{Bound}
@@ -7,12 +7,12 @@ use Rattle.page_codec.specs.declared.page.Page.{Page}
 use Rattle.page_action.specs.States.{State}
 use Rattle.tree_shape.specs.Edits.{IsBetween, IsBelowNext, IsBelowBound}
 use Rattle.tree_shape.specs.Laws.{HasLink}
-use Rattle.tree_shape.specs.LinkPlaces.{link_at, bound_at, IsBelowFirst, FitsBehind}
+use Rattle.tree_shape.specs.LinkPlaces.{link_at, bound_at, IsBelowFirst, FitsAfter}
 use Rattle.tree_shape.specs.Nodes.{links_of}
 use Rattle.tree_shape.specs.Walks.{bound_aim}
-use Rattle.tree_acts.specs.Acts.{IsUnfinished}
+use Rattle.tree_acts.specs.Acts.{IsIncompleteSplit}
 use Rattle.tree_acts.specs.Trees.{HasTree, HasCover}
-use Rattle.tree_acts.proofs.Telling.{parent_tells, separator_tells}
+use Rattle.tree_acts.proofs.Meanings.{parent_shows, separator_shows}
 use Rattle.split_finish.specs.Acting.{NoLinkPlace}
 
 -- an item in the middle
@@ -54,20 +54,20 @@ one_more : (n : ℕ) → suc n ≡ n + 1
 one_more n = omega arith
 
 -- what the tree says of the separator is what is tested
-pub fits_between : (links : List Downlink) (at : ℕ) (s : Bound) (high : Option Bound) → IsBetween (bound_at links at) s (drop (suc at) links) high → FitsBehind links at s high
+pub fits_between : (links : List Downlink) (at : ℕ) (s : Bound) (high : Option Bound) → IsBetween (bound_at links at) s (drop (suc at) links) high → FitsAfter links at s high
 fits_between links at s high h = record {
   above = h.beyond;
   before_next = subst (λ (n : ℕ). IsBelowFirst s (drop n links)) (one_more at) (below_first s (drop (suc at) links) h.below_next);
   below_high = h.below_high;
 }
 
-pub there_is_a_place : (st : State) (start level : ℕ) (s : Bound) (p q : Page) (new : ℕ) → HasTree st → IsUnfinished st start level s p new → slice_get st.pages q.block ≡ Some q
+pub there_is_a_place : (st : State) (start level : ℕ) (s : Bound) (p q : Page) (new : ℕ) → HasTree st → IsIncompleteSplit st start level s p new → slice_get st.pages q.block ≡ Some q
     → HasCover st (suc level) (bound_aim s) q.block → NoLinkPlace q p.block s → ⊥
-there_is_a_place st start level s p q new h u found cover (inl none) = none_leads p.block (links_of q.items) (parent_tells st start level s p q new h u found cover) none
+there_is_a_place st start level s p q new h u found cover (inl none) = none_leads p.block (links_of q.items) (parent_shows st start level s p q new h u found cover) none
 there_is_a_place st start level s p q new h u found cover (inr (at, lt, leads, unfit)) =
     let links = links_of q.items in
     let is : links ≡ take at links ++ record { bound = bound_at links at; child = p.block } ∷ drop (suc at) links =
     parted_at links at lt ∙ ap (λ (c : ℕ). take at links ++ record { bound = bound_at links at; child = c } ∷ drop (suc at) links) leads in
-    unfit (fits_between links at s q.high (separator_tells st start level s p q new
+    unfit (fits_between links at s q.high (separator_shows st start level s p q new
     (take at links ++ record { bound = bound_at links at; child = p.block } ∷ record { bound = Some s; child = new } ∷ drop (suc at) links) h u found cover
     (record { before = take at links; bound = bound_at links at; after = drop (suc at) links; links_are = is; added_are = refl })))

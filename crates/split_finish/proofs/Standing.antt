@@ -20,12 +20,12 @@ use Rattle.tree_shape.specs.Walks.{bound_aim}
 use Rattle.tree_acts.proofs.Lasting.{fresh_free}
 use Rattle.page_action.specs.Reuse.{IsFresh}
 use Rattle.tree_acts.proofs.Overlays.{inside, node_there}
-use Rattle.tree_acts.specs.Trees.{HasTree, HasPlace}
-use Rattle.tree_acts.specs.Acts.{IsUnfinished}
+use Rattle.tree_acts.specs.Trees.{HasTree, LeadsTo}
+use Rattle.tree_acts.specs.Acts.{IsIncompleteSplit}
 use Rattle.tree_acts.specs.Ways.{RootIsThere}
-use Rattle.tree_acts.proofs.Telling.{metapage_tells, live_tells, high_tells, trail_begins_here}
-use Rattle.descent.specs.Onward.{IsOnWay, way_from}
-use Rattle.descent.specs.declared.way.Way.{Way}
+use Rattle.tree_acts.proofs.Meanings.{metapage_shows, live_shows, high_key_shows, trail_begins_here}
+use Rattle.descent.specs.NextPage.{IsOnDescent, way_from}
+use Rattle.descent.specs.declared.way.Position.{Position}
 use Rattle.split_finish.specs.Targets.{targets_of, IsTarget, FinishStands, FinishInvariant}
 use Rattle.split_finish.specs.Turns.{Popped, Pushed, Retaken}
 use Rattle.split_finish.specs.declared.finish.FinishAt.{FinishAt}
@@ -35,7 +35,7 @@ use Rattle.split_finish.specs.declared.finish.FinishStep.TheVariants.{Going}
 use Rattle.split_finish.specs.declared.finish.Target.{Target}
 
 -- the metapage that is read is the tree's
-pub meta_same : (st : State) (start level : ℕ) (aim : Bound → Bool) (clear : Bool) (block : ℕ) (meta : Page) → HasPlace st start level aim clear block
+pub meta_same : (st : State) (start level : ℕ) (aim : Bound → Bool) (clear : Bool) (block : ℕ) (meta : Page) → LeadsTo st start level aim clear block
     → slice_get st.pages 0 ≡ Some meta → level ≤ meta.level
 meta_same st start level aim clear block meta place found =
     let same : place.tree.meta ≡ meta = (let k : Some place.tree.meta ≡ Some meta = sym place.tree.meta_at ∙ found in cc) in
@@ -54,15 +54,15 @@ fits_moved st op at fits stands = record {
 }
 
 -- from the metapage to the root
-pub starts_down : (st : State) (start : ℕ) (target : Target) (meta : Page) (way : Way) → HasTree st → slice_get st.pages 0 ≡ Some meta → target.level < meta.level
+pub starts_down : (st : State) (start : ℕ) (target : Target) (meta : Page) (way : Position) → HasTree st → slice_get st.pages 0 ≡ Some meta → target.level < meta.level
     → ((root : ℕ) → IsMetaOf meta root meta.level → Some way ≡ Some (way_from root meta.level)) → FinishStands st start target (Down way)
 starts_down st start target meta way h found lower named =
-    by (metapage_tells st start (bound_aim target.separator) true meta h found)
+    by (metapage_shows st start (bound_aim target.separator) true meta h found)
   where
     by : RootIsThere st start (bound_aim target.separator) true meta → FinishStands st start target (Down way)
     by r =
         let same : way_from r.root meta.level ≡ way = (let k = named r.root r.names in cc) in
-        subst (IsOnWay st start (bound_aim target.separator) true (suc target.level)) same (record {
+        subst (IsOnDescent st start (bound_aim target.separator) true (suc target.level)) same (record {
           not_below = omega arith;
           place = r.place;
           trail = trail_begins_here st start meta.level (bound_aim target.separator) true r.root h r.place;
@@ -96,18 +96,18 @@ each_target st op fits i t h =
       | inr k ↦ subst (λ (n : ℕ). IsTarget st fits.start n t) (sym k.0) (subst (IsTarget st fits.start (length op.below.items)) k.1 fits.newest)
     ]
 
--- a flagged page with a high key, on the way, as a newer target
-pub rises_to : (st : State) (op after : FinishOp) (way : Way) (page : Page) (separator : Bound) → HasTree st → (fits : FinishInvariant st op)
+-- a page with an incomplete split with a high key, on the way, as a newer target
+pub rises_to : (st : State) (op after : FinishOp) (way : Position) (page : Page) (separator : Bound) → HasTree st → (fits : FinishInvariant st op)
     → Pushed (record { block = way.block; level = way.level; separator = separator }) op after → FinishStands st fits.start op.target (Down way)
     → slice_get st.pages way.block ≡ Some page → page.state ≡ Live → page.high ≡ Some separator → FinishInvariant st after
 rises_to st op after way page separator h fits pushed on found alive high =
     let there : page.block ≡ way.block = (stored_page st.limits way.block st.pages page h.stored found).block_is in
     let found_there : slice_get st.pages page.block ≡ Some page = subst (λ (b : ℕ). slice_get st.pages b ≡ Some page) (sym there) found in
-    let place_there = subst (HasPlace st fits.start way.level (bound_aim op.target.separator) true) (sym there) on.place in
+    let place_there = subst (LeadsTo st fits.start way.level (bound_aim op.target.separator) true) (sym there) on.place in
     let newer : Target = record { block = way.block; level = way.level; separator = separator } in
-    let place : HasPlace st fits.start way.level (bound_aim separator) true way.block =
-    subst (HasPlace st fits.start way.level (bound_aim separator) true) there
-    (high_tells st fits.start way.level (bound_aim op.target.separator) true page separator h found_there place_there alive high) in
+    let place : LeadsTo st fits.start way.level (bound_aim separator) true way.block =
+    subst (LeadsTo st fits.start way.level (bound_aim separator) true) there
+    (high_key_shows st fits.start way.level (bound_aim op.target.separator) true page separator h found_there place_there alive high) in
     let count : length after.below.items ≡ suc (length op.below.items) = ap length pushed.below_is ∙ length-append op.below.items (op.target ∷ []) ∙ omega arith in
     record {
       session = subst (λ (s : ℕ). s < 64) (sym pushed.session) fits.session;
@@ -124,48 +124,48 @@ rises_to st op after way page separator h fits pushed on found alive high =
 
 -- a live page that is a place is on its level
 pub live_level : (st : State) (start level : ℕ) (aim : Bound → Bool) (clear : Bool) (block : ℕ) (page : Page) → HasTree st
-    → HasPlace st start level aim clear block → slice_get st.pages block ≡ Some page
+    → LeadsTo st start level aim clear block → slice_get st.pages block ≡ Some page
     → page.state ≡ Live → page.level ≡ level
 live_level st start level aim clear block page h place found alive =
     let there : page.block ≡ block = (stored_page st.limits block st.pages page h.stored found).block_is in
-    (live_tells st start level aim clear page h (subst (λ (b : ℕ). slice_get st.pages b ≡ Some page) (sym there) found) (subst (HasPlace st start level aim clear) (sym there) place) alive).level_is
+    (live_shows st start level aim clear page h (subst (λ (b : ℕ). slice_get st.pages b ≡ Some page) (sym there) found) (subst (LeadsTo st start level aim clear) (sym there) place) alive).level_is
 
 some_none : {A : Type 0} (x : Option A) → IsSome x → x ≡ None → ⊥
 some_none None h is = cc
 some_none (Some x) h is = cc
 
--- a flagged page has a high key, by the format, and is live
-pub flagged_has : (page : Page) → IsPage page → page.split ≡ true → (page.high ≡ None → ⊥) × (page.state ≡ Live) × (page.right ≡ None → ⊥)
-flagged_has page admitted flagged = by page.items refl admitted.kind
+-- a page with an incomplete split has a high key, by the format, and is live
+pub incomplete_has : (page : Page) → IsPage page → page.split ≡ true → (page.high ≡ None → ⊥) × (page.state ≡ Live) × (page.right ≡ None → ⊥)
+incomplete_has page admitted incomplete = by page.items refl admitted.kind
   where
     no : false ≡ true → ⊥
     no e = cc
 
     leaf : (es : List Entry) (state : PageState) → page.state ≡ state → IsLeafIn state page es → (page.high ≡ None → ⊥) × (page.state ≡ Live) × (page.right ≡ None → ⊥)
-    leaf es Live is h = ((λ none. some_none page.high (h.high.1 (h.split flagged)) none), is, (λ none. some_none page.right (h.split flagged) none))
-    leaf es HalfDead is h = absurd (no (sym h.split ∙ flagged))
-    leaf es Deleted is h = absurd (no (sym h.split ∙ flagged))
+    leaf es Live is h = ((λ none. some_none page.high (h.high.1 (h.split incomplete)) none), is, (λ none. some_none page.right (h.split incomplete) none))
+    leaf es HalfDead is h = absurd (no (sym h.split ∙ incomplete))
+    leaf es Deleted is h = absurd (no (sym h.split ∙ incomplete))
 
     by : (items : Items) → page.items ≡ items → IsOfKind page items → (page.high ≡ None → ⊥) × (page.state ≡ Live) × (page.right ≡ None → ⊥)
-    by Meta is h = absurd (no (sym h.split ∙ flagged))
+    by Meta is h = absurd (no (sym h.split ∙ incomplete))
     by (Entries v) is h = leaf v.items page.state refl h.rest
-    by (Downlinks v) is h = ((λ none. some_none page.high (h.high.1 (h.split flagged)) none), h.state, (λ none. some_none page.right (h.split flagged) none))
+    by (Downlinks v) is h = ((λ none. some_none page.high (h.high.1 (h.split incomplete)) none), h.state, (λ none. some_none page.right (h.split incomplete) none))
 
-pub flagged_in : (st : State) (block : ℕ) (page : Page) → HasTree st → slice_get st.pages block ≡ Some page → page.split ≡ true → (page.high ≡ None → ⊥) × (page.state ≡ Live) × (page.right ≡ None → ⊥)
-flagged_in st block page h found = flagged_has page (stored_page st.limits block st.pages page h.stored found).storable.admitted
+pub incomplete_in : (st : State) (block : ℕ) (page : Page) → HasTree st → slice_get st.pages block ≡ Some page → page.split ≡ true → (page.high ≡ None → ⊥) × (page.state ≡ Live) × (page.right ≡ None → ⊥)
+incomplete_in st block page h found = incomplete_has page (stored_page st.limits block st.pages page h.stored found).storable.admitted
 
 true_false : true ≡ false → ⊥
 true_false h = cc
 
--- in a tree a page that is not both live and flagged isn't flagged
-pub not_flagged : (st : State) (block : ℕ) (page : Page) → HasTree st → slice_get st.pages block ≡ Some page → (page.state ≡ Live → page.split ≡ false) → page.split ≡ false
-not_flagged st block page h found whole = by page.split refl
+-- in a tree a page that is not both live and with an incomplete split has no incomplete split
+pub not_incomplete : (st : State) (block : ℕ) (page : Page) → HasTree st → slice_get st.pages block ≡ Some page → (page.state ≡ Live → page.split ≡ false) → page.split ≡ false
+not_incomplete st block page h found whole = by page.split refl
   where
     by : (b : Bool) → page.split ≡ b → page.split ≡ false
     by false is = is
-    by true is = absurd (true_false (sym is ∙ whole (flagged_in st block page h found is).1))
+    by true is = absurd (true_false (sym is ∙ whole (incomplete_in st block page h found is).1))
 
--- behind the newest target the ones below it are left
+-- after the newest target the ones below it are left
 pub fits_popped : (st : State) (before after : FinishOp) (start : ℕ) → Popped before after Going → before.session < 64 → holding_of st.table before.session ≡ nothing_held
     → slice_get st.running before.session ≡ Some (Some start) → ((i : ℕ) (t : Target) → slice_get before.below.items i ≡ Some t → IsTarget st start i t) → FinishInvariant st after
 fits_popped st before after start popped session free running below = record {
@@ -184,10 +184,10 @@ pub fits_retaken : (st : State) (op after : FinishOp) (separator : Bound) (at : 
 fits_retaken st op after separator at page h fits taken found alive high stands =
     let there : page.block ≡ op.target.block = (stored_page st.limits op.target.block st.pages page h.stored found).block_is in
     let found_there : slice_get st.pages page.block ≡ Some page = subst (λ (b : ℕ). slice_get st.pages b ≡ Some page) (sym there) found in
-    let place_there = subst (HasPlace st fits.start op.target.level (bound_aim op.target.separator) true) (sym there) fits.newest.place in
-    let place : HasPlace st fits.start op.target.level (bound_aim separator) true op.target.block =
-    subst (HasPlace st fits.start op.target.level (bound_aim separator) true) there
-    (high_tells st fits.start op.target.level (bound_aim op.target.separator) true page separator h found_there place_there alive high) in
+    let place_there = subst (LeadsTo st fits.start op.target.level (bound_aim op.target.separator) true) (sym there) fits.newest.place in
+    let place : LeadsTo st fits.start op.target.level (bound_aim separator) true op.target.block =
+    subst (LeadsTo st fits.start op.target.level (bound_aim separator) true) there
+    (high_key_shows st fits.start op.target.level (bound_aim op.target.separator) true page separator h found_there place_there alive high) in
     record {
       session = subst (λ (s : ℕ). s < 64) (sym taken.session) fits.session;
       free = rw taken.session fits.free;
@@ -198,21 +198,21 @@ fits_retaken st op after separator at page h fits taken found alive high stands 
       stands = subst (FinishStands st fits.start after.target) (sym taken.at_is) stands;
     }
 
--- the split of a flagged page that is a place is to be finished
+-- the split of a page with an incomplete split that is a place is to be finished
 pub record ToFinish (st : State) (start level : ℕ) (page : Page) : Type 0 where
   pub separator : Bound
   pub new : ℕ
-  pub is : IsUnfinished st start level separator page new
+  pub is : IsIncompleteSplit st start level separator page new
 
 some_is : {A : Type 0} (x : Option A) → (x ≡ None → ⊥) → (a : A) × (x ≡ Some a)
 some_is None h = absurd (h refl)
 some_is (Some a) h = (a, refl)
 
-pub to_finish : (st : State) (start level : ℕ) (aim : Bound → Bool) (block : ℕ) (page : Page) → HasTree st → HasPlace st start level aim true block
+pub to_finish : (st : State) (start level : ℕ) (aim : Bound → Bool) (block : ℕ) (page : Page) → HasTree st → LeadsTo st start level aim true block
     → slice_get st.pages block ≡ Some page → page.split ≡ true
     → ToFinish st start level page
-to_finish st start level aim block page h place found flagged =
-    let has = flagged_in st block page h found flagged in
+to_finish st start level aim block page h place found incomplete =
+    let has = incomplete_in st block page h found incomplete in
     let high = some_is page.high has.0 in
     let right = some_is page.right has.2 in
     let there : page.block ≡ block = (stored_page st.limits block st.pages page h.stored found).block_is in
@@ -222,8 +222,8 @@ to_finish st start level aim block page h place found flagged =
       new = right.0;
       is = record {
         found = found_there;
-        place = high_tells st start level aim true page high.0 h found_there (subst (HasPlace st start level aim true) (sym there) place) has.1 high.1;
-        flagged = flagged;
+        place = high_key_shows st start level aim true page high.0 h found_there (subst (LeadsTo st start level aim true) (sym there) place) has.1 high.1;
+        incomplete = incomplete;
         high_is = high.1;
         right_is = right.1;
       };
@@ -237,15 +237,15 @@ meta_inside st h = inside st.pages 0 h.tree.meta h.tree.meta_at
 pub has_room : (st : State) (op : FinishOp) → FinishInvariant st op → HasRoom st.table op.session
 has_room st op fits = subst (λ (held : Holding). length held.latches < 8) (sym fits.free) (omega arith)
 
--- a flagged page isn't the metapage, by the format
-pub flagged_block : (page : Page) → IsPage page → page.split ≡ true → IsBlock page.block
-flagged_block page admitted flagged = by page.items refl admitted.kind
+-- a page with an incomplete split isn't the metapage, by the format
+pub incomplete_block : (page : Page) → IsPage page → page.split ≡ true → IsBlock page.block
+incomplete_block page admitted incomplete = by page.items refl admitted.kind
   where
     no : false ≡ true → ⊥
     no e = cc
 
     by : (items : Items) → page.items ≡ items → IsOfKind page items → IsBlock page.block
-    by Meta is h = absurd (no (sym h.split ∙ flagged))
+    by Meta is h = absurd (no (sym h.split ∙ incomplete))
     by (Entries v) is h = h.block
     by (Downlinks v) is h = h.block
 

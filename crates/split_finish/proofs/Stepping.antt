@@ -1,4 +1,4 @@
--- Steps that read and change nothing but the call, and those that act behind their readings.
+-- Steps that read and change nothing but the call, and those that act after their readings.
 use Rattle.std.proofs.Common.{◌≡◌, ℕ, suc, ◌*◌, ◌<◌, ◌≤◌, ◌||◌, Bool, true, false, None, Result, Ok, Err, refl, sym, ap, subst, inl, ◌∙◌, arith}
 use Rattle.std.proofs.lemmas.Bool.{ltb-true, lt-ltb}
 use Rattle.std.specs.Prelude.{OnErr}
@@ -8,11 +8,11 @@ use Rattle.index_model.specs.declared.fault.Fault.TheVariants.{NoMemory, Io, Sto
 use Rattle.page_action.specs.Causes.{is_at_end}
 use Rattle.page_action.specs.States.{State, Backing, Continues}
 use Rattle.page_action.specs.declared.page_store.PageStore.{Ghosts}
-use Rattle.descent.specs.Shared.{IsInOrder, IsOneStep, is_flagged}
+use Rattle.tree_acts.specs.StepEffects.{IsInOrder, IsOneActAtMost, is_incomplete}
 use Rattle.descent.proofs.Acting.{one_nothing, nothing_else}
 use Rattle.descent.proofs.Working.{no_room_later}
-use Rattle.descent.specs.Onward.{walk_length}
-use Rattle.split_finish.specs.Targets.{FinishInvariant, OnlyTargetsAreFlagged, targets_of, finish_left}
+use Rattle.descent.specs.NextPage.{walk_length}
+use Rattle.split_finish.specs.Targets.{FinishInvariant, OnlyTargetsAreIncomplete, targets_of, finish_left}
 use Rattle.split_finish.specs.Turns.{Turned, causes_of_turned}
 use Rattle.split_finish.specs.Finishes.{FinishSteps, FinishStays, FinishStepped, finish_blocks, causes_of_finishing}
 use Rattle.page_codec.specs.declared.page.Page.{Page}
@@ -66,9 +66,6 @@ turn_cause st first third session target at BadLimits h = h
 turn_cause st first third session target at DeviceTooSmall h = h
 turn_cause st first third session target at (KeyExists r) h = h
 
-going_done : Going ≡ Done → ⊥
-going_done e = cc
-
 -- a step that reads, and turns
 pub turns : {S : Type 0} (g : Ghosts S) (before after : FinishOp) (old new : S) (result : Result FinishStep Fault) → Continues g.follows old new → g.state new ≡ g.state old
     → after.session ≡ before.session → OnErr result (after ≡ before) → ((g.backing old).stopped ≡ true → ⊥)
@@ -89,7 +86,7 @@ turns g before after old new (Ok Going) steps same session kept runs turned = re
     does = nothing_else before.session (g.state old) (g.state new) same order;
     table = ap (λ (st : State). st.table) same;
     fits = subst (λ (st : State). FinishInvariant st after) (sym same) ((turned honest).fits order.tree fits);
-    flags = λ h. subst (λ (st : State). OnlyTargetsAreFlagged st (targets_of after)) (sym same) ((turned honest).flags h);
+    flags = λ h. subst (λ (st : State). OnlyTargetsAreIncomplete st (targets_of after)) (sym same) ((turned honest).flags h);
   };
 }
 turns g before after old new (Ok Done) steps same session kept runs turned = record {
@@ -106,7 +103,7 @@ turns g before after old new (Ok Done) steps same session kept runs turned = rec
     shapes = inl refl;
     does = nothing_else before.session (g.state old) (g.state new) same order;
     table = ap (λ (st : State). st.table) same;
-    flags = λ h. subst (λ (st : State). (block : ℕ) → is_flagged st block ≡ false) (sym same) ((turned honest).flags h);
+    flags = λ h. subst (λ (st : State). (block : ℕ) → is_incomplete st block ≡ false) (sym same) ((turned honest).flags h);
   };
 }
 turns g before after old new (Err fault) steps same session kept runs turned = record {
@@ -126,7 +123,7 @@ or_first true b c f h = rw (f refl) refl
 or_first false b true f h = refl
 or_first false b false f h = h
 
--- a cause behind the readings is one from the start
+-- a cause after the readings is one from the start
 pub earlier_cause : (st : State) (first second third : Backing) (session : ℕ) (target : Target) (at : FinishAt) (fault : Fault)
     → first.failures ≤ second.failures → (second.stopped ≡ true → first.stopped ≡ true) → second.promised ≡ first.promised
     → HasCause (causes_of_finishing st second third session target at) fault → HasCause (causes_of_finishing st first third session target at) fault
@@ -153,7 +150,7 @@ earlier_cause st first second third session target at BadLimits le alive promise
 earlier_cause st first second third session target at DeviceTooSmall le alive promised h = h
 earlier_cause st first second third session target at (KeyExists r) le alive promised h = h
 
--- what a step did behind its readings, it did from the start
+-- what a step did after its readings, it did from the start
 earlier_stepped : (old new : State) (first second third : Backing) (before after : FinishOp) (result : Result FinishStep Fault)
     → first.failures ≤ second.failures → (second.stopped ≡ true → first.stopped ≡ true) → second.promised ≡ first.promised
     → FinishStepped old second new third before after result → FinishStepped old first new third before after result
@@ -171,12 +168,12 @@ pub record HasRead {S : Type 0} (g : Ghosts S) (old mid : S) : Type 0 where
   pub promised : (g.backing mid).promised ≡ (g.backing old).promised
 
 -- a further reading, and then the act
-pub behind_more : {S : Type 0} (g : Ghosts S) (before after : FinishOp) (old mid new : S) (result : Result FinishStep Fault) → HasRead g old mid
+pub after_more : {S : Type 0} (g : Ghosts S) (before after : FinishOp) (old mid new : S) (result : Result FinishStep Fault) → HasRead g old mid
     → FinishActs g before after mid new result → FinishActs g before after old new result
-behind_more g before after old mid new result read acts = record {
+after_more g before after old mid new result read acts = record {
   steps = λ first h. acts.steps first (read.steps first h);
   session = acts.session;
-  kept = subst (λ (st : State). IsOneStep st (g.state new)) read.same acts.kept;
+  kept = subst (λ (st : State). IsOneActAtMost st (g.state new)) read.same acts.kept;
   table = subst (λ (st : State). (g.state new).table ≡ st.table) read.same acts.table;
   refused = subst (λ (st : State). OnErr result (FinishStays st (g.state new) before after)) read.same acts.refused;
   less = λ honest is same. subst (λ (st : State). finish_left (g.state new).limits.pages (g.state new).pages after < finish_left st.limits.pages st.pages before) read.same
@@ -192,7 +189,7 @@ behind_more g before after old mid new result read acts = record {
 pub behind : {S : Type 0} (g : Ghosts S) (before after : FinishOp) (old mid new : S) (result : Result FinishStep Fault) → HasRead g old mid → ((g.backing old).stopped ≡ true → ⊥)
     → FinishActs g before after mid new result → FinishSteps g before after old new result
 behind g before after old mid new result read runs acts =
-    let all = behind_more g before after old mid new result read acts in
+    let all = after_more g before after old mid new result read acts in
     record {
       steps = all.steps;
       session = all.session;
@@ -205,7 +202,7 @@ behind g before after old mid new result read runs acts =
       stepped = all.stepped;
     }
 
--- a step behind its readings that is refused, with nothing changed
+-- a step after its readings that is refused, with nothing changed
 pub acts_not : {S : Type 0} (g : Ghosts S) (op : FinishOp) (old new : S) (fault : Fault) → Continues g.follows old new → g.state new ≡ g.state old
     → ((g.backing new).honest ≡ true → IsInOrder (g.state old) → FinishInvariant (g.state old) op
     → HasCause (causes_of_finishing (g.state old) (g.backing old) (g.backing new) op.session op.target op.at) fault)
@@ -221,12 +218,12 @@ acts_not g op old new fault steps same cause = record {
   stepped = cause;
 }
 
--- a turn behind its readings
-pub turns_behind : {S : Type 0} (g : Ghosts S) (before after : FinishOp) (old : S) (result : Result FinishStep Fault)
+-- a turn after its readings
+pub turns_after : {S : Type 0} (g : Ghosts S) (before after : FinishOp) (old : S) (result : Result FinishStep Fault)
     → after.session ≡ before.session → OnErr result (after ≡ before)
     → ((g.backing old).honest ≡ true → Turned (g.state old) before after result)
     → FinishActs g before after old old result
-turns_behind g before after old (Ok Going) session kept turned = record {
+turns_after g before after old (Ok Going) session kept turned = record {
   steps = λ first h. h;
   session = session;
   kept = one_nothing (g.state old) (g.state old) refl;
@@ -243,7 +240,7 @@ turns_behind g before after old (Ok Going) session kept turned = record {
     flags = (turned honest).flags;
   };
 }
-turns_behind g before after old (Ok Done) session kept turned = record {
+turns_after g before after old (Ok Done) session kept turned = record {
   steps = λ first h. h;
   session = session;
   kept = one_nothing (g.state old) (g.state old) refl;
@@ -259,7 +256,7 @@ turns_behind g before after old (Ok Done) session kept turned = record {
     flags = (turned honest).flags;
   };
 }
-turns_behind g before after old (Err fault) session kept turned = record {
+turns_after g before after old (Err fault) session kept turned = record {
   steps = λ first h. h;
   session = session;
   kept = one_nothing (g.state old) (g.state old) refl;

@@ -12,12 +12,12 @@ use Rattle.page_action.specs.States.{State}
 use Rattle.tree_shape.specs.Nodes.{Node, nodes_of}
 use Rattle.tree_acts.specs.Trees.{HasTree}
 use Rattle.tree_acts.proofs.Overlays.{node_there}
-use Rattle.descent.specs.declared.way.Way.{Way}
+use Rattle.descent.specs.declared.way.Position.{Position}
 use Rattle.tree_shape.specs.Walks.{bound_aim, is_within}
-use Rattle.descent.specs.Onward.{walk_length}
-use Rattle.split_finish.specs.Targets.{FinishStands, FinishInvariant, OnlyTargetsAreFlagged, targets_of, is_among_targets, is_as_read, is_ready, detour, walk_left}
-use Rattle.split_finish.specs.Turns.{Turned, TurnGoesOn, Popped, Pushed, Retaken}
-use Rattle.descent.specs.Shared.{is_flagged}
+use Rattle.descent.specs.NextPage.{walk_length}
+use Rattle.split_finish.specs.Targets.{FinishStands, FinishInvariant, OnlyTargetsAreIncomplete, targets_of, is_among_targets, is_as_read, is_ready, detour, walk_left}
+use Rattle.split_finish.specs.Turns.{Turned, TurnContinues, Popped, Pushed, Retaken}
+use Rattle.tree_acts.specs.StepEffects.{is_incomplete}
 use Rattle.split_finish.specs.declared.finish.FinishStep.{FinishStep}
 use Rattle.split_finish.specs.declared.finish.FinishStep.TheVariants.{Going, Done}
 use Rattle.split_finish.specs.declared.finish.FinishAt.{FinishAt}
@@ -25,13 +25,13 @@ use Rattle.split_finish.specs.declared.finish.FinishAt.TheVariants.{Down}
 use Rattle.split_finish.specs.declared.finish.FinishOp.{FinishOp}
 use Rattle.split_finish.specs.declared.finish.Target.{Target}
 use Rattle.split_finish.proofs.Counting.{left, less_pushed, less_popped, less_retaken, over_alone}
-use Rattle.split_finish.proofs.Standing.{fits_moved, rises_to, fits_popped, fits_retaken, flagged_in}
+use Rattle.split_finish.proofs.Standing.{fits_moved, rises_to, fits_popped, fits_retaken, incomplete_in}
 
 -- the same targets, and another step
 pub turn_moved : (st : State) (op : FinishOp) (spot at : FinishAt) → op.at ≡ spot
     → left st.limits.pages (nodes_of st.pages) op.below.items op.target at < left st.limits.pages (nodes_of st.pages) op.below.items op.target spot
     → (HasTree st → (fits : FinishInvariant st op) → FinishStands st fits.start op.target spot → FinishStands st fits.start op.target at)
-    → TurnGoesOn st op (record op { at = at })
+    → TurnContinues st op (record op { at = at })
 turn_moved st op spot at is less stands = record {
   less = subst (λ (a : FinishAt). left st.limits.pages (nodes_of st.pages) op.below.items op.target at < left st.limits.pages (nodes_of st.pages) op.below.items op.target a) (sym is) less;
   fits = λ h fits. fits_moved st op at fits (stands h fits (subst (FinishStands st fits.start op.target) is fits.stands));
@@ -87,18 +87,18 @@ same_bound b = ap is_eq (tied_itself bounds_total b)
 -- a page that was read is as it was read
 pub as_read : (st : State) (target : Target) (page : Page) → slice_get st.pages target.block ≡ Some page → page.split ≡ true → page.high ≡ Some target.separator
     → is_as_read (nodes_of st.pages) target ≡ true
-as_read st target page found flagged high =
-    rw (node_there st.pages target.block page found, flagged, high) (same_bound target.separator)
+as_read st target page found incomplete high =
+    rw (node_there st.pages target.block page found, incomplete, high) (same_bound target.separator)
 
-pub turn_risen : (st : State) (op after : FinishOp) (way : Way) (page : Page) (separator : Bound) → op.at ≡ Down way
+pub turn_risen : (st : State) (op after : FinishOp) (way : Position) (page : Page) (separator : Bound) → op.at ≡ Down way
     → Pushed (record { block = way.block; level = way.level; separator = separator }) op after
     → slice_get st.pages way.block ≡ Some page → page.state ≡ Live → page.split ≡ true → page.high ≡ Some separator → length op.below.items < 31
-    → TurnGoesOn st op after
-turn_risen st op after way page separator is pushed found alive flagged high few =
+    → TurnContinues st op after
+turn_risen st op after way page separator is pushed found alive incomplete high few =
     let newer : Target = record { block = way.block; level = way.level; separator = separator } in
     let list : targets_of after ≡ targets_of op ++ newer ∷ [] = rw (pushed.below_is, pushed.target_is) refl in
     record {
-      less = rw (pushed.below_is, pushed.target_is, pushed.at_is) (less_pushed st.limits.pages (nodes_of st.pages) op.below.items op.target newer op.at (as_read st newer page found flagged high) few);
+      less = rw (pushed.below_is, pushed.target_is, pushed.at_is) (less_pushed st.limits.pages (nodes_of st.pages) op.below.items op.target newer op.at (as_read st newer page found incomplete high) few);
       fits = λ h fits. rises_to st op after way page separator h fits pushed (subst (FinishStands st fits.start op.target) is fits.stands) found alive high;
       flags = λ h block k. subst (λ (ts : List Target). is_among_targets ts block ≡ true) (sym list) (among_more (targets_of op) (newer ∷ []) block (h block k));
     }
@@ -109,18 +109,18 @@ pub ready_page : (st : State) (block level : ℕ) (separator : Bound) (page : Pa
 ready_page st block level separator page found alive whole is within =
     rw (node_there st.pages block page found, alive, whole, eq-eqb page.level level is, within) refl
 
--- where only targets were flagged, and the newest isn't, only those below it are
-pub flags_popped : (old new : State) (before after : FinishOp) → Popped before after Going → OnlyTargetsAreFlagged old (targets_of before)
-    → ((block : ℕ) → is_flagged new block ≡ true → (is_flagged old block ≡ true) × (before.target.block ≡ block → ⊥)) → OnlyTargetsAreFlagged new (targets_of after)
+-- where only targets had incomplete splits, and the newest isn't, only those below it are
+pub flags_popped : (old new : State) (before after : FinishOp) → Popped before after Going → OnlyTargetsAreIncomplete old (targets_of before)
+    → ((block : ℕ) → is_incomplete new block ≡ true → (is_incomplete old block ≡ true) × (before.target.block ≡ block → ⊥)) → OnlyTargetsAreIncomplete new (targets_of after)
 flags_popped old new before after popped h were block k =
     subst (λ (ts : List Target). is_among_targets ts block ≡ true) popped.list_is
     (among_fewer before.below.items before.target block (h block (were block k).0) (were block k).1)
 
-pub flags_gone : (old new : State) (before after : FinishOp) → Popped before after Done → OnlyTargetsAreFlagged old (targets_of before)
-    → ((block : ℕ) → is_flagged new block ≡ true → (is_flagged old block ≡ true) × (before.target.block ≡ block → ⊥)) → (block : ℕ) → is_flagged new block ≡ false
-flags_gone old new before after popped h were block = by (is_flagged new block) refl
+pub flags_gone : (old new : State) (before after : FinishOp) → Popped before after Done → OnlyTargetsAreIncomplete old (targets_of before)
+    → ((block : ℕ) → is_incomplete new block ≡ true → (is_incomplete old block ≡ true) × (before.target.block ≡ block → ⊥)) → (block : ℕ) → is_incomplete new block ≡ false
+flags_gone old new before after popped h were block = by (is_incomplete new block) refl
   where
-    by : (b : Bool) → is_flagged new block ≡ b → is_flagged new block ≡ false
+    by : (b : Bool) → is_incomplete new block ≡ b → is_incomplete new block ≡ false
     by false is = is
     by true is = absurd (no (subst (λ (ts : List Target). is_among_targets ts block ≡ true) popped.0
         (among_fewer before.below.items before.target block (h block (were block is).0) (were block is).1)))
@@ -128,27 +128,27 @@ flags_gone old new before after popped h were block = by (is_flagged new block) 
         no : false ≡ true → ⊥
         no e = cc
 
-whole_is : (st : State) (block : ℕ) (page : Page) → slice_get st.pages block ≡ Some page → page.split ≡ false → is_flagged st block ≡ false
+whole_is : (st : State) (block : ℕ) (page : Page) → slice_get st.pages block ≡ Some page → page.split ≡ false → is_incomplete st block ≡ false
 whole_is st block page found whole = ap (λ (n : Node). n.split) (node_there st.pages block page found) ∙ whole
 
 pub stale_is : (st : State) (target : Target) (page : Page) → slice_get st.pages target.block ≡ Some page → page.split ≡ false → is_as_read (nodes_of st.pages) target ≡ false
 stale_is st target page found whole = rw (node_there st.pages target.block page found, whole) refl
 
--- the newest target's page isn't flagged
+-- the newest target's page has no incomplete split
 pub turn_popped : (st : State) (op after : FinishOp) (step : FinishStep) (page : Page) → Popped op after step → slice_get st.pages op.target.block ≡ Some page → page.split ≡ false
     → Turned st op after (Ok step)
 turn_popped st op after Going page popped found whole = record {
   less = rw popped.at_is
       (less_popped st.limits.pages (nodes_of st.pages) op.below.items op.target after.below.items after.target op.at popped.list_is (stale_is st op.target page found whole) popped.few);
   fits = λ h fits. fits_popped st op after fits.start popped fits.session fits.free fits.running fits.below;
-  flags = λ h. flags_popped st st op after popped h (λ block k. (k, λ same. not_both (sym k ∙ ap (is_flagged st) (sym same) ∙ whole_is st op.target.block page found whole)));
+  flags = λ h. flags_popped st st op after popped h (λ block k. (k, λ same. not_both (sym k ∙ ap (is_incomplete st) (sym same) ∙ whole_is st op.target.block page found whole)));
 }
   where
     not_both : true ≡ false → ⊥
     not_both e = cc
 turn_popped st op after Done page popped found whole = record {
   over = rw popped.0 (over_alone st.limits.pages (nodes_of st.pages) op.target op.at (stale_is st op.target page found whole));
-  flags = λ h. flags_gone st st op after popped h (λ block k. (k, λ same. not_both (sym k ∙ ap (is_flagged st) (sym same) ∙ whole_is st op.target.block page found whole)));
+  flags = λ h. flags_gone st st op after popped h (λ block k. (k, λ same. not_both (sym k ∙ ap (is_incomplete st) (sym same) ∙ whole_is st op.target.block page found whole)));
 }
   where
     not_both : true ≡ false → ⊥
@@ -157,17 +157,17 @@ turn_popped st op after Done page popped found whole = record {
 -- the newest target's page has another high key
 pub stale_high : (st : State) (target : Target) (page : Page) (high : Bound) → slice_get st.pages target.block ≡ Some page → page.split ≡ true → page.high ≡ Some high
     → is_eq (bound_cmp high target.separator) ≡ false → is_as_read (nodes_of st.pages) target ≡ false
-stale_high st target page high found flagged is other = rw (node_there st.pages target.block page found, flagged, is) other
+stale_high st target page high found incomplete is other = rw (node_there st.pages target.block page found, incomplete, is) other
 
 pub turn_retaken : (st : State) (op after : FinishOp) (separator : Bound) (at : FinishAt) (page : Page) → Retaken separator at op after
     → slice_get st.pages op.target.block ≡ Some page → page.split ≡ true → page.high ≡ Some separator → is_eq (bound_cmp separator op.target.separator) ≡ false → length op.below.items ≤ 31
     → detour (nodes_of st.pages) (record op.target { separator = separator }) at ≡ 0 → walk_left st.limits.pages at ≤ walk_length st.limits.pages
-    → ((start : ℕ) (target : Target) → FinishStands st start target at) → TurnGoesOn st op after
-turn_retaken st op after separator at page taken found flagged high other few straight short stands =
+    → ((start : ℕ) (target : Target) → FinishStands st start target at) → TurnContinues st op after
+turn_retaken st op after separator at page taken found incomplete high other few straight short stands =
     let newer : Target = record op.target { separator = separator } in
     record {
       less = rw (taken.target_is, taken.below_is, taken.at_is) (less_retaken st.limits.pages (nodes_of st.pages) op.below.items op.target newer op.at at
-          (stale_high st op.target page separator found flagged high other) (as_read st newer page found flagged high) straight short few);
-      fits = λ h fits. fits_retaken st op after separator at page h fits taken found (flagged_in st op.target.block page h found flagged).1 high (stands fits.start after.target);
+          (stale_high st op.target page separator found incomplete high other) (as_read st newer page found incomplete high) straight short few);
+      fits = λ h fits. fits_retaken st op after separator at page h fits taken found (incomplete_in st op.target.block page h found incomplete).1 high (stands fits.start after.target);
       flags = λ h block k. rw (taken.target_is, taken.below_is) (among_same op.below.items op.target newer block refl (h block k));
     }

@@ -14,13 +14,13 @@ use Rattle.tree_shape.specs.Edits.{new_root}
 use Rattle.tree_shape.specs.Tree.{IsMetaOf}
 use Rattle.page_codec.specs.Spelling.{count_of}
 use Rattle.page_codec.specs.declared.page.Items.TheVariants.{Meta}
-use Rattle.tree_shape.specs.LinkPlaces.{HasLinks, FitsBehind, child_at}
+use Rattle.tree_shape.specs.LinkPlaces.{HasLinks, FitsAfter, child_at}
 use Rattle.tree_shape.specs.Nodes.{node_of, links_of}
 use Rattle.tree_acts.specs.Acts.{IsClear}
-use Rattle.descent.specs.Shared.{IsInOrder, IsOneStep}
-use Rattle.descent.specs.Onward.{walk_length}
+use Rattle.tree_acts.specs.StepEffects.{IsInOrder, IsOneActAtMost}
+use Rattle.descent.specs.NextPage.{walk_length}
 use Rattle.split_finish.specs.Targets.{FinishInvariant, finish_left}
-use Rattle.descent.specs.declared.way.Way.{Way}
+use Rattle.descent.specs.declared.way.Position.{Position}
 use Rattle.split_finish.specs.Turns.{IsReadyToLink, IsReadyToGrow}
 use Rattle.split_finish.specs.declared.finish.FinishAt.TheVariants.{Link, Root}
 use Rattle.split_finish.specs.Finishes.{FinishStays, FinishStepped}
@@ -29,20 +29,20 @@ use Rattle.split_finish.specs.declared.finish.FinishStep.{FinishStep}
 use Rattle.split_finish.specs.declared.finish.FinishStep.TheVariants.{Going, Done}
 
 -- the downlink at this place leads to the child, and one with the separator for its bound may
--- stand behind it
+-- stand after it
 pub record IsLinkPlace (parent : Page) (child : ℕ) (separator : Bound) (at : ℕ) : Type 0 where
   pub internal : HasLinks parent.items
   pub inside : at < length (links_of parent.items)
   pub leads : child_at (links_of parent.items) at ≡ child
-  pub fits : FitsBehind (links_of parent.items) at separator parent.high
+  pub fits : FitsAfter (links_of parent.items) at separator parent.high
 
--- no downlink leads to the child, or the separator doesn't fit behind one that does
+-- no downlink leads to the child, or the separator doesn't fit after one that does
 abbrev pub NoLinkPlace : Page → ℕ → Bound → Type 0
 NoLinkPlace parent child separator =
     All (λ d. d.child ≢ child) (links_of parent.items)
     ⊎ ((at : ℕ) × (at < length (links_of parent.items))
     × (child_at (links_of parent.items) at ≡ child)
-    × (FitsBehind (links_of parent.items) at separator parent.high → ⊥))
+    × (FitsAfter (links_of parent.items) at separator parent.high → ⊥))
 
 -- the pages of an act that makes a new root over a page and its right half
 pub record AreGrown (meta page : Page) (separator : Bound) (new fresh : ℕ) (pages : List Page)
@@ -75,7 +75,7 @@ pub record IsReadToChange (st : State) (honest : Bool) (session block : ℕ) (pa
 -- a call has read its newest target and the parent of that, and may put the downlink there
 pub record MeetsParent (st : State) (honest : Bool) (op : FinishOp) (page parent : Page)
     : Type 0 where
-  pub way : Way
+  pub way : Position
   pub at : op.at ≡ Link way
   pub read : IsReadToChange st honest op.session op.target.block page
   pub read_parent : IsReadToChange st honest op.session way.block parent
@@ -99,7 +99,7 @@ pub record AreReady (st : State) (honest : Bool) (op : FinishOp) (pages : List P
   pub pages_are : pages ≡ parent ∷ page ∷ rest ∷ []
   pub meets : MeetsParent st honest op page parent
 
--- ... that of the right half `new`, behind this place of the parent, which has room for it
+-- ... that of the right half `new`, after this place of the parent, which has room for it
 pub record HaveRoom (st : State) (honest : Bool) (op : FinishOp) (at new : ℕ) (pages : List Page)
     : Type 0 where
   pub are : AreReady st honest op pages
@@ -114,13 +114,13 @@ pub record MeetsRoot (st : State) (honest : Bool) (op : FinishOp) (meta page : P
   pub read : IsReadToChange st honest op.session op.target.block page
   pub ready : IsReadyToGrow meta page op op
 
--- What the part of a step does that stands behind its readings: what a step does, but that the log
+-- What the part of a step does that stands after its readings: what a step does, but that the log
 -- may have stopped before.
 pub record FinishActs {S : Type 0} (g : Ghosts S) (before after : FinishOp) (old new : S)
     (result : Result FinishStep Fault) : Type 0 where
   pub steps : Continues g.follows old new
   pub session : after.session ≡ before.session
-  pub kept : IsOneStep (g.state old) (g.state new)
+  pub kept : IsOneActAtMost (g.state old) (g.state new)
   pub table : (g.state new).table ≡ (g.state old).table
   pub refused : OnErr result (FinishStays (g.state old) (g.state new) before after)
   pub less : (g.backing new).honest ≡ true → result ≡ Ok Going

@@ -8,11 +8,11 @@ use Rattle.page_codec.specs.declared.page.Page.{Page}
 use Rattle.page_action.specs.States.{State, Backing, Continues}
 use Rattle.page_action.specs.declared.page_store.PageStore.{Ghosts}
 use Rattle.tree_shape.specs.Nodes.{links_of, nodes_of}
-use Rattle.descent.specs.Shared.{IsInOrder, Does, IsOneStep, is_flagged, fresh_block, sibling, frames_for, causes_of_working}
-use Rattle.descent.specs.Ways.{root_level}
-use Rattle.descent.specs.declared.way.Way.{Way}
-use Rattle.descent.specs.Onward.{walk_length}
-use Rattle.split_finish.specs.Targets.{targets_of, OnlyTargetsAreFlagged, FinishInvariant, is_as_read, is_ready, finish_left}
+use Rattle.tree_acts.specs.StepEffects.{IsInOrder, StepEffect, IsOneActAtMost, is_incomplete, fresh_block, sibling, frames_for, causes_of_working}
+use Rattle.tree_acts.specs.Levels.{root_level}
+use Rattle.descent.specs.declared.way.Position.{Position}
+use Rattle.descent.specs.NextPage.{walk_length}
+use Rattle.split_finish.specs.Targets.{targets_of, OnlyTargetsAreIncomplete, FinishInvariant, is_as_read, is_ready, finish_left}
 use Rattle.split_finish.specs.Turns.{splits_root_of}
 use Rattle.split_finish.specs.declared.finish.FinishAt.{FinishAt}
 use Rattle.split_finish.specs.declared.finish.FinishAt.TheVariants.{Start, Down, Link, Root}
@@ -25,24 +25,24 @@ use Rattle.split_finish.specs.declared.finish.Target.{Target}
 abbrev pub OnlyShapes : Option Effect → Type 0
 OnlyShapes effect = (effect ≡ None) ⊎ (effect ≡ Some Shape)
 
--- a step that goes on: where only targets were flagged, only targets are
-pub record FinishGoesOn (old new : State) (before after : FinishOp) : Type 0 where
+-- a step that goes on: where only targets had incomplete splits, only targets are
+pub record FinishContinues (old new : State) (before after : FinishOp) : Type 0 where
   pub effect : Option Effect
   pub shapes : OnlyShapes effect
-  pub does : Does before.session effect old new
+  pub does : StepEffect before.session effect old new
   pub table : new.table ≡ old.table
   pub fits : FinishInvariant new after
-  pub flags : OnlyTargetsAreFlagged old (targets_of before)
-      → OnlyTargetsAreFlagged new (targets_of after)
+  pub flags : OnlyTargetsAreIncomplete old (targets_of before)
+      → OnlyTargetsAreIncomplete new (targets_of after)
 
 -- the last step: no target is left
 pub record FinishIsDone (old new : State) (before : FinishOp) : Type 0 where
   pub effect : Option Effect
   pub shapes : OnlyShapes effect
-  pub does : Does before.session effect old new
+  pub does : StepEffect before.session effect old new
   pub table : new.table ≡ old.table
-  pub flags : OnlyTargetsAreFlagged old (targets_of before)
-      → (block : ℕ) → is_flagged new block ≡ false
+  pub flags : OnlyTargetsAreIncomplete old (targets_of before)
+      → (block : ℕ) → is_incomplete new block ≡ false
 
 -- the page has no room for one more downlink
 abbrev pub is_full_parent : ℕ → Option Page → Bool
@@ -58,7 +58,7 @@ blocks_linked st target parent (Some page) = if nat_le st.limits.items (length (
     else parent ∷ target.block ∷ []
 
 -- a step puts the target's downlink on the page of this way: the target is as its page says, and the page is ready for it
-abbrev pub is_to_link : State → Target → Way → Bool
+abbrev pub is_to_link : State → Target → Position → Bool
 is_to_link st target way = is_as_read (nodes_of st.pages) target
     && is_ready (nodes_of st.pages way.block) (suc target.level) target.separator
 
@@ -99,7 +99,7 @@ causes_of_finishing st old new session target at =
 abbrev pub FinishStepped : State → Backing → State → Backing → FinishOp → FinishOp
     → Result FinishStep Fault → Type 0
 FinishStepped old old_backing new new_backing before after (Ok Going) =
-    FinishGoesOn old new before after
+    FinishContinues old new before after
 FinishStepped old old_backing new new_backing before after (Ok Done) = FinishIsDone old new before
 FinishStepped old old_backing new new_backing before after (Err fault) =
     HasCause (causes_of_finishing old old_backing new_backing before.session before.target before.at)
@@ -110,14 +110,14 @@ pub record FinishStays (old new : State) (before after : FinishOp) : Type 0 wher
   pub state : new ≡ old
   pub op : after ≡ before
 
--- A step by which splits are finished. On any pages: it does one act at most and holds nothing behind it, a refused one
+-- A step by which splits are finished. On any pages: it does one act at most and holds nothing after it, a refused one
 -- changes nothing, and a stopped log refuses it. On any pages, over a device that keeps its model: one that goes on without
 -- an act leaves less to do. On pages in order: what it does, and why it is refused.
 pub record FinishSteps {S : Type 0} (g : Ghosts S) (before after : FinishOp) (old new : S)
     (result : Result FinishStep Fault) : Type 0 where
   pub steps : Continues g.follows old new
   pub session : after.session ≡ before.session
-  pub kept : IsOneStep (g.state old) (g.state new)
+  pub kept : IsOneActAtMost (g.state old) (g.state new)
   pub table : (g.state new).table ≡ (g.state old).table
   pub refused : OnErr result (FinishStays (g.state old) (g.state new) before after)
   pub stopped : (g.backing old).stopped ≡ true → result ≡ Err Stopped

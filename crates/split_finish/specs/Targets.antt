@@ -1,18 +1,16 @@
--- Splits to be finished: the pages that a call has met flagged, and what is left to do for them.
+-- Splits to be finished: the pages that a call has met with an incomplete split, and what is left to do for them.
 use Rattle.std.specs.Prelude.{◌≡◌, ℕ, suc, ◌+◌, ◌-◌, ◌*◌, ◌<◌, ◌≤◌, ◌&&◌, ◌||◌, ◌==◌, not, if◌then◌else◌, Bool, true, false, Option, Some, None, List, [], ◌∷◌, ◌++◌, length, slice_get}
 use Rattle.std.specs.Ordering.{is_eq}
 use Rattle.index_model.specs.Order.{bound_cmp}
 use Rattle.index_model.specs.declared.bound.Bound.{Bound}
 use Rattle.latch_table.specs.Holdings.{holding_of, nothing_held}
 use Rattle.page_codec.specs.declared.page.Page.{Page}
-use Rattle.page_codec.specs.declared.page.PageState.{PageState}
-use Rattle.page_codec.specs.declared.page.PageState.TheVariants.{Live, HalfDead, Deleted}
 use Rattle.page_action.specs.States.{State}
-use Rattle.tree_shape.specs.Nodes.{Node, nodes_of}
+use Rattle.tree_shape.specs.Nodes.{Node, nodes_of, is_live}
 use Rattle.tree_shape.specs.Walks.{bound_aim, is_within}
-use Rattle.tree_acts.specs.Trees.{HasPlace}
-use Rattle.descent.specs.Onward.{IsOnWay, way_left, walk_length}
-use Rattle.descent.specs.Shared.{is_flagged}
+use Rattle.tree_acts.specs.Trees.{LeadsTo}
+use Rattle.descent.specs.NextPage.{IsOnDescent, way_left, walk_length}
+use Rattle.tree_acts.specs.StepEffects.{is_incomplete}
 use Rattle.split_finish.specs.declared.finish.FinishAt.{FinishAt}
 use Rattle.split_finish.specs.declared.finish.FinishAt.TheVariants.{Start, Down, Link, Root}
 use Rattle.split_finish.specs.declared.finish.FinishOp.{FinishOp}
@@ -27,24 +25,24 @@ abbrev pub is_among_targets : List Target → ℕ → Bool
 is_among_targets [] block = false
 is_among_targets (target ∷ targets) block = (target.block == block) || is_among_targets targets block
 
--- only targets are flagged
-abbrev pub OnlyTargetsAreFlagged : State → List Target → Type 0
-OnlyTargetsAreFlagged st targets = (block : ℕ) → is_flagged st block ≡ true
+-- only targets have incomplete splits
+abbrev pub OnlyTargetsAreIncomplete : State → List Target → Type 0
+OnlyTargetsAreIncomplete st targets = (block : ℕ) → is_incomplete st block ≡ true
     → is_among_targets targets block ≡ true
 
--- a target's block is a place for its separator, not right behind a flagged page; and its level is at least this one
+-- a target's block is a place for its separator, not right after a page with an incomplete split; and its level is at least this one
 pub record IsTarget (st : State) (start least : ℕ) (target : Target) : Type 0 where
   pub high_enough : least ≤ target.level
-  pub place : HasPlace st start target.level (bound_aim target.separator) true target.block
+  pub place : LeadsTo st start target.level (bound_aim target.separator) true target.block
 
 -- where a call stands on its way to the parent of its newest target
 abbrev pub FinishStands : State → ℕ → Target → FinishAt → Type 0
 FinishStands st start target Start = Unit {0}
 FinishStands st start target (Down way) =
-    IsOnWay st start (bound_aim target.separator) true (suc target.level) way
+    IsOnDescent st start (bound_aim target.separator) true (suc target.level) way
 FinishStands st start target (Link way) =
     (way.level ≡ suc target.level)
-    × IsOnWay st start (bound_aim target.separator) true (suc target.level) way
+    × IsOnDescent st start (bound_aim target.separator) true (suc target.level) way
 FinishStands st start target Root = Unit {0}
 
 -- What a call knows between the steps by which it finishes splits: it holds nothing, it runs with a start number, and each
@@ -64,7 +62,7 @@ abbrev pub ends_at : Option Bound → Bound → Bool
 ends_at None bound = false
 ends_at (Some high) bound = is_eq (bound_cmp high bound)
 
--- the target is as its page says: flagged, and with this high key
+-- the target is as its page says: with an incomplete split, and with this high key
 abbrev pub is_as_read : (ℕ → Node) → Target → Bool
 is_as_read at target =
     (at target.block).split && ends_at (at target.block).high target.separator
@@ -75,14 +73,9 @@ stale_count at [] = 0
 stale_count at (target ∷ targets) =
     (if is_as_read at target then 0 else 1) + stale_count at targets
 
-abbrev pub is_live_state : PageState → Bool
-is_live_state Live = true
-is_live_state HalfDead = false
-is_live_state Deleted = false
-
--- a live page of this level, not flagged, whose high key isn't below the separator: a downlink may be put on it
+-- a live page of this level, without an incomplete split, whose high key isn't below the separator: a downlink may be put on it
 abbrev pub is_ready : Node → ℕ → Bound → Bool
-is_ready node level separator = is_live_state node.state && not node.split && (node.level == level)
+is_ready node level separator = is_live node.state && not node.split && (node.level == level)
     && is_within (bound_aim separator) node.high
 
 abbrev pub one_unless : Bool → ℕ

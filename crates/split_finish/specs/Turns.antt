@@ -9,10 +9,10 @@ use Rattle.page_action.specs.Causes.{nothing_wrong}
 use Rattle.page_action.specs.States.{State}
 use Rattle.tree_shape.specs.Nodes.{node_of}
 use Rattle.tree_acts.specs.Trees.{HasTree}
-use Rattle.descent.specs.Shared.{is_flagged}
-use Rattle.descent.specs.Ways.{root_level}
-use Rattle.descent.specs.Onward.{walk_length}
-use Rattle.split_finish.specs.Targets.{targets_of, OnlyTargetsAreFlagged, FinishInvariant, finish_left, is_ready}
+use Rattle.tree_acts.specs.StepEffects.{is_incomplete}
+use Rattle.tree_acts.specs.Levels.{root_level}
+use Rattle.descent.specs.NextPage.{walk_length}
+use Rattle.split_finish.specs.Targets.{targets_of, OnlyTargetsAreIncomplete, FinishInvariant, finish_left, is_ready}
 use Rattle.split_finish.specs.declared.finish.FinishAt.{FinishAt}
 use Rattle.split_finish.specs.declared.finish.FinishAt.TheVariants.{Start, Down, Link, Root}
 use Rattle.split_finish.specs.declared.finish.FinishOp.{FinishOp}
@@ -46,26 +46,26 @@ pub record Retaken (separator : Bound) (at : FinishAt) (before after : FinishOp)
   pub at_is : after.at ≡ at
   pub session : after.session ≡ before.session
 
--- a turn that goes on: less is left to do, the call stands where it may, and only targets are flagged
-pub record TurnGoesOn (st : State) (before after : FinishOp) : Type 0 where
+-- a turn that goes on: less is left to do, the call stands where it may, and only targets have incomplete splits
+pub record TurnContinues (st : State) (before after : FinishOp) : Type 0 where
   pub less : finish_left st.limits.pages st.pages after < finish_left st.limits.pages st.pages before
   pub fits : HasTree st → FinishInvariant st before → FinishInvariant st after
-  pub flags : OnlyTargetsAreFlagged st (targets_of before) → OnlyTargetsAreFlagged st (targets_of after)
+  pub flags : OnlyTargetsAreIncomplete st (targets_of before) → OnlyTargetsAreIncomplete st (targets_of after)
 
 -- the last turn: the only target needn't be finished, so as much was left to do as before the first step for it; and if only
--- targets were flagged, no page is
+-- targets had incomplete splits, no page is
 pub record TurnIsOver (st : State) (before : FinishOp) : Type 0 where
   pub over : 34 * suc (walk_length st.limits.pages) ≤ finish_left st.limits.pages st.pages before
-  pub flags : OnlyTargetsAreFlagged st (targets_of before) → (block : ℕ) → is_flagged st block ≡ false
+  pub flags : OnlyTargetsAreIncomplete st (targets_of before) → (block : ℕ) → is_incomplete st block ≡ false
 
--- whether a step that stands there with this newest target is to split the root: the target is flagged still, and on the
+-- whether a step that stands there with this newest target is to split the root: the target has an incomplete split still, and on the
 -- root's level
 abbrev pub splits_root_of : State → Target → FinishAt → Bool
 splits_root_of st target Start = false
 splits_root_of st target (Down way) = false
 splits_root_of st target (Link way) = false
 splits_root_of st target Root =
-    is_flagged st target.block && (root_level st.pages == target.level)
+    is_incomplete st target.block && (root_level st.pages == target.level)
 
 -- why a turn there is refused, in a tree: only a root on the highest level is a reason
 abbrev pub causes_of_turned : State → Target → FinishAt → Circumstances
@@ -75,7 +75,7 @@ causes_of_turned st target at = record nothing_wrong {
 
 -- what a turn does, by what it answers
 abbrev pub Turned : State → FinishOp → FinishOp → Result FinishStep Fault → Type 0
-Turned st before after (Ok Going) = TurnGoesOn st before after
+Turned st before after (Ok Going) = TurnContinues st before after
 Turned st before after (Ok Done) = TurnIsOver st before
 Turned st before after (Err fault) =
     HasTree st → FinishInvariant st before → HasCause (causes_of_turned st before.target before.at) fault
@@ -89,7 +89,7 @@ TurnedOrReady st before after (Err fault) = Turned st before after (Err fault)
 -- the page is the newest target as it was read, and the other one may take the downlink of its right half
 pub record IsReadyToLink (page parent : Page) (before after : FinishOp) : Type 0 where
   pub same : after ≡ before
-  pub flagged : page.split ≡ true
+  pub incomplete : page.split ≡ true
   pub high_is : page.high ≡ Some before.target.separator
   pub level_is : page.level ≡ before.target.level
   pub ready : is_ready (node_of parent) (suc before.target.level) before.target.separator ≡ true
@@ -97,7 +97,7 @@ pub record IsReadyToLink (page parent : Page) (before after : FinishOp) : Type 0
 -- the page is the newest target as it was read, and the root, below the highest level
 pub record IsReadyToGrow (meta page : Page) (before after : FinishOp) : Type 0 where
   pub same : after ≡ before
-  pub flagged : page.split ≡ true
+  pub incomplete : page.split ≡ true
   pub high_is : page.high ≡ Some before.target.separator
   pub level_is : page.level ≡ before.target.level
   pub meta_is : meta.items ≡ Meta

@@ -2,11 +2,11 @@
 
 ghost use Rattle.std.specs.Prelude.{◌≡◌, [], IfErr};
 ghost use Rattle.index_model.specs.Faults.{HasCause};
-ghost use Rattle.descent.specs.Shared.{causes_of_splitting_any};
+ghost use Rattle.tree_acts.specs.StepEffects.{causes_of_splitting_any};
 ghost use Rattle.split_finish.specs.Finishes.{FinishSteps};
 
 use arrayvec::ArrayVec;
-use descent::{Way, look};
+use descent::{Position, read_shared};
 use index_model::{Bound, Fault, Key, Session};
 use page_action::PageStore;
 use page_codec::Page;
@@ -41,9 +41,9 @@ pub enum FinishAt {
     /// It reads the metapage.
     Start,
     /// It reads a page on the way to the parent of the newest target.
-    Down(Way),
+    Down(Position),
     /// It puts the downlink of the right half on this page, the parent.
-    Link(Way),
+    Link(Position),
     /// It makes a new root over the newest target and its right half.
     Root,
 }
@@ -89,7 +89,7 @@ impl FinishOp {
     /// Makes one step. Refused with `Blocked` (4), and the same step may be made again; with `IndexFull` (8), `Io` (2),
     /// `Stopped` (3), `LogFull` (9), `NoFrame` (10); with `TooTall` (19) where the root is split on level 31; with
     /// `PageDamaged` (17) on pages that are no tree. A refused step changes nothing. `pages` is room for the pages of an act:
-    /// what they hold has no meaning, neither before nor behind.
+    /// what they hold has no meaning, neither before nor after.
     pub fn step<S: PageStore>(
         &mut self,
         store: &mut S,
@@ -111,16 +111,16 @@ impl FinishOp {
         ensures all { FinishSteps S.PageStore self.old self.new store.old store.new result }
         ensures faults { IfErr result (HasCause causes_of_splitting_any) }
     {
-        look(store, self.session, 0)?;
+        read_shared(store, self.session, 0)?;
         self.leave_metapage(store.view(0))
     }
 
-    fn read_page<S: PageStore>(&mut self, store: &mut S, way: Way) -> Result<FinishStep, Fault>
+    fn read_page<S: PageStore>(&mut self, store: &mut S, way: Position) -> Result<FinishStep, Fault>
         requires { self.old.at ≡ FinishAt.Down way }
         ensures all { FinishSteps S.PageStore self.old self.new store.old store.new result }
         ensures faults { IfErr result (HasCause causes_of_splitting_any) }
     {
-        match look(store, self.session, way.block) {
+        match read_shared(store, self.session, way.block) {
             Ok(()) => {
                 let most = store.limits().pages;
                 self.leave_page(store.view(way.block), way, most)

@@ -2,25 +2,25 @@
 
 ghost use Rattle.std.specs.Prelude.{◌≡◌, ◌≤◌, ◌<◌, IfSome, IfNone, IfErr, length};
 ghost use Rattle.index_model.specs.Faults.{HasCause};
-ghost use Rattle.descent.specs.Shared.{causes_of_splitting_any};
+ghost use Rattle.tree_acts.specs.StepEffects.{causes_of_splitting_any};
 ghost use Rattle.split_finish.specs.Finishes.{FinishSteps};
 ghost use Rattle.split_finish.specs.Acting.{IsLinkPlace, NoLinkPlace, AreRead, AreReady, HaveRoom, FinishActs};
 
 use crate::finish::{FinishAt, FinishOp, FinishStep};
-use descent::{Way, act_on, look_at_both};
+use descent::{Position, act_on, read_both};
 use index_model::{Bound, Fault};
 use page_action::PageStore;
 use page_codec::Page;
-use tree_shape::{add_link, clear_split, find_child, fits_behind, links_on};
+use tree_shape::{add_link, clear_split, find_child, fits_after, links_on};
 
-// The place of the downlink to the child, behind which one with this separator may stand.
+// The place of the downlink to the child, after which one with this separator may stand.
 pub fn place_behind(parent: &Page, child: u32, separator: &Bound) -> Option<usize>
     ensures place { IfSome result (IsLinkPlace parent.now child separator.now) }
     ensures none { IfNone result (NoLinkPlace parent.now child separator.now) }
 {
     let links = links_on(parent);
     let at = find_child(links, child)?;
-    if fits_behind(links, at, separator, &parent.high) {
+    if fits_after(links, at, separator, &parent.high) {
         Some(at)
     } else {
         None
@@ -33,7 +33,7 @@ impl FinishOp {
     pub fn link<S: PageStore>(
         &mut self,
         store: &mut S,
-        way: Way,
+        way: Position,
         pages: &mut [Page; 3],
     ) -> Result<FinishStep, Fault>
         requires { self.old.at ≡ FinishAt.Link way }
@@ -42,7 +42,7 @@ impl FinishOp {
     {
         let block = self.target.block;
         let (front, back) = pages.split_at_mut(1);
-        match look_at_both(
+        match read_both(
             store,
             self.session,
             block,
@@ -55,11 +55,11 @@ impl FinishOp {
         }
     }
 
-    // ... behind its readings.
+    // ... after its readings.
     fn link_to<S: PageStore>(
         &mut self,
         store: &mut S,
-        way: Way,
+        way: Position,
         pages: &mut [Page; 3],
     ) -> Result<FinishStep, Fault>
         requires at { self.old.at ≡ FinishAt.Link way }

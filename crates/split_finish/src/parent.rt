@@ -5,7 +5,7 @@ ghost use Rattle.index_model.specs.Faults.{HasCause};
 ghost use Rattle.page_action.specs.States.{Continues, after_act};
 ghost use Rattle.page_action.specs.Stored.{AreActable};
 ghost use Rattle.tree_shape.specs.Nodes.{links_of};
-ghost use Rattle.descent.specs.Shared.{causes_of_acting, causes_of_splitting_any};
+ghost use Rattle.tree_acts.specs.StepEffects.{causes_of_acting, causes_of_splitting_any};
 ghost use Rattle.descent.specs.Splitting.{RightIsStored, RightIsFound};
 ghost use Rattle.split_finish.specs.Acting.{IsLinkPlace, MeetsParent, FinishActs};
 ghost use Rattle.split_finish.specs.Parting.{halves_and};

@@ -5,12 +5,12 @@ ghost use Rattle.index_model.specs.Faults.{HasCause};
 ghost use Rattle.page_codec.specs.Grammar.{IsBlock};
 ghost use Rattle.latch_table.specs.Holdings.{is_held_by_another};
 ghost use Rattle.page_action.specs.Reuse.{IsFresh};
-ghost use Rattle.descent.specs.Shared.{causes_of_splitting_any};
+ghost use Rattle.tree_acts.specs.StepEffects.{causes_of_splitting_any};
 ghost use Rattle.split_finish.specs.Acting.{IsReadToChange, MeetsRoot, FinishActs, AreGrown};
 ghost use Rattle.split_finish.specs.Finishes.{FinishSteps};
 
 use crate::finish::{FinishAt, FinishOp, FinishStep};
-use descent::{act_on, look_at_both, take_block};
+use descent::{act_on, read_both, take_block};
 use index_model::{Bound, Fault};
 use latch_table::Mode;
 use page_action::PageStore;
@@ -42,7 +42,7 @@ impl FinishOp {
     {
         let mut meta = Page::blank();
         let mut page = Page::blank();
-        match look_at_both(
+        match read_both(
             store,
             self.session,
             0,
@@ -55,7 +55,7 @@ impl FinishOp {
         }
     }
 
-    // ... behind its readings.
+    // ... after its readings.
     fn grow_over<S: PageStore>(
         &mut self,
         store: &mut S,

@@ -5,27 +5,27 @@ ghost use Rattle.std.specs.Ordering.{is_eq};
 ghost use Rattle.index_model.specs.Faults.{HasCause};
 ghost use Rattle.index_model.specs.Order.{bound_cmp};
 ghost use Rattle.page_action.specs.States.{State};
-ghost use Rattle.descent.specs.Shared.{causes_of_splitting_any};
+ghost use Rattle.tree_acts.specs.StepEffects.{causes_of_splitting_any};
 ghost use Rattle.tree_shape.specs.Nodes.{node_of};
 ghost use Rattle.split_finish.specs.Targets.{is_ready, ends_at};
 ghost use Rattle.split_finish.specs.Turns.{Popped, Pushed, Retaken, Turned, TurnedOrReady, IsReadyToLink, IsReadyToGrow};
 
 use crate::finish::{FinishAt, FinishOp, FinishStep, Target};
-use descent::{Onward, Way, lead, way_down};
+use descent::{NextPage, Position, lead, way_down};
 use index_model::{Bound, Fault};
 use page_codec::{Items, Page, PageState};
 use std::cmp::Ordering;
-use tree_shape::Aim;
+use tree_shape::SearchKey;
 
-// Whether a downlink for the separator may be put on the page: it is live, not flagged, one level above this one, and the
-// separator lies within its high key.
+// Whether a downlink for the separator may be put on the page: it is live, without an incomplete split, one level above this one,
+// and the separator lies within its high key.
 fn is_ready(page: &Page, below: u8, separator: Bound) -> bool
     ensures { result ≡ is_ready (node_of page.now) (suc below) separator }
 {
     matches!(page.state, PageState::Live)
         && !page.split
         && u32::from(page.level) == u32::from(below) + 1
-        && Aim::Below(separator).is_within(&page.high)
+        && SearchKey::Below(separator).is_within(&page.high)
 }
 
 // Whether the two bounds are one.
@@ -37,9 +37,9 @@ fn are_same(a: &Bound, b: &Bound) -> bool
 }
 
 // Whether it is a live page whose split is to be finished.
-fn is_unfinished(page: &Page) -> bool
+fn has_incomplete_split(page: &Page) -> bool
     ensures live { result ≡ true → page.now.state ≡ PageState.Live }
-    ensures flagged { result ≡ true → page.now.split ≡ true }
+    ensures incomplete { result ≡ true → page.now.split ≡ true }
     ensures whole { result ≡ false → page.now.state ≡ PageState.Live → page.now.split ≡ false }
 {
     matches!(page.state, PageState::Live) && page.split
@@ -110,7 +110,7 @@ impl FinishOp {
     }
 
     // From a page on the way to the parent.
-    pub fn leave_page(&mut self, page: &Page, way: Way, most: u32) -> Result<FinishStep, Fault>
+    pub fn leave_page(&mut self, page: &Page, way: Position, most: u32) -> Result<FinishStep, Fault>
         requires { self.old.at ≡ FinishAt.Down way }
         ensures session { self.new.session ≡ self.old.session }
         ensures refused { OnErr result (self.new ≡ self.old) }
@@ -122,16 +122,16 @@ impl FinishOp {
         if way.level <= self.target.level {
             return Err(Fault::PageDamaged(way.block));
         }
-        if is_unfinished(page) {
+        if has_incomplete_split(page) {
             return self.rise_to(page, way);
         }
-        let aim = Aim::Below(self.target.separator);
+        let aim = SearchKey::Below(self.target.separator);
         match lead(page, &way, &aim, self.target.level + 1, most) {
-            Some(Onward::Going(on)) => {
+            Some(NextPage::Going(on)) => {
                 self.at = FinishAt::Down(on);
                 Ok(FinishStep::Going)
             }
-            Some(Onward::Here) => {
+            Some(NextPage::Here) => {
                 self.at = FinishAt::Link(way);
                 Ok(FinishStep::Going)
             }
@@ -139,12 +139,12 @@ impl FinishOp {
         }
     }
 
-    // A flagged page on the way becomes a target.
-    fn rise_to(&mut self, page: &Page, way: Way) -> Result<FinishStep, Fault>
+    // A page with an incomplete split on the way becomes a target.
+    fn rise_to(&mut self, page: &Page, way: Position) -> Result<FinishStep, Fault>
         requires down { self.old.at ≡ FinishAt.Down way }
         requires above { self.old.target.level < way.level }
         requires live { page.now.state ≡ PageState.Live }
-        requires flagged { page.now.split ≡ true }
+        requires incomplete { page.now.split ≡ true }
         ensures session { self.new.session ≡ self.old.session }
         ensures refused { OnErr result (self.new ≡ self.old) }
         ensures faults { IfErr result (HasCause causes_of_splitting_any) }
@@ -170,7 +170,7 @@ impl FinishOp {
         &mut self,
         page: &Page,
         parent: &Page,
-        way: Way,
+        way: Position,
     ) -> Result<Option<FinishStep>, Fault>
         requires { self.old.at ≡ FinishAt.Link way }
         ensures session { self.new.session ≡ self.old.session }

@@ -77,7 +77,7 @@ fn fill<S: PageStore>(index: &mut Index<S>, from: u32, to: u32) -> Result<(), Fa
     Ok(())
 }
 
-/// Inserts all, with a checkpoint before the last ones and a commit behind them.
+/// Inserts all, with a checkpoint before the last ones and a commit after them.
 fn fill_all<S: PageStore>(index: &mut Index<S>) -> Result<(), Fault> {
     fill(index, 0, 27)?;
     checkpoint(index)?;
@@ -86,7 +86,7 @@ fn fill_all<S: PageStore>(index: &mut Index<S>) -> Result<(), Fault> {
     Ok(())
 }
 
-/// What a crash keeps of an index of three levels, unique or not, behind a checkpoint and a commit: the last inserts stand in
+/// What a crash keeps of an index of three levels, unique or not, after a checkpoint and a commit: the last inserts stand in
 /// the log alone.
 pub fn sound(alloc: Global, unique: bool) -> Result<MemDevice, Fault> {
     let mut index = empty(alloc, 32, unique)?;
@@ -94,7 +94,7 @@ pub fn sound(alloc: Global, unique: bool) -> Result<MemDevice, Fault> {
     left(alloc, index)
 }
 
-/// Inserts five entries, with a checkpoint behind them.
+/// Inserts five entries, with a checkpoint after them.
 fn fill_five<S: PageStore>(index: &mut Index<S>) -> Result<(), Fault> {
     for number in 1..6u8 {
         insert(
@@ -106,7 +106,7 @@ fn fill_five<S: PageStore>(index: &mut Index<S>) -> Result<(), Fault> {
     Ok(())
 }
 
-/// An index of five entries, behind a checkpoint: the leaves 1 and 2 under the root 3.
+/// An index of five entries, after a checkpoint: the leaves 1 and 2 under the root 3.
 pub fn five(alloc: Global) -> Result<MemDevice, Fault> {
     let mut index = empty(alloc, 16, false)?;
     fill_five(&mut index)?;

@@ -117,7 +117,7 @@ fn read_only(rt: HostRuntime) -> Result<(), Fail> {
     Ok(())
 }
 
-/// A file that is cut while a device stands for it: what lies behind its new end isn't read, what lies before is; a write there
+/// A file that is cut while a device stands for it: what lies after its new end isn't read, what lies before is; a write there
 /// makes it longer again. No failed read stops the device.
 #[test]
 fn cut(rt: HostRuntime) -> Result<(), Fail> {

@@ -28,7 +28,7 @@ fn clear(rt: &impl Files<File = File>, path: &str, draft: &str) {
     let _ = fs::remove_file(rt, draft);
 }
 
-/// Inserts ten entries, with a commit behind them. Answers the number of actions.
+/// Inserts ten entries, with a commit after them. Answers the number of actions.
 fn fill<S: PageStore>(index: &mut Index<S>) -> Result<u64, Fault> {
     for number in 0..10 {
         insert(index, entry(number))?;
@@ -155,7 +155,7 @@ fn stale_and_whole(rt: HostRuntime) -> Result<(), Fail> {
     Ok(())
 }
 
-/// A draft whose lock another has is refused, and stays as it is; it is taken over behind that.
+/// A draft whose lock another has is refused, and stays as it is; it is taken over after that.
 #[test]
 fn locked(rt: HostRuntime) -> Result<(), Fail> {
     let path = "drafts_locked.idx";

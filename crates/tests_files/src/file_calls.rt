@@ -4,7 +4,7 @@
 use access_method::{Index, in_file};
 use amcheck::{CheckFault, Report, check_parents_one};
 use device::{Device, FileDevice, Unknown};
-use index_model::{Entry, Fault, Key, Limits, Range, RowAddr};
+use index_model::{Entry, Fault, Key, Limits, NoProgress, Range, RowAddr};
 use page_action::PageStore;
 use page_store::Store;
 use std::alloc::Global;
@@ -45,7 +45,7 @@ pub fn create_index(
     path: &str,
     limits: &Limits,
 ) -> Result<(), Fault> {
-    let _device: FileDevice<Unknown> = in_file::create(rt, path, limits)?;
+    let _device: FileDevice<Unknown> = in_file::create(rt, path, limits, &NoProgress)?;
     Ok(())
 }
 
@@ -54,7 +54,7 @@ pub fn close(index: InFile) -> Result<u64, Fault> {
     in_file::close(index).written
 }
 
-/// The four bytes from there on. Refused with `DeviceTooSmall` where they lie behind the length that the file had.
+/// The four bytes from there on. Refused with `DeviceTooSmall` where they lie after the length that the file had.
 pub fn four_at(device: &mut FileDevice<Unknown>, at: u64) -> Result<[u8; 4], Fault> {
     let mut bytes = [9; 4];
     if device.len() < 4 || at > device.len() - 4 {
@@ -131,7 +131,7 @@ pub fn verify(
         Err(fault) => return Err(CheckFault::Refused(fault)),
     };
     match recovery::open(alloc, device, 16) {
-        Ok(mut store) => check_parents_one(alloc, &mut store),
+        Ok(mut store) => check_parents_one(alloc, &mut store, &NoProgress),
         Err(refused) => Err(CheckFault::Refused(refused.fault)),
     }
 }

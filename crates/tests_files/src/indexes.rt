@@ -51,7 +51,7 @@ fn verified(rt: &impl Files<File = File>, alloc: Global, path: &str) -> Option<u
     }
 }
 
-/// A file that lacks a byte holds no index; what stands behind the pages of one is never read.
+/// A file that lacks a byte holds no index; what stands after the pages of one is never read.
 #[test]
 fn lengths(rt: HostRuntime) -> Result<(), Fail> {
     let path = "files_lengths.idx";
@@ -96,7 +96,7 @@ fn cut(rt: HostRuntime) -> Result<(), Fail> {
     Ok(())
 }
 
-/// An index goes on over a file that was removed; behind its closing there is none.
+/// An index goes on over a file that was removed; after its closing there is none.
 #[test]
 fn removed(rt: HostRuntime) -> Result<(), Fail> {
     let path = "files_removed.idx";

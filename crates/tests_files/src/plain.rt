@@ -4,7 +4,7 @@
 use access_method::Index;
 use amcheck::{CheckFault, Report, check_one, check_parents_one};
 use device::{CrashImage, Device, FileDevice, MemDevice, Unknown};
-use index_model::Fault;
+use index_model::{Fault, NoProgress};
 use page_action::PageStore;
 use page_store::Store;
 use std::alloc::Global;
@@ -27,12 +27,12 @@ pub fn copy(alloc: Global, device: &MemDevice) -> Result<MemDevice, Fault> {
 
 /// What the check of the levels answers.
 pub fn levels<S: PageStore>(alloc: Global, store: &mut S) -> Result<Report, CheckFault> {
-    check_one(alloc, store)
+    check_one(alloc, store, &NoProgress)
 }
 
 /// What the check of parents answers.
 pub fn parents<S: PageStore>(alloc: Global, store: &mut S) -> Result<Report, CheckFault> {
-    check_parents_one(alloc, store)
+    check_parents_one(alloc, store, &NoProgress)
 }
 
 pub fn into_device<D: Device>(index: Index<Store<D>>) -> D {

@@ -13,7 +13,7 @@ struct Here {
     low: Option<Bound>,
     /// The page to the left.
     left: Option<u32>,
-    /// Whether that is flagged.
+    /// Whether that has an incomplete split.
     behind: bool,
 }
 
@@ -89,7 +89,7 @@ fn bounds_ascend(low: Option<Bound>, links: &[Downlink], high: &Option<Bound>) -
 }
 
 /// Whether its state lets the page stand there: a live one has what its level has; a half-dead one is an empty leaf, neither
-/// flagged nor behind a flagged page, and not the rightmost; a deleted one stands nowhere.
+/// with an incomplete split nor after a page with an incomplete split, and not the rightmost; a deleted one stands nowhere.
 fn fits_state(page: &Page, level: u32, here: &Here) -> bool {
     match page.state {
         PageState::Live => {
@@ -116,7 +116,7 @@ fn is_placed(page: &Page, level: u32, here: &Here) -> bool {
         && fits_state(page, level, here)
 }
 
-/// What is known before the page behind this one.
+/// What is known before the page after this one.
 fn past(page: &Page, here: &Here, block: u32) -> Here {
     let low = match page.state {
         PageState::Live => page.high,
@@ -155,7 +155,7 @@ fn has(chain: &[Here], block: u32) -> bool {
     chain.iter().any(|here| here.block == block)
 }
 
-/// Puts the places of a level's chain behind each other. Whether each page stands rightly, none is met twice, and the chain
+/// Puts the places of a level's chain after each other. Whether each page stands rightly, none is met twice, and the chain
 /// ends.
 fn walk(pages: &[Page], level: u32, chain: &mut Vec<Here>) -> Result<bool, AllocError> {
     let mut next = leftmost(pages, level);
@@ -189,8 +189,8 @@ fn are_all_on(pages: &[Page], level: u32, chain: &[Here]) -> bool {
     true
 }
 
-/// The downlinks that the pages of a chain are to have, in order: each with its low, but those that are half-dead or behind a
-/// flagged page.
+/// The downlinks that the pages of a chain are to have, in order: each with its low, but those that are half-dead or after a
+/// page with an incomplete split.
 fn put_due(pages: &[Page], chain: &[Here], due: &mut Vec<Downlink>) -> Result<(), AllocError> {
     for here in chain {
         if let Some(page) = pages.get(here.block as usize) {
@@ -235,7 +235,7 @@ fn are_parents(
     Ok(due.as_slice() == found.as_slice())
 }
 
-/// Whether the root's level is the root alone, or the flagged root and one page.
+/// Whether the root's level is the root alone, or the root with an incomplete split and one page.
 fn is_root_level(root: u32, chain: &[Here]) -> bool {
     match chain {
         [only] => only.block == root,

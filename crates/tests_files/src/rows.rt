@@ -33,7 +33,7 @@ pub struct Parts {
     pub blocks: u64,
     /// The first of them.
     pub from: u64,
-    /// The one behind the last of them.
+    /// The one after the last of them.
     pub to: u64,
 }
 

@@ -9,7 +9,7 @@ fn page_at(block: u64) -> u64 {
     69_632u64.saturating_add(block.saturating_mul(4_096))
 }
 
-/// Numbers of blocks at their ends, and behind the pages in use and those that there may be.
+/// Numbers of blocks at their ends, and after the pages in use and those that there may be.
 const ENDS: [u32; 8] = [0, 1, 17, 31, 32, 65_535, 65_536, u32::MAX];
 
 /// Numbers of items, pages and bytes of a log, some of which no index has.
@@ -95,7 +95,7 @@ fn reorders(table: &mut Table) -> Edit {
     Edit::Swaps(one.saturating_add(first), other.saturating_add(second), len)
 }
 
-/// A page stands in the place of another; or, mostly, all of it does but for the number of its block.
+/// A page stands in the place of another; or, mostly, all of it does except for the number of its block.
 fn copies(table: &mut Table) -> Edit {
     let (from, to) = (page(table), page(table));
     let (inner, outer) = (from.saturating_add(8), to.saturating_add(8));
@@ -107,7 +107,7 @@ fn copies(table: &mut Table) -> Edit {
     }
 }
 
-/// The first group of the log has another number of images, or a gate behind some images, or at the beginning, is another.
+/// The first group of the log has another number of images, or a gate after some images, or at the beginning, is another.
 fn cuts_log(table: &mut Table) -> Edit {
     match table.number(3) {
         0 => Edit::Sets(4_097, small(table, 17).to_le_bytes()),

@@ -125,8 +125,8 @@ fn blocked_by_a_pin(rt: HostRuntime) -> Result<(), Fail> {
     Ok(())
 }
 
-// A root over two leaves, behind the deleted page 1.
-fn tree_behind_a_deleted_page(alloc: Global) -> Result<MapStore, Fault> {
+// A root over two leaves, after the deleted page 1.
+fn tree_after_a_deleted_page(alloc: Global) -> Result<MapStore, Fault> {
     stored(
         alloc,
         8,
@@ -140,10 +140,10 @@ fn tree_behind_a_deleted_page(alloc: Global) -> Result<MapStore, Fault> {
     )
 }
 
-// Leaf 4 is split behind the cursor's back, into the deleted page 1: it goes back there, and doesn't count what it finds.
+// Leaf 4 is split after the cursor's back, into the deleted page 1: it goes back there, and doesn't count what it finds.
 #[test]
 fn going_back(rt: HostRuntime) -> Result<(), Fail> {
-    let mut store = tree_behind_a_deleted_page(rt.alloc())?;
+    let mut store = tree_after_a_deleted_page(rt.alloc())?;
     let mut op = begun(&mut store, Session::new(2)?);
     let dead = Blocks {
         from: 0x69,

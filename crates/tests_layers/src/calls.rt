@@ -77,7 +77,7 @@ fn run(store: &mut MapStore, calls: &mut Calls) -> (Answer, ArrayVec<u64, 20>) {
     (answer, acts)
 }
 
-// The next entry of a scan, behind as many steps as it takes.
+// The next entry of a scan, after as many steps as it takes.
 fn give(store: &mut MapStore, calls: &mut Calls) -> Option<Entry> {
     for _ in 0..3 {
         if let Answer::Gave(Some(entry)) = next(calls, 5) {

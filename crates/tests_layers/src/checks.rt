@@ -2,10 +2,10 @@
 
 use crate::plain::add;
 use crate::trees::{
-    before, bound, emptied, entry, flagged, leaf, leaf_of, meta, parent, stored, stored_unique,
+    before, bound, emptied, entry, incomplete, leaf, leaf_of, meta, parent, stored, stored_unique,
 };
 use amcheck::{CheckFault, Report, check, check_one, check_parents, check_parents_one};
-use index_model::Fault;
+use index_model::{Fault, NoProgress};
 use page_action::MapStore;
 use page_codec::{Items, Page, PageState};
 use std::alloc::Global;
@@ -21,13 +21,13 @@ fn alike(many: Answer, one: Answer) -> Option<Answer> {
 }
 
 pub fn levels(rt: &(impl Threads + Sync), alloc: Global, store: &mut MapStore) -> Option<Answer> {
-    let many = check(rt, alloc, store);
-    alike(many, check_one(alloc, store))
+    let many = check(rt, alloc, store, &NoProgress);
+    alike(many, check_one(alloc, store, &NoProgress))
 }
 
 pub fn parents(rt: &(impl Threads + Sync), alloc: Global, store: &mut MapStore) -> Option<Answer> {
-    let many = check_parents(rt, alloc, store);
-    alike(many, check_parents_one(alloc, store))
+    let many = check_parents(rt, alloc, store, &NoProgress);
+    alike(many, check_parents_one(alloc, store, &NoProgress))
 }
 
 fn half_dead() -> Page {
@@ -57,7 +57,7 @@ fn last_leaf() -> Page {
     leaf_of(4, Some(2), None, &[0x67, 0x68], None)
 }
 
-// The pages from block 1 on, behind a metapage that names block 3.
+// The pages from block 1 on, after a metapage that names block 3.
 fn store(alloc: Global, pages: &[Page]) -> Result<MapStore, Fault> {
     let mut store = stored(alloc, 8, &[meta(3, 1)])?;
     for page in pages {
@@ -96,10 +96,10 @@ fn sound_indexes(rt: HostRuntime) -> Result<(), Fail> {
     };
     let pages = [first_leaf(), second_leaf(), root(), last_leaf()];
     is_sound(&rt, alloc, &pages, report)?;
-    // Leaf 2 lacks its downlink behind the flagged leaf 1.
+    // Leaf 2 lacks its downlink after leaf 1 with its incomplete split.
     report.unfinished = 1;
     let two = parent(3, &[(None, 1), (Some(0x66), 4)]);
-    let pages = [flagged(first_leaf()), second_leaf(), two, last_leaf()];
+    let pages = [incomplete(first_leaf()), second_leaf(), two, last_leaf()];
     is_sound(&rt, alloc, &pages, report)?;
     // Leaf 2 is half-dead, and block 5 deleted: the last leaf's low is the first one's high key.
     report = Report {
@@ -116,7 +116,7 @@ fn sound_indexes(rt: HostRuntime) -> Result<(), Fail> {
     Ok(())
 }
 
-// The pages from block 1 on of a unique index, behind a metapage that names block 3.
+// The pages from block 1 on of a unique index, after a metapage that names block 3.
 fn unique_store(alloc: Global, pages: &[Page]) -> Result<MapStore, Fault> {
     let mut store = stored_unique(alloc, 8, &[meta(3, 1)])?;
     for page in pages {

@@ -103,7 +103,7 @@ fn empty_leaf_leaves_the_tree(rt: HostRuntime) -> Result<(), Fail> {
     Ok(())
 }
 
-// A half-dead page that was left behind is unlinked; another session's running call keeps it from reuse.
+// A half-dead page that was left after is unlinked; another session's running call keeps it from reuse.
 #[test]
 fn half_dead_page_is_found(rt: HostRuntime) -> Result<(), Fail> {
     let mut store = tree(rt.alloc(), PageState::HalfDead)?;

@@ -24,7 +24,7 @@ fn nth_entry(i: u8) -> Entry {
     }
 }
 
-/// Block 5 with left and right link, 50 entries, the last of them the high key, flagged.
+/// Block 5 with left and right link, 50 entries, the last of them the high key, with an incomplete split.
 fn full_leaf() -> Page {
     let mut entries: ArrayVec<Entry, 50> = ArrayVec::new();
     for i in 0..50u8 {
@@ -37,7 +37,7 @@ fn full_leaf() -> Page {
     page
 }
 
-/// Block 9 of level 1 with left and right link, 50 items, flagged.
+/// Block 9 of level 1 with left and right link, 50 items, with an incomplete split.
 fn full_internal() -> Page {
     let mut links = ArrayVec::new();
     for i in 0..50u8 {
@@ -189,13 +189,13 @@ const LEAF_ITEMS: [(usize, u8); 21] = [
     // a key of 65 and of 255 bytes
     (107, 65),
     (107, 255),
-    // padding behind a key of 0 bytes
+    // padding after a key of 0 bytes
     (108, 1),
     (171, 1),
     // a row of block 4294967295, of offset 0
     (175, 255),
     (176, 0),
-    // a key shorter than its bytes, other padding behind a key
+    // a key shorter than its bytes, other padding after a key
     (178, 1),
     (181, 1),
     (242, 1),
@@ -205,7 +205,7 @@ const LEAF_ITEMS: [(usize, u8); 21] = [
     // a last entry with a key of 65 bytes, above the high key
     (3586, 65),
     (3655, 2),
-    // not zero behind the last entry
+    // not zero after the last entry
     (3657, 1),
     (3658, 1),
     (4095, 1),
@@ -260,7 +260,7 @@ const INTERNAL: [(usize, u8); 34] = [
     // bounds alike, bounds out of order
     (259, 2),
     (259, 1),
-    // not zero behind the last item
+    // not zero after the last item
     (3857, 1),
     (4095, 1),
 ];
@@ -322,7 +322,7 @@ fn bounds_before_all_rows(rt: HostRuntime) {
     assert!(rt; !is_page(&page));
 }
 
-/// ... and so are those of an internal page, but for the first.
+/// ... and so are those of an internal page, except for the first.
 #[test]
 fn downlinks_before_all_rows(rt: HostRuntime) {
     let mut page = full_internal();

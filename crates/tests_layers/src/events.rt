@@ -48,7 +48,7 @@ fn to_scan(calls: &Calls, session: u32, scanned: &Scanned) -> Event {
     }
 }
 
-// Hears an answer to an event of a scan: whether it is right, each entry behind the one before.
+// Hears an answer to an event of a scan: whether it is right, each entry after the one before.
 fn hears(scanned: &mut Scanned, answer: &Answer) -> bool {
     scanned.is_over = matches!(answer, Answer::Done);
     match answer {

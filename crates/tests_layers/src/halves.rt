@@ -8,8 +8,8 @@ use index_model::{Bound, Entry, Layout};
 use page_codec::{Downlink, Items, Page, is_page};
 use std::test::*;
 use tree_shape::{
-    Aim, add_link, child_toward, clear_split, entries_on, find, find_child, fits_behind, has_links,
-    links_on, may_be_mended, may_hold, mend_left, point_to_root, root_over, split_leaf,
+    SearchKey, add_link, child_toward, clear_split, entries_on, find, find_child, fits_after,
+    has_links, links_on, may_be_mended, may_hold, mend_left, point_to_root, root_over, split_leaf,
     split_links,
 };
 
@@ -91,9 +91,9 @@ fn leaf_in_two_halves(rt: HostRuntime) {
     assert!(rt; (page.cycle, right.cycle) == (6, 6));
 }
 
-// Whether a downlink of this key fits behind that place.
+// Whether a downlink of this key fits after that place.
 fn fits(links: &[Downlink], place: usize, key: u8, high: Option<u8>) -> bool {
-    place < links.len() && fits_behind(links, place, &at(key), &high.map(at))
+    place < links.len() && fits_after(links, place, &at(key), &high.map(at))
 }
 
 #[test]
@@ -107,7 +107,7 @@ fn place_of_a_downlink(rt: HostRuntime) {
     assert!(rt; !fits(&three, 2, 8, Some(8)));
 }
 
-// Puts a downlink of this key behind that place; false where it can't be.
+// Puts a downlink of this key after that place; false where it can't be.
 fn is_linked(page: &mut Page, place: usize, key: u8, child: u32) -> bool {
     if !has_links(page) || links_on(page).len() >= 50 || place >= links_on(page).len() {
         return false;
@@ -124,13 +124,13 @@ fn downlink_comes_onto_a_page(rt: HostRuntime) {
     assert!(rt; links_on(&page) == [lowest(1), link(3, 2), link(7, 4)].as_slice());
 }
 
-// Splits the page for a downlink of this key behind that place; None where it can't be.
+// Splits the page for a downlink of this key after that place; None where it can't be.
 fn inner_halves(page: &mut Page, place: usize, key: u8, child: u32, new: u32) -> Option<Page> {
     let separator = at(key);
     let links = links_on(page);
     if links.len() < 2
         || place >= links.len()
-        || !fits_behind(links, place, &separator, &page.high)
+        || !fits_after(links, place, &separator, &page.high)
         || !is_page(page)
         || !has_links(page)
     {
@@ -162,17 +162,17 @@ fn internal_page_in_two_halves(rt: HostRuntime) {
 fn way_down(rt: HostRuntime) {
     let four = four_links();
     for (aim, child) in [
-        (Aim::Below(at(4)), 2),
-        (Aim::Below(at(5)), 2),
-        (Aim::UpTo(at(5)), 3),
-        (Aim::Below(at(1)), 1),
+        (SearchKey::Below(at(4)), 2),
+        (SearchKey::Below(at(5)), 2),
+        (SearchKey::UpTo(at(5)), 3),
+        (SearchKey::Below(at(1)), 1),
     ] {
         assert!(rt; child_toward(&four, &aim) == Some(child));
     }
-    assert!(rt; child_toward(&[], &Aim::Below(at(1))) == None);
-    assert!(rt; Aim::Below(at(5)).is_within(&Some(at(5))));
-    assert!(rt; !Aim::UpTo(at(5)).is_within(&Some(at(5))));
-    assert!(rt; Aim::UpTo(at(5)).is_within(&None));
+    assert!(rt; child_toward(&[], &SearchKey::Below(at(1))) == None);
+    assert!(rt; SearchKey::Below(at(5)).is_within(&Some(at(5))));
+    assert!(rt; !SearchKey::UpTo(at(5)).is_within(&Some(at(5))));
+    assert!(rt; SearchKey::UpTo(at(5)).is_within(&None));
 }
 
 #[test]

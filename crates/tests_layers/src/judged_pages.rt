@@ -6,7 +6,7 @@ use crate::checks::{levels, parents};
 use crate::plain::add;
 use crate::plain_damages::first_damage;
 use crate::trees::{
-    before, bound, emptied, flagged, keyed, leaf_of, meta, parent, stored, stored_unique,
+    before, bound, emptied, incomplete, keyed, leaf_of, meta, parent, stored, stored_unique,
 };
 use amcheck::{CheckFault, Report};
 use index_model::{Bound, Entry};
@@ -43,7 +43,7 @@ impl Dice {
         number % sides
     }
 
-    /// A block, in use or the one behind those, or none.
+    /// A block, in use or the one after those, or none.
     fn block(&mut self) -> Option<u32> {
         match self.roll(COUNT + 1) {
             0 => None,
@@ -97,15 +97,15 @@ fn parent_of(
     page
 }
 
-/// A sound index of three levels: leaves 1 to 6, of which 2 is flagged and 5 half-dead, under 7 and 8, and these under 9. Block
-/// 10 is deleted.
+/// A sound index of three levels: leaves 1 to 6, of which 2 has an incomplete split and 5 half-dead, under 7 and 8, and these under
+/// 9. Block 10 is deleted.
 fn sound() -> [Page; 11] {
     let mut root = parent(9, &[(None, 7), (Some(49), 8)]);
     root.level = 2;
     [
         meta(9, 2),
         whole_leaf(1, None, 2, 16),
-        flagged(whole_leaf(2, Some(1), 3, 32)),
+        incomplete(whole_leaf(2, Some(1), 3, 32)),
         whole_leaf(3, Some(2), 4, 48),
         whole_leaf(4, Some(3), 5, 64),
         emptied(5, Some(4), 6, Some(81), PageState::HalfDead),
@@ -117,7 +117,7 @@ fn sound() -> [Page; 11] {
     ]
 }
 
-/// The bound behind which the same of these entries stand, without a row.
+/// The bound after which the same of these entries stand, without a row.
 fn shortened(bound: Option<Bound>) -> Option<Bound> {
     let key = bound?.key.bytes().first().copied()?;
     Some(before(key.saturating_add(1)))
@@ -172,7 +172,7 @@ fn shorten(page: &mut Page) {
     }
 }
 
-/// Gives the second entry the key of the first, and a row behind that.
+/// Gives the second entry the key of the first, and a row after that.
 fn repeat_key(page: &mut Page) {
     if let Items::Entries(entries) = &mut page.items {
         let Some(first) = entries.first().copied() else {

@@ -280,7 +280,7 @@ fn forty_images_of_a_block_are_one(rt: HostRuntime) -> Result<(), Fail> {
     Ok(())
 }
 
-// Behind a group of 13 images two fit: an action with a later image of a block that waits and two
+// After a group of 13 images two fit: an action with a later image of a block that waits and two
 // of blocks that don't is refused, and the image that waits is the old one still.
 #[test]
 fn a_refused_append_replaces_no_image(rt: HostRuntime) -> Result<(), Fail> {
@@ -338,7 +338,7 @@ fn nothing_to_write_makes_no_call(rt: HostRuntime) -> Result<(), Fail> {
     Ok(())
 }
 
-// Behind a closed gate the old group still stands: had `reset` written that gate once more, a crash
+// After a closed gate the old group still stands: had `reset` written that gate once more, a crash
 // could have left any byte there, and with a 1 the restart would have taken the old group again.
 #[test]
 fn an_open_gate_in_front_of_old_bytes_would_be_replayed(rt: HostRuntime) -> Result<(), Fail> {

@@ -96,7 +96,7 @@ fn is_on_level(pages: &[Page], depth: u32, block: u32) -> bool {
 }
 
 /// So many left links on; a page without one is stayed at.
-fn gone_left(pages: &[Page], start: u32, steps: u32) -> u32 {
+fn moved_left(pages: &[Page], start: u32, steps: u32) -> u32 {
     let mut block = start;
     for _ in 0..steps {
         block = left(pages, block).unwrap_or(block);
@@ -107,7 +107,7 @@ fn gone_left(pages: &[Page], start: u32, steps: u32) -> u32 {
 fn start(pages: &[Page], depth: u32) -> u32 {
     let mut start = root(pages);
     for _ in 0..depth {
-        let head = gone_left(pages, start, used(pages));
+        let head = moved_left(pages, start, used(pages));
         start = match links(pages, head).first() {
             Some(link) => link.child,
             None => 0,
@@ -118,13 +118,13 @@ fn start(pages: &[Page], depth: u32) -> u32 {
 
 /// Whether a step of the way left comes back to a page already met.
 fn comes_back(pages: &[Page], start: u32, step: u32) -> bool {
-    let before = gone_left(pages, start, step.saturating_sub(1));
+    let before = moved_left(pages, start, step.saturating_sub(1));
     if step == 0 || left(pages, before).is_none() {
         return false;
     }
-    let block = gone_left(pages, start, step);
+    let block = moved_left(pages, start, step);
     for met in 0..step {
-        if gone_left(pages, start, met) == block {
+        if moved_left(pages, start, met) == block {
             return true;
         }
     }
@@ -134,7 +134,7 @@ fn comes_back(pages: &[Page], start: u32, step: u32) -> bool {
 fn judge_way(pages: &[Page], depth: u32, least: &mut Least) {
     let start = start(pages, depth);
     for step in 0..used(pages).saturating_add(1) {
-        let block = gone_left(pages, start, step);
+        let block = moved_left(pages, start, step);
         if !is_on_level(pages, depth, block) {
             least.put([0, depth, 0, step, 1], 1, block);
         }
@@ -144,7 +144,7 @@ fn judge_way(pages: &[Page], depth: u32, least: &mut Least) {
     }
 }
 
-/// The place behind the last of these, if its chain is so long.
+/// The place after the last of these, if its chain is so long.
 fn next(pages: &[Page], all: &[Here]) -> Option<Here> {
     let here = all.last()?;
     let right = right(pages, here.block)?;
@@ -170,7 +170,7 @@ fn walk(pages: &[Page], depth: u32, all: &mut Vec<Here>) -> Result<(), AllocErro
         low: None,
         left: None,
         behind: false,
-        block: gone_left(pages, start(pages, depth), used(pages)),
+        block: moved_left(pages, start(pages, depth), used(pages)),
     })?;
     for _ in 0..used(pages) {
         match next(pages, all) {
@@ -256,8 +256,8 @@ fn is_of_chain(pages: &[Page], keys: bool, all: &[Here], here: &Here, number: u8
         5 => state == PageState::Live && !rises(here.low, high(pages, here.block)),
         6 => has_not_beyond(pages, here),
         10 => {
-            let behind_root = here.left == Some(root(pages)) && here.behind;
-            here.depth == 0 && here.block != root(pages) && !behind_root
+            let after_root = here.left == Some(root(pages)) && here.behind;
+            here.depth == 0 && here.block != root(pages) && !after_root
         }
         12 => state == PageState::HalfDead && here.behind,
         13 => keys && has_wrong_keys(pages, here.block),
@@ -276,7 +276,7 @@ fn judge_chain(pages: &[Page], keys: bool, all: &[Here], least: &mut Least) {
     }
 }
 
-/// A page without a downlink: half-dead, or right behind a flagged page.
+/// A page without a downlink: half-dead, or right after a page with an incomplete split.
 fn is_unlinked(pages: &[Page], here: &Here) -> bool {
     state(pages, here.block) == PageState::HalfDead || here.behind
 }

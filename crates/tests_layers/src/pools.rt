@@ -170,25 +170,25 @@ fn frames_are_chosen(rt: HostRuntime) -> Result<(), Fail> {
     Ok(())
 }
 
-// What was looked at since the hand passed it keeps its frame, as long as another can be taken: the hand passes it, and takes it the
-// next time. Where all were looked at, the first from the hand on is taken.
+// What was looked at since the hand passed it keeps its frame, as long as another can be taken: the hand passes it, and takes it
+// the next time. Where all were looked at, the first from the hand on is taken.
 #[test]
 fn pages_that_are_looked_at_stay(rt: HostRuntime) -> Result<(), Fail> {
     let mut pool = pool(rt.alloc(), 3)?;
     for block in 1..4 {
         assert!(rt; bring(&mut pool, &[], block));
     }
-    assert!(rt; pool.look(1));
-    assert!(rt; !pool.look(7) && !pool.look(4_000_000_000));
+    assert!(rt; pool.note_use(1));
+    assert!(rt; !pool.note_use(7) && !pool.note_use(4_000_000_000));
     assert!(rt; choose(&mut pool, &[]) == Choice::Free(1));
     assert!(rt; choose(&mut pool, &[]) == Choice::Free(2));
     assert!(rt; choose(&mut pool, &[]) == Choice::Free(0));
     for block in 1..4 {
-        assert!(rt; pool.look(block));
+        assert!(rt; pool.note_use(block));
     }
     assert!(rt; choose(&mut pool, &[]) == Choice::Free(1));
     // Block 4 comes for block 3, since the hand has come there, and block 5 for block 2, since block 1 was looked at.
-    assert!(rt; pool.look(1));
+    assert!(rt; pool.note_use(1));
     assert!(rt; bring(&mut pool, &[], 4));
     assert!(rt; pool.find(3) == None);
     assert!(rt; bring(&mut pool, &[], 5));

@@ -91,10 +91,10 @@ fn scan_of_a_range(rt: HostRuntime) -> Result<(), Fail> {
     assert!(rt; gives(&mut ends_within, &mut store, &[20]));
     assert!(rt; gives(&mut ends_within, &mut store, &[30]));
     assert!(rt; is_done(&mut ends_within, &mut store));
-    let mut ends_behind = ScanOp::new(session, range(Some(30), Some(41)));
-    assert!(rt; gives(&mut ends_behind, &mut store, &[30, 40]));
-    assert!(rt; gives(&mut ends_behind, &mut store, &[]));
-    assert!(rt; is_done(&mut ends_behind, &mut store));
+    let mut ends_after = ScanOp::new(session, range(Some(30), Some(41)));
+    assert!(rt; gives(&mut ends_after, &mut store, &[30, 40]));
+    assert!(rt; gives(&mut ends_after, &mut store, &[]));
+    assert!(rt; is_done(&mut ends_after, &mut store));
     Ok(())
 }
 

@@ -1,7 +1,7 @@
 //! Splits that are finished.
 
 use crate::plain::{copy_of, enter, latch, leave};
-use crate::trees::{bound, flagged, leaf_of, meta, parent, stored};
+use crate::trees::{bound, incomplete, leaf_of, meta, parent, stored};
 use index_model::{Fault, Session};
 use latch_table::Mode;
 use page_action::{MapStore, PageStore};
@@ -24,7 +24,7 @@ fn split_root(alloc: Global) -> Result<MapStore, Fault> {
     stored(
         alloc,
         12,
-        &[meta(1, 0), flagged(leaf(1, 0, 2, 3)), leaf(2, 1, 0, 5)],
+        &[meta(1, 0), incomplete(leaf(1, 0, 2, 3)), leaf(2, 1, 0, 5)],
     )
 }
 
@@ -36,7 +36,7 @@ fn split_leaf(alloc: Global) -> Result<MapStore, Fault> {
         &[
             meta(1, 1),
             parent(1, &[(None, 2), (Some(5), 4), (Some(7), 5)]),
-            flagged(leaf(2, 0, 3, 3)),
+            incomplete(leaf(2, 0, 3, 3)),
             leaf(3, 2, 4, 5),
             leaf(4, 3, 5, 7),
             leaf(5, 4, 0, 9),
@@ -52,7 +52,7 @@ fn split_leaf_under_a_full_root(alloc: Global) -> Result<MapStore, Fault> {
         &[
             meta(1, 1),
             parent(1, &[(None, 2), (Some(5), 4), (Some(7), 5), (Some(9), 6)]),
-            flagged(leaf(2, 0, 3, 3)),
+            incomplete(leaf(2, 0, 3, 3)),
             leaf(3, 2, 4, 5),
             leaf(4, 3, 5, 7),
             leaf(5, 4, 6, 9),
@@ -103,7 +103,7 @@ fn child_of(store: &mut MapStore, block: u32, at: usize) -> u32 {
     })
 }
 
-fn is_flagged(store: &mut MapStore, block: u32) -> bool {
+fn is_incomplete(store: &mut MapStore, block: u32) -> bool {
     copy_of(store, block).map_or(true, |page| page.split)
 }
 
@@ -117,7 +117,7 @@ fn new_root_over_a_split_leaf(rt: HostRuntime) -> Result<(), Fail> {
     assert!(rt; copy_of(&mut store, 0).map(|page| page.level) == Ok(1));
     assert!(rt; child_of(&mut store, 3, 0) == 1);
     assert!(rt; child_of(&mut store, 3, 1) == 2);
-    assert!(rt; is_flagged(&mut store, 1) == false);
+    assert!(rt; is_incomplete(&mut store, 1) == false);
     Ok(())
 }
 
@@ -128,7 +128,7 @@ fn downlink_on_a_parent_with_room(rt: HostRuntime) -> Result<(), Fail> {
     assert!(rt; finish(&mut store, one, target(2, 3)) == Ok(2));
     assert!(rt; count_of(&mut store, 1) == 4);
     assert!(rt; child_of(&mut store, 1, 1) == 3);
-    assert!(rt; is_flagged(&mut store, 2) == false);
+    assert!(rt; is_incomplete(&mut store, 2) == false);
     // Once more: there is nothing to do.
     assert!(rt; finish(&mut store, one, target(2, 3)) == Ok(2));
     assert!(rt; store.acts() == 1);
@@ -146,7 +146,7 @@ fn full_parent_and_the_root_are_split(rt: HostRuntime) -> Result<(), Fail> {
     assert!(rt; count_of(&mut store, 7) == 2);
     assert!(rt; child_of(&mut store, 8, 1) == 7);
     assert!(rt; copy_of(&mut store, 1).is_ok_and(|page| page.high == Some(bound(7))));
-    assert!(rt; is_flagged(&mut store, 1) == false);
+    assert!(rt; is_incomplete(&mut store, 1) == false);
     Ok(())
 }
 
@@ -167,7 +167,7 @@ fn separator_is_read_again_and_latches_block(rt: HostRuntime) -> Result<(), Fail
 fn two_splits(alloc: Global) -> Result<MapStore, Fault> {
     let mut root = parent(1, &[(None, 2)]);
     root.level = 2;
-    let mut left = flagged(parent(2, &[(None, 4), (Some(5), 6), (Some(6), 7), (Some(7), 8)]));
+    let mut left = incomplete(parent(2, &[(None, 4), (Some(5), 6), (Some(6), 7), (Some(7), 8)]));
     left.right = Some(3);
     left.high = Some(bound(9));
     let mut right = parent(3, &[(None, 9)]);
@@ -180,7 +180,7 @@ fn two_splits(alloc: Global) -> Result<MapStore, Fault> {
             root,
             left,
             right,
-            flagged(leaf(4, 0, 5, 3)),
+            incomplete(leaf(4, 0, 5, 3)),
             leaf(5, 4, 6, 5),
             leaf(6, 5, 7, 6),
             leaf(7, 6, 8, 7),
@@ -202,7 +202,7 @@ fn splits_above_are_finished_first(rt: HostRuntime) -> Result<(), Fail> {
     assert!(rt; child_of(&mut store, 1, 2) == 3);
     assert!(rt; child_of(&mut store, 2, 1) == 5);
     assert!(rt; copy_of(&mut store, 3).map(|page| page.left) == Ok(Some(10)));
-    assert!(rt; is_flagged(&mut store, 2) == false);
-    assert!(rt; is_flagged(&mut store, 4) == false);
+    assert!(rt; is_incomplete(&mut store, 2) == false);
+    assert!(rt; is_incomplete(&mut store, 4) == false);
     Ok(())
 }

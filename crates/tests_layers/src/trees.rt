@@ -129,13 +129,13 @@ pub fn emptied(
 }
 
 /// The page with the flag of a split that isn't finished.
-pub fn flagged(page: Page) -> Page {
+pub fn incomplete(page: Page) -> Page {
     let mut page = page;
     page.split = true;
     page
 }
 
-/// An internal page of level 1, without neighbours, of these children, each behind the entry of its key.
+/// An internal page of level 1, without neighbours, of these children, each after the entry of its key.
 pub fn parent(block: u32, children: &[(Option<u8>, u32)]) -> Page {
     let mut links = ArrayVec::new();
     for (low, child) in children {

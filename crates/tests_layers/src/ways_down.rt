@@ -2,17 +2,17 @@
 
 use crate::plain::latch;
 use crate::trees::{entry, leaf, meta, nth, parent, stored, tree};
-use descent::{Onward, Way, lead, look, way_down};
+use descent::{NextPage, Position, lead, read_shared, way_down};
 use index_model::{Entry, Fault, Session};
 use latch_table::Mode;
 use page_action::{MapStore, PageStore};
 use page_codec::{Page, PageState};
 use std::test::{Fail, *};
-use tree_shape::Aim;
+use tree_shape::SearchKey;
 
 // The block of the page that is looked at.
 fn block_at(store: &mut MapStore, session: Session, block: u32) -> Result<u32, Fault> {
-    look(store, session, block)?;
+    read_shared(store, session, block)?;
     Ok(store.view(block).block)
 }
 
@@ -34,19 +34,19 @@ fn page_that_is_not_there(rt: HostRuntime) -> Result<(), Fail> {
 }
 
 // Where the page of a way on this level leads to the leaf of an entry.
-fn led(page: &Page, level: u8, moves: u32, sought: &Entry) -> Option<Onward> {
-    let way = Way {
+fn led(page: &Page, level: u8, moves: u32, sought: &Entry) -> Option<NextPage> {
+    let way = Position {
         block: page.block,
         level,
         moves,
     };
-    lead(page, &way, &Aim::Below(sought.bound()), 0, 8)
+    lead(page, &way, &SearchKey::Below(sought.bound()), 0, 8)
 }
 
-fn place_of(onward: Option<Onward>) -> Option<(u32, u8, u32)> {
-    match onward {
-        Some(Onward::Going(way)) => Some((way.block, way.level, way.moves)),
-        Some(Onward::Here) => Some((0, 0, 0)),
+fn place_of(next_page: Option<NextPage>) -> Option<(u32, u8, u32)> {
+    match next_page {
+        Some(NextPage::Going(way)) => Some((way.block, way.level, way.moves)),
+        Some(NextPage::Here) => Some((0, 0, 0)),
         None => None,
     }
 }

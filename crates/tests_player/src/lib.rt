@@ -43,7 +43,7 @@ pub fn text(bytes: &[u8]) -> &str {
     str::from_utf8(bytes).unwrap_or("no text")
 }
 
-/// The script of these parts, one behind the other, and what it is to print. The script's lines stand behind `> `, or are
+/// The script of these parts, one after the other, and what it is to print. The script's lines stand after `> `, or are
 /// comments; what a line prints stands below it.
 pub fn script_of(alloc: Global, parts: &[&str]) -> Result<(String, String), AllocError> {
     let mut script = String::new(alloc);

@@ -13,6 +13,7 @@ mod long_chains;
 mod many_jobs;
 mod old_files;
 mod plain;
+mod progress;
 mod unique;
 
 use std::fs::File;

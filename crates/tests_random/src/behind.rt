@@ -1,11 +1,10 @@
-//! What is opened behind a script whose device calls failed.
+//! What is opened after a script whose device calls failed.
 
-use crate::crashes::{FOR_ALL, OverDevice, opened};
+use crate::crashes::{FOR_ALL, OverDevice, is_sound, opened, store_of};
 use crate::dead::sets_of;
 use crate::dice::Dice;
 use crate::judge::Judge;
 use crate::runs::{Run, is_right, judge_of, runs_alone};
-use amcheck::check_parents_one;
 use device::{CrashImage, MemDevice};
 use index_model::{Fault, Range};
 use page_action::PageStore;
@@ -39,7 +38,7 @@ fn image_at(number: u64) -> CrashImage {
     }
 }
 
-/// Opens each image of a crash. The index of one works on, another one behind each n.
+/// Opens each image of a crash. The index of one works on, another one after each n.
 pub fn opens_right(
     run: Run,
     world: &OverDevice,
@@ -49,7 +48,7 @@ pub fn opens_right(
 ) -> Result<bool, Fail> {
     for place in 0..3u64 {
         let found = left_by(run.alloc, world, image_at(place))?;
-        if !is_right_behind(run, found, judge, place == n % 3, counted)? {
+        if !is_right_after(run, found, judge, place == n % 3, counted)? {
             return Ok(false);
         }
     }
@@ -85,6 +84,34 @@ fn works_on<S: PageStore>(
     is_right(run, world, judge, Event::Force)
 }
 
+/// What a crash leaves of all that was done by an index in a store that works on; None if an answer isn't right.
+fn worked_on(
+    run: Run,
+    store: Store<MemDevice>,
+    judge: &mut Judge,
+    counted: &Counted,
+) -> Result<Option<MemDevice>, Fail> {
+    let sets = sets_of(run.alloc, run.space)?;
+    let mut world = world_over(run.alloc, store, run.space.sessions, sets)?;
+    let mut dice = Dice::new(counted.opened.into());
+    if !works_on(run, &mut world, judge, &mut dice)? {
+        return Ok(None);
+    }
+    Ok(Some(left_by(run.alloc, &world, CrashImage::Drop)?))
+}
+
+/// Whether the entries of what was opened are those after some prefix of the actions that holds every forced one, and the
+/// verifier finds no damage.
+fn ends_sound<S: PageStore>(
+    run: Run,
+    mut world: World<S, Blocks>,
+    judge: &mut Judge,
+) -> Result<bool, AllocError> {
+    let last = judge_of(run, &mut world)?;
+    let mut store = store_of(world);
+    Ok(judge.crashes(&last) && is_sound(run.alloc, &mut store))
+}
+
 /// Whether the index in a store works on, up to another crash, which leaves all that was done.
 fn goes_on(
     run: Run,
@@ -92,21 +119,15 @@ fn goes_on(
     judge: &mut Judge,
     counted: &Counted,
 ) -> Result<bool, Fail> {
-    let sets = sets_of(run.alloc, run.space)?;
-    let mut world = world_over(run.alloc, store, run.space.sessions, sets)?;
-    let mut dice = Dice::new(counted.opened.into());
-    if !works_on(run, &mut world, judge, &mut dice)? {
+    let Some(device) = worked_on(run, store, judge, counted)? else {
         return Ok(false);
-    }
-    let mut world = opened(run, FOR_ALL, left_by(run.alloc, &world, CrashImage::Drop)?)?;
-    let last = judge_of(run, &mut world)?;
-    let mut store = world.into_store();
-    Ok(judge.crashes(&last) && check_parents_one(run.alloc, &mut store).is_ok())
+    };
+    Ok(ends_sound(run, opened(run, FOR_ALL, device)?, judge)?)
 }
 
-/// Opens what a crash left: whether its entries are those after some first part of the actions that holds every forced one, the
+/// Opens what a crash left: whether its entries are those after some prefix of the actions that holds every forced one, the
 /// verifier finds no damage, and, if that is asked, the index works on.
-fn is_right_behind(
+fn is_right_after(
     run: Run,
     found: MemDevice,
     judge: &mut Judge,
@@ -116,8 +137,8 @@ fn is_right_behind(
     counted.opened = counted.opened.saturating_add(1);
     let mut world = opened(run, FOR_ALL, found)?;
     let mut next = judge_of(run, &mut world)?;
-    let mut store = world.into_store();
-    if !judge.crashes(&next) || check_parents_one(run.alloc, &mut store).is_err() {
+    let mut store = store_of(world);
+    if !judge.crashes(&next) || !is_sound(run.alloc, &mut store) {
         return Ok(false);
     }
     Ok(!works || goes_on(run, store, &mut next, counted)?)
@@ -140,7 +161,7 @@ pub fn stopped_at(run: Run, mut found: MemDevice, call: u64) -> Result<Option<Me
     }
 }
 
-/// Stops an opening at each of its calls, and opens what a crash leaves then. Behind n it is the opening of image n mod 3, and behind
+/// Stops an opening at each of its calls, and opens what a crash leaves then. After n it is the opening of image n mod 3, and after
 /// each stop another image.
 pub fn stops_opening(
     run: Run,
@@ -156,7 +177,7 @@ pub fn stops_opening(
         };
         counted.stopped = counted.stopped.saturating_add(1);
         let again = left(run.alloc, &device, image_at(n.wrapping_add(call)))?;
-        if !is_right_behind(run, again, judge, true, counted)? {
+        if !is_right_after(run, again, judge, true, counted)? {
             return Ok(false);
         }
     }

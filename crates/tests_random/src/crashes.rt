@@ -5,10 +5,12 @@ use crate::dice::Dice;
 use crate::judge::Judge;
 use crate::runs::{Outcome, Run, are_right, ends_right, judge_of};
 use crate::tally::Tally;
+use amcheck::check_parents_one;
 use device::{CrashImage, MemDevice};
-use index_model::Fault;
+use index_model::{Fault, NoProgress};
+use page_action::PageStore;
 use page_store::Store;
-use std::alloc::AllocError;
+use std::alloc::{AllocError, Global};
 use std::test::Fail;
 use tests_support::dead::Blocks;
 use tests_support::plain::{fail_at, left, left_by, open_world, stop_at};
@@ -20,6 +22,17 @@ pub const FOR_ALL: u32 = 1_024;
 
 /// A world over a device in memory.
 pub type OverDevice = World<Store<MemDevice>, Blocks>;
+
+/// The store of a world.
+pub fn store_of<S: PageStore>(world: World<S, Blocks>) -> S {
+    world.into_store()
+}
+
+/// Whether the verifier finds no damage in a store. What it promises ends here, as what `store_of` does: carried into a function
+/// over a device it costs the prover minutes.
+pub fn is_sound<S: PageStore>(alloc: Global, store: &mut S) -> bool {
+    check_parents_one(alloc, store, &NoProgress).is_ok()
+}
 
 /// Opens the index that the device holds, with so many frames.
 pub fn opened(run: Run, frames: u32, device: MemDevice) -> Result<OverDevice, Fault> {
@@ -44,7 +57,7 @@ fn image(dice: &mut Dice) -> CrashImage {
     }
 }
 
-/// Opens the index behind a crash, with so many frames. Half of the times the device stops inside of the first open, which may
+/// Opens the index after a crash, with so many frames. Half of the times the device stops inside of the first open, which may
 /// be refused with `Io`, and crashes again.
 pub fn opened_again(
     run: Run,
@@ -100,7 +113,7 @@ fn fails_right(
     are_right(run, world, judge, dice, 100)
 }
 
-/// Random events, a crash, and what is opened behind it, of which the judge hears from then on: whether all is right.
+/// Random events, a crash, and what is opened after it, of which the judge hears from then on: whether all is right.
 fn crashes_right(
     run: Run,
     world: &mut OverDevice,
@@ -120,7 +133,7 @@ fn crashes_right(
     Ok(is_right)
 }
 
-/// So many crashes, each behind so many events, and the end of the run: whether all is right.
+/// So many crashes, each after so many events, and the end of the run: whether all is right.
 fn runs_right(
     run: Run,
     world: &mut OverDevice,
@@ -140,7 +153,7 @@ fn runs_right(
     Ok(is_right)
 }
 
-/// A run over a device with so many crashes, each behind so many events.
+/// A run over a device with so many crashes, each after so many events.
 pub fn crashed(run: Run, seed: u64, crashes: u32, events: u32) -> Result<Outcome, Fail> {
     let mut dice = Dice::new(seed);
     let mut tally = Tally::default();

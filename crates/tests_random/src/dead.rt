@@ -5,14 +5,14 @@ use index_model::{DeadRows, Fault, RowAddr};
 use std::alloc::{AllocError, Global};
 use tests_support::dead::Blocks;
 
-/// The sets of the scripts, behind the others.
+/// The sets of the scripts, after the others.
 const SCRIPTED: [Blocks; 3] = [
     Blocks { from: 4, to: 6 },
     Blocks { from: 1, to: 3 },
     Blocks { from: 9, to: 10 },
 ];
 
-/// The blocks of the set at this place: one each, and behind them all; then those of the scripts.
+/// The blocks of the set at this place: one each, and after them all; then those of the scripts.
 fn set_at(space: Space, place: u32) -> Blocks {
     if place < space.rows {
         return Blocks {

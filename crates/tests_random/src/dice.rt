@@ -18,7 +18,7 @@ pub struct Space {
     pub forces: u32,
     /// Whether there are bulk deletes and cleanups.
     pub deletes: bool,
-    /// Whether there are the sets of the scripts, behind the others.
+    /// Whether there are the sets of the scripts, after the others.
     pub scripted: bool,
 }
 
@@ -81,7 +81,7 @@ impl Dice {
         Range { from, below }
     }
 
-    /// A session, or rarely the one behind them.
+    /// A session, or rarely the one after them.
     fn session(&mut self, space: Space) -> u32 {
         if self.roll(32) == 0 {
             space.sessions

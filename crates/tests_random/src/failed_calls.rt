@@ -1,4 +1,4 @@
-//! Scripts during which device calls fail: each call of the device that a script makes fails once, and each with all behind it.
+//! Scripts during which device calls fail: each call of the device that a script makes fails once, and each with all after it.
 
 use crate::behind::Counted;
 use crate::dice::Space;
@@ -6,7 +6,7 @@ use crate::failing::{fails_for_good, fails_once, play};
 use crate::gates::stops_right;
 use crate::runs::Run;
 use crate::scripts::{
-    ROWS, Script, behind_the_frontier, delayed_reuse, forces, full, going_back, incomplete_split,
+    ROWS, Script, after_the_frontier, delayed_reuse, forces, full, going_back, incomplete_split,
     interlock, one_entry_a_key, saved_link,
 };
 use index_model::Limits;
@@ -40,7 +40,7 @@ fn scripted_on(alloc: Global, items: u32, pages: u32, unique: bool) -> Run {
     }
 }
 
-/// Of this script each call of the device fails once, and each with all behind it; then each opening behind the second is stopped
+/// Of this script each call of the device fails once, and each with all after it; then each opening after the second is stopped
 /// at each of its calls.
 fn each_fails<R: Abort>(rt: &R, run: Run, script: &Script) -> Result<(), Fail> {
     let mut counted = Counted::default();
@@ -70,7 +70,7 @@ fn splits(rt: HostRuntime) -> Result<(), Fail> {
 fn bulk_deletes(rt: HostRuntime) -> Result<(), Fail> {
     let alloc = rt.alloc();
     let run = scripted(alloc, 4, 16);
-    each_fails(&rt, run, &behind_the_frontier(alloc)?)?;
+    each_fails(&rt, run, &after_the_frontier(alloc)?)?;
     each_fails(&rt, run, &interlock(alloc)?)?;
     each_fails(&rt, run, &going_back(alloc)?)
 }
@@ -103,7 +103,7 @@ fn full_index(rt: HostRuntime) -> Result<(), Fail> {
     each_fails(&rt, scripted(alloc, 4, 8), &full(alloc)?)
 }
 
-/// Behind a force whose gate's sync failed the opening is stopped at each of its calls: each image of a crash then has the entries
+/// After a force whose gate's sync failed the opening is stopped at each of its calls: each image of a crash then has the entries
 /// that were forced before, or those of this force too.
 #[test]
 fn gate_sync_fails(rt: HostRuntime) -> Result<(), Fail> {

@@ -1,4 +1,4 @@
-//! Scripts during which calls of the device fail: each once in turn, and each with all behind it.
+//! Scripts during which calls of the device fail: each once in turn, and each with all after it.
 
 use crate::behind::{Counted, opens_right, stops_opening};
 use crate::crashes::{FOR_ALL, OverDevice, on_a_device};
@@ -20,7 +20,7 @@ use world::World;
 pub struct Played {
     pub lines: Vec<Line>,
     pub answers: Vec<Answer>,
-    /// How many calls of the device these lines made, behind those of making and opening the index and of looking at its pages.
+    /// How many calls of the device these lines made, after those of making and opening the index and of looking at its pages.
     pub calls: u64,
 }
 
@@ -53,7 +53,7 @@ fn play_line<S: PageStore>(
     Ok(())
 }
 
-/// Runs a script over a new index, in which no call fails. A force, a flush and a checkpoint stand behind it.
+/// Runs a script over a new index, in which no call fails. A force, a flush and a checkpoint stand after it.
 pub fn play(run: Run, script: &Script) -> Result<Played, Fail> {
     let fresh = calls_of(looked_at(run)?);
     let mut world = looked_at(run)?;
@@ -123,7 +123,7 @@ fn replays<S: PageStore>(
     Ok(has_failed)
 }
 
-/// Whether the run in which the nth call fails, once, is right, and then what is opened behind a crash of each kind.
+/// Whether the run in which the nth call fails, once, is right, and then what is opened after a crash of each kind.
 pub fn fails_once(run: Run, script: &Played, n: u64, counted: &mut Counted) -> Result<bool, Fail> {
     let mut world = on_a_device(run, FOR_ALL)?;
     let mut judge = judge_of(run, &mut world)?;
@@ -136,7 +136,7 @@ pub fn fails_once(run: Run, script: &Played, n: u64, counted: &mut Counted) -> R
 }
 
 /// The same for a run in which all calls from the nth on fail; and then an opening is stopped at some of its calls, and what is
-/// opened behind that is right too.
+/// opened after that is right too.
 pub fn fails_for_good(
     run: Run,
     script: &Played,

@@ -1,11 +1,10 @@
-//! A force whose last sync fails has written its gate: whether what it forced stands isn't known, and each opening behind it is
+//! A force whose last sync fails has written its gate: whether what it forced stands isn't known, and each opening after it is
 //! stopped at each of its calls.
 
 use crate::behind::{Counted, IMAGES, stopped_at};
-use crate::crashes::{FOR_ALL, OverDevice, on_a_device, opened};
+use crate::crashes::{FOR_ALL, OverDevice, is_sound, on_a_device, opened, store_of};
 use crate::pages::{contents, copies};
 use crate::runs::Run;
-use amcheck::check_parents_one;
 use device::MemDevice;
 use index_model::{Entry, Fault, Key, RowAddr};
 use schedule::Event;
@@ -59,8 +58,8 @@ fn is_right(run: Run, found: MemDevice) -> Result<bool, Fail> {
     let mut world = opened(run, FOR_ALL, found)?;
     let pages = copies(run.alloc, &mut world)?;
     let entries = contents(run.alloc, &pages)?;
-    let mut store = world.into_store();
-    Ok(are_four_or_five(&entries) && check_parents_one(run.alloc, &mut store).is_ok())
+    let mut store = store_of(world);
+    Ok(are_four_or_five(&entries) && is_sound(run.alloc, &mut store))
 }
 
 /// Whether each image of a crash of this device is right.

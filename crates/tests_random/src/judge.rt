@@ -4,7 +4,7 @@ ghost use Rattle.std.specs.Prelude.{◌≤◌, ◌<◌};
 
 use crate::dead::rows_of;
 use crate::dice::Space;
-use crate::pages::{contents, flagged, is_on, lost, root_level};
+use crate::pages::{contents, incomplete, is_on, lost, root_level};
 use crate::runs::fault_of;
 use crate::tally::Tally;
 use crate::waiting::Waiting;
@@ -100,8 +100,8 @@ impl Judge {
     }
 
     /// How many splits are half done.
-    fn flagged(&self) -> usize {
-        flagged(&self.pages)
+    fn incomplete(&self) -> usize {
+        incomplete(&self.pages)
     }
 
     /// The store keeps its pages in memory alone.
@@ -446,8 +446,8 @@ impl Judge {
         }
     }
 
-    /// A failed checkpoint may have written some pages, and a page that is brought into few frames may have: then it isn't known which
-    /// page waits longest.
+    /// A failed checkpoint may have written some pages, and a page that is brought into few frames may have: then it isn't known
+    /// which page waits longest.
     fn flushes(&mut self, answer: &Answer) -> bool {
         match answer {
             Answer::Flushed(block) if self.is_in_memory => block.is_none(),
@@ -609,12 +609,12 @@ impl Judge {
             })
     }
 
-    /// Keeps a crash behind which this judge begins. It is right if what was there then are the contents after some first
+    /// Keeps a crash after which this judge begins. It is right if what was there then are the contents after some first
     /// part of the actions that holds every forced one.
     pub fn crashes(&mut self, next: &Judge) -> bool {
         let entries = next.start.as_slice();
         let loses = !self.are_contents(entries, self.history.len());
-        self.tally.crash(loses, next.flagged() > 0);
+        self.tally.crash(loses, next.incomplete() > 0);
         (self.forced..self.history.len() + 1).any(|k| self.are_contents(entries, k))
     }
 

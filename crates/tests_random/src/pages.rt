@@ -111,6 +111,6 @@ pub fn root_level(pages: &[Page]) -> u8 {
 }
 
 /// How many splits are half done.
-pub fn flagged(pages: &[Page]) -> usize {
+pub fn incomplete(pages: &[Page]) -> usize {
     pages.iter().filter(|page| page.split).count()
 }

@@ -34,7 +34,7 @@ struct Pair {
 }
 
 /// What the second does where the first has answered an event so: what only a device or a log refuses, ends the call.
-fn event_behind(event: Event, answer: &Answer) -> Option<Event> {
+fn event_after(event: Event, answer: &Answer) -> Option<Event> {
     match (event, fault_of(answer)) {
         (Event::Force | Event::Flush | Event::Checkpoint, _) => None,
         (
@@ -108,7 +108,7 @@ impl Pair {
             let _ = one(&mut self.all, Event::Checkpoint);
         }
         let before = self.all.actions();
-        if let Some(same) = event_behind(event, answer) {
+        if let Some(same) = event_after(event, answer) {
             let _ = one(&mut self.all, same);
         }
         self.all.actions() != before
@@ -173,7 +173,7 @@ impl Pair {
         Ok(true)
     }
 
-    /// Half of the times the device stops behind some calls more, and some events are made: whether all are right.
+    /// Half of the times the device stops after some calls more, and some events are made: whether all are right.
     fn stops(&mut self, run: Run, dice: &mut Dice) -> Result<bool, AllocError> {
         if dice.roll(2) == 0 {
             return Ok(true);
@@ -188,7 +188,7 @@ impl Pair {
         Ok(true)
     }
 
-    /// Whether this world, opened behind a crash, has the entries and the pages after some first part of the actions that holds
+    /// Whether this world, opened after a crash, has the entries and the pages after some prefix of the actions that holds
     /// every forced one.
     fn leads_to(&mut self, run: Run, few: &mut OverDevice) -> Result<bool, AllocError> {
         let next = judge_of(run, few)?;
@@ -196,7 +196,7 @@ impl Pair {
         Ok(self.judge.crashes(&next) && part.is_some())
     }
 
-    /// Random events and a crash, and what is opened behind it; None where something isn't right.
+    /// Random events and a crash, and what is opened after it; None where something isn't right.
     fn crashes(
         &mut self,
         run: Run,
@@ -214,7 +214,7 @@ impl Pair {
     }
 }
 
-/// Random events over this world, a crash, and what is opened behind it, with some entries more; None where something isn't
+/// Random events over this world, a crash, and what is opened after it, with some entries more; None where something isn't
 /// right.
 fn crashed(
     run: Run,
@@ -243,7 +243,7 @@ fn ends<S: PageStore>(
     Ok(is_right)
 }
 
-/// So many crashes, each behind at most so many events, and the end of the run: whether all is right.
+/// So many crashes, each after at most so many events, and the end of the run: whether all is right.
 fn runs_right(
     run: Run,
     dice: &mut Dice,
@@ -261,7 +261,7 @@ fn runs_right(
     Ok(ends(run, &mut few, dice, tally)?)
 }
 
-/// A run with few frames over a device with so many crashes, each behind at most so many events. Before them, and behind each
+/// A run with few frames over a device with so many crashes, each after at most so many events. Before them, and after each
 /// crash, it gets some entries.
 pub fn crashed_with_few(run: Run, seed: u64, crashes: u32, events: u32) -> Result<Outcome, Fail> {
     let mut dice = Dice::new(seed);

@@ -1,4 +1,4 @@
-//! The pages after each first part of the acts.
+//! The pages after each prefix of the acts.
 
 use crate::pages::is_same;
 use page_codec::Page;
@@ -72,7 +72,7 @@ impl Past {
         Ok(())
     }
 
-    /// An act more, behind which these are all pages.
+    /// An act more, after which these are all pages.
     pub fn leads_to(&mut self, pages: &[Page]) -> Result<(), AllocError> {
         let mut changed = Vec::new(self.alloc);
         for page in pages {
@@ -87,7 +87,7 @@ impl Past {
         self.adds(changed)
     }
 
-    /// How many acts the least first part has that leaves exactly these pages, of those with at least so many acts; None where
+    /// How many acts the least prefix has that leaves exactly these pages, of those with at least so many acts; None where
     /// none does.
     pub fn part_of(&self, found: &[Page], least: usize) -> Result<Option<usize>, AllocError> {
         let mut pages = copied(self.alloc, &self.start)?;

@@ -70,7 +70,8 @@ pub fn fault_of(answer: &Answer) -> Option<Fault> {
     }
 }
 
-/// Whether what the answer calls full is full: each block is used, or the log has no room for the images of an act, which are four at most.
+/// Whether what the answer calls full is full: each block is used, or the log has no room for the images of an act, which are four
+/// at most.
 pub fn is_full<S: PageStore>(world: &World<S, Blocks>, limits: Limits, answer: &Answer) -> bool {
     match fault_of(answer) {
         Some(Fault::IndexFull) => world.used() == limits.pages,

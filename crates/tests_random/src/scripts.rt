@@ -1,4 +1,4 @@
-//! Scripts: lists of what is done, one behind the other.
+//! Scripts: lists of what is done, one after the other.
 
 use index_model::{Entry, Key, Range, RowAddr};
 use schedule::Event;
@@ -54,7 +54,7 @@ pub struct Script {
 /// The rows of the scripts' entries have blocks below this one.
 pub const ROWS: u32 = 17;
 
-/// Behind the sets of each row and of all: the set of the rows 4 to 6, that of 1 to 3, and that of 9 and 10.
+/// After the sets of each row and of all: the set of the rows 4 to 6, that of 1 to 3, and that of 9 and 10.
 pub const FROM_4: u32 = ROWS + 1;
 
 pub const FROM_1: u32 = ROWS + 2;
@@ -170,7 +170,7 @@ pub fn saved_link(alloc: Global) -> Result<Script, AllocError> {
 }
 
 /// A scan on whose leaf a bulk delete, two cleanups and inserts go on.
-pub fn behind_the_frontier(alloc: Global) -> Result<Script, AllocError> {
+pub fn after_the_frontier(alloc: Global) -> Result<Script, AllocError> {
     let mut script = Script::new(alloc);
     script.fill(8)?;
     script.bulk(FROM_4)?;
@@ -222,7 +222,7 @@ pub fn interlock(alloc: Global) -> Result<Script, AllocError> {
     Ok(script)
 }
 
-/// A bulk delete that goes back to a page that was split behind it.
+/// A bulk delete that goes back to a page that was split after it.
 pub fn going_back(alloc: Global) -> Result<Script, AllocError> {
     let mut script = Script::new(alloc);
     script.fill(8)?;

@@ -280,7 +280,7 @@ impl Watched {
         }
     }
 
-    /// A random call, inside of which a device call may fail, once or with all behind it: whether it is right.
+    /// A random call, inside of which a device call may fail, once or with all after it: whether it is right.
     fn calls_and_fails(
         &mut self,
         dice: &mut Dice,
@@ -320,7 +320,7 @@ impl Watched {
         Ok(true)
     }
 
-    /// What is opened again on what a crash leaves; None where it hasn't the pages after some first part of the acts that holds
+    /// What is opened again on what a crash leaves; None where it hasn't the pages after some prefix of the acts that holds
     /// every durable one.
     fn crashes(
         &self,
@@ -335,7 +335,7 @@ impl Watched {
         Ok(if is_right { Some(again) } else { None })
     }
 
-    /// Whether the other began with the pages after some first part of the acts that holds every durable one.
+    /// Whether the other began with the pages after some prefix of the acts that holds every durable one.
     fn leads_to(&self, again: &Watched, tally: &mut StoreTally) -> Result<bool, AllocError> {
         let durable = self.store.durable() as usize;
         let Some(part) = self.past.part_of(again.past.start(), durable)? else {
@@ -351,7 +351,7 @@ impl Watched {
     }
 }
 
-/// Random calls and three crashes: what is opened again behind one of them, or None where something isn't right.
+/// Random calls and three crashes: what is opened again after one of them, or None where something isn't right.
 fn next_of(
     watched: &mut Watched,
     dice: &mut Dice,
@@ -381,7 +381,7 @@ fn fresh(alloc: Global, dice: &mut Dice, tally: &mut StoreTally) -> Result<Watch
     Watched::new(alloc, opened(alloc, device, dice, tally)?)
 }
 
-/// A store of 16 frames over a new index of 64 pages, with so many crashes, each behind at most so many calls: whether all is
+/// A store of 16 frames over a new index of 64 pages, with so many crashes, each after at most so many calls: whether all is
 /// right.
 pub fn store_crashed(
     alloc: Global,

@@ -52,7 +52,7 @@ pub struct Tally {
     pub opening: u32,
     /// Crashes that lost actions.
     pub losing: u32,
-    /// Crashes behind which splits were half done.
+    /// Crashes after which splits were half done.
     pub half_done: u32,
     /// The highest level of a root.
     pub level: u8,

@@ -179,7 +179,7 @@ fn high_trees(rt: HostRuntime) -> Result<(), Fail> {
     Ok(())
 }
 
-/// Over a device, which crashes again and again: what is opened again has the contents after some first part of the actions
+/// Over a device, which crashes again and again: what is opened again has the contents after some prefix of the actions
 /// that holds every forced one.
 #[test]
 fn trees_crash(rt: HostRuntime) -> Result<(), Fail> {
@@ -235,7 +235,7 @@ fn narrow_trees(rt: HostRuntime) -> Result<(), Fail> {
 }
 
 /// A store of 64 pages in 16 frames, inside of whose calls the device fails and stops, and which crashes again and again: what
-/// is opened again has the pages after some first part of the acts that holds every durable one.
+/// is opened again has the pages after some prefix of the acts that holds every durable one.
 #[test]
 fn stores_crash(rt: HostRuntime) -> Result<(), Fail> {
     let mut tally = StoreTally::default();
@@ -284,7 +284,7 @@ fn wide(alloc: Global, sessions: u32, unique: bool) -> Run {
 }
 
 /// With 16 frames for more pages each event may read pages, write others and force the log, and device calls fail and stop
-/// inside of any: every answer is right, and behind a crash there are the entries and the pages after some first part of the
+/// inside of any: every answer is right, and after a crash there are the entries and the pages after some prefix of the
 /// actions that holds every forced one.
 #[test]
 fn few_frames_crash(rt: HostRuntime) -> Result<(), Fail> {

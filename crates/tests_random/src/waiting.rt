@@ -4,7 +4,7 @@ use crate::pages::is_same;
 use page_codec::Page;
 use std::alloc::{AllocError, Global};
 
-/// A block, and the action behind which it has waited.
+/// A block, and the action after which it has waited.
 #[derive(Clone, Copy)]
 struct Waiter {
     block: u32,
@@ -46,8 +46,8 @@ impl Waiting {
         Ok(())
     }
 
-    /// Takes the block that was written: whether it waited, and longest; None where nothing waits. Where others may have been written
-    /// unseen, it isn't known which waits longest, nor whether one does.
+    /// Takes the block that was written: whether it waited, and longest; None where nothing waits. Where others may have been
+    /// written unseen, it isn't known which waits longest, nor whether one does.
     pub fn writes(&mut self, written: Option<u32>, are_others: bool) -> bool {
         let Some(block) = written else {
             return are_others || self.blocks.is_empty();

@@ -24,13 +24,13 @@ adds_it a number x e effect is =
     let own : effect_of a.effect ≡ Add x = ap effect_of effect in
     cc
 
--- what the Add of the number behind `before` is
-pub record IsAddBehind (start : Entry → Bool) (history : List Action) (number before : ℕ) (e : Entry) : Type 0 where
+-- what the Add of the number after `before` is
+pub record IsAddAfter (start : Entry → Bool) (history : List Action) (number before : ℕ) (e : Entry) : Type 0 where
   pub action_is : slice_get history before ≡ Some (add_by number e)
   pub was_absent : is_there_after start history before e ≡ false
 
 pub behind : (start : Entry → Bool) (history : List Action) (number began ended : ℕ) (e : Entry) (action before : ℕ) → action ≡ suc before
-    → IsAdded start history number began ended e action → IsAddBehind start history number before e
+    → IsAdded start history number began ended e action → IsAddAfter start history number before e
 behind start history number began ended e action before is added =
     let same : added.before ≡ before = omega (arith, added.number_is) in
     record {

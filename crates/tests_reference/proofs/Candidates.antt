@@ -13,7 +13,7 @@ use Rattle.index_model.specs.Calls.{GivesOnly, GivesAll, AreRemovable}
 use Rattle.index_model.specs.declared.entry.Entry.{Entry}
 use Rattle.index_model.specs.declared.range.Range.{Range}
 use Rattle.index_model.proofs.Order.{entries_total, exact_entries}
-use Rattle.tests_reference.specs.Named.{with_added, added_by, IsGivenIfOwed, MayBeGiven, IsGone, AreGone, IsRemovable}
+use Rattle.tests_reference.specs.Named.{with_added, added_by, IsGivenIfOwed, MayBeGiven, IsRemoved, AreRemoved, IsRemovable}
 
 is_equal : (o : Ordering) → is_eq o ≡ true → o ≡ Equal
 is_equal Less e = absurd cc
@@ -146,14 +146,14 @@ all_may start history range began now given only =
     among_all (MayBeGiven start history range began now) given (λ e among. record { matched = only.matched e among; was_there = only.was_there e among })
 
 pub are_gone : (start : List Entry) (history : List Action) (began ended : ℕ) (dead : Row → Bool)
-    → AllByRecursion (IsGone (is_among start) history began ended dead) start
-    → AllByRecursion (IsGone (is_among start) history began ended dead) (added_by history) → AreGone (is_among start) history began ended dead
+    → AllByRecursion (IsRemoved (is_among start) history began ended dead) start
+    → AllByRecursion (IsRemoved (is_among start) history began ended dead) (added_by history) → AreRemoved (is_among start) history began ended dead
 are_gone start history began ended dead first added e is_dead before after =
-    (all_of_there (IsGone (is_among start) history began ended dead) start history began e first added before).unless_added is_dead before after
+    (all_of_there (IsRemoved (is_among start) history began ended dead) start history began e first added before).unless_added is_dead before after
 
-pub each_gone : (start : Entry → Bool) (history : List Action) (began ended : ℕ) (dead : Row → Bool) → AreGone start history began ended dead
-    → (xs : List Entry) → AllByRecursion (IsGone start history began ended dead) xs
-each_gone start history began ended dead gone xs = all_of_every (IsGone start history began ended dead) xs (λ e. record { unless_added = gone e })
+pub each_gone : (start : Entry → Bool) (history : List Action) (began ended : ℕ) (dead : Row → Bool) → AreRemoved start history began ended dead
+    → (xs : List Entry) → AllByRecursion (IsRemoved start history began ended dead) xs
+each_gone start history began ended dead gone xs = all_of_every (IsRemoved start history began ended dead) xs (λ e. record { unless_added = gone e })
 
 pub are_removable : (was_there : Entry → Bool) (dead : Row → Bool) (es : List Entry) → AllByRecursion (IsRemovable was_there dead) es → AreRemovable was_there dead es
 are_removable was_there dead es all e among =

@@ -23,16 +23,16 @@ length_history_of (a ∷ actions) = ap suc (length_history_of actions)
 pub whole_history : (k : ℕ) (actions : List PlainAction) → length actions ≤ k → history_of actions ≡ take k (history_of actions)
 whole_history k actions le = sym (take_all k (history_of actions) (omega (arith, length_history_of actions)))
 
-pub nothing_behind : (k : ℕ) (actions : List PlainAction) → length actions ≤ k → history_of [] ≡ drop k (history_of actions)
-nothing_behind k [] le = by k
+pub nothing_after : (k : ℕ) (actions : List PlainAction) → length actions ≤ k → history_of [] ≡ drop k (history_of actions)
+nothing_after k [] le = by k
   where
     by : (n : ℕ) → history_of [] ≡ drop n (history_of [])
     by zero = refl
     by (suc n) = refl
-nothing_behind zero (a ∷ actions) le = absurd (omega arith)
-nothing_behind (suc k) (a ∷ actions) le = nothing_behind k actions (omega arith)
+nothing_after zero (a ∷ actions) le = absurd (omega arith)
+nothing_after (suc k) (a ∷ actions) le = nothing_after k actions (omega arith)
 
--- behind the last action there is none
+-- after the last action there is none
 pub no_action : (k : ℕ) (actions : List PlainAction) → length actions ≤ k → slice_get (history_of actions) k ≡ None
 no_action k [] le = refl
 no_action zero (a ∷ actions) le = absurd (omega arith)

@@ -9,7 +9,7 @@ use Rattle.tests_reference.specs.Plain.{call_of, meant_calls}
 use Rattle.tests_reference.specs.Named.{HasRight, IsOwnedAt}
 use Rattle.tests_reference.specs.declared.call.PlainCall.{PlainCall}
 
--- behind the last call there is none
+-- after the last call there is none
 pub no_call : (k : ℕ) (calls : List PlainCall) → length calls ≤ k → slice_get (meant_calls calls) k ≡ None
 no_call k [] le = refl
 no_call zero (c ∷ calls) le = absurd (omega arith)
@@ -62,6 +62,3 @@ all_owned start history calls count behind owned before action is = by (side bef
     by : (before < count) ⊎ (count ≤ before) → IsOwned start history calls before action
     by (inl lt) = (owned before lt).owned action is
     by (inr le) = let none = behind before le in absurd cc
-
-pub each_owned : (start : Entry → Bool) (history : List Action) (calls : List Call) (before : ℕ) → ActionsAreOwned start history calls → IsOwnedAt start history calls before
-each_owned start history calls before all = record { owned = all before }

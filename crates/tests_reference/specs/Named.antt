@@ -38,15 +38,15 @@ pub record IsGivenIfOwed (start : Entry → Bool) (history : List Action) (range
 
 -- a dead entry that was there at the beginning isn't there at the end, unless it was added
 -- meanwhile
-pub record IsGone (start : Entry → Bool) (history : List Action) (began ended : ℕ)
+pub record IsRemoved (start : Entry → Bool) (history : List Action) (began ended : ℕ)
     (dead : Row → Bool) (e : Entry) : Type 0 where
   pub unless_added : dead e.row ≡ true → is_there_after start history began e ≡ true
       → is_there_after start history ended e ≡ true
       → IsAddedIn (actions_between began ended history) e
 
 -- ... and so for every entry
-abbrev pub AreGone : (Entry → Bool) → List Action → ℕ → ℕ → (Row → Bool) → Type 0
-AreGone start history began ended dead =
+abbrev pub AreRemoved : (Entry → Bool) → List Action → ℕ → ℕ → (Row → Bool) → Type 0
+AreRemoved start history began ended dead =
     (e : Entry) → dead e.row ≡ true → is_there_after start history began e ≡ true
     → is_there_after start history ended e ≡ true
     → IsAddedIn (actions_between began ended history) e

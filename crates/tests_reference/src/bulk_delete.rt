@@ -6,7 +6,7 @@ ghost use Rattle.index_model.specs.Order.{is_among};
 ghost use Rattle.index_model.specs.Actions.{Add, is_there_after as spec_is_there_after};
 ghost use Rattle.index_model.specs.Calls.{IsAddedIn, removed_count, removed_by, actions_between, IsBulkDeleteAnswer};
 ghost use Rattle.tests_reference.specs.Plain.{effect_of, history_of, has_row};
-ghost use Rattle.tests_reference.specs.Named.{added_by, IsGone, AreGone};
+ghost use Rattle.tests_reference.specs.Named.{added_by, IsRemoved, AreRemoved};
 
 use crate::action::{PlainAction, PlainEffect};
 use crate::contents::{first_actions, is_same, is_there_after};
@@ -41,8 +41,8 @@ fn is_added_in(actions: &[PlainAction], entry: &Entry) -> bool
     }
 }
 
-#[tactic(auto, using(crate::proofs::Moments::drop_history_of, crate::proofs::Moments::nothing_behind))]
-fn actions_behind(history: &[PlainAction], k: usize) -> &[PlainAction]
+#[tactic(auto, using(crate::proofs::Moments::drop_history_of, crate::proofs::Moments::nothing_after))]
+fn actions_after(history: &[PlainAction], k: usize) -> &[PlainAction]
     ensures { history_of result.now ≡ drop k (history_of history.now) }
 {
     if k < history.len() {
@@ -55,7 +55,7 @@ fn actions_behind(history: &[PlainAction], k: usize) -> &[PlainAction]
 fn between(history: &[PlainAction], began: usize, ended: usize) -> &[PlainAction]
     ensures { history_of result.now ≡ actions_between began ended (history_of history.now) }
 {
-    actions_behind(first_actions(history, ended), began)
+    actions_after(first_actions(history, ended), began)
 }
 
 fn is_gone(
@@ -67,7 +67,7 @@ fn is_gone(
     entry: &Entry,
 ) -> bool
     ensures { IsTrue result ↔
-        IsGone (is_among start.now) (history_of history.now) began ended (has_row dead.now)
+        IsRemoved (is_among start.now) (history_of history.now) began ended (has_row dead.now)
         entry.now }
 {
     if !is_dead(dead, &entry.row) {
@@ -91,7 +91,7 @@ fn all_gone(
     candidates: &[Entry],
 ) -> bool
     ensures { IsTrue result ↔
-        AllByRecursion (IsGone (is_among start.now) (history_of history.now) began ended
+        AllByRecursion (IsRemoved (is_among start.now) (history_of history.now) began ended
         (has_row dead.now)) candidates.now }
 {
     match candidates {
@@ -112,7 +112,7 @@ fn all_added_gone(
     actions: &[PlainAction],
 ) -> bool
     ensures { IsTrue result ↔
-        AllByRecursion (IsGone (is_among start.now) (history_of history.now) began ended
+        AllByRecursion (IsRemoved (is_among start.now) (history_of history.now) began ended
         (has_row dead.now)) (added_by (history_of actions.now)) }
 {
     match actions {
@@ -136,7 +136,7 @@ fn are_gone(
     dead: &[RowAddr],
 ) -> bool
     ensures { IsTrue result ↔
-        AreGone (is_among start.now) (history_of history.now) began ended (has_row dead.now) }
+        AreRemoved (is_among start.now) (history_of history.now) began ended (has_row dead.now) }
 {
     all_gone(start, history, began, ended, dead, start)
         && all_added_gone(start, history, began, ended, dead, history)

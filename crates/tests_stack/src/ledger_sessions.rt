@@ -209,7 +209,7 @@ fn refusals(rt: HostRuntime) -> Result<(), Fail> {
     Ok(())
 }
 
-/// The device stops at each call in turn. The lines before have their answers, those behind are refused, but a commit that has
+/// The device stops at each call in turn. The lines before have their answers, those after are refused, but a commit that has
 /// nothing to make durable; and what was told to be committed is what a crash leaves.
 #[test]
 fn stopped(rt: HostRuntime) -> Result<(), Fail> {

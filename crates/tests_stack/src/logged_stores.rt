@@ -192,7 +192,7 @@ fn a_checkpoint_brings_pages_home(rt: HostRuntime) -> Result<(), Fail> {
     Ok(())
 }
 
-/// How a store goes on behind a checkpoint that has failed, whose log has failed too.
+/// How a store goes on after a checkpoint that has failed, whose log has failed too.
 const STOPPED: [(Call, Result<u64, Fault>); 5] = [
     (Call::IsStopped, Ok(1)),
     (Call::Act(1, 8), Err(Fault::Stopped)),
@@ -248,7 +248,7 @@ const FLUSHED: [(Call, Result<u64, Fault>); 5] = [
 
 // Three pages are written and synced, and the log is closed: what was not written waits in its order.
 #[test]
-fn flushes_go_on_behind_a_failed_checkpoint(rt: HostRuntime) -> Result<(), Fail> {
+fn flushes_go_on_after_a_failed_checkpoint(rt: HostRuntime) -> Result<(), Fail> {
     for written in 0..4usize {
         let mut store = store(rt.alloc())?;
         assert_eq!(rt; wrong(&mut store, &CHANGED), 0);
@@ -339,7 +339,7 @@ fn checkpointed(alloc: Global) -> Result<Store<MemDevice>, Fault> {
     Ok(store)
 }
 
-/// Whether what is opened behind a crash has the pages of the second time.
+/// Whether what is opened after a crash has the pages of the second time.
 fn is_left(alloc: Global, device: &MemDevice, image: CrashImage) -> Result<bool, Fault> {
     match open(alloc, left(alloc, device, image)?, 16) {
         Ok(store) => {
@@ -401,7 +401,8 @@ fn a_failed_fetch_is_made_again(rt: HostRuntime) -> Result<(), Fail> {
     Ok(())
 }
 
-/// A store of 40 pages of which 16 are in memory: block 39, which is pinned, and the blocks 1 to 15, which were changed in this order.
+/// A store of 40 pages of which 16 are in memory: block 39, which is pinned, and the blocks 1 to 15, which were changed in this
+/// order.
 fn crowded(alloc: Global) -> Result<Store<MemDevice>, Fault> {
     let mut store = checkpointed(alloc)?;
     cycle_of(&mut store, 39)?;
@@ -412,7 +413,7 @@ fn crowded(alloc: Global) -> Result<Store<MemDevice>, Fault> {
     Ok(store)
 }
 
-// Block 20 comes for block 1, which is written before, and the next four of the changed ones behind it: a quarter of the frames.
+// Block 20 comes for block 1, which is written before, and the next four of the changed ones after it: a quarter of the frames.
 // Then block 20 is read. What wasn't written by the call that failed is changed as before, and first in the order.
 #[test]
 fn pages_that_cannot_be_written_stay(rt: HostRuntime) -> Result<(), Fail> {

@@ -20,7 +20,7 @@ fn world(alloc: Global, sessions: u32) -> Result<World<MapStore, Blocks>, Fault>
     plain::world(alloc, pages(alloc, LIMITS)?, sessions, Vec::new(alloc))
 }
 
-// What an answer says, with its number; for a refusal its number and then, behind 1,000 of them, its block.
+// What an answer says, with its number; for a refusal its number and then, after 1,000 of them, its block.
 fn told(answer: &Answer) -> (&'static str, u64) {
     match answer {
         Answer::Begun => ("begun", 0),
@@ -131,7 +131,7 @@ fn abandon<S: PageStore>(world: &mut World<S, Blocks>, session: u32) -> Answer {
     world.abandon(session)
 }
 
-// Session 63 begins a scan, which is abandoned: whether it runs one before, in between, and behind.
+// Session 63 begins a scan, which is abandoned: whether it runs one before, in between, and after.
 fn begins_and_abandons<S: PageStore>(world: &mut World<S, Blocks>) -> [bool; 5] {
     [
         world.is_running(63),
@@ -275,7 +275,7 @@ fn adds<S: PageStore>(world: &mut World<S, Blocks>, key: u8) -> bool {
     )
 }
 
-// What is opened behind a crash.
+// What is opened after a crash.
 fn opened_again(
     alloc: Global,
     world: &World<Store<MemDevice>, Blocks>,
@@ -309,7 +309,7 @@ fn split_leaf_is_opened_again(rt: HostRuntime) -> Result<(), Fail> {
     Ok(())
 }
 
-// The first entry that a scan of session 1 gives, which has one ready, and whether it gives none behind it.
+// The first entry that a scan of session 1 gives, which has one ready, and whether it gives none after it.
 fn scanned<S: PageStore>(world: &mut World<S, Blocks>) -> Result<(Option<Entry>, bool), Fault> {
     if !matches!(one(world, Event::Scan(1, ALL)), Answer::Begun)
         || !matches!(finish(world, 1, 0)?, Answer::Ready(1))

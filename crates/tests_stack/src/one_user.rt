@@ -24,7 +24,7 @@ fn in_memory(alloc: Global) -> Result<Index<MapStore>, Fault> {
     index_over(alloc, pages(alloc, LIMITS)?)
 }
 
-// The number of the row that a scan gives, or 0 where it has given all; behind 100 the number of a refusal.
+// The number of the row that a scan gives, or 0 where it has given all; after 100 the number of a refusal.
 fn given<S: PageStore>(index: &mut Index<S>, token: ScanToken) -> u64 {
     match next(index, token) {
         Ok(Some(entry)) => u64::from(entry.row.offset()),
@@ -135,7 +135,7 @@ fn an_index_is_opened_again(rt: HostRuntime) -> Result<(), Fail> {
     Ok(())
 }
 
-// The tokens of a scan that has ended, and of one begun behind it.
+// The tokens of a scan that has ended, and of one begun after it.
 fn tokens<S: PageStore>(index: &mut Index<S>) -> Result<(ScanToken, ScanToken), Fault> {
     let first = begin_scan(index, ALL)?;
     end_scan(index, first)?;

@@ -18,7 +18,7 @@ fn bytes_at(device: &mut MemDevice, at: u64) -> [u8; 48] {
     bytes
 }
 
-/// These bytes, and zeros behind them.
+/// These bytes, and zeros after them.
 fn begins(bytes: &[u8]) -> [u8; 48] {
     let mut all = [0; 48];
     for (place, byte) in all.iter_mut().zip(bytes) {
@@ -196,7 +196,7 @@ fn fails_right(
 }
 
 // It reads the superblock, syncs, reads the log, writes two images and syncs them, closes the log by a write and a
-// sync, and reads three pages and the unused block behind them.
+// sync, and reads three pages and the unused block after them.
 #[test]
 fn each_call_of_an_open_fails(rt: HostRuntime) -> Result<(), Fail> {
     let device = busy_device(rt.alloc())?;

@@ -26,7 +26,7 @@ pub fn left(alloc: Global, device: &MemDevice, image: CrashImage) -> Result<MemD
     device.crash(alloc, image)
 }
 
-/// Reads from there on; nothing where that is behind the end.
+/// Reads from there on; nothing where that is after the end.
 pub fn read(device: &mut MemDevice, at: u64, bytes: &mut [u8]) -> Result<(), Fault> {
     let len = bytes.len() as u64;
     if device.len() < len || at > device.len() - len {
@@ -35,7 +35,7 @@ pub fn read(device: &mut MemDevice, at: u64, bytes: &mut [u8]) -> Result<(), Fau
     device.read_at(at, bytes)
 }
 
-/// Writes there; nothing where that is behind the end.
+/// Writes there; nothing where that is after the end.
 pub fn write(device: &mut MemDevice, at: u64, bytes: &[u8]) -> Result<(), Fault> {
     let len = bytes.len() as u64;
     if device.len() < len || at > device.len() - len {

@@ -21,7 +21,7 @@ const LIMITS: Limits = Limits {
     unique: false,
 };
 
-/// A scan, and four hundred inserts in no order, with a commit behind each.
+/// A scan, and four hundred inserts in no order, with a commit after each.
 fn committed(alloc: Global) -> Result<Vec<Job>, AllocError> {
     let mut jobs = Vec::new(alloc);
     jobs.push(Job::Scan {
@@ -61,7 +61,7 @@ fn eight_workers_share_forces(rt: HostRuntime) -> Result<(), Fail> {
     Ok(())
 }
 
-/// More workers than jobs, commits behind nothing, and commits beside a scan, a bulk delete, a cleanup and a checkpoint.
+/// More workers than jobs, commits after nothing, and commits beside a scan, a bulk delete, a cleanup and a checkpoint.
 #[test]
 fn no_commit_is_left_waiting(rt: HostRuntime) -> Result<(), Fail> {
     let lone = [Job::Insert(entry(1, 0)), Job::Commit];

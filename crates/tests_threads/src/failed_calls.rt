@@ -1,4 +1,4 @@
-//! Runs of jobs during which calls of the device fail: one once, or one and all behind it.
+//! Runs of jobs during which calls of the device fail: one once, or one and all after it.
 
 use crate::indexes::{InMemory, all_entries, made, opened};
 use crate::judge::{Addition, are_those_by, count, tells_of_failure};
@@ -6,7 +6,7 @@ use crate::judged::ran;
 use crate::lists::{entry, range};
 use amcheck::check_parents;
 use device::{CrashImage, MemDevice};
-use index_model::Limits;
+use index_model::{Limits, NoProgress};
 use session_calls::Answer;
 use sessions::{Job, Record};
 use std::alloc::{AllocError, Global};
@@ -22,7 +22,7 @@ const LIMITS: Limits = Limits {
     unique: false,
 };
 
-/// A scan, and so many inserts, with a commit behind each third, and a checkpoint behind half of them.
+/// A scan, and so many inserts, with a commit after each third, and a checkpoint after half of them.
 fn committed_inserts(alloc: Global, inserts: u16) -> Result<Vec<Job>, AllocError> {
     let mut jobs = Vec::new(alloc);
     jobs.push(Job::Scan {
@@ -45,7 +45,7 @@ fn committed_inserts(alloc: Global, inserts: u16) -> Result<Vec<Job>, AllocError
 #[derive(Clone, Copy, Debug)]
 enum Failing {
     Once,
-    /// With all behind it.
+    /// With all after it.
     ForGood,
 }
 
@@ -84,7 +84,7 @@ fn last_forced(history: &[Record]) -> u64 {
     durable
 }
 
-/// Opens what a crash left: its entries are those that some first part of the actions added, which holds the durable ones, and
+/// Opens what a crash left: its entries are those that some prefix of the actions added, which holds the durable ones, and
 /// the verifier finds no damage.
 fn opens_right(
     rt: &(impl Abort + AllocGlobal + Print + Eprint + Threads + Wait + Sync),
@@ -99,7 +99,7 @@ fn opens_right(
     let entries = entries.as_slice();
     assert!(rt; (durable..last.saturating_add(1)).any(|k| are_those_by(entries, added, k)));
     let mut store = world.into_store();
-    assert!(rt; check_parents(rt, rt.alloc(), &mut store).is_ok());
+    assert!(rt; check_parents(rt, rt.alloc(), &mut store, &NoProgress).is_ok());
     counted.opened = counted.opened.saturating_add(1);
     if entries.len() < count(added) {
         counted.losing = counted.losing.saturating_add(1);

@@ -79,7 +79,7 @@ enum Hand<J: Jobs> {
     Runs(Running<J>),
 }
 
-// A worker behind an event, what it was told, and the place of the record, if one was made.
+// A worker after an event, what it was told, and the place of the record, if one was made.
 #[derive(Drop)]
 struct Done<J: Jobs> {
     hand: Hand<J>,

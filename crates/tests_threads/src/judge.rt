@@ -125,11 +125,11 @@ pub struct Run<'a> {
     pub start: u64,
     /// Whether calls of the device were made to fail.
     pub may_fail: bool,
-    /// Whether each block is in use behind it.
+    /// Whether each block is in use after it.
     pub is_full: bool,
 }
 
-/// A record, with those that ended before it began, those that ended meanwhile, and those behind it.
+/// A record, with those that ended before it began, those that ended meanwhile, and those after it.
 #[derive(Drop)]
 struct Placed<'a> {
     record: &'a Record,
@@ -138,7 +138,7 @@ struct Placed<'a> {
     behind: &'a [Record],
 }
 
-/// The record at a place; none where it says that it began behind it.
+/// The record at a place; none where it says that it began after it.
 fn record_at<'a>(history: &'a [Record], place: usize) -> Option<Placed<'a>> {
     let record = history.get(place)?;
     let seen = record.seen as usize;
@@ -153,8 +153,8 @@ fn record_at<'a>(history: &'a [Record], place: usize) -> Option<Placed<'a>> {
     })
 }
 
-/// Whether its interval begins no earlier than what had ended before, and ends no earlier than what ended meanwhile, which was begun
-/// by other workers.
+/// Whether its interval begins no earlier than what had ended before, and ends no earlier than what ended meanwhile, which was
+/// begun by other workers.
 fn is_in_time(start: u64, at: &Placed<'_>) -> bool {
     let (from, to) = (at.record.from, at.record.to);
     let ended = match at.earlier.last() {
@@ -186,7 +186,7 @@ fn part_of<'a>(range: &Range, added: &'a [Option<Addition>]) -> &'a [Option<Addi
 }
 
 /// Whether these are, in their order, some of the additions of this part of the table: of those by the first number each, up to the
-/// last of these unless they are to be all; and none behind the second number. No set may name a row of the part, which might have
+/// last of these unless they are to be all; and none after the second number. No set may name a row of the part, which might have
 /// been removed meanwhile.
 fn are_of(entries: &[Entry], part: &[Option<Addition>], from: u64, to: u64, are_all: bool) -> bool {
     let mut next = 0usize;
@@ -348,8 +348,8 @@ fn is_removed(jobs: &[Job], history: &[Record], one: &Addition) -> bool {
         })
 }
 
-/// Whether these are, in their order, the entries that were added, but for as many rows of the sets as the bulk deletes say that they
-/// removed.
+/// Whether these are, in their order, the entries that were added, except for as many rows of the sets as the bulk deletes say that
+/// they removed.
 pub fn are_those_left(
     entries: &[Entry],
     jobs: &[Job],

@@ -5,7 +5,7 @@ use crate::judge::{Addition, Run, additions, are_those_left, count, first_wrong,
 use crate::lists::{Dice, entry, mixed, range, shuffled};
 use amcheck::check_parents_one;
 use device::MemDevice;
-use index_model::{Fault, Limits};
+use index_model::{Fault, Limits, NoProgress};
 use page_store::Store;
 use schedule::Event;
 use session_calls::Answer;
@@ -82,11 +82,12 @@ fn four_thousand_jobs(rt: HostRuntime) -> Result<(), Fail> {
     let (entries, history) = (entries.as_slice(), done.history.as_slice());
     assert!(rt; are_those_left(entries, jobs.as_slice(), history, added.as_slice()));
     let mut store = done.world.into_store();
-    assert!(rt; check_parents_one(rt.alloc(), &mut store).is_ok());
+    assert!(rt; check_parents_one(rt.alloc(), &mut store, &NoProgress).is_ok());
     Ok(())
 }
 
-/// Eight workers that insert into one leaf wait for each other's latches. Each entry is inserted twice, and one of the two is refused.
+/// Eight workers that insert into one leaf wait for each other's latches. Each entry is inserted twice, and one of the two is
+/// refused.
 #[test]
 fn one_leaf(rt: HostRuntime) -> Result<(), Fail> {
     let limits = Limits {
@@ -140,7 +141,7 @@ fn one_entry_a_key(rt: HostRuntime) -> Result<(), Fail> {
     assert_eq!(rt; count(added.as_slice()), 500);
     assert_eq!(rt; refused_keys(&done), 1_500);
     let mut store = done.world.into_store();
-    assert!(rt; check_parents_one(rt.alloc(), &mut store).is_ok());
+    assert!(rt; check_parents_one(rt.alloc(), &mut store, &NoProgress).is_ok());
     Ok(())
 }
 
@@ -162,7 +163,7 @@ fn full_index(rt: HostRuntime) -> Result<(), Fail> {
     // Seven pages beside the metapage, one of them the root, hold 24 entries at most.
     assert!(rt; count(added.as_slice()) <= 24);
     let mut store = done.world.into_store();
-    assert!(rt; check_parents_one(rt.alloc(), &mut store).is_ok());
+    assert!(rt; check_parents_one(rt.alloc(), &mut store, &NoProgress).is_ok());
     Ok(())
 }
 

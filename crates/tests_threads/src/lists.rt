@@ -59,7 +59,7 @@ pub fn shuffled(alloc: Global, count: u16, seed: u32) -> Result<Vec<u16>, AllocE
 /// Keys below this have rows that the two sets name; scans lie above.
 pub const DEAD_BELOW: u16 = 200;
 
-/// Inserts of so many entries in random order; a scan behind each nine of them; two bulk deletes and a cleanup among them.
+/// Inserts of so many entries in random order; a scan after each nine of them; two bulk deletes and a cleanup among them.
 pub fn mixed(alloc: Global, inserts: u16, dice: &mut Dice) -> Result<Vec<Job>, AllocError> {
     let numbers = shuffled(alloc, inserts, dice.roll(1_000))?;
     let mut jobs = Vec::new(alloc);

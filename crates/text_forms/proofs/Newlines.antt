@@ -56,7 +56,7 @@ lines_of-parted text at found =
     let place = cond_some (nat_lt (newline text) (length text)) (newline text) at found in
     rw (add-one at, ← place.1) (lines_of-newline text (ltb-true _ _ place.0))
 
--- behind the end there is no line
+-- after the end there is no line
 pub lines_of-end : (text : List ℕ) → lines_of (drop (length text) text) ≡ []
 lines_of-end [] = refl
 lines_of-end (byte ∷ text) = lines_of-end text

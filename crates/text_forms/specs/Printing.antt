@@ -14,7 +14,7 @@ use Rattle.session_calls.specs.declared.answer.Answer.TheVariants.{Begun, Going,
 abbrev pub PrintsLine : {E : Type 0} → Option (List ℕ) → Option (List ℕ) → Result (Unit {0}) E → List ℕ → Type 0
 PrintsLine old new result line = OnOk result (Appends old new (line ++ 10 ∷ []))
 
--- a number behind a word
+-- a number after a word
 abbrev pub numbered : List ℕ → ℕ → List ℕ
 numbered word number = word ++ decimal number
 

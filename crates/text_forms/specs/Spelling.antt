@@ -26,7 +26,7 @@ abbrev pub is_one_of : List ℕ → List (List ℕ) → Bool
 is_one_of word [] = false
 is_one_of word (other ∷ others) = bytes_eq word other || is_one_of word others
 
--- a text's lines, each without the newline that ends it; behind the last newline none begins where nothing is
+-- a text's lines, each without the newline that ends it; after the last newline none begins where nothing is
 abbrev pub lines_of : List ℕ → List (List ℕ)
 lines_of [] = []
 lines_of (byte ∷ text) = if byte == 10 then [] ∷ lines_of text else with_first byte (lines_of text)
@@ -83,15 +83,15 @@ link_text None = 45 ∷ []
 link_text (Some block) = decimal block
 
 -- what a fault names, each with a space in front: the block of a page
-abbrev pub block_behind : Option ℕ → List ℕ
-block_behind None = []
-block_behind (Some block) = 32 ∷ decimal block
+abbrev pub block_after : Option ℕ → List ℕ
+block_after None = []
+block_after (Some block) = 32 ∷ decimal block
 
 -- ... a row
-abbrev pub row_behind : Option Row → List ℕ
-row_behind None = []
-row_behind (Some row) = 32 ∷ row_text row
+abbrev pub row_after : Option Row → List ℕ
+row_after None = []
+row_after (Some row) = 32 ∷ row_text row
 
 -- ... or nothing
 abbrev pub named_text : Fault → List ℕ
-named_text fault = block_behind (block_of fault) ++ row_behind (row_of fault)
+named_text fault = block_after (block_of fault) ++ row_after (row_of fault)

@@ -83,7 +83,7 @@ IsNoEntry KeyTooLong key row = IsLongKeyText key × HasRowForm row
 IsNoEntry BadRow key row = IsKeyWord key × IsNoRowWord row
 IsNoEntry fault key row = ⊥
 
--- the first two words are refused so, and these are behind them
+-- the first two words are refused so, and these are after them
 pub record AreNoEntry (fault : Fault) (words rest : List (List ℕ)) : Type 0 where
   pub key : List ℕ
   pub row : List ℕ
@@ -95,7 +95,7 @@ abbrev pub IsNoRange : Fault → List ℕ → List ℕ → Type 0
 IsNoRange KeyTooLong from below = HasEndForm from × HasEndForm below × (IsLongKeyText from ⊎ IsLongKeyText below)
 IsNoRange fault from below = ⊥
 
--- the first two words are refused so, and these are behind them
+-- the first two words are refused so, and these are after them
 pub record AreNoRange (fault : Fault) (words rest : List (List ℕ)) : Type 0 where
   pub from : List ℕ
   pub below : List ℕ

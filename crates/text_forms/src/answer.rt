@@ -39,7 +39,7 @@ pub fn print_entry<W: Write>(out: &mut W, entry: &Entry) -> io::Result<()>
     writeln!(out, "entry {entry}")
 }
 
-/// Prints `refused N`, with the block or the row that the fault names behind it.
+/// Prints `refused N`, with the block or the row that the fault names after it.
 pub fn print_refused<W: Write>(out: &mut W, fault: Fault) -> io::Result<()>
     ensures { PrintsLine (W.contents out.old) (W.contents out.new) result (refused_text fault) }
 {

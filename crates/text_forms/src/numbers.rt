@@ -109,7 +109,7 @@ fn both(block: Option<u32>, offset: Option<u16>) -> Option<(u32, u16)>
     }
 }
 
-/// What stands before the first comma, and what behind it.
+/// What stands before the first comma, and what after it.
 fn parted(text: &[u8]) -> Option<(&[u8], &[u8])>
     ensures found { IfSome result (λ p. text.now ≡ p.0.now ++ (44 ∷ p.1.now)) }
     ensures only { (front back : List ℕ) → AllDigits 10 front → text.now ≡ front ++ (44 ∷ back)

@@ -75,7 +75,7 @@ impl fmt::Display for ShownEntry {
     }
 }
 
-/// A bound as text: an entry, or `before` behind the key where it is the place before all rows of the key.
+/// A bound as text: an entry, or `before` after the key where it is the place before all rows of the key.
 #[derive(Clone, Copy)]
 pub struct ShownBound {
     pub bound: Bound,

@@ -30,7 +30,7 @@ impl<'a> Rows<'a> {
     ghost use Rattle.index_model.specs.Row.{Row};
     ghost use Rattle.text_forms.specs.Spelling.{row_text};
 
-    /// The next row, or None behind the last.
+    /// The next row, or None after the last.
     pub fn next(&mut self) -> Option<RowAddr>
         ensures found { (row : Row) → result ≡ Some row → self.old ≡ row_text row ∷ self.new }
         ensures last { AreRows self.old → result ≡ None → self.old ≡ [] }

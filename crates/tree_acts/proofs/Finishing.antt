@@ -15,16 +15,16 @@ use Rattle.page_action.proofs.StoredPages.{stored_page}
 use Rattle.tree_shape.specs.Nodes.{Node, node_of, node_from, nodes_of, links_of, IsHeld}
 use Rattle.tree_shape.specs.Chains.{IsIn, IsTreeOf, first_spot}
 use Rattle.tree_shape.specs.Edits.{IsFree, IsFinish, IsParentSplit, IsRootSplit, with_links, cleared, new_root}
-use Rattle.tree_shape.specs.Laws.{TreeGoesOn, IsReusable}
+use Rattle.tree_shape.specs.Laws.{IsTreeAgain, IsReusable}
 use Rattle.tree_shape.specs.Walks.{bound_aim, is_fit, IsFitOn}
 use Rattle.tree_shape.proofs.Held.{finish_holds, parent_split_holds, root_split_holds}
-use Rattle.tree_shape.proofs.Keeps.{finish_keeps, parent_split_keeps, root_split_keeps}
+use Rattle.tree_shape.proofs.StaySound.{finish_keeps, parent_split_keeps, root_split_keeps}
 use Rattle.tree_shape.proofs.Members.{in_append_right}
 use Rattle.tree_shape.proofs.Places.{cover_at}
-use Rattle.tree_shape.proofs.Told.{only_the_root_is_clear}
+use Rattle.tree_shape.proofs.Shown.{only_the_root_is_clear}
 use Rattle.tree_acts.specs.TheoremTree.{IsTree}
 use Rattle.tree_acts.specs.Trees.{HasTree, HasCover}
-use Rattle.tree_acts.specs.Acts.{IsUnfinished, IsClear, SplitIsFinished, ParentIsSplit, RootIsSplit, TreeLasts, ContentsStay, FinishLasts, ParentSplitLasts, RootSplitLasts}
+use Rattle.tree_acts.specs.Acts.{IsIncompleteSplit, IsClear, SplitIsFinished, ParentIsSplit, RootIsSplit, TreeLasts, ContentsStay, FinishLasts, ParentSplitLasts, RootSplitLasts}
 use Rattle.tree_acts.proofs.Overlays.{pages_length, pages_other, pages_first, pages_second, pages_third, counts_other, node_there, node_same, inside}
 use Rattle.tree_acts.proofs.Gone.{AreInUse, in_use_append, live_in_use}
 use Rattle.tree_acts.proofs.Mending.{mended_apart, mended_first, mended_used, mended_in_use, last_there, apart_last, used_last}
@@ -32,20 +32,20 @@ use Rattle.tree_acts.proofs.Words.{cover_in, contents_same}
 use Rattle.tree_acts.proofs.Lasting.{lasts, fresh_free, fresh_reusable, meta_lives, Stands, stands, right_on_chain, right_in_use, on_level, MetaIs}
 use Rattle.tree_acts.proofs.UniqueActs.{finish_unique, parent_split_unique, root_split_unique}
 
--- a flagged page is live, by the format
-flagged_lives : (page : Page) → IsPage page → page.split ≡ true → page.state ≡ Live
-flagged_lives page admitted flagged = by page.items refl admitted.kind
+-- a page with an incomplete split is live, by the format
+incomplete_lives : (page : Page) → IsPage page → page.split ≡ true → page.state ≡ Live
+incomplete_lives page admitted incomplete = by page.items refl admitted.kind
   where
     no : false ≡ true → ⊥
     no e = cc
 
     leaf : (es : List Entry) (st : PageState) → page.state ≡ st → IsLeafIn st page es → page.state ≡ Live
     leaf es Live is h = is
-    leaf es HalfDead is h = absurd (no (sym h.split ∙ flagged))
-    leaf es Deleted is h = absurd (no (sym h.split ∙ flagged))
+    leaf es HalfDead is h = absurd (no (sym h.split ∙ incomplete))
+    leaf es Deleted is h = absurd (no (sym h.split ∙ incomplete))
 
     by : (items : Items) → page.items ≡ items → IsOfKind page items → page.state ≡ Live
-    by Meta is h = absurd (no (sym h.split ∙ flagged))
+    by Meta is h = absurd (no (sym h.split ∙ incomplete))
     by (Entries v) is h = leaf v.items page.state refl h.rest
     by (Downlinks v) is h = h.state
 
@@ -66,12 +66,12 @@ covered st tree level aim block h =
     (c.in_tree, subst (IsIn block) (sym w.is) (in_append_right block w.front (block ∷ w.back) (inl refl)), w.alive)
 
 -- page p, whose split is to be finished, as it stands
-module _ (st : State) (start level : ℕ) (s : Bound) (p : Page) (new : ℕ) (has : HasTree st) (u : IsUnfinished st start level s p new) where
+module _ (st : State) (start level : ℕ) (s : Bound) (p : Page) (new : ℕ) (has : HasTree st) (u : IsIncompleteSplit st start level s p new) where
   pub p_here : nodes_of st.pages p.block ≡ node_of p
   p_here = node_there st.pages p.block p u.found
 
   pub p_lives : (nodes_of st.pages p.block).state ≡ Live
-  p_lives = ap (λ (n : Node). n.state) p_here ∙ flagged_lives p (stored_page st.limits p.block st.pages p has.stored u.found).storable.admitted u.flagged
+  p_lives = ap (λ (n : Node). n.state) p_here ∙ incomplete_lives p (stored_page st.limits p.block st.pages p has.stored u.found).storable.admitted u.incomplete
 
   -- ... and when its split is finished
   pub p_stays : (after : Page) → IsClear p after → after.state ≢ Deleted
@@ -98,7 +98,7 @@ module _ (st : State) (start level : ℕ) (s : Bound) (p q p_after q_after : Pag
 
   pub finish_edit : IsFinish (nodes_of st.pages) (nodes_of (with_pages st.pages (q_after ∷ p_after ∷ []))) p.block q.block
   finish_edit = record {
-    flagged = ap (λ (n : Node). n.split) (p_here st start level s p new has h.unfinished) ∙ h.unfinished.flagged;
+    incomplete = ap (λ (n : Node). n.split) (p_here st start level s p new has h.unfinished) ∙ h.unfinished.incomplete;
     separator = s;
     high_is = ap (λ (n : Node). n.high) (p_here st start level s p new has h.unfinished) ∙ h.unfinished.high_is;
     new = new;
@@ -137,7 +137,7 @@ module _ (st : State) (start level : ℕ) (s : Bound) (p q p_after q_after : Pag
   }
 
   finish_goes : (least : ℕ)
-      → TreeGoesOn (nodes_of st.pages) (nodes_of (with_pages st.pages (q_after ∷ p_after ∷ []))) (slice_index st.counted) (slice_index (after_act (q_after ∷ p_after ∷ []) st).counted)
+      → IsTreeAgain (nodes_of st.pages) (nodes_of (with_pages st.pages (q_after ∷ p_after ∷ []))) (slice_index st.counted) (slice_index (after_act (q_after ∷ p_after ∷ []) st).counted)
       (length (with_pages st.pages (q_after ∷ p_after ∷ []))) has.tree.root has.tree.meta.level has.tree.meta.level has.tree.chain least
   unfolding finish_edit
   finish_goes least = rw finish_used (finish_keeps (nodes_of st.pages) (nodes_of (with_pages st.pages (q_after ∷ p_after ∷ []))) (slice_index st.counted)
@@ -189,7 +189,7 @@ module _ (st : State) (start level : ℕ) (s : Bound) (p q p_after left right : 
 
   pub parent_edit : IsParentSplit (nodes_of st.pages) (nodes_of (with_pages st.pages (left ∷ right ∷ mended ++ p_after ∷ []))) p.block q.block right.block
   parent_edit = record {
-    flagged = ap (λ (n : Node). n.split) (p_here st start level s p new has h.unfinished) ∙ h.unfinished.flagged;
+    incomplete = ap (λ (n : Node). n.split) (p_here st start level s p new has h.unfinished) ∙ h.unfinished.incomplete;
     separator = s;
     high_is = ap (λ (n : Node). n.high) (p_here st start level s p new has h.unfinished) ∙ h.unfinished.high_is;
     new = new;
@@ -245,7 +245,7 @@ module _ (st : State) (start level : ℕ) (s : Bound) (p q p_after left right : 
   )
 
   parent_goes : (least : ℕ) → IsReusable (nodes_of st.pages) (slice_index st.counted) least right.block
-      → TreeGoesOn (nodes_of st.pages) (nodes_of (with_pages st.pages (left ∷ right ∷ mended ++ p_after ∷ []))) (slice_index st.counted)
+      → IsTreeAgain (nodes_of st.pages) (nodes_of (with_pages st.pages (left ∷ right ∷ mended ++ p_after ∷ []))) (slice_index st.counted)
       (slice_index (after_act (left ∷ right ∷ mended ++ p_after ∷ []) st).counted)
       (length (with_pages st.pages (left ∷ right ∷ mended ++ p_after ∷ []))) has.tree.root has.tree.meta.level has.tree.meta.level has.tree.chain least
   unfolding parent_edit
@@ -297,7 +297,7 @@ module _ (st : State) (start : ℕ) (s : Bound) (meta meta_after p p_after root 
 
   pub root_edit : IsRootSplit (nodes_of st.pages) (nodes_of (with_pages st.pages (root ∷ meta_after ∷ p_after ∷ []))) p.block has.tree.meta.level root.block
   root_edit = record {
-    flagged = ap (λ (n : Node). n.split) (p_here st start meta.level s p new has h.unfinished) ∙ h.unfinished.flagged;
+    incomplete = ap (λ (n : Node). n.split) (p_here st start meta.level s p new has h.unfinished) ∙ h.unfinished.incomplete;
     separator = s;
     high_is = ap (λ (n : Node). n.high) (p_here st start meta.level s p new has h.unfinished) ∙ h.unfinished.high_is;
     new = new;
@@ -342,7 +342,7 @@ module _ (st : State) (start : ℕ) (s : Bound) (meta meta_after p p_after root 
   )
 
   root_goes : (least : ℕ) → IsReusable (nodes_of st.pages) (slice_index st.counted) least root.block
-      → TreeGoesOn (nodes_of st.pages) (nodes_of (with_pages st.pages (root ∷ meta_after ∷ p_after ∷ []))) (slice_index st.counted)
+      → IsTreeAgain (nodes_of st.pages) (nodes_of (with_pages st.pages (root ∷ meta_after ∷ p_after ∷ []))) (slice_index st.counted)
       (slice_index (after_act (root ∷ meta_after ∷ p_after ∷ []) st).counted)
       (length (with_pages st.pages (root ∷ meta_after ∷ p_after ∷ []))) root.block has.tree.meta.level (suc has.tree.meta.level) has.tree.chain least
   root_goes least reusable = rw root_used (root_split_keeps (nodes_of st.pages) (nodes_of (with_pages st.pages (root ∷ meta_after ∷ p_after ∷ []))) (slice_index st.counted)

@@ -23,8 +23,8 @@ use Rattle.tree_shape.specs.Nodes.{nodes_of, node_from, node_of, entries_alive, 
 use Rattle.tree_shape.proofs.KeyEdits.{before_key}
 use Rattle.tree_acts.specs.TheoremKeys.{AreKeyed}
 use Rattle.tree_acts.specs.TheoremTree.{IsTree}
-use Rattle.tree_acts.specs.Uniques.{KeyedTells}
-use Rattle.tree_acts.proofs.Uniques.{unique_at, unique_tells}
+use Rattle.tree_acts.specs.Uniques.{KeyedShows}
+use Rattle.tree_acts.proofs.Uniques.{unique_at, unique_shows}
 use Rattle.tree_acts.proofs.Words.{contents_held}
 
 -- entries of these are one where they share a key
@@ -107,8 +107,8 @@ pub keyed_of : (limits : Format) (pages : List Page) → IsTree pages → AreSto
 keyed_of limits pages tree stored unique = record {
   high = λ b. (unique_at pages unique b).high;
   bounds = λ b. (unique_at pages unique b).bounds;
-  keys = unique_tells limits pages tree stored unique;
+  keys = unique_shows limits pages tree stored unique;
 }
 
-pub keyed_tells : KeyedTells
-keyed_tells limits pages tree stored = (keyed_of limits pages tree stored, unique_of limits pages stored)
+pub keyed_shows : KeyedShows
+keyed_shows limits pages tree stored = (keyed_of limits pages tree stored, unique_of limits pages stored)

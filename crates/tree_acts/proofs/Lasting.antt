@@ -15,17 +15,17 @@ use Rattle.page_action.proofs.StoredPages.{stored-with_page, stored_page, length
 use Rattle.tree_shape.specs.KeyPages.{IsUniquePage, AreUnique}
 use Rattle.tree_shape.specs.Tree.{IsMetaOf}
 use Rattle.tree_shape.specs.Nodes.{node_from, nodes_of}
-use Rattle.tree_shape.specs.Chains.{Spot, IsIn, IsRunOf, IsTreeOf, first_spot}
+use Rattle.tree_shape.specs.Chains.{LeftContext, IsIn, IsRunOf, IsTreeOf, first_spot}
 use Rattle.tree_shape.specs.Edits.{IsFree}
-use Rattle.tree_shape.specs.Laws.{TreeGoesOn, TreeGoesOnWithout, IsReusable}
+use Rattle.tree_shape.specs.Laws.{IsTreeAgain, IsTreeAgainWithout, IsReusable}
 use Rattle.tree_shape.specs.Walks.{is_fit, IsFitOn}
 use Rattle.tree_shape.proofs.LeafSplit.{first_in}
 use Rattle.tree_shape.proofs.Members.{in_append_right, member}
 use Rattle.tree_shape.proofs.Runs.{run_back, split_at}
 use Rattle.tree_shape.proofs.Trails.{trail_stays}
-use Rattle.tree_shape.proofs.Told.{places_stay, live_places_stand, places_keep_their_level}
+use Rattle.tree_shape.proofs.Shown.{places_stay, live_places_stand, places_keep_their_level}
 use Rattle.tree_acts.specs.TheoremTree.{IsTree}
-use Rattle.tree_acts.specs.Trees.{HasTree, HasPlace, IsStart, GoneLeadOn}
+use Rattle.tree_acts.specs.Trees.{HasTree, LeadsTo, IsStart, KeptDeletedLeadOn}
 use Rattle.tree_acts.specs.Acts.{TreeLasts}
 use Rattle.tree_acts.proofs.Gone.{AreInUse, CountUpTo, in_use_count, gone_lead_on, counts_within}
 use Rattle.tree_acts.proofs.Lows.{lows_of}
@@ -144,7 +144,7 @@ fresh_reusable st new start f is gone = elim (cases_lt new (length st.pages)) [
     never none' gone = clash (sym (ap (λ (o : Option Page). (node_from o).state) none') ∙ gone)
 
 -- a live page that is a place stands on its chain, and isn't the metapage
-pub record Stands (st : State) (tree : IsTree st.pages) (level : ℕ) (fit : Spot → Bool) (block : ℕ) : Type 0 where
+pub record Stands (st : State) (tree : IsTree st.pages) (level : ℕ) (fit : LeftContext → Bool) (block : ℕ) : Type 0 where
   pub in_tree : level ≤ tree.meta.level
   pub fits : IsFitOn (nodes_of st.pages) first_spot (tree.chain level) fit block
   pub on_chain : IsIn block (tree.chain level)
@@ -152,7 +152,7 @@ pub record Stands (st : State) (tree : IsTree st.pages) (level : ℕ) (fit : Spo
   pub above : 0 < block
   pub inside : block < length st.pages
 
-pub stands : (st : State) (tree : IsTree st.pages) (start level : ℕ) (aim : Bound → Bool) (clear : Bool) (block : ℕ) → HasPlace st start level aim clear block → (nodes_of st.pages block).state ≡ Live
+pub stands : (st : State) (tree : IsTree st.pages) (start level : ℕ) (aim : Bound → Bool) (clear : Bool) (block : ℕ) → LeadsTo st start level aim clear block → (nodes_of st.pages block).state ≡ Live
     → Stands st tree level (is_fit aim clear) block
 stands st tree start level aim clear block place alive =
     let p = place_in st tree start level aim clear block place in
@@ -218,7 +218,7 @@ unique_after pages (page ∷ changed) h c = unique_after (with_page pages page) 
 pub lasts : (st : State) (changed : List Page) (h : HasTree st) → AreActable st.limits (length st.pages) changed
     → (st.limits.unique ≡ true → AreUnique changed) → AreInUse changed → (Ok : ℕ → Type 0) (one : ℕ) → Ok one → ((start : ℕ) → IsStart st.running start → Ok start)
     → (root' top' : ℕ) → h.tree.meta.level ≤ top' → MetaIs (with_pages st.pages changed) root' top'
-    → ((least : ℕ) → Ok least → TreeGoesOn (nodes_of st.pages) (nodes_of (with_pages st.pages changed)) (slice_index st.counted) (slice_index (after_act changed st).counted)
+    → ((least : ℕ) → Ok least → IsTreeAgain (nodes_of st.pages) (nodes_of (with_pages st.pages changed)) (slice_index st.counted) (slice_index (after_act changed st).counted)
     (length (with_pages st.pages changed)) root' h.tree.meta.level top' h.tree.chain least)
     → TreeLasts st (after_act changed st)
 lasts st changed h may one_a_key live Ok one ok running root' top' taller meta goes = record {
@@ -269,12 +269,12 @@ lasts st changed h may one_a_key live Ok one ok running root' top' taller meta g
 
 -- ... also where a page of a chain is deleted, later than each running call began; lows are as they are whichever numbers count
 pub lasts_without : (st : State) (changed : List Page) (h : HasTree st) → AreActable st.limits (length st.pages) changed
-    → (st.limits.unique ≡ true → AreUnique changed) → CountUpTo st.begun changed → GoneLeadOn (after_act changed st)
+    → (st.limits.unique ≡ true → AreUnique changed) → CountUpTo st.begun changed → KeptDeletedLeadOn (after_act changed st)
     → (late : ℕ) → ((start : ℕ) → IsStart st.running start → start < late)
     → MetaIs (with_pages st.pages changed) h.tree.root h.tree.meta.level
-    → TreeGoesOnWithout (nodes_of st.pages) (nodes_of (with_pages st.pages changed)) (slice_index st.counted) (slice_index (after_act changed st).counted)
+    → IsTreeAgainWithout (nodes_of st.pages) (nodes_of (with_pages st.pages changed)) (slice_index st.counted) (slice_index (after_act changed st).counted)
     (length (with_pages st.pages changed)) h.tree.root h.tree.meta.level h.tree.chain late
-    → TreeGoesOnWithout (nodes_of st.pages) (nodes_of (with_pages st.pages changed)) (λ c. 1) (λ c. 1)
+    → IsTreeAgainWithout (nodes_of st.pages) (nodes_of (with_pages st.pages changed)) (λ c. 1) (λ c. 1)
     (length (with_pages st.pages changed)) h.tree.root h.tree.meta.level h.tree.chain 1
     → TreeLasts st (after_act changed st)
 lasts_without st changed h may one_a_key few leads late running meta goes lower = record {

@@ -23,7 +23,7 @@ use Rattle.tree_shape.proofs.Held.{put_among}
 use Rattle.tree_shape.proofs.Removal.{is_among-filter}
 use Rattle.tree_acts.specs.Trees.{HasTree}
 use Rattle.tree_acts.specs.Acts.{IsMended, rightmost, neighbour, LeafIsSplit, IsClear}
-use Rattle.tree_acts.specs.Leaves.{IsLeafAt, LeafStays, LeafIsHalved, LeafGoesOn, WasLeaf, LeavesStay, PagesKeepLeaves, PuttingLeaves, RemovingLeaves, LeafSplitLeaves, FinishLeaves, ParentSplitLeaves, RootSplitLeaves}
+use Rattle.tree_acts.specs.Leaves.{IsLeafAt, LeafStays, LeafIsHalved, LeafBecomes, WasLeaf, LeafPagesStay, PagesKeepLeaves, PuttingLeaves, RemovingLeaves, LeafSplitLeaves, FinishLeaves, ParentSplitLeaves, RootSplitLeaves}
 use Rattle.tree_acts.proofs.Overlays.{page_there, page_other, page_length, pages_first, pages_second, node_there, inside}
 use Rattle.tree_acts.proofs.Lasting.{Stands, stands, fresh_free}
 
@@ -86,7 +86,7 @@ stays_itself effect page = record { right = refl; cycle = refl; entries = λ e o
 
 module _ (effect : Option Effect) (st : State) where
   alike_goes_on : (cycle : ℕ) (pages : List Page) (b : ℕ) (old x : Page) → IsAlike effect st x → x.block ≡ b → slice_get pages b ≡ Some x
-      → IsLeafAt st.pages b old → LeafGoesOn effect cycle st.pages pages b old
+      → IsLeafAt st.pages b old → LeafBecomes effect cycle st.pages pages b old
   alike_goes_on cycle pages b old x h block there at =
       let same : h.old ≡ old = same_page st.pages b h.old old (subst (λ (k : ℕ). slice_get st.pages k ≡ Some h.old) block h.found) at.found in
       record {
@@ -107,14 +107,14 @@ module _ (effect : Option Effect) (st : State) where
         };
       }
 
-  goes_on_itself : (cycle : ℕ) (pages : List Page) (b : ℕ) (old : Page) → slice_get pages b ≡ slice_get st.pages b → IsLeafAt st.pages b old → LeafGoesOn effect cycle st.pages pages b old
+  goes_on_itself : (cycle : ℕ) (pages : List Page) (b : ℕ) (old : Page) → slice_get pages b ≡ slice_get st.pages b → IsLeafAt st.pages b old → LeafBecomes effect cycle st.pages pages b old
   goes_on_itself cycle pages b old same at = record { new = old; there = record { found = same ∙ at.found; alive = at.alive; leaf = at.leaf }; how = inl (stays_itself effect old) }
 
   was_itself : (pages : List Page) (b : ℕ) (new : Page) → slice_get pages b ≡ slice_get st.pages b → IsLeafAt pages b new → WasLeaf st.pages b
   was_itself pages b new same at = record { page = new; was = record { found = sym same ∙ at.found; alive = at.alive; leaf = at.leaf } }
 
   -- an act that splits no leaf
-  keeps_leaves : (changed : List Page) → AreActable st.limits (length st.pages) changed → Each (KeepsLeaf effect st) changed → LeavesStay effect st (after_act changed st)
+  keeps_leaves : (changed : List Page) → AreActable st.limits (length st.pages) changed → Each (KeepsLeaf effect st) changed → LeafPagesStay effect st (after_act changed st)
   keeps_leaves changed may each = record {
     cycle = refl;
     each = λ b old at. elim (written_or (KeepsLeaf effect st) st.limits (length st.pages) st.pages changed b may (omega arith) each) [
@@ -336,7 +336,7 @@ module _ (st : State) (start : ℕ) (e : Entry) (page left right : Page) (mended
   written : (b : ℕ) → (slice_get (with_pages st.pages (left ∷ right ∷ mended)) b ≡ slice_get st.pages b) ⊎ IsWritten (IsHalfOr st e left right) (with_pages st.pages (left ∷ right ∷ mended)) b
   written b = written_or (IsHalfOr st e left right) st.limits (length st.pages) st.pages (left ∷ right ∷ mended) b h.may (omega arith) each
 
-  pub splitting_leaves : LeavesStay (Some (Add e)) st (after_act (left ∷ right ∷ mended) st)
+  pub splitting_leaves : LeafPagesStay (Some (Add e)) st (after_act (left ∷ right ∷ mended) st)
   unfolding halved
   splitting_leaves = record {
     cycle = refl;

@@ -15,7 +15,7 @@ use Rattle.tree_shape.specs.KeyPages.{KeyBefore, IsKeyLink, IsUniqueNode, IsUniq
 use Rattle.tree_shape.specs.Nodes.{Node, node_of, links_of}
 use Rattle.tree_shape.proofs.KeyEdits.{unique_page, unique_put, unique_halves, unique_links, unique_parts, unique_root, keys_filter, bounds_added}
 use Rattle.tree_acts.specs.Trees.{HasTree}
-use Rattle.tree_acts.specs.Acts.{EntryIsPut, EntriesAreRemoved, IsMended, rightmost, neighbour, LeafIsSplit, IsUnfinished, IsClear, SplitIsFinished, ParentIsSplit, RootIsSplit}
+use Rattle.tree_acts.specs.Acts.{EntryIsPut, EntriesAreRemoved, IsMended, rightmost, neighbour, LeafIsSplit, IsIncompleteSplit, IsClear, SplitIsFinished, ParentIsSplit, RootIsSplit}
 
 -- a page with the bounds and the entries of another
 pub seen_alike : (page : Page) (node : Node) → node_of page ≡ node → IsUniqueNode node → IsUniquePage page
@@ -48,7 +48,7 @@ leaf_split_unique st start e page left right mended has h asked =
     (both.0, (both.1, mended_unique st right.block page.right mended (has.unique asked) h.mends))
 
 -- the page whose split is finished
-module _ (st : State) (start level : ℕ) (s : Bound) (p after : Page) (new : ℕ) (all : AreUnique st.pages) (h : IsUnfinished st start level s p new) where
+module _ (st : State) (start level : ℕ) (s : Bound) (p after : Page) (new : ℕ) (all : AreUnique st.pages) (h : IsIncompleteSplit st start level s p new) where
   was : IsUniquePage p
   was = unique_page st.pages p.block p all h.found
 

@@ -10,9 +10,9 @@ use Rattle.tree_shape.specs.Nodes.{nodes_of}
 use Rattle.tree_shape.proofs.KeyCovers.{key_covers}
 use Rattle.tree_shape.proofs.KeyPages.{one_of_a_key}
 use Rattle.tree_shape.proofs.Reading.{held_covered}
-use Rattle.tree_shape.proofs.Told.{held_on_its_cover}
-use Rattle.tree_acts.specs.Uniques.{KeyTells, FreeKeyTells, UniqueTells}
-use Rattle.tree_acts.proofs.Telling.{leaf_tells}
+use Rattle.tree_shape.proofs.Shown.{held_on_its_cover}
+use Rattle.tree_acts.specs.Uniques.{KeyShows, FreeKeyShows, UniqueShows}
+use Rattle.tree_acts.proofs.Meanings.{leaf_shows}
 use Rattle.tree_acts.proofs.Words.{contents_held, only_leaves}
 
 -- what is seen at each block is a page of a unique index
@@ -21,9 +21,9 @@ unique_at [] h b = record { high = tt; bounds = tt; keys = tt }
 unique_at (p ∷ pages) h zero = h.0
 unique_at (p ∷ pages) h (suc b) = unique_at pages h.1 b
 
-pub key_tells : KeyTells
-key_tells st e x page h asked found cover same =
-    leaf_tells st x page h found (record {
+pub key_shows : KeyShows
+key_shows st e x page h asked found cover same =
+    leaf_shows st x page h found (record {
       tree = cover.tree;
       in_tree = cover.in_tree;
       covers = key_covers (nodes_of st.pages) (cover.tree.chain 0) e x page.block (λ b i. (unique_at st.pages (h.unique asked) b).high) (sym same) cover.covers;
@@ -37,12 +37,12 @@ not_among key es x free same = by (is_among es x) refl
     by false is = is
     by true is = absurd (AllByRecursion-among (λ (y : Entry). y.key ≢ key) es x free is same)
 
-pub free_key_tells : FreeKeyTells
-free_key_tells st e x page h asked found cover free same =
-    key_tells st e x page h asked found cover same ∙ not_among e.key (entries_of page.items) x free same
+pub free_key_shows : FreeKeyShows
+free_key_shows st e x page h asked found cover free same =
+    key_shows st e x page h asked found cover same ∙ not_among e.key (entries_of page.items) x free same
 
-pub unique_tells : UniqueTells
-unique_tells limits pages tree stored unique x y on_x on_y same =
+pub unique_shows : UniqueShows
+unique_shows limits pages tree stored unique x y on_x on_y same =
     let only = only_leaves limits pages stored in
     let held = (contents_held pages x).0 on_x in
     let covers = held_covered (nodes_of pages) (length pages) tree.root tree.meta.level tree.chain x tree.is only held.block held.in_use held.on in

@@ -6,7 +6,7 @@ use Rattle.index_model.specs.declared.entry.Entry.{Entry}
 use Rattle.page_codec.specs.declared.page.PageState.{PageState}
 use Rattle.page_codec.specs.declared.page.PageState.TheVariants.{Live, HalfDead, Deleted}
 use Rattle.tree_shape.specs.Nodes.{Node}
-use Rattle.tree_shape.specs.Chains.{Spot, past, low_past, first_spot}
+use Rattle.tree_shape.specs.Chains.{LeftContext, past, low_past, first_spot}
 use Rattle.tree_shape.specs.Walks.{entry_aim, is_beyond, is_within, IsCoverOn}
 use Rattle.tree_shape.specs.KeyBounds.{IsKeyBound}
 use Rattle.tree_shape.specs.KeyCovers.{HaveKeyBounds, KeyCovers}
@@ -27,7 +27,7 @@ low_stays Live low high l h = h
 low_stays HalfDead low high l h = l
 low_stays Deleted low high l h = l
 
-covers_from : (at : ℕ → Node) (spot : Spot) (chain : List ℕ) (x y : Entry) (c : ℕ) → IfSome spot.low IsKeyBound → HaveKeyBounds at chain → x.key ≡ y.key
+covers_from : (at : ℕ → Node) (spot : LeftContext) (chain : List ℕ) (x y : Entry) (c : ℕ) → IfSome spot.low IsKeyBound → HaveKeyBounds at chain → x.key ≡ y.key
     → IsCoverOn at spot chain (entry_aim x) c → IsCoverOn at spot chain (entry_aim y) c
 covers_from at spot [] x y c low highs same h = h
 covers_from at spot (b ∷ bs) x y c low highs same (inl h) =

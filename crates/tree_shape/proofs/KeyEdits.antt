@@ -111,9 +111,6 @@ cut_of_keys left right s h cut = (cut.is.shortened (keys_part left right cut.las
 pub unique_put : (node : Node) (e : Entry) (after : List Entry) → IsUniqueNode node → IsPutIn e node.entries after → IsKeyFree e.key node.entries → IsUniqueNode (with_leaf node after)
 unique_put node e after h put free = record { high = h.high; bounds = h.bounds; keys = keys_put e node.entries after put h.keys free }
 
-pub unique_filter : (node : Node) (keeps : Entry → Bool) → IsUniqueNode node → IsUniqueNode (with_leaf node (filter keeps node.entries))
-unique_filter node keeps h = record { high = h.high; bounds = h.bounds; keys = keys_filter keeps node.entries h.keys }
-
 -- both halves of a leaf with an entry more
 pub unique_halves : (node left right : Node) (b new : ℕ) (e : Entry) → IsUniqueNode node → IsKeyFree e.key node.entries → LeafHalves node b new e left right
     → IfSome left.high (IsCutOf left.entries right.entries) → IsUniqueNode left × IsUniqueNode right

@@ -38,18 +38,18 @@ between_keys a b c p q same = by (key_cmp a.key b.key) refl p
     by Equal e h = exact_bytes a.key b.key e
     by Greater e h = absurd cc
 
--- behind the place, the first of another key
-free_behind : (e h : Entry) → is_past (bound_of e) h ≡ true → h.key ≢ e.key → (zs : List Entry) → AscendsPast (Some (bound_of h)) zs → IsKeyFree e.key zs
-free_behind e h p differ [] ascends = tt
-free_behind e h p differ (z ∷ zs) ascends =
+-- after the place, the first of another key
+free_after : (e h : Entry) → is_past (bound_of e) h ≡ true → h.key ≢ e.key → (zs : List Entry) → AscendsPast (Some (bound_of h)) zs → IsKeyFree e.key zs
+free_after e h p differ [] ascends = tt
+free_after e h p differ (z ∷ zs) ascends =
     let apart : z.key ≢ e.key = λ same. differ (sym (between_keys e h z p ascends.0 (sym same))) in
-    (apart, free_behind e z (is_past-trans (bound_of e) h z p ascends.0) apart zs ascends.1)
+    (apart, free_after e z (is_past-trans (bound_of e) h z p ascends.0) apart zs ascends.1)
 
 right_free : (e : Entry) (low : Option Bound) (es : List Entry) (at : ℕ) → AscendsPast low es → AllByRecursion (λ x. is_past (bound_of e) x ≡ true) (drop at es)
     → ((x : Entry) → slice_get es at ≡ Some x → x.key ≢ e.key) → IsKeyFree e.key (drop at es)
 right_free e low [] zero ascends behind differ = tt
 right_free e low [] (suc at) ascends behind differ = tt
-right_free e low (x ∷ xs) zero ascends behind differ = (differ x refl, free_behind e x behind.0 (differ x refl) xs ascends.1)
+right_free e low (x ∷ xs) zero ascends behind differ = (differ x refl, free_after e x behind.0 (differ x refl) xs ascends.1)
 right_free e low (x ∷ xs) (suc at) ascends behind differ = right_free e (Some (bound_of x)) xs at ascends.1 behind differ
 
 -- before it, the last of another key

@@ -28,8 +28,8 @@ pub mod Held
 pub mod Reading
 pub mod Parents
 pub mod Chains
-pub mod Keeps
-pub mod Told
+pub mod StaySound
+pub mod Shown
 pub mod First
 pub mod Halves
 pub mod LeafHalves
@@ -37,7 +37,7 @@ pub mod LinkHalves
 pub mod Aims
 pub mod Few
 pub mod Trails
-pub mod FitsBehind
+pub mod FitsAfter
 pub mod Straight
 pub mod Deleting
 pub mod Handing

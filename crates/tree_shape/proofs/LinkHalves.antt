@@ -23,7 +23,7 @@ use Rattle.tree_shape.specs.Nodes.{Node, node_of, links_of}
 use Rattle.tree_shape.specs.Chains.{IsBeyond, Rises, from_low}
 use Rattle.tree_shape.specs.Edits.{IsLinkAdded, LinkHalves, left_links, right_links}
 use Rattle.tree_shape.specs.Halves.{left_count}
-use Rattle.tree_shape.specs.LinkPlaces.{with_downlinks, HasLinks, child_at, bound_at, IsBelowFirst, FitsBehind, LinkSplit}
+use Rattle.tree_shape.specs.LinkPlaces.{with_downlinks, HasLinks, child_at, bound_at, IsBelowFirst, FitsAfter, LinkSplit}
 
 -- a downlink with this bound
 abbrev pub link_to : Bound → ℕ → Downlink
@@ -40,7 +40,7 @@ added_apart [] at e lt = absurd (omega arith)
 added_apart (d ∷ ds) zero e lt = refl
 added_apart (d ∷ ds) (suc at) e lt = ap (λ l. d ∷ l) (added_apart ds at e (omega arith))
 
--- a downlink that is put behind the one at a place
+-- a downlink that is put after the one at a place
 pub is_added : (links : List Downlink) (at : ℕ) (separator : Bound) (new : ℕ) → at < length links
     → IsLinkAdded (child_at links at) new separator links (insert links (suc at) (link_to separator new))
 is_added links at separator new lt = record {
@@ -99,7 +99,7 @@ below_high (Some b) separator new h = h
 
 pub links_put : (layout : Layout) (high : Option Bound) (ds : List Downlink) (at : ℕ) (separator : Bound) (new : ℕ) → at < length ds
     → AreLinks layout high ds → IsBoundIn layout separator → IsBlock new
-    → FitsBehind ds at separator high → AreLinks layout high (insert ds (suc at) (link_to separator new))
+    → FitsAfter ds at separator high → AreLinks layout high (insert ds (suc at) (link_to separator new))
 links_put layout high ds at separator new lt h whole block fits = record {
   valid = all_put (IsDownlink layout) ds (suc at) (link_to separator new) (record { bound = whole; child = block }) h.valid;
   ascends = ascends_put ds at separator new lt h.ascends fits.above (rw (← add-one) fits.before_next);
@@ -137,7 +137,7 @@ below_cut : (cut : Bound) (xs : List Downlink) (y : Downlink) → y.bound ≡ So
 below_cut cut [] y same h = tt
 below_cut cut (x ∷ xs) y same h = (subst (λ b. is_lt (option_cmp bound_cmp x.bound b) ≡ true) same h.0, below_cut cut xs y same h.1)
 
--- ... the first part below the cut
+-- ... the prefix below the cut
 pub front_links : (layout : Layout) (high : Option Bound) (xs ys : List Downlink) (cut : Bound) → 0 < length xs → bound_at ys 0 ≡ Some cut
     → AreLinks layout high (xs ++ ys) → AreLinks layout (Some cut) xs
 front_links layout high [] ys cut some same h = absurd (omega arith)
@@ -296,7 +296,7 @@ first_whole layout [] otherwise some valid same = absurd (omega arith)
 first_whole layout (y ∷ ys) otherwise some valid same = subst (λ b. IfSome b (IsBoundIn layout)) same valid.0.bound
 
 module _ (page : Page) (at : ℕ) (separator : Bound) (child : ℕ) (h : IsPage page) (inner : HasLinks page.items) (some : 2 ≤ length (links_of page.items))
-    (place : at < length (links_of page.items)) (fits : FitsBehind (links_of page.items) at separator page.high) (whole : IsBoundIn page.layout separator) (to : IsBlock child) where
+    (place : at < length (links_of page.items)) (fits : FitsAfter (links_of page.items) at separator page.high) (whole : IsBoundIn page.layout separator) (to : IsBlock child) where
   -- all the downlinks, how many the left half keeps, and those of the halves
   abbrev pub all : List Downlink
   all = insert (links_of page.items) (suc at) (link_to separator child)

@@ -32,7 +32,7 @@ then_less Less o p n h = refl
 then_less Equal o p n h = absurd (n refl)
 then_less Greater o p n h = absurd cc
 
--- behind equal bytes the rest decides
+-- after equal bytes the rest decides
 tail_before : (x y : ℕ) (xs ys : List ℕ) → (x == y) ≡ true → IsKeyBefore (x ∷ xs) (y ∷ ys) → IsKeyBefore xs ys
 tail_before x y xs ys e h = subst (λ r. is_lt (ordering_then r (key_cmp xs ys)) ≡ true) (same_tie x y e) h
 
@@ -126,5 +126,5 @@ not_behind a b h = rw (bounds_total.antisymm b a) (by (bound_cmp a b) h)
     by Equal e = absurd cc
     by Greater e = absurd cc
 
-pub not_behind_itself : (a : Bound) → is_lt (bound_cmp a a) ≡ false
-not_behind_itself a = rw (tied_itself bounds_total a) refl
+pub not_after_itself : (a : Bound) → is_lt (bound_cmp a a) ≡ false
+not_after_itself a = rw (tied_itself bounds_total a) refl

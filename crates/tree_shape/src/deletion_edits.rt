@@ -12,7 +12,7 @@ use arrayvec::ArrayVec;
 use index_model::Layout;
 use page_codec::{Items, Page, PageState};
 
-/// Whether the page is a live leaf without entries, not flagged, with a right link: one that may be made half-dead.
+/// Whether the page is a live leaf without entries, without an incomplete split, with a right link: one that may be made half-dead.
 pub fn may_die(page: &Page) -> bool
     ensures { IsTrue result ↔ MayDie page.now }
 {

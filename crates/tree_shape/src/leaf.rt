@@ -109,7 +109,7 @@ pub fn find_key(entries: &[Entry], at: usize, entry: &Entry) -> Option<RowAddr>
     }
 }
 
-/// Whether the page is a live leaf, not flagged, whose high key the entry does not pass.
+/// Whether the page is a live leaf, without an incomplete split, whose high key the entry does not pass.
 pub fn may_hold(page: &Page, entry: &Entry) -> bool
     ensures { IsTrue result ↔ MayHold page.now entry.now }
 {

@@ -29,7 +29,7 @@ pub fn separator(left: &[Entry], right: &[Entry]) -> Bound
     part(&left[left.len() - 1], &right[0])
 }
 
-// Puts the entry on the page, and what is behind the cut on the other one, instead of its items.
+// Puts the entry on the page, and what is after the cut on the other one, instead of its items.
 fn part_entries(page: &mut Page, at: usize, entry: Entry, half: &mut Page)
     requires leaf { HasEntries page.old.items }
     requires place { at ≤ length (entries_of page.old.items) }

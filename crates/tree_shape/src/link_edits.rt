@@ -8,7 +8,7 @@ ghost use Rattle.tree_shape.specs.Chains.{from_low, IsBeyond, Rises};
 ghost use Rattle.tree_shape.specs.Deletion.{handed_on};
 ghost use Rattle.tree_shape.specs.Edits.{IsLinkAdded, IsLinkHandedOn, with_links};
 ghost use Rattle.tree_shape.specs.Halves.{left_count};
-ghost use Rattle.tree_shape.specs.LinkPlaces.{child_at, bound_at, with_downlinks, HasLinks, IsBelowFirst, FitsBehind, LinkSplit};
+ghost use Rattle.tree_shape.specs.LinkPlaces.{child_at, bound_at, with_downlinks, HasLinks, IsBelowFirst, FitsAfter, LinkSplit};
 
 use crate::parting::{end_at, put_and_part, right_half};
 use arrayvec::ArrayVec;
@@ -62,11 +62,11 @@ fn tail(links: &[Downlink], at: usize) -> &[Downlink]
     &links[at..]
 }
 
-/// Whether a downlink with the separator for its bound may stand right behind the one at `at`, on a
+/// Whether a downlink with the separator for its bound may stand right after the one at `at`, on a
 /// page with this high key.
-pub fn fits_behind(links: &[Downlink], at: usize, separator: &Bound, high: &Option<Bound>) -> bool
+pub fn fits_after(links: &[Downlink], at: usize, separator: &Bound, high: &Option<Bound>) -> bool
     requires { at < length links.now }
-    ensures { IsTrue result ↔ FitsBehind links.now at separator.now high.now }
+    ensures { IsTrue result ↔ FitsAfter links.now at separator.now high.now }
 {
     if !is_beyond(&links[at].bound, separator) {
         return false;
@@ -77,7 +77,7 @@ pub fn fits_behind(links: &[Downlink], at: usize, separator: &Bound, high: &Opti
     is_below(separator, high)
 }
 
-/// Puts a downlink to the page `new`, 1 to 65,535, with the separator for its bound, right behind
+/// Puts a downlink to the page `new`, 1 to 65,535, with the separator for its bound, right after
 /// the one at `at`.
 pub fn add_link(page: &mut Page, at: usize, separator: Bound, new: u32)
     requires internal { HasLinks page.old.items }
@@ -91,7 +91,7 @@ pub fn add_link(page: &mut Page, at: usize, separator: Bound, new: u32)
     ensures count { length (links_of page.new.items) ≡ length (links_of page.old.items) + 1 }
     ensures still_internal { HasLinks page.new.items }
     ensures page { IsPage page.old → IsBlock new → IsBoundIn Layout.Two separator
-        → FitsBehind (links_of page.old.items) at separator page.old.high → IsPage page.new }
+        → FitsAfter (links_of page.old.items) at separator page.old.high → IsPage page.new }
 {
     page.layout = Layout::Two;
     if let Items::Downlinks(links) = &mut page.items {
@@ -136,7 +136,7 @@ fn begin_low(links: &mut ArrayVec<Downlink, 50>, otherwise: &Bound) -> Bound
     }
 }
 
-/// Splits an internal page of M downlinks, 2 to 50, with one to `child` put right behind the one at
+/// Splits an internal page of M downlinks, 2 to 50, with one to `child` put right after the one at
 /// `at`, the separator for its bound: the page keeps the first (M + 2) / 2 of them, and the answer
 /// is its right half, on the block `new`, 1 to 65,535. The bound of the right half's first downlink
 /// becomes the left half's high key. The left link of the old right neighbour is left to the caller.
@@ -145,7 +145,7 @@ pub fn split_links(page: &mut Page, at: usize, separator: Bound, child: u32, new
     requires internal { HasLinks page.old.items }
     requires some { 2 ≤ length (links_of page.old.items) }
     requires place { at < length (links_of page.old.items) }
-    requires fits { FitsBehind (links_of page.old.items) at separator page.old.high }
+    requires fits { FitsAfter (links_of page.old.items) at separator page.old.high }
     requires bound { IsBoundIn Layout.Two separator }
     requires child { IsBlock child }
     requires block { IsBlock new }

@@ -9,7 +9,7 @@ use Rattle.latch_table.specs.Holdings.{is_held_by_another}
 use Rattle.latch_table.specs.declared.mode.Mode.TheVariants.{Shared, Exclusive}
 use Rattle.page_action.specs.Causes.{is_at_end}
 use Rattle.page_action.specs.States.{State, Backing}
-use Rattle.descent.specs.Shared.{causes_of_working}
+use Rattle.tree_acts.specs.StepEffects.{causes_of_working}
 use Rattle.descent.proofs.Working.{no_room_later, room_for_none}
 use Rattle.vacuum.specs.BulkDeletes.{causes_of_taking, causes_of_deleting, is_counted_out}
 use Rattle.vacuum.specs.declared.steps.BulkDeleteOp.{BulkDeleteOp}
@@ -51,7 +51,3 @@ taking_later images st first second third op Io le alive promised h =
 taking_later images st first second third op Stopped le alive promised h = or_later first.stopped second.stopped (is_at_end st.acts || is_counted_out op) alive h
 taking_later images st first second third op LogFull le alive promised h = no_room_later first second third images promised h
 taking_later images st first second third op fault le alive promised h = h
-
--- a counter is at its end, or the log had stopped
-pub counted_out_cause : (dead : Row → Bool) (st : State) (old new : Backing) (op : BulkDeleteOp) → is_counted_out op ≡ true → HasCause (causes_of_deleting dead st old new op) Stopped
-counted_out_cause dead st old new op h = or_there old.stopped (is_at_end st.acts) (is_counted_out op) h

@@ -1,4 +1,4 @@
--- How much is left to do, and what is counted, behind a page that is read.
+-- How much is left to do, and what is counted, after a page that is read.
 use Rattle.std.proofs.Common.{◌≡◌, ◌≢◌, ℕ, zero, suc, ◌+◌, ◌-◌, ◌*◌, ◌<◌, ◌≤◌, inl, inr, Bool, true, false, Option, Some, None, List, [], ◌∷◌, length, slice_get, refl, sym, ap, subst, ◌∙◌, arith}
 use Rattle.std.proofs.lemmas.Bool.{cases_eq, cases_lt}
 use Rattle.index_model.specs.Order.{is_among}
@@ -15,18 +15,18 @@ use Rattle.page_action.specs.States.{State}
 use Rattle.tree_acts.specs.Leaves.{IsLeafAt}
 use Rattle.vacuum.specs.Counts.{entry_count, entries_below, IsBelow, IsCounted}
 use Rattle.vacuum.specs.Ops.{next_block, last_read, moves_of, cursor_past}
-use Rattle.vacuum.specs.Turns.{gone_on}
+use Rattle.vacuum.specs.Turns.{moved_beyond}
 use Rattle.vacuum.specs.Work.{bulk_delete_left}
-use Rattle.vacuum.specs.declared.steps.Back.{Back}
+use Rattle.vacuum.specs.declared.steps.Backtrack.{Backtrack}
 use Rattle.vacuum.specs.declared.steps.BulkDeleteOp.{BulkDeleteOp}
 
 -- a block less, and no more moves than one block brings
 block_less : (n k m : ℕ) → m < k → n * k + m < suc n * k
 block_less n k m lt = omega (arith, lt)
 
-pub leaves_less : (most used cursor : ℕ) (back onward : Option Back) → (back ≡ None → cursor < used)
-    → ((b : Back) → onward ≡ Some b → (b.moves ≡ suc (moves_of back)) × (moves_of back < most))
-    → bulk_delete_left most used (cursor_past cursor back) onward < bulk_delete_left most used cursor back
+pub leaves_less : (most used cursor : ℕ) (back next_page : Option Backtrack) → (back ≡ None → cursor < used)
+    → ((b : Backtrack) → next_page ≡ Some b → (b.moves ≡ suc (moves_of back)) × (moves_of back < most))
+    → bulk_delete_left most used (cursor_past cursor back) next_page < bulk_delete_left most used cursor back
 leaves_less most used cursor (Some b) None below turn = omega arith
 leaves_less most used cursor (Some b) (Some c) below turn = (let t = turn c refl in omega (arith, t.0, t.1))
 leaves_less most used cursor None None below turn =
@@ -55,28 +55,28 @@ no_leaf_count page none = by page.state page.items none
     by HalfDead items h = refl
     by Deleted items h = refl
 
-below_past : (cursor : ℕ) (back onward : Option Back) → IsBelow cursor back → ((b : Back) → onward ≡ Some b → (b.block < last_read cursor back) × (b.from ≡ last_read cursor back))
-    → IsBelow (cursor_past cursor back) onward
+below_past : (cursor : ℕ) (back next_page : Option Backtrack) → IsBelow cursor back → ((b : Backtrack) → next_page ≡ Some b → (b.block < last_read cursor back) × (b.from ≡ last_read cursor back))
+    → IsBelow (cursor_past cursor back) next_page
 below_past cursor back None below turn = tt
 below_past cursor None (Some b) below turn = (let t = turn b refl in (omega (arith, t.0), omega (arith, t.1)))
 below_past cursor (Some c) (Some b) below turn = (let t = turn b refl in let l = below.1 in (omega (arith, t.0, l), omega (arith, t.1, l)))
 
 -- Where nobody else acts, the counts go on. The page that is read in block order has as many entries as are counted, and no
 -- dead one; going back nothing is changed.
-pub counts_on : (dead : Row → Bool) (st new : State) (op : BulkDeleteOp) (onward : Option Back) (kept gone : ℕ) → IsCounted dead st op
+pub counts_on : (dead : Row → Bool) (st new : State) (op : BulkDeleteOp) (next_page : Option Backtrack) (kept gone : ℕ) → IsCounted dead st op
     → ((b : ℕ) → b ≢ next_block op.cursor op.back → slice_get new.pages b ≡ slice_get st.pages b)
-    → ((b : Back) → onward ≡ Some b → (b.block < last_read op.cursor op.back) × (b.from ≡ last_read op.cursor op.back))
+    → ((b : Backtrack) → next_page ≡ Some b → (b.block < last_read op.cursor op.back) × (b.from ≡ last_read op.cursor op.back))
     → (op.back ≡ None → entry_count (slice_get new.pages op.cursor) ≡ kept)
     → ((page : Page) (e : Entry) → IsLeafAt new.pages (next_block op.cursor op.back) page → is_among (entries_of page.items) e ≡ true → dead e.row ≡ false)
-    → ((b : Back) → op.back ≡ Some b → new.pages ≡ st.pages)
-    → IsCounted dead new (gone_on op onward kept gone)
-counts_on dead st new op onward kept gone h others turn count clean unchanged = by op.back refl
+    → ((b : Backtrack) → op.back ≡ Some b → new.pages ≡ st.pages)
+    → IsCounted dead new (moved_beyond op next_page kept gone)
+counts_on dead st new op next_page kept gone h others turn count clean unchanged = by op.back refl
   where
-    by : (back : Option Back) → op.back ≡ back → IsCounted dead new (gone_on op onward kept gone)
+    by : (back : Option Backtrack) → op.back ≡ back → IsCounted dead new (moved_beyond op next_page kept gone)
     by None is = record {
       counted = rw is (rw (count is, counted_alike st.pages new.pages op.cursor (λ b lt. others b (λ same. let k : b ≡ op.cursor = same ∙ rw is refl in omega (arith, k, lt))))
           (let c = h.counted in omega (arith, c)));
-      below = below_past op.cursor op.back onward h.below turn;
+      below = below_past op.cursor op.back next_page h.below turn;
       clean = λ block page e lt at on. elim (cases_eq block op.cursor) [
         | inl same ↦ clean page e (subst (λ (b : ℕ). IsLeafAt new.pages b page) (same ∙ sym here) at) on
         | inr differ ↦ h.clean block page e (omega (arith, differ, past lt))
@@ -91,7 +91,7 @@ counts_on dead st new op onward kept gone h others turn count clean unchanged = 
         past lt = rw is at lt
     by (Some b) is = record {
       counted = rw is (h.counted ∙ ap (λ (ps : List Page). entries_below ps op.cursor) (sym (unchanged b is)));
-      below = below_past op.cursor op.back onward h.below turn;
+      below = below_past op.cursor op.back next_page h.below turn;
       clean = λ block page e lt at on.
           h.clean block page e (rw is at lt) (record { found = ap (λ (ps : List Page). slice_get ps block) (sym (unchanged b is)) ∙ at.found; alive = at.alive; leaf = at.leaf }) on;
     }
@@ -101,7 +101,7 @@ none_past [] b le = refl
 none_past (p ∷ pages) zero le = absurd (omega arith)
 none_past (p ∷ pages) (suc b) le = none_past pages b (omega arith)
 
--- behind the last page nothing is counted
+-- after the last page nothing is counted
 pub counted_beyond : (pages : List Page) (n : ℕ) → length pages ≤ n → entries_below pages n ≡ entries_below pages (length pages)
 counted_beyond pages zero le = (let none : length pages ≡ 0 = omega (arith, le) in rw none refl)
 counted_beyond pages (suc n) le = elim (cases_lt n (length pages)) [

@@ -8,16 +8,16 @@ use Rattle.page_codec.specs.Edits.{entries_of}
 use Rattle.page_codec.specs.declared.page.Page.{Page}
 use Rattle.page_action.specs.States.{State}
 use Rattle.page_action.proofs.StoredPages.{stored_page}
-use Rattle.tree_acts.specs.Leaves.{IsLeafAt, WasLeaf, HasOldEntries, LeafGoesOn, LeafIsHalved, LeavesStay}
+use Rattle.tree_acts.specs.Leaves.{IsLeafAt, WasLeaf, HasOldEntries, LeafBecomes, LeafIsHalved, LeafPagesStay}
 use Rattle.tree_acts.proofs.Removing.{leaf_is}
-use Rattle.descent.specs.Shared.{NumbersStay}
-use Rattle.vacuum.specs.BulkDeletes.{GoesBack}
+use Rattle.tree_acts.specs.StepEffects.{NumbersStay}
+use Rattle.vacuum.specs.BulkDeletes.{IsGoingBack}
 use Rattle.vacuum.specs.Laws.{BulkDeletesAreUndisturbed, DueIsUndisturbed, AllIsToCome}
 use Rattle.vacuum.specs.Ops.{last_read}
-use Rattle.vacuum.specs.Sweeping.{BlockIsToCome, ahead, sibling, led, WentBackFromLeaf}
-use Rattle.vacuum.specs.declared.steps.Back.{Back}
+use Rattle.vacuum.specs.Vacuuming.{BlockIsToCome, ahead, sibling, led, WentBackFromLeaf}
+use Rattle.vacuum.specs.declared.steps.Backtrack.{Backtrack}
 
-goes_back_still : (old new : State) (start : ℕ) (back : Option Back) → NumbersStay start old new → GoesBack old start back → GoesBack new start back
+goes_back_still : (old new : State) (start : ℕ) (back : Option Backtrack) → NumbersStay start old new → IsGoingBack old start back → IsGoingBack new start back
 goes_back_still old new start None stay h = tt
 goes_back_still old new start (Some back) stay h = stay.trails 0 back.block back.moves h
 
@@ -36,7 +36,7 @@ same_page pages block a b x y = (let k : Some a ≡ Some b = sym x ∙ y in cc)
 true_false : true ≡ false → ⊥
 true_false h = cc
 
-module _ (effect : Option Effect) (old new : State) (cursor : ℕ) (back : Option Back) (stay : LeavesStay effect old new) (went : WentBackFromLeaf old cursor back) where
+module _ (effect : Option Effect) (old new : State) (cursor : ℕ) (back : Option Backtrack) (stay : LeafPagesStay effect old new) (went : WentBackFromLeaf old cursor back) where
   -- the right half of a leaf to come is to come
   half_comes : (n : ℕ) → ((page : Page) → IsLeafAt old.pages n page → ⊥) → (n < last_read cursor back → BlockIsToCome new cursor back n) → BlockIsToCome new cursor back n
   half_comes n free behind = elim (cases_lt n (last_read cursor back)) [
@@ -44,7 +44,7 @@ module _ (effect : Option Effect) (old new : State) (cursor : ℕ) (back : Optio
     | inr ge ↦ ahead (beyond back went ge)
   ]
     where
-      beyond : (b : Option Back) → WentBackFromLeaf old cursor b → last_read cursor b ≤ n → cursor ≤ n
+      beyond : (b : Option Backtrack) → WentBackFromLeaf old cursor b → last_read cursor b ≤ n → cursor ≤ n
       beyond None h ge = ge
       beyond (Some b) h ge = elim (cases_lt b.from n) [
         | inl lt ↦ omega (arith, lt, h.0)
@@ -59,11 +59,11 @@ module _ (effect : Option Effect) (old new : State) (cursor : ℕ) (back : Optio
   comes : {block : ℕ} → BlockIsToCome old cursor back block → BlockIsToCome new cursor back block
   comes (ahead le) = ahead le
   comes (sibling is) = sibling is
-  comes (led {from} page at carries right below rest) = onward from page carries right below (stay.each from page at) (comes rest)
+  comes (led {from} page at carries right below rest) = next_page from page carries right below (stay.each from page at) (comes rest)
     where
-      onward : {block : ℕ} (p : ℕ) (page : Page) → page.cycle ≡ old.cycle → page.right ≡ Some block → block < last_read cursor back → LeafGoesOn effect old.cycle old.pages new.pages p page
+      next_page : {block : ℕ} (p : ℕ) (page : Page) → page.cycle ≡ old.cycle → page.right ≡ Some block → block < last_read cursor back → LeafBecomes effect old.cycle old.pages new.pages p page
           → BlockIsToCome new cursor back p → BlockIsToCome new cursor back block
-      onward p page carries right below go now = elim go.how [
+      next_page p page carries right below go now = elim go.how [
         | inl same ↦ led go.new go.there (same.cycle ∙ carries ∙ sym stay.cycle) (same.right ∙ right) below now
         | inr h ↦ led h.half h.there (h.half_cycle ∙ sym stay.cycle) (h.half_right ∙ right) below (comes_half p go.new page go.there h now)
       ]
@@ -71,7 +71,7 @@ module _ (effect : Option Effect) (old new : State) (cursor : ℕ) (back : Optio
   leaf_lasts : (b : ℕ) → WasLeaf old.pages b → WasLeaf new.pages b
   leaf_lasts b was = (let go = stay.each b was.page was.was in record { page = go.new; was = go.there })
 
-  from_lasts : (b : Option Back) → WentBackFromLeaf old cursor b → WentBackFromLeaf new cursor b
+  from_lasts : (b : Option Backtrack) → WentBackFromLeaf old cursor b → WentBackFromLeaf new cursor b
   from_lasts None h = tt
   from_lasts (Some b) h = (h.0, leaf_lasts b.from h.1)
 
@@ -96,7 +96,7 @@ due_undisturbed due effect old new cursor back stay added h = record {
     ]
 
     still : (block : ℕ) (page : Page) (e : Entry) → IsLeafAt new.pages block page → is_among (entries_of page.items) e ≡ true → due e ≡ true → (was : Page) → IsLeafAt old.pages block was
-        → LeafGoesOn effect old.cycle old.pages new.pages block was → BlockIsToCome new cursor back block
+        → LeafBecomes effect old.cycle old.pages new.pages block was → BlockIsToCome new cursor back block
     still block page e at on is_due was was_at go =
         let page_is : page ≡ go.new = same_page new.pages block page go.new at.found go.there.found in
         let now_on : is_among (entries_of go.new.items) e ≡ true = subst (λ (p : Page). is_among (entries_of p.items) e ≡ true) page_is on in

@@ -1,5 +1,5 @@
 pub mod Lasting
-pub mod Sweeping
+pub mod Vacuuming
 pub mod Holding
 pub mod Causes
 pub mod Removing

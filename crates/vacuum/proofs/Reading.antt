@@ -26,25 +26,25 @@ use Rattle.tree_acts.specs.Trees.{HasTree, HasTrail}
 use Rattle.tree_acts.proofs.Lasting.{deleted_in_use}
 use Rattle.tree_acts.proofs.Overlays.{inside, page_there, page_other, page_length}
 use Rattle.tree_acts.proofs.Removing.{leaf_begins_trail, removing_lasts}
-use Rattle.tree_acts.proofs.Telling.{trail_goes_right, trail_is_short_here}
+use Rattle.tree_acts.proofs.Meanings.{trail_moves_right, trail_is_short_here}
 use Rattle.tree_acts.proofs.Words.{trail_in}
-use Rattle.descent.specs.Shared.{IsInOrder, Does, IsOneStep}
+use Rattle.tree_acts.specs.StepEffects.{IsInOrder, StepEffect, IsOneActAtMost}
 use Rattle.descent.proofs.Acting.{one_act, one_nothing, nothing_else}
-use Rattle.vacuum.specs.BulkDeletes.{GoesBack, BulkDeleteInvariant, BulkDeleteSteps, causes_of_deleting, removes, dead_of, dead_at, has_dead}
+use Rattle.vacuum.specs.BulkDeletes.{IsGoingBack, BulkDeleteInvariant, BulkDeleteSteps, causes_of_deleting, removes, dead_of, dead_at, has_dead}
 use Rattle.vacuum.specs.Counts.{stats_of, IsBelow, IsCounted, entry_count}
 use Rattle.vacuum.specs.Ops.{lives, without_dead, dead_entries, next_block, last_read, moves_of, cursor_past}
-use Rattle.vacuum.specs.Sweeping.{IsSibling, DueIsToCome}
-use Rattle.vacuum.specs.Turns.{LeadsBack, TurnsTo, TurnsNoMore, IsSwept, gone_on, written}
+use Rattle.vacuum.specs.Vacuuming.{IsSibling, DueIsToCome}
+use Rattle.vacuum.specs.Turns.{LeadsBack, TurnsTo, TurnsNoMore, IsPruned, moved_beyond, written}
 use Rattle.vacuum.specs.Work.{bulk_delete_left}
-use Rattle.vacuum.specs.declared.leaf.Swept.{Swept}
-use Rattle.vacuum.specs.declared.steps.Back.{Back}
+use Rattle.vacuum.specs.declared.leaf.PrunedLeaf.{PrunedLeaf}
+use Rattle.vacuum.specs.declared.steps.Backtrack.{Backtrack}
 use Rattle.vacuum.specs.declared.steps.BulkDeleteOp.{BulkDeleteOp}
 use Rattle.vacuum.specs.declared.steps.BulkDeleteStep.TheVariants.{Going, Finished}
 use Rattle.vacuum.proofs.Counting.{counts_on, counted_beyond, leaves_less, no_leaf_count}
 use Rattle.vacuum.proofs.Holding.{pinned_is_held}
 use Rattle.vacuum.proofs.Lasting.{same_page}
 use Rattle.vacuum.proofs.Removing.{does_remove, swept_may, IsLeft, is_left, gone_is, left_lives, live_is, dead_is, none_lost, dead_are}
-use Rattle.vacuum.proofs.Sweeping.{IsReadOn, due_comes_on, none_is_due}
+use Rattle.vacuum.proofs.Vacuuming.{IsReadOn, due_comes_on, none_is_due}
 
 runs_no_more : (b : Bool) {A : Type 0} → b ≡ false → b ≡ true → A
 runs_no_more b alive stopped = absurd cc
@@ -91,10 +91,10 @@ ends g dead op store stats alive none last told steps = record {
 
 -- the page that is written, or not, stands at its block, and no other is changed
 module _ (changed : Bool) (after : Page) (st : State) where
-  pub written_one : (new : State) → new ≡ written changed after st → IsOneStep st new
+  pub written_one : (new : State) → new ≡ written changed after st → IsOneActAtMost st new
   written_one new is = by changed is
     where
-      by : (c : Bool) → new ≡ written c after st → IsOneStep st new
+      by : (c : Bool) → new ≡ written c after st → IsOneActAtMost st new
       by true is = one_act st new (after ∷ []) is
       by false is = one_nothing st new is
 
@@ -157,14 +157,14 @@ unwritten (suc n) h = absurd (let t : nat_lt 0 (suc n) ≡ true = lt-ltb 0 (suc 
 leads_to : (cycle from : ℕ) (page : Page) (a b : ℕ) → LeadsBack cycle from page a → LeadsBack cycle from page b → a ≡ b
 leads_to cycle from page a b x y = (let k : Some a ≡ Some b = sym x.right_is ∙ y.right_is in cc)
 
-turned : (cycle most from moves : ℕ) (page : Page) (onward : Option Back) → TurnsTo cycle most from moves page onward → (block : ℕ) → LeadsBack cycle from page block → IsSibling onward block
+turned : (cycle most from moves : ℕ) (page : Page) (next_page : Option Backtrack) → TurnsTo cycle most from moves page next_page → (block : ℕ) → LeadsBack cycle from page block → IsSibling next_page block
 turned cycle most from moves page None turn block leads = absurd (turn block leads)
 turned cycle most from moves page (Some b) turn block leads = leads_to cycle from page block b.block leads turn.0
 
-turned_from : (cycle most from moves : ℕ) (page : Page) (onward : Option Back) → TurnsTo cycle most from moves page onward → (b : Back) → onward ≡ Some b
+turned_from : (cycle most from moves : ℕ) (page : Page) (next_page : Option Backtrack) → TurnsTo cycle most from moves page next_page → (b : Backtrack) → next_page ≡ Some b
     → LeadsBack cycle from page b.block × (b.from ≡ from) × (b.moves ≡ suc moves) × (moves < most)
 turned_from cycle most from moves page None turn b is = absurd cc
-turned_from cycle most from moves page (Some c) turn b is = subst (λ (d : Back). LeadsBack cycle from page d.block × (d.from ≡ from) × (d.moves ≡ suc moves) × (moves < most)) (some_is is) turn
+turned_from cycle most from moves page (Some c) turn b is = subst (λ (d : Backtrack). LeadsBack cycle from page d.block × (d.from ≡ from) × (d.moves ≡ suc moves) × (moves < most)) (some_is is) turn
   where
     some_is : Some c ≡ Some b → c ≡ b
     some_is k = cc
@@ -180,7 +180,7 @@ trail_in_use st start block moves tree trail = (let t = trail_in st tree.tree st
 pub next_in_use : (st : State) (op : BulkDeleteOp) → HasTree st → (fits : BulkDeleteInvariant st op) → (op.back ≡ None → op.cursor < length st.pages) → next_block op.cursor op.back < length st.pages
 next_in_use st op tree fits inside = by op.back refl fits.back
   where
-    by : (back : Option Back) → op.back ≡ back → GoesBack st fits.start back → next_block op.cursor back < length st.pages
+    by : (back : Option Backtrack) → op.back ≡ back → IsGoingBack st fits.start back → next_block op.cursor back < length st.pages
     by None is goes = inside is
     by (Some b) is goes = trail_in_use st fits.start b.block b.moves tree goes
 
@@ -192,12 +192,12 @@ comes_here : (st : State) (op : BulkDeleteOp) (page : Page) (block : ℕ) → Ha
     → IsLeafAt st.pages block page → page.block ≡ block → HasTrail st fits.start 0 page.block (moves_of op.back)
 comes_here st op page block tree fits at leaf block_is = by op.back refl fits.back
   where
-    by : (back : Option Back) → op.back ≡ back → GoesBack st fits.start back → HasTrail st fits.start 0 page.block (moves_of back)
+    by : (back : Option Backtrack) → op.back ≡ back → IsGoingBack st fits.start back → HasTrail st fits.start 0 page.block (moves_of back)
     by None is goes = leaf_begins_trail st fits.start page tree (subst (λ (b : ℕ). slice_get st.pages b ≡ Some page) (sym block_is) leaf.found) leaf.alive leaf.leaf
     by (Some b) is goes = subst (λ (k : ℕ). HasTrail st fits.start 0 k b.moves) (sym at') goes
       where
         at' : page.block ≡ b.block
-        at' = block_is ∙ sym at ∙ ap (λ (o : Option Back). next_block op.cursor o) is
+        at' = block_is ∙ sym at ∙ ap (λ (o : Option Backtrack). next_block op.cursor o) is
 
 -- so it makes no more moves than there are pages
 pub never_too_far : (st : State) (op : BulkDeleteOp) (page : Page) (block cycle from : ℕ) → IsInOrder st → (fits : BulkDeleteInvariant st op) → next_block op.cursor op.back ≡ block
@@ -206,14 +206,14 @@ never_too_far st op page block cycle from order fits at leaf block_is few more =
     let short = trail_is_short_here st fits.start 0 page.block (moves_of op.back) order.tree (comes_here st op page block order.tree fits at leaf block_is) in
     (let m = more.many in omega (arith, short, few, m))
 
-none_turned : {A : Type 0} (b : Back) → None ≡ Some b → A
+none_turned : {A : Type 0} (b : Backtrack) → None ≡ Some b → A
 none_turned b is = absurd cc
 
 -- a page that isn't a live leaf is passed
 pub passes : {S : Type 0} (g : Ghosts S) (dead : Row → Bool) (before after : BulkDeleteOp) (old new : S) (block : ℕ) (page : Page) → Continues g.follows old new → g.state new ≡ g.state old
     → (g.backing old).stopped ≡ false → next_block before.cursor before.back ≡ block → (before.back ≡ None → before.cursor < length (g.state old).pages)
     → ((g.backing new).honest ≡ true → slice_get (g.state old).pages block ≡ Some page) → (page.state ≡ Live → HasEntries page.items → ⊥)
-    → after ≡ gone_on before None 0 0 → BulkDeleteSteps g dead before after old new (Ok Going)
+    → after ≡ moved_beyond before None 0 0 → BulkDeleteSteps g dead before after old new (Ok Going)
 passes g dead before after old new block page steps same alive at inside_is found none is =
     subst (λ (op : BulkDeleteOp). BulkDeleteSteps g dead before op old new (Ok Going)) (sym is) (record {
       steps = steps;
@@ -230,13 +230,13 @@ passes g dead before after old new block page steps same alive at inside_is foun
       due = λ honest due of h. subst (λ (s : State). DueIsToCome due s (cursor_past before.cursor before.back) None) (sym same)
           (due_comes_on st st before.cursor before.back None h.from (read_on honest) due h (λ p e leaf on is_due. no_leaf honest p leaf));
       pins = λ honest other b p differ leaf pin le. past honest b p leaf le;
-      counts = λ honest h. subst (λ (s : State). IsCounted dead s (gone_on before None 0 0)) (sym same)
+      counts = λ honest h. subst (λ (s : State). IsCounted dead s (moved_beyond before None 0 0)) (sym same)
           (counts_on dead st st before None 0 0 h (λ b differ. refl) (λ b k. none_turned b k) (λ k. count honest k) (λ p e leaf on. absurd (no_leaf honest p leaf)) (λ b k. refl));
       stepped = λ honest order fits. record {
-        does = subst (λ (es : List Entry). Does before.session (removes es) st (g.state new)) (sym (none_dead honest)) (nothing_else before.session st (g.state new) same order);
+        does = subst (λ (es : List Entry). StepEffect before.session (removes es) st (g.state new)) (sym (none_dead honest)) (nothing_else before.session st (g.state new) same order);
         dead_rows = λ e on. absurd (let k : false ≡ true = subst (λ (es : List Entry). is_among es e ≡ true) (none_dead honest) on in cc);
         count = ap (λ (es : List Entry). before.removed + length es) (sym (none_dead honest));
-        fits = subst (λ (s : State). BulkDeleteInvariant s (gone_on before None 0 0)) (sym same)
+        fits = subst (λ (s : State). BulkDeleteInvariant s (moved_beyond before None 0 0)) (sym same)
             (record { session = fits.session; start = fits.start; running = fits.running; held = fits.held; back = tt });
       };
     })
@@ -269,15 +269,15 @@ passes g dead before after old new block page steps same alive at inside_is foun
         no_entries (e ∷ es) h = absurd (let k : suc (length es) ≡ 0 = h in omega (arith, k))
 
     count : (g.backing new).honest ≡ true → before.back ≡ None → entry_count (slice_get st.pages before.cursor) ≡ 0
-    count honest k = ap entry_count (subst (λ (o : Option Back). slice_get st.pages (next_block before.cursor o) ≡ Some page) k (here honest)) ∙ no_leaf_count page none
+    count honest k = ap entry_count (subst (λ (o : Option Backtrack). slice_get st.pages (next_block before.cursor o) ≡ Some page) k (here honest)) ∙ no_leaf_count page none
 
     past : (g.backing new).honest ≡ true → (b : ℕ) (p : Page) → IsLeafAt st.pages b p → before.cursor ≤ b → cursor_past before.cursor before.back ≤ b
     past honest b p leaf le = by before.back refl
       where
-        by : (o : Option Back) → before.back ≡ o → cursor_past before.cursor o ≤ b
+        by : (o : Option Backtrack) → before.back ≡ o → cursor_past before.cursor o ≤ b
         by (Some c) k = le
         by None k = elim (cases_eq before.cursor b) [
-          | inl eq ↦ absurd (no_leaf honest p (subst (λ (n : ℕ). IsLeafAt st.pages n p) (sym eq ∙ sym (ap (λ (o : Option Back). next_block before.cursor o) k)) leaf))
+          | inl eq ↦ absurd (no_leaf honest p (subst (λ (n : ℕ). IsLeafAt st.pages n p) (sym eq ∙ sym (ap (λ (o : Option Backtrack). next_block before.cursor o) k)) leaf))
           | inr ne ↦ omega (arith, le, ne)
         ]
 
@@ -288,25 +288,25 @@ is_written : (n m : ℕ) → n ≡ suc m → nat_lt 0 n ≡ true
 is_written n m is = lt-ltb 0 n (omega (arith, is))
 
 -- a page that is read is written exactly where it has dead entries
-pub writes_dead : (dead : Row → Bool) (st : State) (op : BulkDeleteOp) (block : ℕ) (page : Page) (swept : Swept) → next_block op.cursor op.back ≡ block → slice_get st.pages block ≡ Some page
-    → page.state ≡ Live → HasEntries page.items → IsSwept dead page swept → nat_lt 0 swept.gone ≡ has_dead dead st op
-writes_dead dead st op block page swept at found alive leaf sw =
+pub writes_dead : (dead : Row → Bool) (st : State) (op : BulkDeleteOp) (block : ℕ) (page : Page) (pruned : PrunedLeaf) → next_block op.cursor op.back ≡ block → slice_get st.pages block ≡ Some page
+    → page.state ≡ Live → HasEntries page.items → IsPruned dead page pruned → nat_lt 0 pruned.gone ≡ has_dead dead st op
+writes_dead dead st op block page pruned at found alive leaf sw =
     let here : slice_get st.pages (next_block op.cursor op.back) ≡ Some page = subst (λ (b : ℕ). slice_get st.pages b ≡ Some page) (sym at) found in
-    ap (λ (n : ℕ). nat_lt 0 n) (gone_is dead page swept alive leaf sw ∙ ap (λ (o : Option Page). length (dead_of dead o)) (sym here))
+    ap (λ (n : ℕ). nat_lt 0 n) (gone_is dead page pruned alive leaf sw ∙ ap (λ (o : Option Page). length (dead_of dead o)) (sym here))
 
 -- a live leaf loses its dead entries, and may lead back
-module _ {S : Type 0} (g : Ghosts S) (dead : Row → Bool) (before : BulkDeleteOp) (old new : S) (block : ℕ) (page : Page) (swept : Swept) (onward : Option Back)
+module _ {S : Type 0} (g : Ghosts S) (dead : Row → Bool) (before : BulkDeleteOp) (old new : S) (block : ℕ) (page : Page) (pruned : PrunedLeaf) (next_page : Option Backtrack)
     (at : next_block before.cursor before.back ≡ block) (inside_is : before.back ≡ None → before.cursor < length (g.state old).pages)
     (found : (g.backing new).honest ≡ true → slice_get (g.state old).pages block ≡ Some page) (alive : page.state ≡ Live) (leaf : HasEntries page.items)
     (stored : IsStored (g.state old).limits block page) (used : block < length (g.state old).pages) (few : length (g.state old).pages ≤ (g.state old).limits.pages)
-    (turn : TurnsTo (g.state old).cycle (g.state old).limits.pages (last_read before.cursor before.back) (moves_of before.back) page onward)
-    (sw : IsSwept dead page swept) (free : is_held_by_another (g.state old).table before.session swept.after.block Cleanup ≡ false) where
-  -- the store behind the step
+    (turn : TurnsTo (g.state old).cycle (g.state old).limits.pages (last_read before.cursor before.back) (moves_of before.back) page next_page)
+    (sw : IsPruned dead page pruned) (free : is_held_by_another (g.state old).table before.session pruned.after.block Cleanup ≡ false) where
+  -- the store after the step
   abbrev pub now : State
-  now = written (nat_lt 0 swept.gone) (without_dead dead page) (g.state old)
+  now = written (nat_lt 0 pruned.gone) (without_dead dead page) (g.state old)
 
-  lost : swept.gone ≡ length (dead_entries dead page)
-  lost = gone_is dead page swept alive leaf sw
+  lost : pruned.gone ≡ length (dead_entries dead page)
+  lost = gone_is dead page pruned alive leaf sw
 
   block_is : page.block ≡ block
   block_is = stored.block_is
@@ -329,13 +329,13 @@ module _ {S : Type 0} (g : Ghosts S) (dead : Row → Bool) (before : BulkDeleteO
 
   -- what stands there then
   abbrev stands : Page
-  stands = if nat_lt 0 swept.gone then without_dead dead page else page
+  stands = if nat_lt 0 pruned.gone then without_dead dead page else page
 
   left : IsLeft dead page stands
-  left = is_left dead page alive leaf (nat_lt 0 swept.gone) (λ h. sym lost ∙ unwritten swept.gone h)
+  left = is_left dead page alive leaf (nat_lt 0 pruned.gone) (λ h. sym lost ∙ unwritten pruned.gone h)
 
   there : (g.backing new).honest ≡ true → slice_get now.pages page.block ≡ Some stands
-  there honest = written_there (nat_lt 0 swept.gone) (without_dead dead page) (g.state old) page (found_here honest) lt
+  there honest = written_there (nat_lt 0 pruned.gone) (without_dead dead page) (g.state old) page (found_here honest) lt
 
   after_here : (g.backing new).honest ≡ true → (p : Page) → IsLeafAt now.pages (next_block before.cursor before.back) p → p ≡ stands
   after_here honest p h = same_page now.pages page.block p stands (subst (λ (b : ℕ). slice_get now.pages b ≡ Some p) (sym next_is) h.found) (there honest)
@@ -344,19 +344,19 @@ module _ {S : Type 0} (g : Ghosts S) (dead : Row → Bool) (before : BulkDeleteO
   live_there honest p e at_leaf on = left_lives dead page e (subst (λ (es : List Entry). is_among es e ≡ true) (ap (λ (q : Page). entries_of q.items) (after_here honest p at_leaf) ∙ left.entries) on)
 
   others : (b : ℕ) → b ≢ next_block before.cursor before.back → slice_get now.pages b ≡ slice_get (g.state old).pages b
-  others b differ = written_other (nat_lt 0 swept.gone) (without_dead dead page) (g.state old) b (λ same. differ (same ∙ next_is)) lt
+  others b differ = written_other (nat_lt 0 pruned.gone) (without_dead dead page) (g.state old) b (λ same. differ (same ∙ next_is)) lt
 
-  read_on : (g.backing new).honest ≡ true → IsReadOn (g.state old) now before.cursor before.back onward
+  read_on : (g.backing new).honest ≡ true → IsReadOn (g.state old) now before.cursor before.back next_page
   read_on honest = record {
-    cycle = written_cycle (nat_lt 0 swept.gone) (without_dead dead page) (g.state old);
+    cycle = written_cycle (nat_lt 0 pruned.gone) (without_dead dead page) (g.state old);
     others = others;
     stays = λ p h. record { page = stands; was = record { found = subst (λ (b : ℕ). slice_get now.pages b ≡ Some stands) next_is (there honest); alive = left.alive; leaf = left.leaf } };
     turn = λ p b h leads.
         let is_page = same_page (g.state old).pages (next_block before.cursor before.back) p page h.found (leaf_here honest).found in
-        turned (g.state old).cycle (g.state old).limits.pages (last_read before.cursor before.back) (moves_of before.back) page onward turn b
+        turned (g.state old).cycle (g.state old).limits.pages (last_read before.cursor before.back) (moves_of before.back) page next_page turn b
         (subst (λ (q : Page). LeadsBack (g.state old).cycle (last_read before.cursor before.back) q b) is_page leads);
     from = λ b is. (
-      (turned_from (g.state old).cycle (g.state old).limits.pages (last_read before.cursor before.back) (moves_of before.back) page onward turn b is).1,
+      (turned_from (g.state old).cycle (g.state old).limits.pages (last_read before.cursor before.back) (moves_of before.back) page next_page turn b is).1,
       record { page = page; was = leaf_here honest },
     );
   }
@@ -370,13 +370,13 @@ module _ {S : Type 0} (g : Ghosts S) (dead : Row → Bool) (before : BulkDeleteO
     may = swept_may dead (g.state old).limits (length (g.state old).pages) block page alive leaf stored used few;
   }
 
-  does : (g.backing new).honest ≡ true → IsInOrder (g.state old) → (es : List Entry) → dead_entries dead page ≡ es → Does before.session (removes es) (g.state old) now
+  does : (g.backing new).honest ≡ true → IsInOrder (g.state old) → (es : List Entry) → dead_entries dead page ≡ es → StepEffect before.session (removes es) (g.state old) now
   does honest order [] is =
-      let c : nat_lt 0 swept.gone ≡ false = not_written swept.gone (lost ∙ ap length is) in
+      let c : nat_lt 0 pruned.gone ≡ false = not_written pruned.gone (lost ∙ ap length is) in
       nothing_else before.session (g.state old) now (ap (λ (b : Bool). written b (without_dead dead page) (g.state old)) c) order
   does honest order (e ∷ es) is =
-      let c : nat_lt 0 swept.gone ≡ true = is_written swept.gone (length es) (lost ∙ ap length is) in
-      subst (Does before.session (removes (e ∷ es)) (g.state old)) (ap (λ (b : Bool). written b (without_dead dead page) (g.state old)) (sym c))
+      let c : nat_lt 0 pruned.gone ≡ true = is_written pruned.gone (length es) (lost ∙ ap length is) in
+      subst (StepEffect before.session (removes (e ∷ es)) (g.state old)) (ap (λ (b : Bool). written b (without_dead dead page) (g.state old)) (sym c))
       (does_remove (g.state old) before.session dead page e es order (removed honest) (sym (dead_is dead page alive leaf) ∙ is) free_here)
 
   dead_here : (g.backing new).honest ≡ true → dead_at dead (g.state old) (next_block before.cursor before.back) ≡ dead_entries dead page
@@ -384,29 +384,29 @@ module _ {S : Type 0} (g : Ghosts S) (dead : Row → Bool) (before : BulkDeleteO
 
   trail_lasts : (g.backing new).honest ≡ true → IsInOrder (g.state old) → (start b moves : ℕ) → slice_get (g.state old).running before.session ≡ Some (Some start)
       → HasTrail (g.state old) start 0 b moves → HasTrail now start 0 b moves
-  trail_lasts honest order start b moves running trail = by (nat_lt 0 swept.gone)
+  trail_lasts honest order start b moves running trail = by (nat_lt 0 pruned.gone)
     where
       by : (c : Bool) → HasTrail (written c (without_dead dead page) (g.state old)) start 0 b moves
       by true = (removing_lasts (g.state old) (lives dead) page (without_dead dead page) order.tree (removed honest)).0.trails start 0 b moves (record { session = before.session; is = running }) trail
       by false = trail
 
-  goes_back : (g.backing new).honest ≡ true → IsInOrder (g.state old) → (fits : BulkDeleteInvariant (g.state old) before) → GoesBack now fits.start onward
-  goes_back honest order fits = by onward refl
+  goes_back : (g.backing new).honest ≡ true → IsInOrder (g.state old) → (fits : BulkDeleteInvariant (g.state old) before) → IsGoingBack now fits.start next_page
+  goes_back honest order fits = by next_page refl
     where
-      by : (o : Option Back) → onward ≡ o → GoesBack now fits.start o
+      by : (o : Option Backtrack) → next_page ≡ o → IsGoingBack now fits.start o
       by None is = tt
       by (Some b) is =
-          let t = turned_from (g.state old).cycle (g.state old).limits.pages (last_read before.cursor before.back) (moves_of before.back) page onward turn b is in
+          let t = turned_from (g.state old).cycle (g.state old).limits.pages (last_read before.cursor before.back) (moves_of before.back) page next_page turn b is in
           let here = comes_here (g.state old) before page block order.tree fits at (record { found = found honest; alive = alive; leaf = leaf }) block_is in
-          let right = trail_goes_right (g.state old) fits.start 0 (moves_of before.back) b.block page order.tree (found_here honest) t.0.right_is here in
+          let right = trail_moves_right (g.state old) fits.start 0 (moves_of before.back) b.block page order.tree (found_here honest) t.0.right_is here in
           trail_lasts honest order fits.start b.block b.moves fits.running (subst (HasTrail (g.state old) fits.start 0 b.block) (sym t.2) right)
 
-  pub fits_on : (g.backing new).honest ≡ true → IsInOrder (g.state old) → BulkDeleteInvariant (g.state old) before → BulkDeleteInvariant now (gone_on before onward swept.kept swept.gone)
+  pub fits_on : (g.backing new).honest ≡ true → IsInOrder (g.state old) → BulkDeleteInvariant (g.state old) before → BulkDeleteInvariant now (moved_beyond before next_page pruned.kept pruned.gone)
   fits_on honest order fits = record {
     session = fits.session;
     start = fits.start;
-    running = ap (λ (r : List (Option ℕ)). slice_get r before.session) (written_running (nat_lt 0 swept.gone) (without_dead dead page) (g.state old)) ∙ fits.running;
-    held = ap (λ (t : Table). holding_of t before.session) (written_table (nat_lt 0 swept.gone) (without_dead dead page) (g.state old)) ∙ fits.held;
+    running = ap (λ (r : List (Option ℕ)). slice_get r before.session) (written_running (nat_lt 0 pruned.gone) (without_dead dead page) (g.state old)) ∙ fits.running;
+    held = ap (λ (t : Table). holding_of t before.session) (written_table (nat_lt 0 pruned.gone) (without_dead dead page) (g.state old)) ∙ fits.held;
     back = goes_back honest order fits;
   }
 
@@ -414,61 +414,61 @@ module _ {S : Type 0} (g : Ghosts S) (dead : Row → Bool) (before : BulkDeleteO
       → cursor_past before.cursor before.back ≤ b
   past honest other b differ pin le = by before.back refl
     where
-      by : (o : Option Back) → before.back ≡ o → cursor_past before.cursor o ≤ b
+      by : (o : Option Backtrack) → before.back ≡ o → cursor_past before.cursor o ≤ b
       by (Some c) k = le
       by None k = elim (cases_eq before.cursor b) [
         | inl eq ↦ (
-            let is : page.block ≡ b = next_is ∙ ap (λ (o : Option Back). next_block before.cursor o) k ∙ eq in
+            let is : page.block ≡ b = next_is ∙ ap (λ (o : Option Backtrack). next_block before.cursor o) k ∙ eq in
             absurd (pinned_is_held (g.state old).table before.session other b differ pin (subst (λ (n : ℕ). is_held_by_another (g.state old).table before.session n Cleanup ≡ false) is free_here)))
         | inr ne ↦ omega (arith, le, ne)
       ]
 
-  counted : (g.backing new).honest ≡ true → IsCounted dead (g.state old) before → IsCounted dead now (gone_on before onward swept.kept swept.gone)
-  counted honest h = counts_on dead (g.state old) now before onward swept.kept swept.gone h others
+  counted : (g.backing new).honest ≡ true → IsCounted dead (g.state old) before → IsCounted dead now (moved_beyond before next_page pruned.kept pruned.gone)
+  counted honest h = counts_on dead (g.state old) now before next_page pruned.kept pruned.gone h others
       (λ b is.
-      let t = turned_from (g.state old).cycle (g.state old).limits.pages (last_read before.cursor before.back) (moves_of before.back) page onward turn b is in
+      let t = turned_from (g.state old).cycle (g.state old).limits.pages (last_read before.cursor before.back) (moves_of before.back) page next_page turn b is in
       (t.0.below, t.1))
-      (λ k. ap entry_count (subst (λ (b : ℕ). slice_get now.pages b ≡ Some stands) (next_is ∙ ap (λ (o : Option Back). next_block before.cursor o) k) (there honest))
+      (λ k. ap entry_count (subst (λ (b : ℕ). slice_get now.pages b ≡ Some stands) (next_is ∙ ap (λ (o : Option Backtrack). next_block before.cursor o) k) (there honest))
       ∙ ap length (live_is stands left.alive left.leaf ∙ left.entries) ∙ ap (λ (p : Page). length (entries_of p.items)) (sym sw.after_is) ∙ sym sw.kept_is)
       (λ p e at_leaf on. live_there honest p e at_leaf on)
       (λ b k.
       let low : b.block < before.cursor = (subst (IsBelow before.cursor) k h.below).0 in
-      let is : next_block before.cursor before.back ≡ b.block = ap (λ (o : Option Back). next_block before.cursor o) k in
+      let is : next_block before.cursor before.back ≡ b.block = ap (λ (o : Option Backtrack). next_block before.cursor o) k in
       let none = none_lost dead page alive leaf (λ e on. h.clean (next_block before.cursor before.back) page e (omega (arith, low, is)) (leaf_here honest) on) in
-      ap (λ (c : Bool). (written c (without_dead dead page) (g.state old)).pages) (not_written swept.gone (lost ∙ none)))
+      ap (λ (c : Bool). (written c (without_dead dead page) (g.state old)).pages) (not_written pruned.gone (lost ∙ none)))
 
-  pub takes : (op : BulkDeleteOp) → Continues g.follows old new → (g.backing old).stopped ≡ false → g.state new ≡ written (nat_lt 0 swept.gone) swept.after (g.state old)
-      → op ≡ gone_on before onward swept.kept swept.gone → BulkDeleteSteps g dead before op old new (Ok Going)
+  pub takes : (op : BulkDeleteOp) → Continues g.follows old new → (g.backing old).stopped ≡ false → g.state new ≡ written (nat_lt 0 pruned.gone) pruned.after (g.state old)
+      → op ≡ moved_beyond before next_page pruned.kept pruned.gone → BulkDeleteSteps g dead before op old new (Ok Going)
   takes op steps running written_is is = subst (λ (o : BulkDeleteOp). BulkDeleteSteps g dead before o old new (Ok Going)) (sym is) (record {
     steps = steps;
     session = refl;
-    kept = written_one (nat_lt 0 swept.gone) (without_dead dead page) (g.state old) (g.state new) new_is;
-    table = ap (λ (s : State). s.table) new_is ∙ written_table (nat_lt 0 swept.gone) (without_dead dead page) (g.state old);
-    cycle = ap (λ (s : State). s.cycle) new_is ∙ written_cycle (nat_lt 0 swept.gone) (without_dead dead page) (g.state old);
+    kept = written_one (nat_lt 0 pruned.gone) (without_dead dead page) (g.state old) (g.state new) new_is;
+    table = ap (λ (s : State). s.table) new_is ∙ written_table (nat_lt 0 pruned.gone) (without_dead dead page) (g.state old);
+    cycle = ap (λ (s : State). s.cycle) new_is ∙ written_cycle (nat_lt 0 pruned.gone) (without_dead dead page) (g.state old);
     refused = tt;
     stopped = λ h. runs_no_more (g.backing old).stopped running h;
     stats = tt;
-    less = subst (λ (s : State). bulk_delete_left s.limits.pages (length s.pages) (cursor_past before.cursor before.back) onward
+    less = subst (λ (s : State). bulk_delete_left s.limits.pages (length s.pages) (cursor_past before.cursor before.back) next_page
         < bulk_delete_left (g.state old).limits.pages (length (g.state old).pages) before.cursor before.back) (sym new_is)
-        (rw (written_limits (nat_lt 0 swept.gone) (without_dead dead page) (g.state old), written_length (nat_lt 0 swept.gone) (without_dead dead page) (g.state old) lt)
-        (leaves_less (g.state old).limits.pages (length (g.state old).pages) before.cursor before.back onward inside_is
-        (λ b k. let t = turned_from (g.state old).cycle (g.state old).limits.pages (last_read before.cursor before.back) (moves_of before.back) page onward turn b k in (t.2, t.3))));
-    due = λ honest due of h. subst (λ (s : State). DueIsToCome due s (cursor_past before.cursor before.back) onward) (sym new_is)
-        (due_comes_on (g.state old) now before.cursor before.back onward h.from (read_on honest) due h
+        (rw (written_limits (nat_lt 0 pruned.gone) (without_dead dead page) (g.state old), written_length (nat_lt 0 pruned.gone) (without_dead dead page) (g.state old) lt)
+        (leaves_less (g.state old).limits.pages (length (g.state old).pages) before.cursor before.back next_page inside_is
+        (λ b k. let t = turned_from (g.state old).cycle (g.state old).limits.pages (last_read before.cursor before.back) (moves_of before.back) page next_page turn b k in (t.2, t.3))));
+    due = λ honest due of h. subst (λ (s : State). DueIsToCome due s (cursor_past before.cursor before.back) next_page) (sym new_is)
+        (due_comes_on (g.state old) now before.cursor before.back next_page h.from (read_on honest) due h
         (λ p e at_leaf on is_due. clash (dead e.row) (of e is_due) (live_there honest p e at_leaf on)));
     pins = λ honest other b p differ at_leaf pin le. past honest other b differ pin le;
-    counts = λ honest h. subst (λ (s : State). IsCounted dead s (gone_on before onward swept.kept swept.gone)) (sym new_is) (counted honest h);
+    counts = λ honest h. subst (λ (s : State). IsCounted dead s (moved_beyond before next_page pruned.kept pruned.gone)) (sym new_is) (counted honest h);
     stepped = λ honest order fits. record {
-      does = subst (Does before.session (removes (dead_at dead (g.state old) (next_block before.cursor before.back))) (g.state old)) (sym new_is)
-          (subst (λ (es : List Entry). Does before.session (removes es) (g.state old) now) (sym (dead_here honest)) (does honest order (dead_entries dead page) refl));
+      does = subst (StepEffect before.session (removes (dead_at dead (g.state old) (next_block before.cursor before.back))) (g.state old)) (sym new_is)
+          (subst (λ (es : List Entry). StepEffect before.session (removes es) (g.state old) now) (sym (dead_here honest)) (does honest order (dead_entries dead page) refl));
       dead_rows = λ e on. dead_are dead page e (subst (λ (es : List Entry). is_among es e ≡ true) (dead_here honest) on);
       count = ap (λ (n : ℕ). before.removed + n) (lost ∙ ap length (sym (dead_here honest)));
-      fits = subst (λ (s : State). BulkDeleteInvariant s (gone_on before onward swept.kept swept.gone)) (sym new_is) (fits_on honest order fits);
+      fits = subst (λ (s : State). BulkDeleteInvariant s (moved_beyond before next_page pruned.kept pruned.gone)) (sym new_is) (fits_on honest order fits);
     };
   })
     where
       new_is : g.state new ≡ now
-      new_is = written_is ∙ ap (λ (p : Page). written (nat_lt 0 swept.gone) p (g.state old)) sw.after_is
+      new_is = written_is ∙ ap (λ (p : Page). written (nat_lt 0 pruned.gone) p (g.state old)) sw.after_is
 
       clash : (b : Bool) → b ≡ true → b ≡ false → ⊥
       clash b x y = cc

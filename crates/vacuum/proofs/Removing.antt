@@ -32,11 +32,11 @@ use Rattle.tree_acts.proofs.Overlays.{node_there, inside}
 use Rattle.tree_acts.proofs.Leaving.{removing_leaves}
 use Rattle.tree_acts.proofs.Removing.{removing_lasts, removing_flags}
 use Rattle.tree_acts.proofs.Words.{contents_held}
-use Rattle.descent.specs.Shared.{IsInOrder, Does}
+use Rattle.tree_acts.specs.StepEffects.{IsInOrder, StepEffect}
 use Rattle.descent.proofs.Acting.{others_rely}
 use Rattle.vacuum.specs.Ops.{lives, without_dead, dead_entries}
-use Rattle.vacuum.specs.Turns.{IsSwept}
-use Rattle.vacuum.specs.declared.leaf.Swept.{Swept}
+use Rattle.vacuum.specs.Turns.{IsPruned}
+use Rattle.vacuum.specs.declared.leaf.PrunedLeaf.{PrunedLeaf}
 use Rattle.vacuum.proofs.Holding.{free_for_all}
 
 -- the entries that pass and those that don't are all
@@ -67,12 +67,12 @@ pub dead_is : (dead : Row → Bool) (page : Page) → page.state ≡ Live → Ha
 dead_is dead page alive leaf = ap (removed_from (lives dead)) (live_is page alive leaf)
 
 -- what a sweep counts
-pub gone_is : (dead : Row → Bool) (page : Page) (swept : Swept) → page.state ≡ Live → HasEntries page.items → IsSwept dead page swept → swept.gone ≡ length (dead_entries dead page)
-gone_is dead page swept alive leaf h =
-    let kept : swept.kept ≡ length (filter (lives dead) (entries_of page.items)) = h.kept_is ∙ ap (λ (p : Page). length (entries_of p.items)) h.after_is in
+pub gone_is : (dead : Row → Bool) (page : Page) (pruned : PrunedLeaf) → page.state ≡ Live → HasEntries page.items → IsPruned dead page pruned → pruned.gone ≡ length (dead_entries dead page)
+gone_is dead page pruned alive leaf h =
+    let kept : pruned.kept ≡ length (filter (lives dead) (entries_of page.items)) = h.kept_is ∙ ap (λ (p : Page). length (entries_of p.items)) h.after_is in
     let parts = parted (lives dead) (entries_of page.items) in
     let sum = h.gone_is in
-    let gone : swept.gone ≡ length (removed_from (lives dead) (entries_of page.items)) = omega (arith, kept, parts, sum) in
+    let gone : pruned.gone ≡ length (removed_from (lives dead) (entries_of page.items)) = omega (arith, kept, parts, sum) in
     gone ∙ ap length (sym (dead_is dead page alive leaf))
 
 -- a live leaf with those entries of the page that live
@@ -187,7 +187,7 @@ said es x was = by (is_among es x) was
 
 pub does_remove : (st : State) (session : ℕ) (dead : Row → Bool) (page : Page) (e : Entry) (es : List Entry) → IsInOrder st
     → EntriesAreRemoved st (lives dead) page (without_dead dead page) → removed_from (lives dead) (entries_of page.items) ≡ e ∷ es → is_held_by_another st.table session page.block Cleanup ≡ false
-    → Does session (Some (Remove (e ∷ es))) st (after_act (without_dead dead page ∷ []) st)
+    → StepEffect session (Some (Remove (e ∷ es))) st (after_act (without_dead dead page ∷ []) st)
 does_remove st session dead page e es order h is free = record {
   changes = record {
     acts = refl;

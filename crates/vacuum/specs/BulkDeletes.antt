@@ -16,20 +16,20 @@ use Rattle.page_action.specs.States.{State, Backing, Continues}
 use Rattle.page_action.specs.declared.page_store.PageStore.{Ghosts}
 use Rattle.tree_acts.specs.Leaves.{IsLeafAt}
 use Rattle.tree_acts.specs.Trees.{HasTrail}
-use Rattle.descent.specs.Shared.{IsInOrder, Does, IsOneStep, lacks_room}
+use Rattle.tree_acts.specs.StepEffects.{IsInOrder, StepEffect, IsOneActAtMost, lacks_room}
 use Rattle.vacuum.specs.Counts.{stats_of, entries_below, IsCounted}
 use Rattle.vacuum.specs.Ops.{dead_entries, next_block}
-use Rattle.vacuum.specs.Sweeping.{DueIsToCome}
+use Rattle.vacuum.specs.Vacuuming.{DueIsToCome}
 use Rattle.vacuum.specs.Work.{bulk_delete_left}
-use Rattle.vacuum.specs.declared.steps.Back.{Back}
+use Rattle.vacuum.specs.declared.steps.Backtrack.{Backtrack}
 use Rattle.vacuum.specs.declared.steps.BulkDeleteOp.{BulkDeleteOp}
 use Rattle.vacuum.specs.declared.steps.BulkDeleteStep.{BulkDeleteStep}
 use Rattle.vacuum.specs.declared.steps.BulkDeleteStep.TheVariants.{Going, Finished}
 
 -- going back, it has come so far to the right from the leaf at which it began, past no page twice
-abbrev pub GoesBack : State → ℕ → Option Back → Type 0
-GoesBack st start None = Unit {0}
-GoesBack st start (Some back) = HasTrail st start 0 back.block back.moves
+abbrev pub IsGoingBack : State → ℕ → Option Backtrack → Type 0
+IsGoingBack st start None = Unit {0}
+IsGoingBack st start (Some back) = HasTrail st start 0 back.block back.moves
 
 -- what a bulk delete knows between its steps
 pub record BulkDeleteInvariant (st : State) (op : BulkDeleteOp) : Type 0 where
@@ -38,7 +38,7 @@ pub record BulkDeleteInvariant (st : State) (op : BulkDeleteOp) : Type 0 where
   pub start : ℕ
   pub running : slice_get st.running op.session ≡ Some (Some start)
   pub held : holding_of st.table op.session ≡ nothing_held
-  pub back : GoesBack st start op.back
+  pub back : IsGoingBack st start op.back
 
 -- a counter of 64 bits has no room for the entries of one more leaf
 abbrev pub is_full_count : ℕ → Bool
@@ -86,9 +86,9 @@ causes_of_deleting dead st old new op =
     causes_of_taking (block_if (has_dead dead st op) (next_block op.cursor op.back)) st old new op
 
 -- a page is read: its dead entries are removed in one act
-pub record BulkDeleteGoesOn (dead : Row → Bool) (old new : State) (before after : BulkDeleteOp)
+pub record BulkDeleteContinues (dead : Row → Bool) (old new : State) (before after : BulkDeleteOp)
     : Type 0 where
-  pub does : Does before.session
+  pub does : StepEffect before.session
       (removes (dead_at dead old (next_block before.cursor before.back))) old new
   pub dead_rows : (e : Entry)
       → is_among (dead_at dead old (next_block before.cursor before.back)) e ≡ true
@@ -108,7 +108,7 @@ pub record BulkDeleteEnds (old new : State) (before after : BulkDeleteOp) : Type
 abbrev pub BulkDeleteStepped : (Row → Bool) → State → Backing → State → Backing → BulkDeleteOp
     → BulkDeleteOp → Result BulkDeleteStep Fault → Type 0
 BulkDeleteStepped dead old old_backing new new_backing before after (Ok Going) =
-    BulkDeleteGoesOn dead old new before after
+    BulkDeleteContinues dead old new before after
 BulkDeleteStepped dead old old_backing new new_backing before after (Ok (Finished stats)) =
     BulkDeleteEnds old new before after
 BulkDeleteStepped dead old old_backing new new_backing before after (Err fault) =
@@ -120,19 +120,19 @@ pub record BulkDeleteStays (old new : State) (before after : BulkDeleteOp) : Typ
   pub op : after ≡ before
 
 -- the statistics are those of the call and of the pages
-abbrev pub StatsAreTold : State → BulkDeleteOp → Result BulkDeleteStep Fault → Type 0
-StatsAreTold st op (Ok Going) = Unit {0}
-StatsAreTold st op (Ok (Finished stats)) = stats ≡ stats_of st op
-StatsAreTold st op (Err fault) = Unit {0}
+abbrev pub StatsAreRight : State → BulkDeleteOp → Result BulkDeleteStep Fault → Type 0
+StatsAreRight st op (Ok Going) = Unit {0}
+StatsAreRight st op (Ok (Finished stats)) = stats ≡ stats_of st op
+StatsAreRight st op (Err fault) = Unit {0}
 
 -- each step that goes on leaves less to do
-abbrev pub BulkDeleteLeavesLess : State → State → BulkDeleteOp → BulkDeleteOp
+abbrev pub BulkDeleteHasLessLeft : State → State → BulkDeleteOp → BulkDeleteOp
     → Result BulkDeleteStep Fault → Type 0
-BulkDeleteLeavesLess old new before after (Ok Going) =
+BulkDeleteHasLessLeft old new before after (Ok Going) =
     bulk_delete_left new.limits.pages (length new.pages) after.cursor after.back
     < bulk_delete_left old.limits.pages (length old.pages) before.cursor before.back
-BulkDeleteLeavesLess old new before after (Ok (Finished stats)) = Unit {0}
-BulkDeleteLeavesLess old new before after (Err fault) = Unit {0}
+BulkDeleteHasLessLeft old new before after (Ok (Finished stats)) = Unit {0}
+BulkDeleteHasLessLeft old new before after (Err fault) = Unit {0}
 
 -- what was due is to come still; at the end none of it is there
 abbrev pub DueStaysToCome : (Entry → Bool) → State → BulkDeleteOp → Result BulkDeleteStep Fault
@@ -167,7 +167,7 @@ CountsOn dead new after (Ok (Finished stats)) =
     stats.num_index_tuples ≡ entries_below new.pages (length new.pages)
 CountsOn dead new after (Err fault) = IsCounted dead new after
 
--- A step of a bulk delete of this set of rows. On any pages: it does one act at most and holds nothing behind it, a refused
+-- A step of a bulk delete of this set of rows. On any pages: it does one act at most and holds nothing after it, a refused
 -- one changes nothing, a stopped log refuses it, each that goes on leaves less to do, and the statistics are told as they
 -- are. Over a device that keeps its model: what is due to be removed is to come still, and is gone at the end; it doesn't
 -- come past a leaf that another session has pinned. On pages in order: what it does, and why it is refused.
@@ -176,13 +176,13 @@ pub record BulkDeleteSteps {S : Type 0} (g : Ghosts S) (dead : Row → Bool)
   where
     pub steps : Continues g.follows old new
     pub session : after.session ≡ before.session
-    pub kept : IsOneStep (g.state old) (g.state new)
+    pub kept : IsOneActAtMost (g.state old) (g.state new)
     pub table : (g.state new).table ≡ (g.state old).table
     pub cycle : (g.state new).cycle ≡ (g.state old).cycle
     pub refused : OnErr result (BulkDeleteStays (g.state old) (g.state new) before after)
     pub stopped : (g.backing old).stopped ≡ true → result ≡ Err Stopped
-    pub stats : StatsAreTold (g.state old) before result
-    pub less : BulkDeleteLeavesLess (g.state old) (g.state new) before after result
+    pub stats : StatsAreRight (g.state old) before result
+    pub less : BulkDeleteHasLessLeft (g.state old) (g.state new) before after result
     pub due : (g.backing new).honest ≡ true → (due : Entry → Bool) → IsDueOf dead due
         → DueIsToCome due (g.state old) before.cursor before.back
         → DueStaysToCome due (g.state new) after result

@@ -10,7 +10,7 @@ use Rattle.page_action.specs.Contents.{live_entries}
 use Rattle.page_action.specs.Reuse.{is_deleted, is_reusable_without}
 use Rattle.page_action.specs.States.{State}
 use Rattle.tree_acts.specs.Leaves.{IsLeafAt}
-use Rattle.vacuum.specs.declared.steps.Back.{Back}
+use Rattle.vacuum.specs.declared.steps.Backtrack.{Backtrack}
 use Rattle.vacuum.specs.declared.steps.BulkDeleteOp.{BulkDeleteOp}
 
 -- how many of the first so many pages are deleted
@@ -48,7 +48,7 @@ stats_of st op = record {
 }
 
 -- going back, it is below the cursor
-abbrev pub IsBelow : ℕ → Option Back → Type 0
+abbrev pub IsBelow : ℕ → Option Backtrack → Type 0
 IsBelow cursor None = Unit {0}
 IsBelow cursor (Some back) = (back.block < cursor) × (back.from < cursor)
 

@@ -4,14 +4,14 @@ use Rattle.index_model.specs.Actions.{Effect}
 use Rattle.index_model.specs.Row.{Row}
 use Rattle.index_model.specs.declared.entry.Entry.{Entry}
 use Rattle.page_action.specs.States.{State}
-use Rattle.tree_acts.specs.Leaves.{LeavesStay, IsAddedBy}
-use Rattle.descent.specs.Shared.{IsInOrder, MayRely}
+use Rattle.tree_acts.specs.Leaves.{LeafPagesStay, IsAddedBy}
+use Rattle.tree_acts.specs.StepEffects.{IsInOrder, MayRely}
 use Rattle.vacuum.specs.BulkDeletes.{BulkDeleteInvariant}
 use Rattle.vacuum.specs.Counts.{IsCounted}
 use Rattle.vacuum.specs.Ops.{fresh_bulk_delete}
-use Rattle.vacuum.specs.Sweeping.{DueIsToCome}
+use Rattle.vacuum.specs.Vacuuming.{DueIsToCome}
 use Rattle.vacuum.specs.Work.{bulk_delete_left}
-use Rattle.vacuum.specs.declared.steps.Back.{Back}
+use Rattle.vacuum.specs.declared.steps.Backtrack.{Backtrack}
 use Rattle.vacuum.specs.declared.steps.BulkDeleteOp.{BulkDeleteOp}
 
 -- what a bulk delete knows it still knows after others have acted
@@ -20,12 +20,12 @@ BulkDeletesAreUndisturbed =
     (old new : State) (op : BulkDeleteOp) → MayRely op.session old new → BulkDeleteInvariant old op
     → BulkDeleteInvariant new op
 
--- what is due is to come still after others have acted, but for an entry that they have added
+-- what is due is to come still after others have acted, except for an entry that they have added
 abbrev pub DueIsUndisturbed : Type 0
 DueIsUndisturbed =
     (due : Entry → Bool) (effect : Option Effect) (old new : State) (cursor : ℕ)
-    (back : Option Back)
-    → LeavesStay effect old new → ((e : Entry) → IsAddedBy effect e → due e ≡ false)
+    (back : Option Backtrack)
+    → LeafPagesStay effect old new → ((e : Entry) → IsAddedBy effect e → due e ≡ false)
     → DueIsToCome due old cursor back → DueIsToCome due new cursor back
 
 -- before the first step each entry is to come

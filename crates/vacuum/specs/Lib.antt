@@ -1,5 +1,5 @@
 pub mod Ops
-pub mod Sweeping
+pub mod Vacuuming
 pub mod Counts
 pub mod Work
 pub mod BulkDeletes

@@ -7,7 +7,7 @@ use Rattle.page_codec.specs.Edits.{entries_of, with_entries, renewed}
 use Rattle.page_codec.specs.declared.page.Page.{Page}
 use Rattle.page_action.specs.Contents.{live_entries}
 use Rattle.tree_shape.specs.Edits.{removed_from}
-use Rattle.vacuum.specs.declared.steps.Back.{Back}
+use Rattle.vacuum.specs.declared.steps.Backtrack.{Backtrack}
 use Rattle.vacuum.specs.declared.steps.BulkDeleteOp.{BulkDeleteOp}
 
 -- a bulk delete before its first step
@@ -33,21 +33,21 @@ abbrev pub dead_entries : (Row → Bool) → Page → List Entry
 dead_entries dead page = removed_from (lives dead) (live_entries page.state page.items)
 
 -- the block that is read next: going back the sibling, else that at the cursor
-abbrev pub next_block : ℕ → Option Back → ℕ
+abbrev pub next_block : ℕ → Option Backtrack → ℕ
 next_block cursor None = cursor
 next_block cursor (Some back) = back.block
 
 -- the last leaf that was read in block order, or is: going back it goes to blocks below that
-abbrev pub last_read : ℕ → Option Back → ℕ
+abbrev pub last_read : ℕ → Option Backtrack → ℕ
 last_read cursor None = cursor
 last_read cursor (Some back) = back.from
 
 -- how many moves back were made since that leaf
-abbrev pub moves_of : Option Back → ℕ
+abbrev pub moves_of : Option Backtrack → ℕ
 moves_of None = 0
 moves_of (Some back) = back.moves
 
--- the cursor behind the block that is read
-abbrev pub cursor_past : ℕ → Option Back → ℕ
+-- the cursor after the block that is read
+abbrev pub cursor_past : ℕ → Option Backtrack → ℕ
 cursor_past cursor None = suc cursor
 cursor_past cursor (Some back) = cursor

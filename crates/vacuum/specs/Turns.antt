@@ -5,8 +5,8 @@ use Rattle.page_codec.specs.Edits.{entries_of}
 use Rattle.page_codec.specs.declared.page.Page.{Page}
 use Rattle.page_action.specs.States.{State, after_act}
 use Rattle.vacuum.specs.Ops.{without_dead, cursor_past}
-use Rattle.vacuum.specs.declared.leaf.Swept.{Swept}
-use Rattle.vacuum.specs.declared.steps.Back.{Back}
+use Rattle.vacuum.specs.declared.leaf.PrunedLeaf.{PrunedLeaf}
+use Rattle.vacuum.specs.declared.steps.Backtrack.{Backtrack}
 use Rattle.vacuum.specs.declared.steps.BulkDeleteOp.{BulkDeleteOp}
 
 -- the leaf carries the cycle number, and its right link leads to this block, below that one
@@ -15,8 +15,8 @@ pub record LeadsBack (cycle from : ℕ) (page : Page) (block : ℕ) : Type 0 whe
   pub right_is : page.right ≡ Some block
   pub below : block < from
 
--- behind a leaf the bulk delete goes back to the sibling to which it leads, by one move more; or it leads to none
-abbrev pub TurnsTo : ℕ → ℕ → ℕ → ℕ → Page → Option Back → Type 0
+-- after a leaf the bulk delete goes back to the sibling to which it leads, by one move more; or it leads to none
+abbrev pub TurnsTo : ℕ → ℕ → ℕ → ℕ → Page → Option Backtrack → Type 0
 TurnsTo cycle most from moves page None = (block : ℕ) → LeadsBack cycle from page block → ⊥
 TurnsTo cycle most from moves page (Some back) = LeadsBack cycle from page back.block
     × (back.from ≡ from) × (back.moves ≡ suc moves) × (moves < most)
@@ -28,19 +28,19 @@ pub record TurnsNoMore (cycle most from moves : ℕ) (page : Page) : Type 0 wher
   pub many : most ≤ moves
 
 -- the leaf without its dead entries, and how many entries it keeps and loses
-pub record IsSwept (dead : Row → Bool) (page : Page) (swept : Swept) : Type 0 where
-  pub after_is : swept.after ≡ without_dead dead page
-  pub kept_is : swept.kept ≡ length (entries_of swept.after.items)
-  pub gone_is : swept.kept + swept.gone ≡ length (entries_of page.items)
+pub record IsPruned (dead : Row → Bool) (page : Page) (pruned : PrunedLeaf) : Type 0 where
+  pub after_is : pruned.after ≡ without_dead dead page
+  pub kept_is : pruned.kept ≡ length (entries_of pruned.after.items)
+  pub gone_is : pruned.kept + pruned.gone ≡ length (entries_of page.items)
 
 -- the entries left are counted in block order alone
-abbrev pub left_with : ℕ → Option Back → ℕ → ℕ
+abbrev pub left_with : ℕ → Option Backtrack → ℕ → ℕ
 left_with left None kept = left + kept
 left_with left (Some back) kept = left
 
--- the bulk delete behind a page that it has read
-abbrev pub gone_on : BulkDeleteOp → Option Back → ℕ → ℕ → BulkDeleteOp
-gone_on op back kept gone = record op {
+-- the bulk delete after a page that it has read
+abbrev pub moved_beyond : BulkDeleteOp → Option Backtrack → ℕ → ℕ → BulkDeleteOp
+moved_beyond op back kept gone = record op {
   cursor = cursor_past op.cursor op.back;
   back = back;
   left = left_with op.left op.back kept;

@@ -4,7 +4,7 @@ ghost use Rattle.std.specs.Prelude.{◌≡◌, ◌≤◌, ◌↔◌, IsTrue, len
 ghost use Rattle.std.specs.List.{filter};
 ghost use Rattle.page_codec.specs.Edits.{entries_of, HasEntries};
 ghost use Rattle.vacuum.specs.Ops.{lives, without_dead};
-ghost use Rattle.vacuum.specs.Turns.{IsSwept};
+ghost use Rattle.vacuum.specs.Turns.{IsPruned};
 
 use arrayvec::ArrayVec;
 use index_model::{DeadRows, Entry, Layout};
@@ -13,7 +13,7 @@ use tree_shape::entries_on;
 
 /// What a bulk delete leaves of a leaf.
 #[derive(Drop)]
-pub struct Swept {
+pub struct PrunedLeaf {
     /// The leaf without its dead entries, in the second layout.
     pub after: Page,
     /// How many entries it keeps, at most 50.
@@ -64,13 +64,13 @@ fn without_dead<T: DeadRows>(page: &Page, dead: &T) -> Page
 }
 
 /// A leaf of at most 50 entries without its dead ones, in one pass over them.
-pub fn sweep<T: DeadRows>(page: &Page, dead: &T) -> Swept
+pub fn prune<T: DeadRows>(page: &Page, dead: &T) -> PrunedLeaf
     requires { length (entries_of page.now.items) ≤ 50 }
-    ensures swept { IsSwept (T.is_in dead.now) page.now result }
+    ensures pruned { IsPruned (T.is_in dead.now) page.now result }
     ensures few { length (entries_of page.now.items) ≤ 50 }
 {
     let after = without_dead(page, dead);
     let kept = entries_on(&after).len() as u64;
     let gone = entries_on(page).len() as u64 - kept;
-    Swept { after, kept, gone }
+    PrunedLeaf { after, kept, gone }
 }

@@ -12,4 +12,4 @@ pub use laws::{
     all_is_to_come, bulk_deletes_are_bounded, bulk_deletes_are_undisturbed, due_is_undisturbed,
     nothing_is_counted,
 };
-pub use steps::{Back, BulkDeleteOp, BulkDeleteStep};
+pub use steps::{Backtrack, BulkDeleteOp, BulkDeleteStep};

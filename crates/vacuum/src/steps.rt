@@ -6,20 +6,20 @@ ghost use Rattle.latch_table.specs.Holdings.{HasRoom, is_held_by_another};
 ghost use Rattle.page_action.specs.Room.{KeepsRoom};
 ghost use Rattle.page_action.specs.States.{Continues};
 ghost use Rattle.page_action.specs.Stored.{AreActable};
-ghost use Rattle.descent.specs.Shared.{causes_of_writing_any};
+ghost use Rattle.tree_acts.specs.StepEffects.{causes_of_writing_any};
 
 use crate::counts::stats;
-use crate::leaf::{is_live_leaf, sweep};
-use descent::{ask_for, look};
+use crate::leaf::{is_live_leaf, prune};
+use descent::{check_latch, read_shared};
 use index_model::{DeadRows, Fault, Session, VacuumStats};
 use latch_table::Mode;
 use page_action::PageStore;
 use page_codec::Page;
 use std::slice;
 
-/// Where a bulk delete goes back to leaves that were split behind it.
+/// Where a bulk delete goes back to leaves that were split after it.
 #[derive(Clone, Copy)]
-pub struct Back {
+pub struct Backtrack {
     /// The last leaf that was read in block order.
     pub from: u32,
     /// The right sibling that is read next, below that leaf.
@@ -35,7 +35,7 @@ pub struct BulkDeleteOp {
     /// The block that comes next in block order: each before it was read.
     pub cursor: u32,
     /// The siblings that it reads before it goes on at the cursor, if it goes back.
-    pub back: Option<Back>,
+    pub back: Option<Backtrack>,
     /// The entries that were left on each live leaf when it was read in block order, summed.
     pub left: u64,
     /// The entries removed.
@@ -54,7 +54,7 @@ pub enum BulkDeleteStep {
 impl BulkDeleteOp {
     ghost use Rattle.vacuum.specs.Ops.{fresh_bulk_delete, next_block, last_read, moves_of};
     ghost use Rattle.vacuum.specs.BulkDeletes.{BulkDeleteSteps, is_counted_out, block_if, causes_of_taking};
-    ghost use Rattle.vacuum.specs.Turns.{TurnsTo, TurnsNoMore, gone_on, written};
+    ghost use Rattle.vacuum.specs.Turns.{TurnsTo, TurnsNoMore, moved_beyond, written};
 
     /// A bulk delete before its first step.
     pub fn new(session: Session) -> BulkDeleteOp
@@ -119,7 +119,7 @@ impl BulkDeleteOp {
             store.old store.new result }
         ensures faults { IfErr result (HasCause causes_of_writing_any) }
     {
-        match look(store, self.session, block) {
+        match read_shared(store, self.session, block) {
             Ok(()) => {}
             Err(fault) => return Err(fault),
         }
@@ -132,18 +132,18 @@ impl BulkDeleteOp {
             Ok(back) => back,
             Err(fault) => return Err(fault),
         };
-        let swept = sweep(page, dead);
-        match self.take(store, &swept.after, swept.gone > 0) {
+        let pruned = prune(page, dead);
+        match self.take(store, &pruned.after, pruned.gone > 0) {
             Ok(()) => {}
             Err(fault) => return Err(fault),
         }
-        self.go_on(back, swept.kept, swept.gone);
+        self.go_on(back, pruned.kept, pruned.gone);
         Ok(BulkDeleteStep::Going)
     }
 
-    // Where it goes back behind a leaf, if it does: to the right sibling, below the last leaf read in block order, of one
+    // Where it goes back after a leaf, if it does: to the right sibling, below the last leaf read in block order, of one
     // that carries the cycle number.
-    fn turn(&self, page: &Page, cycle: u32, most: u32) -> Result<Option<Back>, Fault>
+    fn turn(&self, page: &Page, cycle: u32, most: u32) -> Result<Option<Backtrack>, Fault>
         ensures turns { IfOk result (TurnsTo cycle most (last_read self.now.cursor self.now.back)
             (moves_of self.now.back) page.now) }
         ensures fault { IfErr result (λ f. f ≡ Fault.PageDamaged page.now.block) }
@@ -159,7 +159,7 @@ impl BulkDeleteOp {
                 if moves >= most {
                     return Err(Fault::PageDamaged(page.block));
                 }
-                Ok(Some(Back {
+                Ok(Some(Backtrack {
                     from,
                     block,
                     moves: moves + 1,
@@ -184,7 +184,7 @@ impl BulkDeleteOp {
             → IfErr result (HasCause (causes_of_taking (block_if changed page.now.block)
             (S.state store.old) (S.backing store.old) (S.backing store.new) self.now)) }
     {
-        match ask_for(store, self.session, page.block, Mode::Cleanup) {
+        match check_latch(store, self.session, page.block, Mode::Cleanup) {
             Ok(()) => {}
             Err(fault) => return Err(fault),
         }
@@ -197,13 +197,13 @@ impl BulkDeleteOp {
         }
     }
 
-    // Goes on behind a page: back to a sibling, or at the cursor.
-    fn go_on(&mut self, back: Option<Back>, kept: u64, gone: u64)
+    // Goes on after a page: back to a sibling, or at the cursor.
+    fn go_on(&mut self, back: Option<Backtrack>, kept: u64, gone: u64)
         requires room { is_counted_out self.old ≡ false }
         requires narrow { self.old.back ≡ None → self.old.cursor < 4294967295 }
         requires kept { kept ≤ 50 }
         requires gone { gone ≤ 50 }
-        ensures { self.new ≡ gone_on self.old back kept gone }
+        ensures { self.new ≡ moved_beyond self.old back kept gone }
     {
         if self.back.is_none() {
             self.cursor += 1;

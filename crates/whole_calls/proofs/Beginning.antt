@@ -8,18 +8,18 @@ use Rattle.page_delete.specs.Spares.{IsAlone}
 use Rattle.page_delete.proofs.Cleaning.{nothing_cleaned}
 use Rattle.page_delete.proofs.Sparing.{nothing_spared}
 use Rattle.page_delete.proofs.Tallying.{deleted_alike}
-use Rattle.session_calls.specs.Ops.{asks_sweep}
+use Rattle.session_calls.specs.Ops.{asks_bulk_delete}
 use Rattle.session_calls.specs.Sessions.{start_number, after_request}
 use Rattle.session_calls.specs.declared.request.Request.TheVariants.{Insert as ToInsert, Scan as ToScan, Bulk as ToBulk, Cleanup as ToCleanup}
 use Rattle.schedule.specs.declared.event.Event.{Event}
 use Rattle.schedule.specs.declared.event.Event.TheVariants.{Insert as InsertEvent, Scan as ScanEvent, Bulk as BulkEvent, Cleanup as CleanupEvent}
-use Rattle.schedule.proofs.Fitting.{fits_behind, running_of}
+use Rattle.schedule.proofs.Fitting.{fits_after, running_of}
 use Rattle.schedule.proofs.Standing.{slot_found}
 use Rattle.whole_calls.proofs.Words.{Entry, State, Ghosts, Page, op_before, set_at, Answer, Begun, Refused, Op, Request, StoreAndSlots, Moment, snapshot_of, Kind, BeginsCall, kind_of, EventDoes, IsOfSession, AnswersBeginning, MayBegin, slot_of, SlotRuns, ForEachHistory, Runs, Laws}
-use Rattle.whole_calls.specs.Going.{CameBy, CallGoes}
-use Rattle.whole_calls.specs.Stepping.{BeginGoes}
-use Rattle.whole_calls.specs.Sweeping.{Followed, of_sweep, of_cleanup, of_deleted, of_leaves, FollowsFrom, IsCountedAs, BeginsToCount}
-use Rattle.whole_calls.specs.Telling.{begun_of, begin_outcome}
+use Rattle.whole_calls.specs.Going.{IsOutcomeOf, CallIsRun}
+use Rattle.whole_calls.specs.Stepping.{BeginIsRun}
+use Rattle.whole_calls.specs.Vacuuming.{Followed, of_bulk_delete, of_cleanup, of_deleted, of_leaves, FollowsFrom, IsCountedAs, BeginsToCount}
+use Rattle.whole_calls.specs.Meanings.{begun_of, begin_outcome}
 use Rattle.whole_calls.proofs.Composing.{goes_once, goes_told}
 use Rattle.whole_calls.proofs.Counting.{alone_on}
 use Rattle.whole_calls.proofs.Tellings.{begins_told}
@@ -38,7 +38,7 @@ beginning_is session (ToBulk set) = refl
 beginning_is session ToCleanup = refl
 
 -- what was answered is what the beginning came to
-pub begun_by : (answer : Answer) (answers : List Answer) → AnswersBeginning answer → CameBy answers (Some answer) → CameBy answers (begin_outcome (begun_of answer))
+pub begun_by : (answer : Answer) (answers : List Answer) → AnswersBeginning answer → IsOutcomeOf answers (Some answer) → IsOutcomeOf answers (begin_outcome (begun_of answer))
 begun_by Begun answers kind h = h
 begun_by (Refused fault) answers kind h = h
 begun_by answer answers kind h = absurd kind
@@ -49,7 +49,7 @@ module _ {S : Type 0} (g : Ghosts S) (start : Entry → Bool) (session : ℕ) (r
   abbrev now : State
   now = g.state y.store
 
-  -- nothing is appended, and nobody else holds a page behind it who didn't before
+  -- nothing is appended, and nobody else holds a page after it who didn't before
   same : (o : Option (Option Op)) → MayBegin g o session request answer x y → y.history ≡ x.history
   same None s = s.still.history_is
   same (Some (Some op)) s = s.still.history_is
@@ -63,7 +63,7 @@ module _ {S : Type 0} (g : Ghosts S) (start : Entry → Bool) (session : ℕ) (r
   alone (Some (Some op)) s calm = subst (λ (st : State). IsAlone st session) (sym s.still.state_is) calm
 
   fresh_counts : NothingIsCounted → (what : Followed) (asked : Request) → FollowsFrom what asked (g.state x.store) session → IsCountedAs what y.sets now (Some (op_before session asked))
-  fresh_counts nothing of_sweep (ToBulk set) follows = nothing (set_at y.sets set) now session does.also.invariant.order
+  fresh_counts nothing of_bulk_delete (ToBulk set) follows = nothing (set_at y.sets set) now session does.also.invariant.order
   fresh_counts nothing of_cleanup ToCleanup follows = nothing_cleaned now session does.also.invariant.order
   fresh_counts nothing (of_deleted was) ToCleanup follows =
       let alike : deleted_in now ≡ deleted_in (g.state x.store) = deleted_alike (g.state x.store) now (does.also.quiet.pages (same (slice_get x.slots session) does.also.happens)) in
@@ -105,11 +105,11 @@ number_of : {S : Type 0} (g : Ghosts S) (start : Entry → Bool) (session : ℕ)
 number_of g start session request answer x y does fresh ok =
     let begun = is_begun answer ok in
     let runs : SlotRuns g start y session (op_before session request) =
-    running_of (fits_behind does) session (Some (op_before session request)) (slot_found y.slots session (op_before session request) (fresh begun)) in
+    running_of (fits_after does) session (Some (op_before session request)) (slot_found y.slots session (op_before session request) (fresh begun)) in
     let some : start_number (g.state y.store) session ≡ Some runs.runs.started.number =
     subst (λ (s : ℕ). start_number (g.state y.store) s ≡ Some runs.runs.started.number) runs.is.session_is runs.runs.started.is in
     let is : (g.state y.store).running ≡ slice_set (g.state x.store).running session (Some (g.state x.store).begun) =
-    ap (λ (st : State). st.running) (does.also.always.numbered begun) ∙ request_running (asks_sweep request) session (g.state x.store) in
+    ap (λ (st : State). st.running) (does.also.always.numbered begun) ∙ request_running (asks_bulk_delete request) session (g.state x.store) in
     let here : start_number (g.state y.store) session ≡ unwrap_or (slice_get (slice_set (g.state x.store).running session (Some (g.state x.store).begun)) session) None =
     ap (λ (l : List (Option ℕ)). unwrap_or (slice_get l session) None) is in
     here ∙ start_set (g.state x.store).running session (g.state x.store).begun runs.runs.started.number (sym here ∙ some)
@@ -117,16 +117,16 @@ number_of g start session request answer x y does fresh ok =
 pub goes_begun : {S : Type 0} (g : Ghosts S) (laws : Laws g) (session : ℕ) (request : Request) (event : Event) (answer : Answer) (a b : StoreAndSlots S) → NothingIsCounted
     → kind_of event ≡ BeginsCall session request → AnswersBeginning answer
     → (answer ≡ Begun → slot_of b.slots session ≡ Some (op_before session request)) → ForEachHistory g a b (Runs g a b (event ∷ []) (answer ∷ []))
-    → CallGoes g session (BeginGoes g session request (begun_of answer)) (begin_outcome (begun_of answer)) a b
+    → CallIsRun g session (BeginIsRun g session request (begun_of answer)) (begin_outcome (begun_of answer)) a b
 goes_begun {S} g laws session request event answer a b nothing kind answers fresh runs =
-    goes_told g session (λ s. BeginGoes g session request (begun_of answer)) (λ s. BeginGoes g session request (begun_of answer)) (Some answer) (begin_outcome (begun_of answer)) a b
+    goes_told g session (λ s. BeginIsRun g session request (begun_of answer)) (λ s. BeginIsRun g session request (begun_of answer)) (Some answer) (begin_outcome (begun_of answer)) a b
     (λ start h hc k kc given fits came told. (begun_by answer given answers came, told))
-    (goes_once g laws session (BeginGoes g session request (begun_of answer)) event answer a b (subst (λ (x : Kind). IsOfSession session x) (sym kind) refl) runs
+    (goes_once g laws session (BeginIsRun g session request (begun_of answer)) event answer a b (subst (λ (x : Kind). IsOfSession session x) (sym kind) refl) runs
     (λ start h hc k kc honest fits does.
     by start (snapshot_of a h hc) (snapshot_of b k kc) fresh (subst (λ (x : Kind). EventDoes g start x answer (snapshot_of a h hc) (snapshot_of b k kc)) kind does)))
   where
     by : (start : Entry → Bool) (x y : Moment S) → (answer ≡ Begun → slot_of y.slots session ≡ Some (op_before session request))
-        → EventDoes g start (BeginsCall session request) answer x y → BeginGoes g session request (begun_of answer) x y
+        → EventDoes g start (BeginsCall session request) answer x y → BeginIsRun g session request (begun_of answer) x y
     by start x y fresh does =
         record {
           told = begins_told g start session request answer x y does;

@@ -2,9 +2,9 @@
 use Rattle.std.specs.Prelude.{slice_index}
 use Rattle.std.proofs.Common.{◌≡◌, ◌⊎◌, ℕ, zero, suc, Bool, not, ◌&&◌, ◌||◌, nat_le, Option, Some, None, List, [], ◌∷◌, length, slice_get, slice_set, refl, ap, inl, inr, ◌∙◌, unwrap_or}
 use Rattle.page_action.specs.Reuse.{is_deleted, others_began_after, is_reusable}
-use Rattle.descent.specs.Shared.{any_is_reusable, is_out_of_blocks}
+use Rattle.tree_acts.specs.StepEffects.{any_is_reusable, is_out_of_blocks}
 use Rattle.insert_split.specs.declared.insert.InsertOp.{InsertOp}
-use Rattle.session_calls.specs.Ops.{is_sweep}
+use Rattle.session_calls.specs.Ops.{is_bulk_delete}
 use Rattle.session_calls.specs.Sessions.{start_number, op_after_call, after_slot}
 use Rattle.session_calls.specs.declared.op.Op.TheVariants.{Insert}
 use Rattle.session_calls.proofs.Freeing.{go_running, go_counted}
@@ -42,9 +42,9 @@ set_own (z ∷ zs) (suc i) = ap (λ (l : List (Option ℕ)). z ∷ l) (set_own z
 
 pub given_up_counted : (slot : Option Op) (st new : State) → new ≡ after_slot slot st → new.counted ≡ st.counted
 given_up_counted None st new is = ap (λ (x : State). x.counted) is
-given_up_counted (Some op) st new is = ap (λ (x : State). x.counted) is ∙ go_counted (is_sweep op) (session_of op) st
+given_up_counted (Some op) st new is = ap (λ (x : State). x.counted) is ∙ go_counted (is_bulk_delete op) (session_of op) st
 
--- but for its own
+-- except for its own
 pub given_up_numbers : {S : Type 0} (g : Ghosts S) (start : Entry → Bool) (session : ℕ) (now : Moment S) (new : State) → Fits g start now
     → new ≡ after_slot (slot_of now.slots session) (g.state now.store)
     → (number : Option ℕ) → slice_set new.running session number ≡ slice_set (g.state now.store).running session number
@@ -62,18 +62,18 @@ given_up_numbers {S} g start session now new fits is number = of (slice_get now.
     of (Some (Some op)) at =
         let runs : SlotRuns g start now session op = running_of fits session (Some op) at in
         ap (λ (x : State). slice_set x.running session number) (ended (Some (Some op)) at)
-        ∙ ap (λ (l : List (Option ℕ)). slice_set l session number) (go_running (is_sweep op) (session_of op) (g.state now.store))
+        ∙ ap (λ (l : List (Option ℕ)). slice_set l session number) (go_running (is_bulk_delete op) (session_of op) (g.state now.store))
         ∙ ap (λ (s : ℕ). slice_set (slice_set (g.state now.store).running s None) session number) (runs.runs.session ∙ runs.is.session_is)
         ∙ set_twice (g.state now.store).running session None number
 
 -- an insert that ends, or goes on as it was, leaves each block as free as it was while it ran
-pub blocks_behind : (session : ℕ) (op : InsertOp) (st new : State) → op.session ≡ session → (new ≡ op_after_call (Insert op) st) ⊎ (new ≡ st)
+pub blocks_after : (session : ℕ) (op : InsertOp) (st new : State) → op.session ≡ session → (new ≡ op_after_call (Insert op) st) ⊎ (new ≡ st)
     → has_no_block session (start_number st session) new ≡ is_out_of_blocks st
-blocks_behind session op st new is (inl ended) =
+blocks_after session op st new is (inl ended) =
     ap (λ (x : State). has_no_block session (start_number st session) x) ended
     ∙ same_out (with_number session (start_number st session) (op_after_call (Insert op) st)) st refl refl refl
     (ap (λ (s : ℕ). slice_set (slice_set st.running s None) session (start_number st session)) is ∙ (set_twice st.running session None (start_number st session) ∙ set_own st.running session))
-blocks_behind session op st new is (inr same) =
+blocks_after session op st new is (inr same) =
     ap (λ (x : State). has_no_block session (start_number st session) x) same
     ∙ same_out (with_number session (start_number st session) st) st refl refl refl (set_own st.running session)
 

@@ -1,10 +1,10 @@
--- Runs of one session's events, one behind the other.
+-- Runs of one session's events, one after the other.
 use Rattle.std.proofs.Common.{◌≡◌, ℕ, Bool, true, Option, Some, None, List, [], ◌∷◌, ◌++◌, refl, subst, inl, inr}
 use Rattle.schedule.specs.declared.event.Event.{Event}
 use Rattle.schedule.proofs.Joining.{ran_then, are_of_both}
 use Rattle.schedule.proofs.Running.{none_ran}
-use Rattle.whole_calls.proofs.Words.{Action, Call, Entry, IsLater, Continues, Ghosts, Answer, StoreAndSlots, Moment, snapshot_of, EventDoes, Fits, here_at, kind_of, IsOf, EventGoes, ForEachHistory, Runs, Laws}
-use Rattle.whole_calls.specs.Going.{IsAmong, CameBy, CallRuns, CallGoes, GoesFrom}
+use Rattle.whole_calls.proofs.Words.{Action, Call, Entry, IsLater, Continues, Ghosts, Answer, StoreAndSlots, Moment, snapshot_of, EventDoes, Fits, here_at, kind_of, IsOf, EventIsRun, ForEachHistory, Runs, Laws}
+use Rattle.whole_calls.specs.Going.{IsAmong, IsOutcomeOf, CallRuns, CallIsRun, CallIsRunFrom}
 use Rattle.schedule.proofs.Fitting.{goes_does}
 
 pub among_left : (xs ys : List Answer) (answer : Answer) → IsAmong xs answer → IsAmong (xs ++ ys) answer
@@ -16,34 +16,34 @@ pub among_right : (xs ys : List Answer) (answer : Answer) → IsAmong ys answer 
 among_right [] ys answer h = h
 among_right (x ∷ xs) ys answer h = inr (among_right xs ys answer h)
 
-came_left : (xs ys : List Answer) (came : Option Answer) → CameBy xs came → CameBy (xs ++ ys) came
+came_left : (xs ys : List Answer) (came : Option Answer) → IsOutcomeOf xs came → IsOutcomeOf (xs ++ ys) came
 came_left xs ys None h = tt
 came_left xs ys (Some answer) h = among_left xs ys answer h
 
-came_right : (xs ys : List Answer) (came : Option Answer) → CameBy ys came → CameBy (xs ++ ys) came
+came_right : (xs ys : List Answer) (came : Option Answer) → IsOutcomeOf ys came → IsOutcomeOf (xs ++ ys) came
 came_right xs ys None h = tt
 came_right xs ys (Some answer) h = among_right xs ys answer h
 
 -- a run comes to what its second part came to, or to what its first did
-pub to_second : (first came : Option Answer) (xs ys : List Answer) → CameBy xs first → CameBy ys came → CameBy (xs ++ ys) came
+pub to_second : (first came : Option Answer) (xs ys : List Answer) → IsOutcomeOf xs first → IsOutcomeOf ys came → IsOutcomeOf (xs ++ ys) came
 to_second first came xs ys h k = came_right xs ys came k
 
-pub to_first : (came second : Option Answer) (xs ys : List Answer) → CameBy xs came → CameBy ys second → CameBy (xs ++ ys) came
+pub to_first : (came second : Option Answer) (xs ys : List Answer) → IsOutcomeOf xs came → IsOutcomeOf ys second → IsOutcomeOf (xs ++ ys) came
 to_first came second xs ys h k = came_left xs ys came h
 
 -- what may be told of two moments, from the contents at the start
-abbrev Telling : Type 0 → Type 1
-Telling S = (Entry → Bool) → Moment S → Moment S → Type 0
+abbrev Meanings : Type 0 → Type 1
+Meanings S = (Entry → Bool) → Moment S → Moment S → Type 0
 
 -- the same run, told otherwise
-pub goes_told : {S : Type 0} (g : Ghosts S) (session : ℕ) (One Two : Telling S) (came also : Option Answer) (a b : StoreAndSlots S)
+pub goes_told : {S : Type 0} (g : Ghosts S) (session : ℕ) (One Two : Meanings S) (came also : Option Answer) (a b : StoreAndSlots S)
     → ((start : Entry → Bool) (h : List Action) (hc : List Call) (k : List Action) (kc : List Call) (answers : List Answer)
-    → Fits g start (snapshot_of a h hc) → CameBy answers came → One start (snapshot_of a h hc) (snapshot_of b k kc)
-    → CameBy answers also × Two start (snapshot_of a h hc) (snapshot_of b k kc))
-    → GoesFrom g session One came a b → GoesFrom g session Two also a b
+    → Fits g start (snapshot_of a h hc) → IsOutcomeOf answers came → One start (snapshot_of a h hc) (snapshot_of b k kc)
+    → IsOutcomeOf answers also × Two start (snapshot_of a h hc) (snapshot_of b k kc))
+    → CallIsRunFrom g session One came a b → CallIsRunFrom g session Two also a b
 goes_told g session One Two came also a b tells goes honest start history calls fits =
     let r : CallRuns g session (One start) came a b start history calls = goes honest start history calls fits in
-    let t = tells start history calls r.then_history r.then_calls r.answers fits r.came_by r.tells in
+    let t = tells start history calls r.then_history r.then_calls r.answers fits r.outcome_by r.tells in
     record {
       then_history = r.then_history;
       then_calls = r.then_calls;
@@ -51,19 +51,19 @@ goes_told g session One Two came also a b tells goes honest start history calls 
       answers = r.answers;
       own = r.own;
       ran = r.ran;
-      came_by = t.0;
+      outcome_by = t.0;
       tells = t.1;
     }
 
 module _ {S : Type 0} (g : Ghosts S) (laws : Laws g) (session : ℕ) where
-  -- one call behind the other, which comes to what the one or the other came to
-  pub joined : (One Two Both : Telling S) (first second came : Option Answer) (a b c : StoreAndSlots S)
+  -- one call after the other, which comes to what the one or the other came to
+  pub joined : (One Two Both : Meanings S) (first second came : Option Answer) (a b c : StoreAndSlots S)
       → Continues g.follows a.store b.store → Continues g.follows b.store c.store
-      → ((xs ys : List Answer) → CameBy xs first → CameBy ys second → CameBy (xs ++ ys) came)
+      → ((xs ys : List Answer) → IsOutcomeOf xs first → IsOutcomeOf ys second → IsOutcomeOf (xs ++ ys) came)
       → ((start : Entry → Bool) (h : List Action) (hc : List Call) (k : List Action) (kc : List Call) (l : List Action) (lc : List Call)
       → Fits g start (snapshot_of a h hc) → Fits g start (snapshot_of b k kc) → Fits g start (snapshot_of c l lc)
       → One start (snapshot_of a h hc) (snapshot_of b k kc) → Two start (snapshot_of b k kc) (snapshot_of c l lc) → Both start (snapshot_of a h hc) (snapshot_of c l lc))
-      → GoesFrom g session One first a b → GoesFrom g session Two second b c → GoesFrom g session Both came a c
+      → CallIsRunFrom g session One first a b → CallIsRunFrom g session Two second b c → CallIsRunFrom g session Both came a c
   joined One Two Both first second came a b c step then_step comes joins one two honest start history calls fits =
       let later : IsLater (g.backing b.store) (g.backing c.store) = laws.follows_later b.store c.store (then_step b.store (laws.follows_same b.store)) in
       let r : CallRuns g session (One start) first a b start history calls = one (later.honest honest) start history calls fits in
@@ -76,21 +76,21 @@ module _ {S : Type 0} (g : Ghosts S) (laws : Laws g) (session : ℕ) where
         own = are_of_both session r.events t.events r.own t.own;
         ran = ran_then g laws start r.events t.events r.answers t.answers (snapshot_of a history calls) (snapshot_of b r.then_history r.then_calls) (snapshot_of c t.then_history t.then_calls)
             (then_step a.store (step a.store (laws.follows_same a.store))) r.ran t.ran;
-        came_by = comes r.answers t.answers r.came_by t.came_by;
+        outcome_by = comes r.answers t.answers r.outcome_by t.outcome_by;
         tells = joins start history calls r.then_history r.then_calls t.then_history t.then_calls fits r.ran.fits t.ran.fits r.tells t.tells;
       }
 
   -- ... to what the second came to
   pub goes_then : (One Two Both : Moment S → Moment S → Type 0) (first came : Option Answer) (a b c : StoreAndSlots S)
-      → Continues g.follows a.store b.store → Continues g.follows b.store c.store → CallGoes g session One first a b → CallGoes g session Two came b c
+      → Continues g.follows a.store b.store → Continues g.follows b.store c.store → CallIsRun g session One first a b → CallIsRun g session Two came b c
       → ((start : Entry → Bool) (x y z : Moment S) → x.slots ≡ a.slots → y.slots ≡ b.slots → Fits g start x → Fits g start y → Fits g start z → One x y → Two y z → Both x z)
-      → CallGoes g session Both came a c
+      → CallIsRun g session Both came a c
   goes_then One Two Both first came a b c step then_step one two joins =
       joined (λ s. One) (λ s. Two) (λ s. Both) first came came a b c step then_step (to_second first came)
       (λ start h hc k kc l lc fx fy fz. joins start (snapshot_of a h hc) (snapshot_of b k kc) (snapshot_of c l lc) refl refl fx fy fz) one two
 
   -- no event
-  pub goes_nowhere : (Tells : Moment S → Moment S → Type 0) (a : StoreAndSlots S) → ((x : Moment S) → Tells x x) → CallGoes g session Tells None a a
+  pub goes_nowhere : (Tells : Moment S → Moment S → Type 0) (a : StoreAndSlots S) → ((x : Moment S) → Tells x x) → CallIsRun g session Tells None a a
   goes_nowhere Tells a same honest start history calls fits = record {
     then_history = history;
     then_calls = calls;
@@ -98,7 +98,7 @@ module _ {S : Type 0} (g : Ghosts S) (laws : Laws g) (session : ℕ) where
     answers = [];
     own = tt;
     ran = none_ran g laws start (snapshot_of a history calls) fits;
-    came_by = tt;
+    outcome_by = tt;
     tells = same (snapshot_of a history calls);
   }
 
@@ -107,12 +107,12 @@ module _ {S : Type 0} (g : Ghosts S) (laws : Laws g) (session : ℕ) where
       → ForEachHistory g a b (Runs g a b (event ∷ []) (answer ∷ []))
       → ((start : Entry → Bool) (h : List Action) (hc : List Call) (k : List Action) (kc : List Call) → (g.backing b.store).honest ≡ true → Fits g start (snapshot_of a h hc)
       → EventDoes g start (kind_of event) answer (snapshot_of a h hc) (snapshot_of b k kc) → Tells (snapshot_of a h hc) (snapshot_of b k kc))
-      → CallGoes g session Tells (Some answer) a b
+      → CallIsRun g session Tells (Some answer) a b
   goes_once Tells event answer a b of runs tells honest start history calls fits =
       let r : Runs g a b (event ∷ []) (answer ∷ []) start history calls = runs honest start history calls fits in
       let first = snapshot_of a history calls in
       let last = snapshot_of b r.then_history r.then_calls in
-      let goes : EventGoes g start event answer first last = subst (λ (m : Moment S). EventGoes g start event answer first m) r.ran.run.1.2 r.ran.run.1.1 in
+      let goes : EventIsRun g start event answer first last = subst (λ (m : Moment S). EventIsRun g start event answer first m) r.ran.run.1.2 r.ran.run.1.1 in
       record {
         then_history = r.then_history;
         then_calls = r.then_calls;
@@ -120,13 +120,13 @@ module _ {S : Type 0} (g : Ghosts S) (laws : Laws g) (session : ℕ) where
         answers = answer ∷ [];
         own = (of, tt);
         ran = r.ran;
-        came_by = inl refl;
+        outcome_by = inl refl;
         tells = tells start history calls r.then_history r.then_calls honest fits (goes_does goes);
       }
 
   pub goes_by : (Tells : Moment S → Moment S → Type 0) (event : Event) (answer : Answer) (a b : StoreAndSlots S) → IsOf session event
       → ForEachHistory g a b (Runs g a b (event ∷ []) (answer ∷ []))
       → ((start : Entry → Bool) (x y : Moment S) → here_at x ≡ a → here_at y ≡ b → Fits g start x → EventDoes g start (kind_of event) answer x y → Tells x y)
-      → CallGoes g session Tells (Some answer) a b
+      → CallIsRun g session Tells (Some answer) a b
   goes_by Tells event answer a b of runs tells =
       goes_once Tells event answer a b of runs (λ start h hc k kc honest. tells start (snapshot_of a h hc) (snapshot_of b k kc) refl refl)

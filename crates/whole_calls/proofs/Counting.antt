@@ -13,12 +13,12 @@ use Rattle.session_calls.specs.declared.op.Op.TheVariants.{Bulk, Cleanup}
 use Rattle.schedule.proofs.Lists.{get_set_same, get_within}
 use Rattle.schedule.proofs.Standing.{slot_found}
 use Rattle.whole_calls.proofs.Words.{Call, Entry, State, Ghosts, Page, DeadSets, asked_of, session_of, OpInvariant, CountsEntries, CountsPages, SparesLeaves, Answer, Going, Finished, Op, Moment, IsRunningCall, EventDoes, Fits, slot_of, SlotRuns, has_call, MovesCall, Steps, CallMoves, MovesOn}
-use Rattle.whole_calls.specs.Sweeping.{Followed, of_sweep, of_cleanup, of_deleted, of_leaves, IsCountedAs, TellsAs, CountsThrough}
-use Rattle.descent.specs.Shared.{IsInOrder, OthersRely}
+use Rattle.whole_calls.specs.Vacuuming.{Followed, of_bulk_delete, of_cleanup, of_deleted, of_leaves, IsCountedAs, StatsCountAs, CountsThrough}
+use Rattle.tree_acts.specs.StepEffects.{IsInOrder, OthersRely}
 use Rattle.whole_calls.proofs.Tellings.{runs_in_slot, one_runs}
-use Rattle.schedule.proofs.Fitting.{fits_behind, running_of}
+use Rattle.schedule.proofs.Fitting.{fits_after, running_of}
 
--- nobody else holds a page, behind a step of the session's call
+-- nobody else holds a page, after a step of the session's call
 pub alone_on : (session : ℕ) (old now : State) (one other : ℕ) → OthersRely session old now → one ≡ session → other ≡ session → IsAlone old one → IsAlone now other
 alone_on session old now one other rely is_one is_other alone s differ =
     (rely s (λ e. differ (e ∙ sym is_other))).held ∙ alone s (λ e. differ (e ∙ is_one ∙ sym is_other))
@@ -35,12 +35,12 @@ record StepCounts (sets : DeadSets) (old now : State) (op : Op) (after : Option 
 -- a call that was asked the same runs the same, and counts on
 counted_next : (what : Followed) (sets : DeadSets) (old now : State) (op next : Op) → (IsAlone old (session_of op) → IsAlone now (session_of next)) → asked_of sets next ≡ asked_of sets op
     → IsCountedAs what sets old (Some op) → StepCounts sets old now op (Some next) Going → IsCountedAs what sets now (Some next)
-counted_next of_sweep sets old now (Bulk set op) (Bulk place next) alone same counted h = (h.entries counted).0
+counted_next of_bulk_delete sets old now (Bulk set op) (Bulk place next) alone same counted h = (h.entries counted).0
 counted_next of_cleanup sets old now (Cleanup op) (Cleanup next) alone same counted h = (h.entries h.fits counted).0
 counted_next (of_deleted was) sets old now (Cleanup op) (Cleanup next) alone same counted h =
     (let d : deleted_in now + op.deleted ≡ deleted_in old + next.deleted = h.deletes in let c : deleted_in old ≡ was + op.deleted = counted in omega (arith, d, c))
 counted_next of_leaves sets old now (Cleanup op) (Cleanup next) alone same counted h = (alone counted.0, (h.spares h.order h.starts h.fits counted.0 counted.1).0)
-counted_next of_sweep sets old now (Bulk set op) next alone same counted h = absurd cc
+counted_next of_bulk_delete sets old now (Bulk set op) next alone same counted h = absurd cc
 counted_next of_cleanup sets old now (Cleanup op) next alone same counted h = absurd cc
 counted_next (of_deleted was) sets old now (Cleanup op) next alone same counted h = absurd cc
 counted_next of_leaves sets old now (Cleanup op) next alone same counted h = absurd cc
@@ -48,8 +48,8 @@ counted_next what sets old now op next alone same counted h = absurd counted
 
 -- ... and tells at its end
 counted_last : (what : Followed) (sets : DeadSets) (old now : State) (op : Op) (after : Option Op) (stats : VacuumStats) → IsCountedAs what sets old (Some op)
-    → StepCounts sets old now op after (Finished stats) → TellsAs what now (Ok stats)
-counted_last of_sweep sets old now (Bulk set op) after stats counted h = (h.entries counted).1
+    → StepCounts sets old now op after (Finished stats) → StatsCountAs what now (Ok stats)
+counted_last of_bulk_delete sets old now (Bulk set op) after stats counted h = (h.entries counted).1
 counted_last of_cleanup sets old now (Cleanup op) after stats counted h = (h.entries h.fits counted).1
 counted_last (of_deleted was) sets old now (Cleanup op) after stats counted h =
     (let d : deleted_in now + op.deleted ≡ deleted_in old + stats.pages_newly_deleted = h.deletes in let c : deleted_in old ≡ was + op.deleted = counted in omega (arith, d, c))
@@ -98,8 +98,8 @@ module _ {S : Type 0} (g : Ghosts S) (start : Entry → Bool) (session : ℕ) (x
             session_is = ap (λ (k : Call). k.session) c.told ∙ c.is.session_is;
             running = ap (λ (k : Call). k.ending) c.told ∙ c.is.running;
           } in
-          let q = runs_in_slot g start y (fits_behind does) session c.number c.after runs in
-          let then_same : q.2.call ≡ c.after = (one_runs g start y (fits_behind does) session c.number q.2.number c.after q.2.call runs q.2.is).1 in
+          let q = runs_in_slot g start y (fits_after does) session c.number c.after runs in
+          let then_same : q.2.call ≡ c.after = (one_runs g start y (fits_after does) session c.number q.2.number c.after q.2.call runs q.2.is).1 in
           let is : slot_of y.slots session ≡ Some q.0 = ap (λ (o : Option (Option Op)). unwrap_or o None) q.1 in
           let asked : asked_of x.sets q.0 ≡ asked_of x.sets op =
           ap (λ (l : DeadSets). asked_of l q.0) (sym does.means.sets) ∙ sym q.2.runs.ask ∙ ap (λ (k : Call). k.ask) then_same ∙ ap (λ (k : Call). k.ask) c.told ∙ ask in
@@ -122,7 +122,7 @@ module _ {S : Type 0} (g : Ghosts S) (start : Entry → Bool) (session : ℕ) (x
       → CountsThrough what x.sets old now (slot_of x.slots session) (slot_of y.slots session) answer
   step_counts what Going does = λ counted. with_op what (IsCountedAs what x.sets now (slot_of y.slots session)) (λ op is so. goes_on what op does is so) (slot_of x.slots session) refl counted
   step_counts what (Finished stats) does = λ counted.
-      with_op what (TellsAs what now (Ok stats))
+      with_op what (StatsCountAs what now (Ok stats))
       (λ op is so. counted_last what x.sets old now op (slot_of y.slots session) stats so (stands op (Finished stats) does is)) (slot_of x.slots session) refl counted
   step_counts what answer does = tt
 
@@ -143,8 +143,8 @@ spared_on new last same h block e = subst (λ (ps : List Page). MustStay (nodes_
   empty = subst (λ (ps : List Page). (nodes_of ps block).entries ≡ []) same e.empty;
 }))
 
-pub tells_on : (what : Followed) (new last : State) (stats : VacuumStats) → last.pages ≡ new.pages → TellsAs what new (Ok stats) → TellsAs what last (Ok stats)
-tells_on of_sweep new last stats same h = h ∙ ap (λ (ps : List Page). entries_below ps (length ps)) (sym same)
+pub tells_on : (what : Followed) (new last : State) (stats : VacuumStats) → last.pages ≡ new.pages → StatsCountAs what new (Ok stats) → StatsCountAs what last (Ok stats)
+tells_on of_bulk_delete new last stats same h = h ∙ ap (λ (ps : List Page). entries_below ps (length ps)) (sym same)
 tells_on of_cleanup new last stats same h = cleaned_on new last stats.num_index_tuples same h
 tells_on (of_deleted was) new last stats same h = deleted_alike new last same ∙ h
 tells_on of_leaves new last stats same h = spared_on new last same h

@@ -12,18 +12,18 @@ use Rattle.page_delete.specs.Ops.{is_last_number, cleanup_counted_out as is_clea
 use Rattle.page_delete.specs.declared.steps.CleanupAt.{CleanupAt}
 use Rattle.page_delete.specs.declared.steps.CleanupAt.TheVariants.{Look}
 use Rattle.page_delete.specs.declared.steps.CleanupOp.{CleanupOp}
-use Rattle.session_calls.specs.Sweeps.{OpSweeps}
+use Rattle.session_calls.specs.BulkDeletions.{OpDeletions}
 use Rattle.session_calls.specs.declared.op.Op.TheVariants.{Bulk, Cleanup}
 use Rattle.whole_calls.proofs.Words.{Effect, Action, AskBulkDelete, Call, removed_by, Entry, Format, Ghosts, asked_of, noted, Op, Moment, IsRunningCall, Fits, slot_of, Laws}
 use Rattle.whole_calls.specs.Refusing.{is_full_vacuum}
-use Rattle.whole_calls.specs.Stepping.{HasGoneTo}
-use Rattle.whole_calls.specs.Sweeping.{of_cleanup, IsCountedAs, IsCountedIn, removed_of}
-use Rattle.whole_calls.specs.Telling.{acts_by, noted_behind}
+use Rattle.whole_calls.specs.Stepping.{HasReached}
+use Rattle.whole_calls.specs.Vacuuming.{of_cleanup, IsCountedAs, IsCountedIn, removed_of}
+use Rattle.whole_calls.specs.Meanings.{acts_by, noted_after}
 use Rattle.whole_calls.proofs.Gone.{gone_runs, same_ask}
 use Rattle.whole_calls.proofs.Removing.{remove_there, all_once, all_were, all_counted, removed_few, entries_few}
 use Rattle.whole_calls.proofs.Tellings.{runs_in_slot, one_runs}
 
-same_began : (call : Call) (count : ℕ) (xs : List Effect) → (noted_behind call count xs).began ≡ call.began
+same_began : (call : Call) (count : ℕ) (xs : List Effect) → (noted_after call count xs).began ≡ call.began
 same_began call count [] = refl
 same_began call count (x ∷ xs) = same_began (noted call count (Some x)) _ xs
 
@@ -78,12 +78,12 @@ module _ {S : Type 0} (g : Ghosts S) (laws : Laws g) (start : Entry → Bool) (s
   -- a bulk delete that has gone on to here has room to count more
   pub bulk_fills : (number : ℕ) (call : Call) (dead : Row → Bool) → IsRunningCall first.calls session number call → call.ask ≡ AskBulkDelete dead
       → call.began ≡ length first.history → (now : Moment S) → Fits g start now
-      → HasGoneTo g session first now → IsCountedIn first.sets (g.state now.store) (slot_of now.slots session) → is_full_vacuum (slot_of now.slots session) ≡ true → false ≡ true
+      → HasReached g session first now → IsCountedIn first.sets (g.state now.store) (slot_of now.slots session) → is_full_vacuum (slot_of now.slots session) ≡ true → false ≡ true
   bulk_fills number call dead is asked began now then_fits to counted out =
       let far = to.far number call is in
       let effects = far.0 in
       let gone = far.1 in
-      let then_call : Call = noted_behind call (length first.history) effects in
+      let then_call : Call = noted_after call (length first.history) effects in
       let runs = gone_runs number call effects first now now gone session is in
       let r = runs_in_slot g start now then_fits session number then_call runs in
       let one = one_runs g start now then_fits session number r.2.number then_call r.2.call runs r.2.is in
@@ -96,20 +96,20 @@ module _ {S : Type 0} (g : Ghosts S) (laws : Laws g) (start : Entry → Bool) (s
       ap (λ (n : ℕ). removed_by n (drop r.2.call.began now.history)) one.0 ∙ ap (λ (n : ℕ). removed_by number (drop n now.history)) then_began
       ∙ ap (λ (l : List Action). removed_by number (drop (length first.history) l)) gone.history_is
       ∙ ap (λ (l : List Action). removed_by number l) (drop-append_seam first.history (acts_by number effects)) ∙ all_counted start number effects in
-      of r.0 r.2.number r.2.call.began asks r.2.sweeps (subst (λ (o : Option Op). IsCountedIn first.sets (g.state now.store) o) slot counted)
+      of r.0 r.2.number r.2.call.began asks r.2.deletions (subst (λ (o : Option Op). IsCountedIn first.sets (g.state now.store) o) slot counted)
       (length (removed_of effects)) many low to.limits_are (subst (λ (o : Option Op). is_full_vacuum o ≡ true) slot out)
     where
-      of : (op : Op) (n b : ℕ) → asked_of now.sets op ≡ AskBulkDelete dead → OpSweeps (g.state now.store) now.sets start now.history n b op → IsCountedIn first.sets (g.state now.store) (Some op)
+      of : (op : Op) (n b : ℕ) → asked_of now.sets op ≡ AskBulkDelete dead → OpDeletions (g.state now.store) now.sets start now.history n b op → IsCountedIn first.sets (g.state now.store) (Some op)
           → (count : ℕ) → removed_by n (drop b now.history) ≡ count → count ≤ 3276800 → (g.state now.store).limits ≡ (g.state first.store).limits → is_full_vacuum (Some op) ≡ true → false ≡ true
-      of (Bulk set op) n b asks sweeps counts count many low limits out =
+      of (Bulk set op) n b asks deletions counts count many low limits out =
           let left = left_low now limits op.cursor in
           let is_left = counts.counted in
-          let is_removed = sweeps.1.removed in
+          let is_removed = deletions.1.removed in
           not_out op (omega (arith, left, is_left)) (omega (arith, low, many, is_removed)) out
-      of op n b asks sweeps counts count many low limits out = absurd counts
+      of op n b asks deletions counts count many low limits out = absurd counts
 
   -- nor does a cleanup
-  pub cleanup_fills : (now : Moment S) → HasGoneTo g session first now
+  pub cleanup_fills : (now : Moment S) → HasReached g session first now
       → IsCountedAs of_cleanup first.sets (g.state now.store) (slot_of now.slots session) → is_full_vacuum (slot_of now.slots session) ≡ true → false ≡ true
   cleanup_fills now to counted out = of (slot_of now.slots session) counted (λ n. left_low now to.limits_are n) (used_low now to.limits_are) out
     where

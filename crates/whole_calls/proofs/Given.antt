@@ -7,10 +7,10 @@ use Rattle.index_model.specs.declared.range.Range.{Range}
 use Rattle.session_calls.specs.declared.op.Op.TheVariants.{Bulk as Bulks, Cleanup as Cleanups}
 use Rattle.schedule.proofs.Lists.{get_set_same, get_set_other, get_within}
 use Rattle.whole_calls.proofs.Words.{Effect, Add, Remove, Shape, Action, AskScan, Running, Call, Circumstances, HasCause, Entry, State, Ghosts, IsCaused, OwesLess, work_in, noted, given_one, ended, Answer, Going, Ready, Done, Gave, Refused, Op, Moment, IsRunningCall, Fits}
-use Rattle.whole_calls.specs.Going.{CameBy}
+use Rattle.whole_calls.specs.Going.{IsOutcomeOf}
 use Rattle.whole_calls.specs.Made.{Answered, ComesTo}
-use Rattle.whole_calls.specs.Giving.{GoesDown, AnswersSeek, given_of, given_outcome, Becomes, GivenTold, TellsScan, ScanIsUntold, TellsGiven}
-use Rattle.whole_calls.specs.Telling.{IsSilent, acts_by, noted_behind, AreOwnEffects, IsOwnEffect, IsTold, StepTold, TellsStep, HasNone, TellsEnd}
+use Rattle.whole_calls.specs.Giving.{LessIsLeft, AnswersSeek, given_of, given_outcome, Becomes, GivenMeans, SessionScanMeans, ScanIsUnanswered, SessionGivenMeans}
+use Rattle.whole_calls.specs.Meanings.{IsSameHistory, acts_by, noted_after, AreOwnEffects, IsOwnEffect, CallAnswers, StepMeans, SessionStepMeans, HasNone, EndMeans}
 use Rattle.whole_calls.proofs.Gone.{set_same, same_ask, gone_nowhere, gone_runs, gone_then, whole_told}
 use Rattle.whole_calls.proofs.Tellings.{one_runs, was_told}
 
@@ -21,7 +21,7 @@ owes (Some (Cleanups op)) old new calm = tt
 owes slot old new calm = calm
 
 -- what a scan gives is what it came to
-pub give_comes : (came : Answer) (answers : List Answer) → AnswersSeek came → CameBy answers (Some came) → CameBy answers (given_outcome (given_of came))
+pub give_comes : (came : Answer) (answers : List Answer) → AnswersSeek came → IsOutcomeOf answers (Some came) → IsOutcomeOf answers (given_outcome (given_of came))
 give_comes (Gave (Some e)) answers kind h = h
 give_comes Done answers kind h = h
 give_comes (Refused f) answers kind h = h
@@ -49,50 +49,50 @@ scan_own call range count (Remove es ∷ effects) ask own = absurd (rw ask at ow
 scan_own call range count (Shape ∷ effects) ask own = absurd (rw ask at own.0)
 
 -- ... so its history is as it was, and so is its call before the last step
-scan_silent : {S : Type 0} (number : ℕ) (call : Call) (range : Range) (answer : Answer) (x y : Moment S) → call.ask ≡ AskScan range → (t : IsTold number call answer x y)
-    → (y.history ≡ x.history) × (noted_behind call (length x.history) t.before ≡ call) × (length (x.history ++ acts_by number t.before) ≡ length x.history)
+scan_silent : {S : Type 0} (number : ℕ) (call : Call) (range : Range) (answer : Answer) (x y : Moment S) → call.ask ≡ AskScan range → (t : CallAnswers number call answer x y)
+    → (y.history ≡ x.history) × (noted_after call (length x.history) t.before ≡ call) × (length (x.history ++ acts_by number t.before) ≡ length x.history)
 scan_silent number call range answer x y ask t =
     let w = whole_told number call answer x y t in
     let all : w.effects ≡ [] = scan_own call range (length x.history) w.effects ask w.own in
     let front : t.before ≡ [] = scan_own call range (length x.history) t.before ask t.own in (
       w.history_is ∙ ap (λ (l : List Effect). x.history ++ acts_by number l) all ∙ append-nil x.history,
-      ap (λ (l : List Effect). noted_behind call (length x.history) l) front,
+      ap (λ (l : List Effect). noted_after call (length x.history) l) front,
       ap (λ (l : List Effect). length (x.history ++ acts_by number l)) front ∙ ap (λ (l : List Action). length l) (append-nil x.history),
     )
 
 -- what is told of a session's running call is told of its scan
-pub scan_told : {S : Type 0} (session : ℕ) (answer : Answer) (x y : Moment S) → TellsStep session answer x y → TellsScan session answer x y
+pub scan_told : {S : Type 0} (session : ℕ) (answer : Answer) (x y : Moment S) → SessionStepMeans session answer x y → SessionScanMeans session answer x y
 scan_told session answer x y tells number call range is ask = tells number call is
 
 -- a scan of which nothing is told, and then this
-pub scan_then : {S : Type 0} (session : ℕ) (answer : Answer) (x y z : Moment S) → ScanIsUntold session x y → TellsScan session answer y z → TellsScan session answer x z
+pub scan_then : {S : Type 0} (session : ℕ) (answer : Answer) (x y z : Moment S) → ScanIsUnanswered session x y → SessionScanMeans session answer y z → SessionScanMeans session answer x z
 scan_then session answer x y z stays tells number call range is ask =
     let gone = gone_nowhere session number call x y is (stays number call range is ask) in
     gone_then number call [] x y z gone answer (tells number call range (gone_runs number call [] x y z gone session is) ask)
 
 -- nothing is told, and then again
-pub stays_then : {S : Type 0} (session : ℕ) (x y z : Moment S) → ScanIsUntold session x y → ScanIsUntold session y z → ScanIsUntold session x z
+pub stays_then : {S : Type 0} (session : ℕ) (x y z : Moment S) → ScanIsUnanswered session x y → ScanIsUnanswered session y z → ScanIsUnanswered session x z
 stays_then session x y z one two number call range is ask =
-    let s : IsSilent x y = one number call range is ask in
+    let s : IsSameHistory x y = one number call range is ask in
     let gone = gone_nowhere session number call x y is s in
-    let t : IsSilent y z = two number call range (gone_runs number call [] x y z gone session is) ask in
+    let t : IsSameHistory y z = two number call range (gone_runs number call [] x y z gone session is) ask in
     record { history_is = t.history_is ∙ s.history_is; calls_is = t.calls_is ∙ s.calls_is }
 
 -- what leaves a scan's call as it was
 unchanged : {S : Type 0} (session number : ℕ) (call : Call) (range : Range) (answer : Answer) (x y : Moment S)
-    → IsRunningCall x.calls session number call → call.ask ≡ AskScan range → (t : IsTold number call answer x y)
-    → t.after ≡ noted_behind call (length x.history) t.before → IsSilent x y
+    → IsRunningCall x.calls session number call → call.ask ≡ AskScan range → (t : CallAnswers number call answer x y)
+    → t.after ≡ noted_after call (length x.history) t.before → IsSameHistory x y
 unchanged session number call range answer x y is ask t after =
     let s = scan_silent number call range answer x y ask t in
     record { history_is = s.0; calls_is = t.calls_is ∙ ap (λ (c : Call). slice_set x.calls number c) (after ∙ s.1) ∙ set_same x.calls number call is.found }
 
 -- a scan that goes on
-pub going_stays : {S : Type 0} (session : ℕ) (x y : Moment S) → TellsScan session Going x y → ScanIsUntold session x y
+pub going_stays : {S : Type 0} (session : ℕ) (x y : Moment S) → SessionScanMeans session Going x y → ScanIsUnanswered session x y
 going_stays session x y tells number call range is ask =
     let t = was_told number call Going x y (λ fault e. cc) (tells number call range is ask) in
-    let last : t.last ≡ None = no_last (noted_behind call (length x.history) t.before) t.last (same_ask call (length x.history) t.before ∙ ask) t.own_last in
+    let last : t.last ≡ None = no_last (noted_after call (length x.history) t.before) t.last (same_ask call (length x.history) t.before ∙ ask) t.own_last in
     unchanged session number call range Going x y is ask t
-    (t.told ∙ ap (λ (o : Option Effect). noted (noted_behind call (length x.history) t.before) (length (x.history ++ acts_by number t.before)) o) last)
+    (t.told ∙ ap (λ (o : Option Effect). noted (noted_after call (length x.history) t.before) (length (x.history ++ acts_by number t.before)) o) last)
   where
     no_last : (c : Call) (o : Option Effect) → c.ask ≡ AskScan range → IsOwnEffect c o → o ≡ None
     no_last c None ask h = refl
@@ -101,21 +101,21 @@ going_stays session x y tells number call range is ask =
     no_last c (Some Shape) ask h = absurd (rw ask at h)
 
 -- one that has entries ready
-pub ready_stays : {S : Type 0} (session count : ℕ) (x y : Moment S) → TellsScan session (Ready count) x y → ScanIsUntold session x y
+pub ready_stays : {S : Type 0} (session count : ℕ) (x y : Moment S) → SessionScanMeans session (Ready count) x y → ScanIsUnanswered session x y
 ready_stays session count x y tells number call range is ask =
     let t = was_told number call (Ready count) x y (λ fault e. cc) (tells number call range is ask) in unchanged session number call range (Ready count) x y is ask t t.told.after_is
 
 -- a `next` that gives none
-pub none_stays : {S : Type 0} (session : ℕ) (x y : Moment S) → TellsScan session (Gave None) x y → ScanIsUntold session x y
+pub none_stays : {S : Type 0} (session : ℕ) (x y : Moment S) → SessionScanMeans session (Gave None) x y → ScanIsUnanswered session x y
 none_stays session x y tells number call range is ask =
     let t = was_told number call (Gave None) x y (λ fault e. cc) (tells number call range is ask) in unchanged session number call range (Gave None) x y is ask t t.told.after_is
 
 -- an entry that is given
 pub some_given : {S : Type 0} (session : ℕ) (came : Answer) (entry : Entry) (x y : Moment S) → AnswersSeek came → given_of came ≡ Ok (Some entry)
-    → TellsScan session came x y → TellsGiven session (Ok (Some entry)) x y
+    → SessionScanMeans session came x y → SessionGivenMeans session (Ok (Some entry)) x y
 some_given {S} session came entry x y kind is tells number call range running ask = of came kind is (tells number call range running ask)
   where
-    of : (a : Answer) → AnswersSeek a → given_of a ≡ Ok (Some entry) → StepTold number call a x y → Becomes number (given_one call entry) x y
+    of : (a : Answer) → AnswersSeek a → given_of a ≡ Ok (Some entry) → StepMeans number call a x y → Becomes number (given_one call entry) x y
     of (Gave (Some e)) kind is told =
         let same : e ≡ entry = cc in
         let t = was_told number call (Gave (Some e)) x y (λ fault e. cc) told in
@@ -147,10 +147,10 @@ none_after g start x y session number call after fits running calls over other c
 -- what is given at the end, and then an end
 pub end_given : {S : Type 0} (g : Ghosts S) (start : Entry → Bool) (session : ℕ) (came : Answer) (x y z : Moment S) → Fits g start x
     → AnswersSeek came → ((entry : Entry) → given_of came ≡ Ok (Some entry) → ⊥)
-    → TellsScan session came x y → TellsEnd session y z → TellsGiven session (given_of came) x z
+    → SessionScanMeans session came x y → EndMeans session y z → SessionGivenMeans session (given_of came) x z
 end_given {S} g start session came x y z fits kind no_entry tells end number call range running ask = of came kind no_entry (tells number call range running ask)
   where
-    of : (a : Answer) → AnswersSeek a → ((entry : Entry) → given_of a ≡ Ok (Some entry) → ⊥) → StepTold number call a x y → GivenTold number call (given_of a) x z
+    of : (a : Answer) → AnswersSeek a → ((entry : Entry) → given_of a ≡ Ok (Some entry) → ⊥) → StepMeans number call a x y → GivenMeans number call (given_of a) x z
     of (Gave (Some e)) kind some t = absurd (some e refl)
     of Done kind some told =
         let t = was_told number call Done x y (λ fault e. cc) told in
@@ -167,9 +167,9 @@ end_given {S} g start session came x y z fits kind no_entry tells end number cal
         ∙ ap (λ (l : List Effect). x.history ++ acts_by number l) (scan_own call range (length x.history) t.before ask t.gone.own) ∙ append-nil x.history
     of a kind some t = absurd kind
 
--- behind steps that left no more to do, what leaves less than then leaves less than before them
+-- after steps that left no more to do, what leaves less than then leaves less than before them
 pub down_after : (old mid new : State) (before between after : Option Op) (answer : Answer) → work_in mid between ≤ work_in old before
-    → GoesDown mid new between after answer → GoesDown old new before after answer
+    → LessIsLeft mid new between after answer → LessIsLeft old new before after answer
 down_after old mid new before between after Going most down = omega (arith, most, down)
 down_after old mid new before between after (Ready r) most down = omega (arith, most, down)
 down_after old mid new before between after (Gave (Some e)) most down = omega (arith, most, down)
@@ -177,7 +177,7 @@ down_after old mid new before between after answer most down = tt
 
 -- an answer with which the scan goes on leaves less to do
 pub down_on : (old new : State) (before after : Option Op) (answer : Answer) → (answer ≡ Going) ⊎ ((count : ℕ) × (answer ≡ Ready count))
-    → GoesDown old new before after answer → work_in new after < work_in old before
+    → LessIsLeft old new before after answer → work_in new after < work_in old before
 down_on old new before after Going on down = down
 down_on old new before after (Ready count) on down = down
 down_on old new before after answer on down = absurd (elim on [ inl is ↦ cc | inr is ↦ (let e = is.1 in cc) ])

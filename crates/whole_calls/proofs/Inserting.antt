@@ -9,11 +9,11 @@ use Rattle.session_calls.specs.declared.request.Request.TheVariants.{Insert as T
 use Rattle.schedule.proofs.Lists.{get_append_new, get_append_cases}
 use Rattle.whole_calls.proofs.Words.{Effect, Add, Remove, Shape, Action, Ask, AskInsert, Ending, Running, GivenUp, Failed, AnswersRight, end_of, Meets, Call, HasCause, Entry, Fault, Ghosts, ends_call, IsCaused, acts_of, act_count, noted, ended, slot_add, once_added, Answer, Going, Added, Refused, Op, StoreAndSlots, Moment, snapshot_of, IsRunningCall, Fits, here_at, slot_of}
 use Rattle.whole_calls.specs.Made.{Answered, InsertComesTo}
-use Rattle.whole_calls.specs.Going.{CallGoes, GoesFrom}
-use Rattle.whole_calls.specs.Inserting.{InsertGoes}
+use Rattle.whole_calls.specs.Going.{CallIsRun, CallIsRunFrom}
+use Rattle.whole_calls.specs.Inserting.{InsertIsRun}
 use Rattle.whole_calls.specs.Refusing.{causes_of_inserted, causes_of_asked, has_no_block, is_tall, InsertCallIsCaused}
-use Rattle.whole_calls.specs.Stepping.{RunGoes}
-use Rattle.whole_calls.specs.Telling.{MayAnswer, acts_by, noted_behind, AreOwnEffects, IsTold, StepTold, HasNone, TellsEnd, with_one_call, first_call, NextTold, NothingTold, left_behind, outcome_of, shapes, inserted_call, IsAddedNow, IsNotAdded, InsertTold}
+use Rattle.whole_calls.specs.Stepping.{RequestIsRun}
+use Rattle.whole_calls.specs.Meanings.{MayAnswer, acts_by, noted_after, AreOwnEffects, CallAnswers, StepMeans, HasNone, EndMeans, with_one_call, first_call, NextMeans, NothingIsDone, left_behind, outcome_of, shapes, inserted_call, IsAddedNow, IsNotAdded, InsertMeans}
 use Rattle.whole_calls.proofs.Composing.{goes_told}
 use Rattle.whole_calls.proofs.Refusing.{called_wider, begun_called, stopped_before}
 use Rattle.whole_calls.proofs.Gone.{same_ask, same_ending, same_session, whole_told}
@@ -21,7 +21,7 @@ use Rattle.whole_calls.proofs.Tellings.{runs_in_slot, one_runs, is_empty, set_ne
 
 -- an insert whose entry is added appends nothing but changes of the shape
 only_shapes : (number : ℕ) (e : Entry) (call : Call) (count action : ℕ) (effects : List Effect) → call.ask ≡ AskInsert e → call.added ≡ Some action → AreOwnEffects call count effects
-    → (acts_by number effects ≡ shapes number (length effects)) × (noted_behind call count effects ≡ call)
+    → (acts_by number effects ≡ shapes number (length effects)) × (noted_after call count effects ≡ call)
 only_shapes number e call count action [] ask added own = (refl, refl)
 only_shapes number e call count action (Shape ∷ effects) ask added own =
     let r = only_shapes number e call (suc count) action effects ask added own.1 in
@@ -31,15 +31,15 @@ only_shapes number e call count action (Add x ∷ effects) ask added own =
 only_shapes number e call count action (Remove es ∷ effects) ask added own = absurd (rw ask at own.0)
 
 -- an insert whose entry isn't added at the end, too
-none_added : (number : ℕ) (e : Entry) (call : Call) (count : ℕ) (effects : List Effect) → call.ask ≡ AskInsert e → (noted_behind call count effects).added ≡ None → AreOwnEffects call count effects
-    → (acts_by number effects ≡ shapes number (length effects)) × (noted_behind call count effects ≡ call)
+none_added : (number : ℕ) (e : Entry) (call : Call) (count : ℕ) (effects : List Effect) → call.ask ≡ AskInsert e → (noted_after call count effects).added ≡ None → AreOwnEffects call count effects
+    → (acts_by number effects ≡ shapes number (length effects)) × (noted_after call count effects ≡ call)
 none_added number e call count [] ask none own = (refl, refl)
 none_added number e call count (Shape ∷ effects) ask none own =
     let r = none_added number e call (suc count) effects ask none own.1 in
     (ap (λ (l : List Action). (record { by = number; effect = Shape }) ∷ l) r.0, r.1)
 none_added number e call count (Add x ∷ effects) ask none own =
     absurd (let r = only_shapes number e (noted call count (Some (Add x))) (suc count) (suc count) effects ask refl own.1 in
-    let s : (noted_behind call count (Add x ∷ effects)).added ≡ Some (suc count) = ap (λ (c : Call). c.added) r.1 in cc)
+    let s : (noted_after call count (Add x ∷ effects)).added ≡ Some (suc count) = ap (λ (c : Call). c.added) r.1 in cc)
 none_added number e call count (Remove es ∷ effects) ask none own = absurd (rw ask at own.0)
 
 -- what an insert has appended that has its Add at the end
@@ -48,10 +48,10 @@ pub record OneAdd (number : ℕ) (e : Entry) (call : Call) (count : ℕ) (effect
   pub behind : ℕ
   pub acts_are : acts_by number effects ≡ shapes number before ++ (record { by = number; effect = Add e }) ∷ shapes number behind
   pub action_is : action ≡ suc (before + count)
-  pub noted_is : noted_behind call count effects ≡ record call { added = Some action }
+  pub noted_is : noted_after call count effects ≡ record call { added = Some action }
 
 one_add : (number : ℕ) (e : Entry) (call : Call) (count : ℕ) (effects : List Effect) (action : ℕ) → call.ask ≡ AskInsert e → call.added ≡ None
-    → (noted_behind call count effects).added ≡ Some action → AreOwnEffects call count effects
+    → (noted_after call count effects).added ≡ Some action → AreOwnEffects call count effects
     → OneAdd number e call count effects action
 one_add number e call count [] action ask none some own = absurd cc
 one_add number e call count (Shape ∷ effects) action ask none some own =
@@ -67,7 +67,7 @@ one_add number e call count (Add x ∷ effects) action ask none some own =
     let m = rw ask at own.0 in
     let same : e ≡ x = m.0 in
     let r = only_shapes number e (noted call count (Some (Add x))) (suc count) (suc count) effects ask refl own.1 in
-    let is : action ≡ suc count = (let s : (noted_behind call count (Add x ∷ effects)).added ≡ Some (suc count) = ap (λ (c : Call). c.added) r.1 in cc) in
+    let is : action ≡ suc count = (let s : (noted_after call count (Add x ∷ effects)).added ≡ Some (suc count) = ap (λ (c : Call). c.added) r.1 in cc) in
     record {
       before = 0;
       behind = length effects;
@@ -137,20 +137,20 @@ pub record IsLeftSo {S : Type 0} (number : ℕ) (call : Call) (fault : Fault) (x
   pub after : Call
   pub history_is : y.history ≡ x.history ++ acts_by number effects
   pub calls_is : y.calls ≡ slice_set x.calls number after
-  pub after_is : (after ≡ noted_behind call (length x.history) effects) ⊎ (after ≡ ended (noted_behind call (length x.history) effects) (Failed fault) (length y.history))
-  pub over_is : IsOfEntry fault → after ≡ ended (noted_behind call (length x.history) effects) (Failed fault) (length y.history)
+  pub after_is : (after ≡ noted_after call (length x.history) effects) ⊎ (after ≡ ended (noted_after call (length x.history) effects) (Failed fault) (length y.history))
+  pub over_is : IsOfEntry fault → after ≡ ended (noted_after call (length x.history) effects) (Failed fault) (length y.history)
 
-refused_so : {S : Type 0} (number : ℕ) (call : Call) (fault : Fault) (x y : Moment S) → IsTold number call (Refused fault) x y → IsLeftSo number call fault x y
+refused_so : {S : Type 0} (number : ℕ) (call : Call) (fault : Fault) (x y : Moment S) → CallAnswers number call (Refused fault) x y → IsLeftSo number call fault x y
 refused_so number call fault x y t =
     let w = whole_told number call (Refused fault) x y t in
     let same : t.before ≡ w.effects = w.none_is t.told.0 in
     let history : y.history ≡ x.history ++ acts_by number w.effects = w.history_is in
     let many : length (x.history ++ acts_by number t.before) ≡ length y.history =
     ap (λ (l : List Effect). length (x.history ++ acts_by number l)) same ∙ ap (λ (l : List Action). length l) (sym history) in
-    let is : t.after ≡ (if ends_call fault then ended (noted_behind call (length x.history) w.effects) (Failed fault) (length y.history) else noted_behind call (length x.history) w.effects) =
+    let is : t.after ≡ (if ends_call fault then ended (noted_after call (length x.history) w.effects) (Failed fault) (length y.history) else noted_after call (length x.history) w.effects) =
     t.told.1 ∙ ap (λ (l : List Effect).
-    if ends_call fault then ended (noted_behind call (length x.history) l) (Failed fault) (length (x.history ++ acts_by number t.before)) else noted_behind call (length x.history) l) same
-    ∙ ap (λ (n : ℕ). if ends_call fault then ended (noted_behind call (length x.history) w.effects) (Failed fault) n else noted_behind call (length x.history) w.effects) many in
+    if ends_call fault then ended (noted_after call (length x.history) l) (Failed fault) (length (x.history ++ acts_by number t.before)) else noted_after call (length x.history) l) same
+    ∙ ap (λ (n : ℕ). if ends_call fault then ended (noted_after call (length x.history) w.effects) (Failed fault) n else noted_after call (length x.history) w.effects) many in
     record {
       effects = w.effects;
       own = w.own;
@@ -160,7 +160,7 @@ refused_so number call fault x y t =
       after_is = by (ends_call fault) is;
       over_is = λ e. subst
           (λ (b : Bool). t.after ≡
-          (if b then ended (noted_behind call (length x.history) w.effects) (Failed fault) (length y.history) else noted_behind call (length x.history) w.effects)) (of_entry_ends fault e) is;
+          (if b then ended (noted_after call (length x.history) w.effects) (Failed fault) (length y.history) else noted_after call (length x.history) w.effects)) (of_entry_ends fault e) is;
     }
   where
     by : {c : Call} {d : Call} {k : Call} (b : Bool) → k ≡ (if b then d else c) → (k ≡ c) ⊎ (k ≡ d)
@@ -168,14 +168,14 @@ refused_so number call fault x y t =
     by false h = inl h
 
 -- refused at a step, or before it
-left_so : {S : Type 0} (number : ℕ) (call : Call) (fault : Fault) (x y : Moment S) → StepTold number call (Refused fault) x y → IsLeftSo number call fault x y
+left_so : {S : Type 0} (number : ℕ) (call : Call) (fault : Fault) (x y : Moment S) → StepMeans number call (Refused fault) x y → IsLeftSo number call fault x y
 left_so number call fault x y (inl t) = refused_so number call fault x y t
 left_so number call fault x y (inr h) =
     let same : h.fault ≡ fault = (let e = h.refused in cc) in
     record {
       effects = h.before;
       own = h.gone.own;
-      after = noted_behind call (length x.history) h.before;
+      after = noted_after call (length x.history) h.before;
       history_is = h.gone.history_is;
       calls_is = h.gone.calls_is;
       after_is = inl refl;
@@ -183,7 +183,7 @@ left_so number call fault x y (inr h) =
     }
 
 -- an insert that came so far, and then an end
-module _ {S : Type 0} (g : Ghosts S) (start : Entry → Bool) (session : ℕ) (entry : Entry) (x y z : Moment S) (free : HasNone session x) (fits : Fits g start y) (end : TellsEnd session y z) where
+module _ {S : Type 0} (g : Ghosts S) (start : Entry → Bool) (session : ℕ) (entry : Entry) (x y z : Moment S) (free : HasNone session x) (fits : Fits g start y) (end : EndMeans session y z) where
   abbrev request_call : Call
   request_call = first_call session (ToInsert entry) x
 
@@ -193,7 +193,7 @@ module _ {S : Type 0} (g : Ghosts S) (start : Entry → Bool) (session : ℕ) (e
   abbrev insert_number : ℕ
   insert_number = length x.calls
 
-  added_told : (action : ℕ) (unfinished : Option Fault) → IsTold insert_number request_call (Added action unfinished) begun y
+  added_told : (action : ℕ) (unfinished : Option Fault) → CallAnswers insert_number request_call (Added action unfinished) begun y
       → IsAddedNow session entry (record { action = action; unfinished = unfinished }) x z
   added_told action unfinished t =
       let w = whole_told insert_number request_call (Added action unfinished) begun y t in
@@ -223,7 +223,7 @@ module _ {S : Type 0} (g : Ghosts S) (start : Entry → Bool) (session : ℕ) (e
           by None h = (let k = length-append history (acts_of insert_number None) in omega (arith, h, k))
           by (Some e) h = (let k = length-append history (acts_of insert_number (Some e)) in omega (arith, h, k))
 
-  -- behind a refusal the insert's call is the last one
+  -- after a refusal the insert's call is the last one
   last_call : (fault : Fault) (l : IsLeftSo insert_number request_call fault begun y) → y.calls ≡ x.calls ++ l.after ∷ []
   last_call fault l = l.calls_is ∙ set_new x.calls request_call l.after
 
@@ -231,7 +231,7 @@ module _ {S : Type 0} (g : Ghosts S) (start : Entry → Bool) (session : ℕ) (e
   found_last fault l = ap (λ (cs : List Call). slice_get cs insert_number) (last_call fault l) ∙ get_append_new x.calls l.after
 
   still_runs : (fault : Fault) (l : IsLeftSo insert_number request_call fault begun y)
-      → l.after ≡ noted_behind request_call (length x.history) l.effects → IsRunningCall y.calls session insert_number l.after
+      → l.after ≡ noted_after request_call (length x.history) l.effects → IsRunningCall y.calls session insert_number l.after
   still_runs fault l is = record {
     found = found_last fault l;
     session_is = ap (λ (c : Call). c.session) is ∙ same_session request_call (length x.history) l.effects;
@@ -240,7 +240,7 @@ module _ {S : Type 0} (g : Ghosts S) (start : Entry → Bool) (session : ℕ) (e
 
   -- its Add is that of what its session runs
   same_add : (fault : Fault) (l : IsLeftSo insert_number request_call fault begun y)
-      → l.after ≡ noted_behind request_call (length x.history) l.effects → (noted_behind request_call (length x.history) l.effects).added ≡ slot_add (slot_of y.slots session)
+      → l.after ≡ noted_after request_call (length x.history) l.effects → (noted_after request_call (length x.history) l.effects).added ≡ slot_add (slot_of y.slots session)
   same_add fault l is =
       let runs = still_runs fault l is in
       let r = runs_in_slot g start y fits session insert_number l.after runs in
@@ -251,7 +251,7 @@ module _ {S : Type 0} (g : Ghosts S) (start : Entry → Bool) (session : ℕ) (e
   -- where it has none, it has appended changes of the shape only
   left_without : (fault : Fault) (l : IsLeftSo insert_number request_call fault begun y) → slot_add (slot_of y.slots session) ≡ None → IsNotAdded session entry fault x z
   left_without fault l none =
-      let no_add : (noted_behind request_call (length x.history) l.effects).added ≡ None = elim l.after_is [
+      let no_add : (noted_after request_call (length x.history) l.effects).added ≡ None = elim l.after_is [
         | inl is ↦ same_add fault l is ∙ none
         | inr is ↦ (
             let failed : l.after.added ≡ None = failed_has_none start y.history insert_number entry fault l.after (fits.explains.meets insert_number l.after (found_last fault l))
@@ -266,26 +266,26 @@ module _ {S : Type 0} (g : Ghosts S) (start : Entry → Bool) (session : ℕ) (e
         key_exists_is = λ row e. over r.1 (KeyExists row) tt e;
       }
     where
-      over : noted_behind request_call (length x.history) l.effects ≡ request_call → (of : Fault) → IsOfEntry of → fault ≡ of
+      over : noted_after request_call (length x.history) l.effects ≡ request_call → (of : Fault) → IsOfEntry of → fault ≡ of
           → z.calls ≡ x.calls ++ ended request_call (Failed of) (length z.history) ∷ []
       over same of is e =
           let after : Call = ended request_call (Failed of) (length z.history) in
           let after_is : l.after ≡ after =
-          l.over_is (subst IsOfEntry (sym e) is) ∙ ap (λ (f : Fault). ended (noted_behind request_call (length x.history) l.effects) (Failed f) (length y.history)) e
+          l.over_is (subst IsOfEntry (sym e) is) ∙ ap (λ (f : Fault). ended (noted_after request_call (length x.history) l.effects) (Failed f) (length y.history)) e
           ∙ ap (λ (c : Call). ended c (Failed of) (length y.history)) same ∙ ap (λ (h : List Action). ended request_call (Failed of) (length h)) (sym end.history_is) in
           let calls : y.calls ≡ x.calls ++ after ∷ [] = last_call fault l ∙ ap (λ (c : Call). x.calls ++ c ∷ []) after_is in
           end.calls_is (ended_none session x y after free calls (λ k. cc)) ∙ calls
 
   -- a session whose insert a fault has ended runs nothing
   failed_runs_none : (fault : Fault) (l : IsLeftSo insert_number request_call fault begun y)
-      → l.after ≡ ended (noted_behind request_call (length x.history) l.effects) (Failed fault) (length y.history) → slot_of y.slots session ≡ None
+      → l.after ≡ ended (noted_after request_call (length x.history) l.effects) (Failed fault) (length y.history) → slot_of y.slots session ≡ None
   failed_runs_none fault l is =
       let calls : y.calls ≡ x.calls ++ l.after ∷ [] = last_call fault l in
       let over : l.after.ending ≡ Running → ⊥ = λ e. (let f : l.after.ending ≡ Failed fault = ap (λ (c : Call). c.ending) is in cc) in
       is_empty g start y fits session (ended_none session x y l.after free calls over)
 
   -- an insert that has added its entry isn't refused because the entry or its key was there
-  pub not_there : (action : ℕ) → slot_add (slot_of y.slots session) ≡ Some action → (fault : Fault) → IsOfEntry fault → NextTold session (ToInsert entry) (Refused fault) x y → ⊥
+  pub not_there : (action : ℕ) → slot_add (slot_of y.slots session) ≡ Some action → (fault : Fault) → IsOfEntry fault → NextMeans session (ToInsert entry) (Refused fault) x y → ⊥
   not_there action some fault of t =
       let l : IsLeftSo insert_number request_call fault begun y = left_so insert_number request_call fault begun y t in
       let none : slot_add (slot_of y.slots session) ≡ None = ap slot_add (failed_runs_none fault l (l.over_is of)) in
@@ -316,19 +316,19 @@ module _ {S : Type 0} (g : Ghosts S) (start : Entry → Bool) (session : ℕ) (e
   ]
 
   left_told : (fault : Fault) (added : Option ℕ) → slot_add (slot_of y.slots session) ≡ added → IsLeftSo insert_number request_call fault begun y
-      → InsertTold session entry (left_behind added fault) x z
+      → InsertMeans session entry (left_behind added fault) x z
   left_told fault None is l = left_without fault l is
   left_told fault (Some action) is l = left_with fault l action is
 
   pub insert_told : (answer : Answer) (added : Option ℕ) → slot_add (slot_of y.slots session) ≡ added → answer ≢ Going
-      → NextTold session (ToInsert entry) answer x y → InsertTold session entry (outcome_of answer added) x z
+      → NextMeans session (ToInsert entry) answer x y → InsertMeans session entry (outcome_of answer added) x z
   insert_told (Added action unfinished) added is over (inl t) = added_told action unfinished t
   insert_told (Added action unfinished) added is over (inr h) = absurd (let e = h.refused in cc)
   insert_told (Refused fault) added is over t = left_told fault added is (left_so insert_number request_call fault begun y t)
   insert_told answer added is over t = absurd (insert_may entry answer over (came_may insert_number request_call answer begun y t))
 
 -- an insert that was not begun
-not_begun : {S : Type 0} (session : ℕ) (entry : Entry) (fault : Fault) (x y : Moment S) → NothingTold fault x y → IsNotAdded session entry fault x y
+not_begun : {S : Type 0} (session : ℕ) (entry : Entry) (fault : Fault) (x y : Moment S) → NothingIsDone fault x y → IsNotAdded session entry fault x y
 not_begun session entry fault x y t = record {
   shaped = 0;
   history_is = t.silent.history_is ∙ sym (append-nil x.history);
@@ -336,7 +336,7 @@ not_begun session entry fault x y t = record {
   key_exists_is = λ row e. absurd (t.not_key_exists row e);
 }
 
--- why it leaves a fault behind, or is refused
+-- why it leaves a fault after, or is refused
 left_cause : {S : Type 0} (g : Ghosts S) (session least_room : ℕ) (old : StoreAndSlots S) (new : S) (key_was : Row → Bool) (used_up tall : Bool) (fault : Fault) → (IsOfEntry fault → ⊥)
     → HasCause (causes_of_inserted g session least_room true key_was used_up tall old new) fault → HasCause (causes_of_inserted g session least_room false (λ r. false) used_up tall old new) fault
 left_cause g session least_room old new key_was used_up tall Exists apart h = absurd (apart tt)
@@ -353,7 +353,7 @@ added_cause g session least_room old new key_was used_up tall fault h = h
 -- an insert that is run to its end
 module _ {S : Type 0} (g : Ghosts S) (session least_room : ℕ) (entry : Entry) where
   run_told : (start : Entry → Bool) (x z : Moment S) (answer : Answer) (added : Option ℕ) → answer ≢ Going
-      → RunGoes g session least_room (ToInsert entry) answer added start x z → InsertTold session entry (outcome_of answer added) x z
+      → RequestIsRun g session least_room (ToInsert entry) answer added start x z → InsertMeans session entry (outcome_of answer added) x z
   run_told start x z answer added over (inl n) = rw (n.refused, n.none) (not_begun session entry n.fault x z n.told)
   run_told start x z answer added over (inr r) = insert_told g start session entry x r.here z r.free r.fits r.end answer added r.add_is over r.told
 
@@ -374,12 +374,12 @@ module _ {S : Type 0} (g : Ghosts S) (session least_room : ℕ) (entry : Entry) 
       left_cause g session least_room old new (λ r. (g.state new).limits.unique) (no_block old new) (is_tall (g.state new)) fault (λ of. apart action refl fault of refl) c
   caused old new answer added may apart c = absurd may
 
-  may_run : (start : Entry → Bool) (x z : Moment S) (answer : Answer) (added : Option ℕ) → answer ≢ Going → RunGoes g session least_room (ToInsert entry) answer added start x z → IsInsertAnswer answer
+  may_run : (start : Entry → Bool) (x z : Moment S) (answer : Answer) (added : Option ℕ) → answer ≢ Going → RequestIsRun g session least_room (ToInsert entry) answer added start x z → IsInsertAnswer answer
   may_run start x z answer added over (inl n) = subst IsInsertAnswer (sym n.refused) tt
   may_run start x z answer added over (inr r) =
       insert_may entry answer over (came_may (length x.calls) (first_call session (ToInsert entry) x) answer (with_one_call x (first_call session (ToInsert entry) x)) r.here r.told)
 
-  pub insert_caused : (start : Entry → Bool) (x z : Moment S) (answer : Answer) (added : Option ℕ) → answer ≢ Going → RunGoes g session least_room (ToInsert entry) answer added start x z
+  pub insert_caused : (start : Entry → Bool) (x z : Moment S) (answer : Answer) (added : Option ℕ) → answer ≢ Going → RequestIsRun g session least_room (ToInsert entry) answer added start x z
       → InsertCallIsCaused g session least_room entry (here_at x) z.store (outcome_of answer added)
   insert_caused start x z answer added over (inl n) =
       rw (n.refused, n.none)
@@ -389,16 +389,16 @@ module _ {S : Type 0} (g : Ghosts S) (session least_room : ℕ) (entry : Entry) 
   insert_caused start x z answer added over (inr r) =
       caused (here_at x) z.store answer added (may_run start x z answer added over (inr r))
       (λ action some fault of e.
-      not_there g start session entry x r.here z r.free r.fits r.end action (r.add_is ∙ some) fault of (subst (λ (a : Answer). NextTold session (ToInsert entry) a x r.here) e r.told)) r.caused
+      not_there g start session entry x r.here z r.free r.fits r.end action (r.add_is ∙ some) fault of (subst (λ (a : Answer). NextMeans session (ToInsert entry) a x r.here) e r.told)) r.caused
 
-  as_told : (a c : StoreAndSlots S) (answer : Answer) (added : Option ℕ) → answer ≢ Going → GoesFrom g session (RunGoes g session least_room (ToInsert entry) answer added) (Some answer) a c
-      → CallGoes g session (InsertTold session entry (outcome_of answer added)) (Some answer) a c
+  as_told : (a c : StoreAndSlots S) (answer : Answer) (added : Option ℕ) → answer ≢ Going → CallIsRunFrom g session (RequestIsRun g session least_room (ToInsert entry) answer added) (Some answer) a c
+      → CallIsRun g session (InsertMeans session entry (outcome_of answer added)) (Some answer) a c
   as_told a c answer added over =
-      goes_told g session (RunGoes g session least_room (ToInsert entry) answer added) (λ s. InsertTold session entry (outcome_of answer added)) (Some answer) (Some answer) a c
+      goes_told g session (RequestIsRun g session least_room (ToInsert entry) answer added) (λ s. InsertMeans session entry (outcome_of answer added)) (Some answer) (Some answer) a c
       (λ start h hc k kc answers fits by t. (by, run_told start (snapshot_of a h hc) (snapshot_of c k kc) answer added over t))
 
   pub insert_goes : (a c : StoreAndSlots S) (answer : Answer) (added : Option ℕ) → answer ≢ Going
-      → GoesFrom g session (RunGoes g session least_room (ToInsert entry) answer added) (Some answer) a c → InsertGoes g session entry (outcome_of answer added) a c
+      → CallIsRunFrom g session (RequestIsRun g session least_room (ToInsert entry) answer added) (Some answer) a c → InsertIsRun g session entry (outcome_of answer added) a c
   insert_goes a c (Added action unfinished) added over goes = inl (as_told a c (Added action unfinished) added over goes)
   insert_goes a c (Refused fault) None over goes = as_told a c (Refused fault) None over goes
   insert_goes a c (Refused fault) (Some action) over goes = inr (record { fault = fault; left = refl; goes = as_told a c (Refused fault) (Some action) over goes })

@@ -1,15 +1,15 @@
--- One moment behind another, while a session's call goes on.
+-- One moment after another, while a session's call goes on.
 use Rattle.std.proofs.Common.{◌≡◌, ◌≤◌, ◌⊎◌, ℕ, Bool, true, false, Option, Some, None, Result, Ok, List, [], refl, sym, ap, subst, inl, inr, ◌∙◌, unwrap_or}
 use Rattle.page_action.specs.Causes.{causes_of_forced}
 use Rattle.session_calls.specs.Ops.{is_last}
 use Rattle.session_calls.specs.Sessions.{start_number}
 use Rattle.whole_calls.proofs.Words.{Ask, AskScan, Call, HasCause, Entry, Fault, State, IsLater, Continues, Ghosts, DeadSets, IsCaused, asked_of, AnswersNext, Answer, Going, Ready, Gave, Refused, Op, StoreAndSlots, Moment, snapshot_of, IsRunningCall, Fits, MovesCall, Steps, Takes, EventDoes, here_at, slot_of, Laws}
-use Rattle.whole_calls.specs.Going.{CameBy, CallGoes}
-use Rattle.whole_calls.specs.Giving.{AnswersSeek, TellsScan, ScanIsUntold, TellsGiven, given_of, given_outcome}
+use Rattle.whole_calls.specs.Going.{IsOutcomeOf, CallIsRun}
+use Rattle.whole_calls.specs.Giving.{AnswersSeek, SessionScanMeans, ScanIsUnanswered, SessionGivenMeans, given_of, given_outcome}
 use Rattle.whole_calls.specs.Refusing.{another_runs, is_full_vacuum, causes_of_asked, ScanIsCaused}
-use Rattle.whole_calls.specs.Stepping.{RoomTold, Lasts, StepGoes, HasGoneTo, ScanGivesNothing, ScanGoes}
-use Rattle.whole_calls.specs.Sweeping.{Followed, IsCountedAs}
-use Rattle.whole_calls.specs.Telling.{TellsEnd}
+use Rattle.whole_calls.specs.Stepping.{RoomMeans, Lasts, StepIsRun, HasReached, ScanGivesNothing, ScanIsRun}
+use Rattle.whole_calls.specs.Vacuuming.{Followed, IsCountedAs}
+use Rattle.whole_calls.specs.Meanings.{EndMeans}
 use Rattle.whole_calls.proofs.Composing.{joined, to_first}
 use Rattle.whole_calls.proofs.Counting.{step_counts}
 use Rattle.whole_calls.proofs.Given.{give_comes, end_given, scan_told, scan_then, stays_then, going_stays, ready_stays, none_stays}
@@ -33,9 +33,9 @@ module _ {S : Type 0} (g : Ghosts S) (session : ℕ) where
   busier_of x y lasts = others_before x.slots y.slots session lasts.others
 
   -- a step that goes on
-  pub gone_on : (least_room : ℕ) (x y z : Moment S) → HasGoneTo g session x y → Lasts g session y z → z.sets ≡ y.sets
-      → (g.state z.store).limits ≡ (g.state y.store).limits → StepGoes g session least_room Going y z → HasGoneTo g session x z
-  gone_on least_room x y z gone lasts sets limits step = record {
+  pub moved_beyond : (least_room : ℕ) (x y z : Moment S) → HasReached g session x y → Lasts g session y z → z.sets ≡ y.sets
+      → (g.state z.store).limits ≡ (g.state y.store).limits → StepIsRun g session least_room Going y z → HasReached g session x z
+  moved_beyond least_room x y z gone lasts sets limits step = record {
     lasts = lasts_then x y z gone.lasts lasts;
     sets_are = sets ∙ gone.sets_are;
     limits_are = limits ∙ gone.limits_are;
@@ -53,7 +53,7 @@ module _ {S : Type 0} (g : Ghosts S) (session : ℕ) where
 -- a step, by its event
 pub step_goes : {S : Type 0} (g : Ghosts S) (start : Entry → Bool) (session least_room : ℕ) (answer : Answer) (x y : Moment S)
     → (g.backing y.store).honest ≡ true → Fits g start x → (5 ≤ least_room → 5 ≤ (g.backing x.store).promised)
-    → EventDoes g start (MovesCall session Steps) answer x y → StepGoes g session least_room answer x y
+    → EventDoes g start (MovesCall session Steps) answer x y → StepIsRun g session least_room answer x y
 step_goes g start session least_room answer x y honest fits room does = record {
   told = λ number call is. inl (moves_tells g start x y session Steps answer tt fits does number call is);
   caused = step_caused g start session least_room answer x y fits room does;
@@ -64,10 +64,10 @@ step_goes g start session least_room answer x y honest fits room does = record {
   over = finish_over g start session answer x y does;
 }
 
--- behind the making of room
+-- after the making of room
 pub room_then : {S : Type 0} (g : Ghosts S) (session least_room : ℕ) (answer : Answer) (x y z : Moment S)
     → IsLater (g.backing x.store) (g.backing y.store) → IsLater (g.backing y.store) (g.backing z.store)
-    → RoomTold g x y → StepGoes g session least_room answer y z → StepGoes g session least_room answer x z
+    → RoomMeans g x y → StepIsRun g session least_room answer y z → StepIsRun g session least_room answer x z
 room_then g session least_room answer x y z first later room step = record {
   told = silent_then session answer x y z room.silent step.told;
   caused = λ number call is. (
@@ -87,8 +87,8 @@ room_then g session least_room answer x y z first later room step = record {
 }
 
 -- the room can't be made
-pub held_goes : {S : Type 0} (g : Ghosts S) (session least_room : ℕ) (fault : Fault) (x y : Moment S) → RoomTold g x y
-    → HasCause (causes_of_forced (g.backing x.store) (g.backing y.store)) fault → StepGoes g session least_room (Refused fault) x y
+pub held_goes : {S : Type 0} (g : Ghosts S) (session least_room : ℕ) (fault : Fault) (x y : Moment S) → RoomMeans g x y
+    → HasCause (causes_of_forced (g.backing x.store) (g.backing y.store)) fault → StepIsRun g session least_room (Refused fault) x y
 held_goes g session least_room fault x y room cause = record {
   told = λ number call is. inr (record {
     fault = fault;
@@ -111,28 +111,28 @@ module _ {S : Type 0} (g : Ghosts S) (session least_room : ℕ) where
   pub waits_then : (x y z : Moment S) → ScanGivesNothing g session x y → ScanGivesNothing g session y z → ScanGivesNothing g session x z
   waits_then x y z one two = record { lasts = lasts_then g session x y z one.lasts two.lasts; stays = stays_then session x y z one.stays two.stays }
 
-  pub waits_behind : (answer : Answer) (x y z : Moment S) → ScanGivesNothing g session x y → ScanGoes g session least_room answer y z → ScanGoes g session least_room answer x z
-  waits_behind answer x y z one two = record { last = two.last; waits = waits_then x y two.last one two.waits; lasts = two.lasts; told = two.told; caused = two.caused }
+  pub waits_after : (answer : Answer) (x y z : Moment S) → ScanGivesNothing g session x y → ScanIsRun g session least_room answer y z → ScanIsRun g session least_room answer x z
+  waits_after answer x y z one two = record { last = two.last; waits = waits_then x y two.last one two.waits; lasts = two.lasts; told = two.told; caused = two.caused }
 
   -- an answer with which it isn't at its end
-  pub waits_on : (answer : Answer) (x y : Moment S) → (answer ≡ Going) ⊎ ((count : ℕ) × (answer ≡ Ready count)) → ScanGoes g session least_room answer x y → ScanGivesNothing g session x y
+  pub waits_on : (answer : Answer) (x y : Moment S) → (answer ≡ Going) ⊎ ((count : ℕ) × (answer ≡ Ready count)) → ScanIsRun g session least_room answer x y → ScanGivesNothing g session x y
   waits_on answer x y on goes = waits_then x goes.last y goes.waits (record { lasts = goes.lasts; stays = by on })
     where
-      by : (answer ≡ Going) ⊎ ((count : ℕ) × (answer ≡ Ready count)) → ScanIsUntold session goes.last y
-      by (inl is) = going_stays session goes.last y (subst (λ (a : Answer). TellsScan session a goes.last y) is goes.told)
-      by (inr is) = ready_stays session is.0 goes.last y (subst (λ (a : Answer). TellsScan session a goes.last y) is.1 goes.told)
+      by : (answer ≡ Going) ⊎ ((count : ℕ) × (answer ≡ Ready count)) → ScanIsUnanswered session goes.last y
+      by (inl is) = going_stays session goes.last y (subst (λ (a : Answer). SessionScanMeans session a goes.last y) is goes.told)
+      by (inr is) = ready_stays session is.0 goes.last y (subst (λ (a : Answer). SessionScanMeans session a goes.last y) is.1 goes.told)
 
   -- one that has no entry ready
-  pub waits_none : (answer : Answer) (x y : Moment S) → answer ≡ Gave None → ScanGoes g session least_room answer x y → ScanGivesNothing g session x y
+  pub waits_none : (answer : Answer) (x y : Moment S) → answer ≡ Gave None → ScanIsRun g session least_room answer x y → ScanGivesNothing g session x y
   waits_none answer x y is goes =
-      waits_then x goes.last y goes.waits (record { lasts = goes.lasts; stays = none_stays session goes.last y (subst (λ (a : Answer). TellsScan session a goes.last y) is goes.told) })
+      waits_then x goes.last y goes.waits (record { lasts = goes.lasts; stays = none_stays session goes.last y (subst (λ (a : Answer). SessionScanMeans session a goes.last y) is goes.told) })
 
   -- what it tells, from the moment before it
-  pub scan_tells : (answer : Answer) (x y : Moment S) → ScanGoes g session least_room answer x y → TellsScan session answer x y
+  pub scan_tells : (answer : Answer) (x y : Moment S) → ScanIsRun g session least_room answer x y → SessionScanMeans session answer x y
   scan_tells answer x y goes = scan_then session answer x goes.last y goes.waits.stays goes.told
 
   -- why it is refused, told from the moment before it
-  pub scan_caused : Laws g → (answer : Answer) (x y : Moment S) → ScanGoes g session least_room answer x y → ScanIsCaused g session least_room answer x y
+  pub scan_caused : Laws g → (answer : Answer) (x y : Moment S) → ScanIsRun g session least_room answer x y → ScanIsCaused g session least_room answer x y
   scan_caused laws answer x y goes number call range is ask =
       let silent = goes.waits.stays number call range is ask in
       let runs = subst (λ (cs : List Call). IsRunningCall cs session number call) (sym silent.calls_is) is in
@@ -144,17 +144,17 @@ module _ {S : Type 0} (g : Ghosts S) (session least_room : ℕ) where
   pub scan_ends : Laws g → (came : Answer) (given : Result (Option Entry) Fault) (old mid new : StoreAndSlots S) → given_of came ≡ given
       → ((entry : Entry) → given ≡ Ok (Some entry) → ⊥) → AnswersSeek came
       → Continues g.follows old.store mid.store → Continues g.follows mid.store new.store
-      → CallGoes g session (ScanGoes g session least_room came) (Some came) old mid → CallGoes g session (TellsEnd session) None mid new
-      → CallGoes g session (TellsGiven session given) (given_outcome given) old new
+      → CallIsRun g session (ScanIsRun g session least_room came) (Some came) old mid → CallIsRun g session (EndMeans session) None mid new
+      → CallIsRun g session (SessionGivenMeans session given) (given_outcome given) old new
   scan_ends laws came given old mid new is none kind steps then_steps =
-      joined g laws session (λ s. ScanGoes g session least_room came) (λ s. TellsEnd session) (λ s. TellsGiven session given) (Some came) None (given_outcome given) old mid new steps then_steps
-      (λ xs ys by so. to_first (given_outcome given) None xs ys (subst (λ (r : Result (Option Entry) Fault). CameBy xs (given_outcome r)) is (give_comes came xs kind by)) so)
-      (λ start h hc k kc l lc fx fy fz one two. subst (λ (r : Result (Option Entry) Fault). TellsGiven session r (snapshot_of old h hc) (snapshot_of new l lc)) is
+      joined g laws session (λ s. ScanIsRun g session least_room came) (λ s. EndMeans session) (λ s. SessionGivenMeans session given) (Some came) None (given_outcome given) old mid new steps then_steps
+      (λ xs ys by so. to_first (given_outcome given) None xs ys (subst (λ (r : Result (Option Entry) Fault). IsOutcomeOf xs (given_outcome r)) is (give_comes came xs kind by)) so)
+      (λ start h hc k kc l lc fx fy fz one two. subst (λ (r : Result (Option Entry) Fault). SessionGivenMeans session r (snapshot_of old h hc) (snapshot_of new l lc)) is
       (end_given g start session came (snapshot_of old h hc) (snapshot_of mid k kc) (snapshot_of new l lc) fx kind
       (λ entry some. none entry (sym is ∙ some)) (scan_tells came (snapshot_of old h hc) (snapshot_of mid k kc) one) two))
 
   -- a step of it
-  pub scan_steps : (answer : Answer) (x y : Moment S) → Lasts g session x y → StepGoes g session least_room answer x y → ScanGoes g session least_room answer x y
+  pub scan_steps : (answer : Answer) (x y : Moment S) → Lasts g session x y → StepIsRun g session least_room answer x y → ScanIsRun g session least_room answer x y
   scan_steps answer x y lasts step = record {
     last = x;
     waits = record { lasts = lasts_here g session x; stays = λ number call range is ask. record { history_is = refl; calls_is = refl } };
@@ -167,7 +167,7 @@ module _ {S : Type 0} (g : Ghosts S) (session least_room : ℕ) where
 
   -- asking it for its next entry
   pub scan_nexts : (start : Entry → Bool) (answer : Answer) (x y : Moment S) → Fits g start x → Lasts g session x y
-      → EventDoes g start (MovesCall session Takes) answer x y → ScanGoes g session least_room answer x y
+      → EventDoes g start (MovesCall session Takes) answer x y → ScanIsRun g session least_room answer x y
   scan_nexts start answer x y fits lasts does = record {
     last = x;
     waits = record { lasts = lasts_here g session x; stays = λ number call range is ask. record { history_is = refl; calls_is = refl } };

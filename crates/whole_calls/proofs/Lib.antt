@@ -9,7 +9,7 @@ pub mod Spending
 pub mod Given
 pub mod Beginning
 pub mod Counting
-pub mod Swept
+pub mod VacuumSteps
 pub mod Refusing
 pub mod Statistics
 pub mod Removing

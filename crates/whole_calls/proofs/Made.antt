@@ -1,9 +1,9 @@
--- Calls as events, one behind the other.
+-- Calls as events, one after the other.
 use Rattle.std.proofs.Common.{◌≡◌, ℕ, ◌≤◌, arith, Option, Some, None, List, [], ◌∷◌, ◌++◌, length, refl, sym, subst, inl, inr, length-append}
 use Rattle.schedule.specs.declared.event.Event.{Event}
 use Rattle.schedule.proofs.Joining.{are_of_both}
-use Rattle.whole_calls.proofs.Words.{Ghosts, Answer, StoreAndSlots, Kind, kind_of, IsOfSession, Makes}
-use Rattle.whole_calls.specs.Going.{IsAmong, CameBy}
+use Rattle.whole_calls.proofs.Words.{Ghosts, Answer, StoreAndSlots, Kind, kind_of, IsOfSession, EventEffect}
+use Rattle.whole_calls.specs.Going.{IsAmong, IsOutcomeOf}
 use Rattle.whole_calls.specs.Made.{HasItsRoom, AreMade, IsMadeOf, Answered, ComesTo}
 use Rattle.whole_calls.proofs.Composing.{among_left, among_right}
 
@@ -21,7 +21,7 @@ answered_right xs ys answer (inl h) = inl (among_right xs ys answer h)
 answered_right xs ys answer (inr h) = (let a = length-append xs ys in let b = h.1 in inr (h.0, omega (arith, a, b)))
 
 -- what was answered by one of them
-pub comes_by : (xs : List Answer) (came : Option Answer) → CameBy xs came → ComesTo came xs
+pub comes_by : (xs : List Answer) (came : Option Answer) → IsOutcomeOf xs came → ComesTo came xs
 comes_by xs None h = tt
 comes_by xs (Some answer) h = inl h
 
@@ -33,7 +33,7 @@ made_both g least_room [] ys (p ∷ ps) qs a b c one two = absurd one
 made_both g least_room (x ∷ xs) ys [] qs a b c one two = absurd one
 
 module _ {S : Type 0} (g : Ghosts S) (session least_room : ℕ) where
-  -- one call behind the other
+  -- one call after the other
   pub made_then : (One Two Both : List Answer → Type 0) (a b c : StoreAndSlots S) → ((xs ys : List Answer) → One xs → Two ys → Both (xs ++ ys))
       → IsMadeOf g session least_room One a b → IsMadeOf g session least_room Two b c → IsMadeOf g session least_room Both a c
   made_then One Two Both a b c comes one two = record {
@@ -41,27 +41,27 @@ module _ {S : Type 0} (g : Ghosts S) (session least_room : ℕ) where
     answers = one.answers ++ two.answers;
     own = are_of_both session one.events two.events one.own two.own;
     made = made_both g least_room one.events two.events one.answers two.answers a b c one.made two.made;
-    came_by = comes one.answers two.answers one.came_by two.came_by;
+    outcome_by = comes one.answers two.answers one.outcome_by two.outcome_by;
   }
 
   -- the same events, told otherwise
   pub made_told : (One Two : List Answer → Type 0) (a b : StoreAndSlots S) → ((xs : List Answer) → One xs → Two xs) → IsMadeOf g session least_room One a b → IsMadeOf g session least_room Two a b
-  made_told One Two a b tells one = record { events = one.events; answers = one.answers; own = one.own; made = one.made; came_by = tells one.answers one.came_by }
+  made_told One Two a b tells one = record { events = one.events; answers = one.answers; own = one.own; made = one.made; outcome_by = tells one.answers one.outcome_by }
 
   -- no event
-  pub made_nowhere : (Came : List Answer → Type 0) (a : StoreAndSlots S) → Came [] → IsMadeOf g session least_room Came a a
-  made_nowhere Came a came = record { events = []; answers = []; own = tt; made = refl; came_by = came }
+  pub made_nowhere : (CallOutcome : List Answer → Type 0) (a : StoreAndSlots S) → CallOutcome [] → IsMadeOf g session least_room CallOutcome a a
+  made_nowhere CallOutcome a came = record { events = []; answers = []; own = tt; made = refl; outcome_by = came }
 
   -- one event, of this kind
-  pub made_once : (Came : List Answer → Type 0) (event : Event) (kind : Kind) (answer : Answer) (a b : StoreAndSlots S) → kind_of event ≡ kind → IsOfSession session kind
-      → HasItsRoom least_room kind (g.state a.store).limits (g.backing a.store) → Makes g kind answer a b → Came (answer ∷ []) → IsMadeOf g session least_room Came a b
-  made_once Came event kind answer a b is of room makes came = record {
+  pub made_once : (CallOutcome : List Answer → Type 0) (event : Event) (kind : Kind) (answer : Answer) (a b : StoreAndSlots S) → kind_of event ≡ kind → IsOfSession session kind
+      → HasItsRoom least_room kind (g.state a.store).limits (g.backing a.store) → EventEffect g kind answer a b → CallOutcome (answer ∷ []) → IsMadeOf g session least_room CallOutcome a b
+  made_once CallOutcome event kind answer a b is of room makes came = record {
     events = event ∷ [];
     answers = answer ∷ [];
     own = (subst (λ (k : Kind). IsOfSession session k) (sym is) of, tt);
     made = (
       subst (λ (k : Kind). HasItsRoom least_room k (g.state a.store).limits (g.backing a.store)) (sym is) room,
-      (b, subst (λ (k : Kind). Makes g k answer a b) (sym is) makes, refl),
+      (b, subst (λ (k : Kind). EventEffect g k answer a b) (sym is) makes, refl),
     );
-    came_by = came;
+    outcome_by = came;
   }

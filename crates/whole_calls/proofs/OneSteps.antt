@@ -1,4 +1,4 @@
--- One step of a session's call behind the making of room for it, and a call that is given up since the room can't be made.
+-- One step of a session's call after the making of room for it, and a call that is given up since the room can't be made.
 use Rattle.std.proofs.Common.{◌≡◌, ◌⊎◌, ℕ, ◌≤◌, zero, suc, Bool, true, false, not, Option, Some, None, List, [], ◌∷◌, ◌++◌, length, slice_get, slice_set, refl, sym, ap, subst, arith, inl, inr, ◌∙◌, unwrap_or}
 use Rattle.index_model.specs.declared.fault.Fault.TheVariants.{Blocked, NoSession}
 use Rattle.index_model.specs.declared.stats.VacuumStats.{VacuumStats}
@@ -9,22 +9,22 @@ use Rattle.session_calls.specs.declared.op.Op.TheVariants.{Insert as Inserts, Sc
 use Rattle.session_calls.proofs.RunningOn.{runs_over}
 use Rattle.schedule.specs.Events.{DoesOneAct}
 use Rattle.schedule.proofs.Lists.{same_some}
-use Rattle.whole_calls.proofs.Words.{Effect, contents_after, Ask, Call, Entry, Fault, HasCause, State, Backing, IsLater, Ghosts, DeadSets, acts_of, IsCaused, IsAsked, Told, slot_add, AnswersStep, Answer, Going, Finished, Checkpointed, Refused, Op, StoreAndSlots, Moment, IsRunningCall, Fits, EventDoes, Makes, here_at, here_with, slot_of, has_call, MovesCall, Steps, CallMoves, MovesOn, OthersStay}
+use Rattle.whole_calls.proofs.Words.{Effect, contents_after, Ask, Call, Entry, Fault, HasCause, State, Backing, IsLater, Ghosts, DeadSets, acts_of, IsCaused, IsAsked, AnswerMeans, slot_add, AnswersStep, Answer, Going, Finished, Checkpointed, Refused, Op, StoreAndSlots, Moment, IsRunningCall, Fits, EventDoes, EventEffect, here_at, here_with, slot_of, has_call, MovesCall, Steps, CallMoves, MovesOn, OthersStay}
 use Rattle.whole_calls.specs.Going.{IsAmong}
-use Rattle.whole_calls.specs.OneStep.{cut_short, HasStepped, IsGivenUpFor, OneStepGoes, OneStepAlways, OneStepComesTo, IsStepMade, IsRoomTried, IsMadeAsStep}
+use Rattle.whole_calls.specs.OneStep.{cut_short, HasStepped, IsGivenUpFor, OneStepIsRun, OneStepAlways, OneStepComesTo, IsStepMade, IsRoomTried, IsMadeAsStep}
 use Rattle.whole_calls.specs.Refusing.{is_full_vacuum, causes_of_asked}
-use Rattle.whole_calls.specs.Stepping.{RoomTold, StepGoes}
-use Rattle.whole_calls.specs.Telling.{IsOwnEffect, IsSilent, HasNone, TellsEnd}
+use Rattle.whole_calls.specs.Stepping.{RoomMeans, StepIsRun}
+use Rattle.whole_calls.specs.Meanings.{IsOwnEffect, IsSameHistory, HasNone, EndMeans}
 use Rattle.whole_calls.proofs.Lasting.{step_goes, room_then}
-use Rattle.whole_calls.proofs.Refusing.{cause_wider, forced_cause, asked_behind}
+use Rattle.whole_calls.proofs.Refusing.{cause_wider, forced_cause, asked_after}
 use Rattle.whole_calls.proofs.Tellings.{moves_tells, one_runs, runs_has_call, runs_in_slot, true_false}
 use Rattle.whole_calls.proofs.Whole.{LeavesAll}
 
 -- what a step tells, by its event
 pub record StepsOnce {S : Type 0} (g : Ghosts S) (session least_room : ℕ) (answer : Answer) (old new : Moment S) : Type 0 where
   pub once : (number : ℕ) (call : Call) → IsRunningCall old.calls session number call → HasStepped number call answer old new
-  pub idle : HasNone session old → IsSilent old new
-  pub goes : StepGoes g session least_room answer old new
+  pub idle : HasNone session old → IsSameHistory old new
+  pub goes : StepIsRun g session least_room answer old new
 
 own_of : (was_there : Entry → Bool) (call : Call) (effect : Option Effect) → IsAsked was_there call.ask call.added effect → IsOwnEffect call effect
 own_of was_there call None h = tt
@@ -41,13 +41,13 @@ module _ {S : Type 0} (g : Ghosts S) (start : Entry → Bool) (session least_roo
         after = goes.after;
         may = (moves_tells g start x y session Steps answer tt fits does number call is).may;
         own = subst (λ (c : Call). IsOwnEffect c goes.effect) same.1 (own_of (contents_after start x.history) goes.call goes.effect goes.asked);
-        told = subst (λ (c : Call). Told answer (length x.history) goes.effect c goes.after) same.1 goes.told;
+        told = subst (λ (c : Call). AnswerMeans answer (length x.history) goes.effect c goes.after) same.1 goes.told;
         history_is = subst (λ (n : ℕ). y.history ≡ x.history ++ acts_of n goes.effect) same.0 goes.history_is;
         calls_is = subst (λ (n : ℕ). y.calls ≡ slice_set x.calls n goes.after) same.0 goes.calls_is;
       }
 
   -- without a running call it is refused
-  has_waited : HasNone session x → (b : Bool) → MovesOn g start b session answer x y → IsSilent x y
+  has_waited : HasNone session x → (b : Bool) → MovesOn g start b session answer x y → IsSameHistory x y
   has_waited none true goes = absurd (none goes.number goes.call goes.is)
   has_waited none false stays = record { history_is = stays.still.history_is; calls_is = stays.still.calls_is }
 
@@ -58,8 +58,8 @@ module _ {S : Type 0} (g : Ghosts S) (start : Entry → Bool) (session least_roo
     goes = step_goes g start session least_room answer x y honest fits room does;
   }
 
--- behind the making of room
-module _ {S : Type 0} (g : Ghosts S) (session least_room : ℕ) (x y : Moment S) (room : RoomTold g x y) where
+-- after the making of room
+module _ {S : Type 0} (g : Ghosts S) (session least_room : ℕ) (x y : Moment S) (room : RoomMeans g x y) where
   runs_then : (number : ℕ) (call : Call) → IsRunningCall x.calls session number call → IsRunningCall y.calls session number call
   runs_then number call is = subst (λ (cs : List Call). IsRunningCall cs session number call) (sym room.silent.calls_is) is
 
@@ -67,9 +67,9 @@ module _ {S : Type 0} (g : Ghosts S) (session least_room : ℕ) (x y : Moment S)
   none_then none number call is = none number call (subst (λ (cs : List Call). IsRunningCall cs session number call) room.silent.calls_is is)
 
   -- a step
-  pub steps_behind : (answer : Answer) (z : Moment S) → IsLater (g.backing x.store) (g.backing y.store)
-      → IsLater (g.backing y.store) (g.backing z.store) → StepsOnce g session least_room answer y z → OneStepGoes g session least_room answer x z
-  steps_behind answer z first later step =
+  pub steps_after : (answer : Answer) (z : Moment S) → IsLater (g.backing x.store) (g.backing y.store)
+      → IsLater (g.backing y.store) (g.backing z.store) → StepsOnce g session least_room answer y z → OneStepIsRun g session least_room answer x z
+  steps_after answer z first later step =
       let goes = room_then g session least_room answer x y z first later room step.goes in
       record {
         told = λ number call is. inl (stepped number call (step.once number call (runs_then number call is)));
@@ -95,7 +95,7 @@ module _ {S : Type 0} (g : Ghosts S) (session least_room : ℕ) (x y : Moment S)
   -- a call that is given up, since the room couldn't be made
   pub given_up_goes : (start : Entry → Bool) (fault : Fault) (added : Option ℕ) (z : Moment S) → Fits g start y
       → HasCause (causes_of_forced (g.backing x.store) (g.backing y.store)) fault → added ≡ slot_add (slot_of y.slots session)
-      → LeavesAll g session y.store z.store → TellsEnd session y z → OneStepGoes g session least_room (cut_short added fault) x z
+      → LeavesAll g session y.store z.store → EndMeans session y z → OneStepIsRun g session least_room (cut_short added fault) x z
   given_up_goes start fault added z fits cause is leaves end = record {
     told = λ number call runs. inr (given_up number call (runs_then number call runs));
     idle = λ none. record { history_is = end.history_is ∙ room.silent.history_is; calls_is = end.calls_is (none_then none) ∙ room.silent.calls_is };
@@ -130,7 +130,7 @@ module _ {S : Type 0} (g : Ghosts S) (session least_room : ℕ) (x y : Moment S)
       caused ask =
           let full = is_full_vacuum (slot_of x.slots session) in
           let number = start_number (g.state x.store) session in
-          rw (asked_behind g session least_room number full ask (here_at x) y.store z.store leaves.backing leaves.acts leaves.frames leaves.limits leaves.pages leaves.counted (leaves.numbers number))
+          rw (asked_after g session least_room number full ask (here_at x) y.store z.store leaves.backing leaves.acts leaves.frames leaves.limits leaves.pages leaves.counted (leaves.numbers number))
           (cause_wider _ _ (forced_cause g session least_room number full ask (here_at x) y.store) (cut_short added fault) (forced added fault cause))
 
       not_going : (a : Option ℕ) → cut_short a fault ≡ Going → ⊥
@@ -167,7 +167,7 @@ short_answers (Some (Scans op)) after fault (Some action) is = absurd cc
 short_answers (Some (Bulks set op)) after fault (Some action) is = absurd cc
 short_answers (Some (Cleanups op)) after fault (Some action) is = absurd cc
 
--- a session that runs nothing behind the last answer of its call
+-- a session that runs nothing after the last answer of its call
 over_at_last : (before after : Option Op) (answer : Answer) → after ≡ None → is_last answer ≡ true → RunsUntilLast before after answer
 over_at_last before after answer over last = rw over (by before)
   where
@@ -200,8 +200,8 @@ same_slots (x ∷ xs) (y ∷ ys) (suc session) long others own =
     ∙ ap (λ (l : List (Option Op)). y ∷ l) (same_slots xs ys session (omega (arith, long)) (λ i ne. others (suc i) (λ e. ne (omega (arith, e)))) own)
 
 module _ {S : Type 0} (g : Ghosts S) (session : ℕ) (store mid : S) (slots : List (Option Op)) (sets : DeadSets) (same : g.state mid ≡ g.state store) where
-  -- what always holds of a step behind the making of room
-  pub always_steps : (answer : Answer) (new : S) (then_slots : List (Option Op)) → Makes g (MovesCall session Steps) answer (here_with mid slots sets) (here_with new then_slots sets)
+  -- what always holds of a step after the making of room
+  pub always_steps : (answer : Answer) (new : S) (then_slots : List (Option Op)) → EventEffect g (MovesCall session Steps) answer (here_with mid slots sets) (here_with new then_slots sets)
       → OneStepAlways g session answer (here_with store slots sets) (here_with new then_slots sets)
   always_steps answer new then_slots makes = record {
     answers = makes.always.answers;
@@ -241,9 +241,9 @@ pub short_comes : (added : Option ℕ) (fault : Fault) (answers : List Answer) �
 short_comes None fault answers h = inl h
 short_comes (Some action) fault answers h = inr (action, fault, refl, h)
 
--- the step behind the making of room
-pub behind_room : {S : Type 0} (g : Ghosts S) (session least_room : ℕ) (answer : Answer) (old here there : StoreAndSlots S) → (here ≡ old)
+-- the step after the making of room
+pub after_room : {S : Type 0} (g : Ghosts S) (session least_room : ℕ) (answer : Answer) (old here there : StoreAndSlots S) → (here ≡ old)
     ⊎ ((count : ℕ) × IsRoomTried g least_room (Checkpointed count) old here) → IsStepMade g session least_room answer here there
     → IsMadeAsStep g session least_room answer old there
-behind_room {S} g session least_room answer old here there (inl same) step = inl (subst (λ (x : StoreAndSlots S). IsStepMade g session least_room answer x there) same step)
-behind_room {S} g session least_room answer old here there (inr tried) step = inr (inl (record { count = tried.0; between = here; checkpoint = tried.1; step = step }))
+after_room {S} g session least_room answer old here there (inl same) step = inl (subst (λ (x : StoreAndSlots S). IsStepMade g session least_room answer x there) same step)
+after_room {S} g session least_room answer old here there (inr tried) step = inr (inl (record { count = tried.0; between = here; checkpoint = tried.1; step = step }))

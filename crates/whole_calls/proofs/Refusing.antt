@@ -1,4 +1,4 @@
--- Why a running call is refused: the causes of its events, told from the moment before the call to the moment behind it.
+-- Why a running call is refused: the causes of its events, told from the moment before the call to the moment after it.
 use Rattle.std.proofs.Common.{◌≡◌, ◌≢◌, ◌⊎◌, ℕ, zero, suc, ◌+◌, ◌<◌, ◌≤◌, Bool, true, false, not, ◌&&◌, ◌||◌, ◌==◌, nat_lt, nat_le, Option, Some, None, List, [], ◌∷◌, ◌++◌, length, slice_get, slice_set, refl, sym, ap, subst, arith, inl, inr, ◌∙◌, if◌then◌else◌, unwrap_or, is_none}
 use Rattle.std.proofs.lemmas.Bool.{or_cases, and_parts, ne_eqb, ltb-true, lt-ltb, ltb-false, leb-true, le-leb, eqb-true, eq-eqb}
 use Rattle.std.proofs.lemmas.List.{append-nil}
@@ -12,8 +12,8 @@ use Rattle.latch_table.specs.declared.mode.Mode.TheVariants.{Shared, Exclusive, 
 use Rattle.latch_table.proofs.Tables.{is_held_by_another-by}
 use Rattle.page_action.specs.Contents.{entry_on_live_leaf}
 use Rattle.page_action.specs.Causes.{nothing_wrong, other_row_is_there, causes_of_forced, has_failed, is_at_end, pinned_blocks, count_apart}
-use Rattle.descent.specs.Shared.{is_out_of_blocks, count_new, lacks_room, frames_for}
-use Rattle.descent.specs.Ways.{root_level}
+use Rattle.tree_acts.specs.StepEffects.{is_out_of_blocks, count_new, lacks_room, frames_for}
+use Rattle.tree_acts.specs.Levels.{root_level}
 use Rattle.split_finish.specs.Finishes.{frames_of}
 use Rattle.insert_split.specs.Inserts.{InsertInvariant, InsertStands, leaf_held, images_at, frames_at, takes_block_at, splits_root_at, causes_of_inserting}
 use Rattle.insert_split.specs.declared.insert.InsertAt.{InsertAt}
@@ -29,12 +29,12 @@ use Rattle.page_delete.specs.Cleanups.{CleanupInvariant, causes_of_cleaning}
 use Rattle.page_delete.specs.Needs.{blocks_written}
 use Rattle.page_delete.specs.Ops.{cleanup_counted_out as is_cleanup_full}
 use Rattle.page_delete.specs.declared.steps.CleanupOp.{CleanupOp}
-use Rattle.session_calls.specs.Sessions.{start_number, op_after_call, StepIsRefused, RefusalChangesNothing, UnfinishedChangesNothing}
+use Rattle.session_calls.specs.Sessions.{start_number, op_after_call, StepIsRefused, RefusalChangesNothing, IncompleteChangesNothing}
 use Rattle.session_calls.specs.declared.op.Op.TheVariants.{Insert, Scan, Bulk, Cleanup}
 use Rattle.session_calls.proofs.Meeting.{other_row_is}
-use Rattle.whole_calls.proofs.Words.{Effect, Ask, AskInsert, AskScan, AskBulkDelete, AskCleanup, Call, Circumstances, HasCause, Entry, Fault, State, Backing, IsLater, Ghosts, Page, DeadSets, acts_of, OpInvariant, IsCaused, once_added, causes_of_stepped, set_at, asked_of, session_of, Told, is_busy, AnswersNext, Answer, Added, Gave, Refused, Op, Request, StoreAndSlots, Moment, IsRunningCall, EventDoes, Fits, here_at, slot_of, one_vacuums, MovesCall, Steps, CallMoves, MovesOn, causes_of_moving, causes_of_begun_at, is_of_sets, OthersStay, ends_call}
+use Rattle.whole_calls.proofs.Words.{Effect, Ask, AskInsert, AskScan, AskBulkDelete, AskCleanup, Call, Circumstances, HasCause, Entry, Fault, State, Backing, IsLater, Ghosts, Page, DeadSets, acts_of, OpInvariant, IsCaused, once_added, causes_of_stepped, set_at, asked_of, session_of, AnswerMeans, is_busy, AnswersNext, Answer, Added, Gave, Refused, Op, Request, StoreAndSlots, Moment, IsRunningCall, EventDoes, Fits, here_at, slot_of, one_vacuums, MovesCall, Steps, CallMoves, MovesOn, causes_of_moving, causes_of_begun_at, is_of_sets, OthersStay, ends_call}
 use Rattle.whole_calls.specs.Refusing.{others_run, another_runs, is_full_vacuum, causes_of_gone, causes_of_inserted, is_tall, causes_of_asked, causes_of_called, has_no_block}
-use Rattle.whole_calls.proofs.Blocks.{blocks_behind, blocks_same}
+use Rattle.whole_calls.proofs.Blocks.{blocks_after, blocks_same}
 use Rattle.whole_calls.proofs.Tellings.{runs_in_slot, runs_has_call, one_runs, true_false}
 use Rattle.schedule.proofs.Causes.{insert_images_few, put_few, frames_few, written_few, frames_for_few, block_few}
 use Rattle.schedule.proofs.Fitting.{beyond_of, running_of}
@@ -204,25 +204,25 @@ fault_of (Added action unfinished) = unfinished
 fault_of answer = None
 
 -- an event that tells of one appends no action
-fault_tells_none : (answer : Answer) (count : ℕ) (effect : Option Effect) (call after : Call) (fault : Fault) → fault_of answer ≡ Some fault → Told answer count effect call after → effect ≡ None
+fault_tells_none : (answer : Answer) (count : ℕ) (effect : Option Effect) (call after : Call) (fault : Fault) → fault_of answer ≡ Some fault → AnswerMeans answer count effect call after → effect ≡ None
 fault_tells_none (Refused f) count effect call after fault is told = told.0
 fault_tells_none (Added a (Some f)) count effect call after fault is told = told.quiet (λ e. cc)
 fault_tells_none (Added a None) count effect call after fault is told = absurd cc
 fault_tells_none answer count effect call after fault is told = absurd cc
 
 -- ... and changes nothing, but that the call is over, or leaves that too
-told_behind : (op : Op) (answer : Answer) (st new : State) (before after : Option Op) → before ≡ Some op
-    → RefusalChangesNothing st new before after answer → UnfinishedChangesNothing st new before answer
+told_after : (op : Op) (answer : Answer) (st new : State) (before after : Option Op) → before ≡ Some op
+    → RefusalChangesNothing st new before after answer → IncompleteChangesNothing st new before answer
     → (fault : Fault) → fault_of answer ≡ Some fault → (new ≡ op_after_call op st) ⊎ (new ≡ st)
-told_behind op (Refused f) st new before after is refused unfinished fault told =
+told_after op (Refused f) st new before after is refused unfinished fault told =
     by (ends_call f) (let r : StepIsRefused st new op after f = subst (λ (o : Option Op). RefusalChangesNothing st new o after (Refused f)) is refused in r.state)
   where
     by : (b : Bool) → new ≡ (if b then op_after_call op st else st) → (new ≡ op_after_call op st) ⊎ (new ≡ st)
     by true h = inl h
     by false h = inr h
-told_behind op (Added a (Some f)) st new before after is refused unfinished fault told = inl (subst (λ (o : Option Op). UnfinishedChangesNothing st new o (Added a (Some f))) is unfinished)
-told_behind op (Added a None) st new before after is refused unfinished fault told = absurd cc
-told_behind op answer st new before after is refused unfinished fault told = absurd cc
+told_after op (Added a (Some f)) st new before after is refused unfinished fault told = inl (subst (λ (o : Option Op). IncompleteChangesNothing st new o (Added a (Some f))) is unfinished)
+told_after op (Added a None) st new before after is refused unfinished fault told = absurd cc
+told_after op answer st new before after is refused unfinished fault told = absurd cc
 
 -- a step of the session's running call
 module _ {S : Type 0} (g : Ghosts S) (start : Entry → Bool) (session least_room : ℕ) (x y : Moment S) (fits : Fits g start x) (room : 5 ≤ least_room → 5 ≤ (g.backing x.store).promised)
@@ -351,31 +351,31 @@ module _ {S : Type 0} (g : Ghosts S) (start : Entry → Bool) (session least_roo
   tall : (splits : Bool) → (g.state y.store).pages ≡ st.pages → (splits && nat_le 31 (root_level st.pages)) ≡ true → is_tall (g.state y.store) ≡ true
   tall splits pages h = ap (λ (ps : List Page). nat_le 31 (root_level ps)) pages ∙ (and_parts splits (nat_le 31 (root_level st.pages)) h).1
 
-  -- what is so of the store behind an answer that tells of a fault
-  abbrev TellsNothing : Answer → Op → Type 0
-  TellsNothing answer op = (fault : Fault) → fault_of answer ≡ Some fault → ((g.state y.store).pages ≡ st.pages) × ((g.state y.store ≡ op_after_call op st) ⊎ (g.state y.store ≡ st))
+  -- what is so of the store after an answer that tells of a fault
+  abbrev AnswersNothing : Answer → Op → Type 0
+  AnswersNothing answer op = (fault : Fault) → fault_of answer ≡ Some fault → ((g.state y.store).pages ≡ st.pages) × ((g.state y.store ≡ op_after_call op st) ⊎ (g.state y.store ≡ st))
 
   -- another row of the key is there on a unique index only
   unique_still : (e : Entry) (row : Row) → other_row_is_there st e row ≡ true → (g.state y.store).limits.unique ≡ true
   unique_still e row h = ap (λ (f : Format). f.unique) limits ∙ (other_row_is st e row h).0
 
-  insert_came : (counts_full : Bool) (e : Entry) (op : InsertOp) → op.session ≡ session → InsertInvariant st op → (answer : Answer) → TellsNothing answer (Insert op)
+  insert_came : (counts_full : Bool) (e : Entry) (op : InsertOp) → op.session ≡ session → InsertInvariant st op → (answer : Answer) → AnswersNothing answer (Insert op)
       → IsCaused (causes_of_inserting st (g.backing x.store) (g.backing y.store) op.session op.entry op.at) answer
       → IsCaused (causes_of_asked g session least_room (start_number st session) counts_full (AskInsert e) (here_at x) y.store) answer
   insert_came full e op is f (Refused fault) same c =
       any_was (entry_on_live_leaf st.pages op.entry) (other_row_is_there st op.entry) no_block (is_tall (g.state y.store)) (unique_still op.entry) fault
       (inserting (entry_on_live_leaf st.pages op.entry) (other_row_is_there st op.entry) no_block (is_tall (g.state y.store)) op is f
-      (used (takes_block_at st op.at) (blocks_behind session op st (g.state y.store) is (same fault refl).1)) (tall (splits_root_at st op.at) (same fault refl).0) fault c)
+      (used (takes_block_at st op.at) (blocks_after session op st (g.state y.store) is (same fault refl).1)) (tall (splits_root_at st op.at) (same fault refl).0) fault c)
   insert_came full e op is f (Added a None) same c = tt
   insert_came full e op is f (Added a (Some fault)) same c =
       narrower_once (causes_of_inserting st (g.backing x.store) (g.backing y.store) op.session op.entry op.at)
       (causes_of_inserted g session least_room true (λ r. (g.state y.store).limits.unique) no_block (is_tall (g.state y.store)) (here_at x) y.store)
       (λ k h. any_was (entry_on_live_leaf st.pages op.entry) (other_row_is_there st op.entry) no_block (is_tall (g.state y.store)) (unique_still op.entry) k
       (inserting (entry_on_live_leaf st.pages op.entry) (other_row_is_there st op.entry) no_block (is_tall (g.state y.store)) op is f
-      (used (takes_block_at st op.at) (blocks_behind session op st (g.state y.store) is (same fault refl).1)) (tall (splits_root_at st op.at) (same fault refl).0) k h)) fault c
+      (used (takes_block_at st op.at) (blocks_after session op st (g.state y.store) is (same fault refl).1)) (tall (splits_root_at st op.at) (same fault refl).0) k h)) fault c
   insert_came full e op is f answer same c = tt
 
-  op_came : (op : Op) → session_of op ≡ session → OpInvariant st op → (answer : Answer) → TellsNothing answer op
+  op_came : (op : Op) → session_of op ≡ session → OpInvariant st op → (answer : Answer) → AnswersNothing answer op
       → IsCaused (causes_of_stepped x.sets op st (g.backing x.store) (g.backing y.store)) answer
       → IsCaused (causes_of_asked g session least_room (start_number st session) (is_full_vacuum (Some op)) (asked_of x.sets op) (here_at x) y.store) answer
   op_came (Insert op) is f answer same c = insert_came false op.entry op is f answer same c
@@ -414,7 +414,7 @@ module _ {S : Type 0} (g : Ghosts S) (start : Entry → Bool) (session least_roo
       let ask : asked_of x.sets r.0 ≡ call.ask = sym r.2.runs.ask ∙ ap (λ (c : Call). c.ask) same in
       let caused : IsCaused (causes_of_stepped x.sets r.0 (g.state x.store) (g.backing x.store) (g.backing y.store)) answer =
       subst (λ (o : Option (Option Op)). IsCaused (causes_of_moving g x.sets x.store y.store Steps o) answer) r.1 does.also.caused in
-      let left = told_behind r.0 answer (g.state x.store) (g.state y.store) (slot_of x.slots session) (slot_of y.slots session) slot does.also.always.refused does.also.always.tells.unfinished in
+      let left = told_after r.0 answer (g.state x.store) (g.state y.store) (slot_of x.slots session) (slot_of y.slots session) slot does.also.always.refused does.also.always.tells.unfinished in
       let came = op_came g start session least_room x y fits room does.also.quiet.limits does.also.quiet.frames acts_on r.0
       (r.2.runs.session ∙ r.2.is.session_is) r.2.runs.fits answer (λ fault told. (pages_stay fault told, left fault told)) caused in
       let number : Option ℕ = start_number (g.state x.store) session in
@@ -527,12 +527,12 @@ pub gone_behind : {S : Type 0} (g : Ghosts S) (session least_room : ℕ) (full :
     → causes_of_gone g session least_room full old new ≡ causes_of_gone g session least_room full old mid
 gone_behind g session least_room full old mid new backing acts frames = rw (backing, acts, frames) refl
 
-pub asked_behind : {S : Type 0} (g : Ghosts S) (session least_room : ℕ) (number : Option ℕ) (full : Bool) (ask : Ask) (old : StoreAndSlots S)
+pub asked_after : {S : Type 0} (g : Ghosts S) (session least_room : ℕ) (number : Option ℕ) (full : Bool) (ask : Ask) (old : StoreAndSlots S)
     (mid new : S) → g.backing new ≡ g.backing mid → (g.state new).acts ≡ (g.state mid).acts
     → (g.state new).frames ≡ (g.state mid).frames → (g.state new).limits ≡ (g.state mid).limits → (g.state new).pages ≡ (g.state mid).pages → (g.state new).counted ≡ (g.state mid).counted
     → slice_set (g.state new).running session number ≡ slice_set (g.state mid).running session number
     → causes_of_asked g session least_room number full ask old new ≡ causes_of_asked g session least_room number full ask old mid
-asked_behind g session least_room number full (AskInsert e) old mid new backing acts frames limits pages counted numbers =
+asked_after g session least_room number full (AskInsert e) old mid new backing acts frames limits pages counted numbers =
     ap (λ (no_block : Bool). causes_of_inserted g session least_room true (λ r. (g.state new).limits.unique) no_block (is_tall (g.state new)) old new)
     (blocks_same session number (g.state mid) (g.state new) limits pages counted numbers)
     ∙ behind (has_no_block session number (g.state mid))
@@ -540,8 +540,8 @@ asked_behind g session least_room number full (AskInsert e) old mid new backing 
     behind : (no_block : Bool) → causes_of_inserted g session least_room true (λ r. (g.state new).limits.unique) no_block (is_tall (g.state new)) old new
         ≡ causes_of_inserted g session least_room true (λ r. (g.state mid).limits.unique) no_block (is_tall (g.state mid)) old mid
     behind no_block = rw (backing, acts, frames, limits, pages) refl
-asked_behind g session least_room number full (AskScan range) old mid new backing acts frames limits pages counted numbers = gone_behind g session least_room false old mid new backing acts frames
-asked_behind g session least_room number full ask old mid new backing acts frames limits pages counted numbers = gone_behind g session least_room full old mid new backing acts frames
+asked_after g session least_room number full (AskScan range) old mid new backing acts frames limits pages counted numbers = gone_behind g session least_room false old mid new backing acts frames
+asked_after g session least_room number full ask old mid new backing acts frames limits pages counted numbers = gone_behind g session least_room full old mid new backing acts frames
 
 -- asking a scan for its next entry alone isn't refused
 pub next_caused : (at : Circumstances) (sets : DeadSets) (op : Op) (range : Range) (answer : Answer) → asked_of sets op ≡ AskScan range → AnswersNext (Some op) answer → IsCaused at answer

@@ -20,8 +20,8 @@ use Rattle.page_action.specs.Stored.{AreStored}
 use Rattle.vacuum.specs.Counts.{entry_count, entries_below}
 use Rattle.schedule.proofs.Lists.{get_append_new, get_append_some, get_within, same_some}
 use Rattle.whole_calls.proofs.Words.{Effect, Add, Remove, Shape, Action, contents_after, AskBulkDelete, Call, removed_count, removed_by, MayAct, ActionsAreOwned, Entry, Format, Page}
-use Rattle.whole_calls.specs.Sweeping.{removed_of}
-use Rattle.whole_calls.specs.Telling.{acts_by}
+use Rattle.whole_calls.specs.Vacuuming.{removed_of}
+use Rattle.whole_calls.specs.Meanings.{acts_by}
 use Rattle.whole_calls.proofs.Refusing.{or_left, or_right, or_none}
 use Rattle.whole_calls.proofs.Tellings.{true_false}
 
@@ -76,7 +76,7 @@ distinct_ascending (e ∷ es) h = (past_all e es h.1, distinct_ascending es (asc
     ascending_tail [] k = tt
     ascending_tail (f ∷ fs) k = (tt, k.1)
 
--- actions of a bulk delete, one behind the other
+-- actions of a bulk delete, one after the other
 
 abbrev act_of : ℕ → Effect → Action
 act_of number effect = record { by = number; effect = effect }

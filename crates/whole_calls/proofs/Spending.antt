@@ -3,7 +3,7 @@ use Rattle.std.proofs.Common.{◌≡◌, ℕ, zero, suc, ◌+◌, ◌*◌, ◌<�
 use Rattle.std.proofs.lemmas.List.{append-nil}
 use Rattle.tree_shape.specs.Nodes.{Node, nodes_of}
 use Rattle.tree_acts.specs.Weights.{weight_of, weight_up_to, weight}
-use Rattle.descent.specs.Shared.{MovesFlags}
+use Rattle.tree_acts.specs.StepEffects.{MovesFlags}
 use Rattle.session_calls.specs.declared.op.Op.TheVariants.{Insert, Scan, Bulk, Cleanup}
 use Rattle.schedule.proofs.Bounds.{work_bounded}
 use Rattle.schedule.proofs.Lists.{get_set_same, get_within}
@@ -11,7 +11,7 @@ use Rattle.whole_calls.proofs.Words.{Effect, Add, Shape, Action, contents_after,
 use Rattle.whole_calls.specs.Spending.{brought_by, acts_left, steps_left, TakesFewer}
 use Rattle.whole_calls.proofs.Given.{owes}
 use Rattle.whole_calls.proofs.Tellings.{runs_in_slot, one_runs}
-use Rattle.schedule.proofs.Fitting.{fits_behind}
+use Rattle.schedule.proofs.Fitting.{fits_after}
 
 weight_low : (split : Bool) (level : ℕ) → weight_of split level ≤ 32
 weight_low true level = omega arith
@@ -128,7 +128,7 @@ module _ {S : Type 0} (g : Ghosts S) (start : Entry → Bool) (session : ℕ) (x
       let was : acts_left old (slot_of x.slots session) ≡ left_by old (asked_of x.sets op) c.call.added = before ∙ ap (λ (a : Ask). left_by old a c.call.added) ask in
       let is : acts_left now (slot_of y.slots session) ≡ left_by now (asked_of x.sets op) (add_after c.call.added (suc (length x.history)) (Some e)) =
       behind ∙ ap (λ (a : Ask). left_by now a (add_after c.call.added (suc (length x.history)) (Some e))) ask in
-      let work = work_bounded g start y (fits_behind does) low_now session in
+      let work = work_bounded g start y (fits_after does) low_now session in
       omega (arith, fewer, was, is, work)
 
   goes_on : CallMoves g start session Going x y → fewer_left
@@ -144,7 +144,7 @@ module _ {S : Type 0} (g : Ghosts S) (start : Entry → Bool) (session : ℕ) (x
       let slot : slot_of x.slots session ≡ Some r.0 = ap (λ (o : Option (Option Op)). unwrap_or o None) r.1 in
       let before : acts_left old (slot_of x.slots session) ≡ left_by old c.call.ask c.call.added = slot_left g start x session c.number c.call old fits c.is in
       let behind : acts_left now (slot_of y.slots session) ≡ left_by now c.call.ask (add_after c.call.added (suc (length x.history)) c.effect) =
-      slot_left g start y session c.number c.after now (fits_behind does) runs ∙ ap (λ (k : Call). left_by now k.ask k.added) c.told in
+      slot_left g start y session c.number c.after now (fits_after does) runs ∙ ap (λ (k : Call). left_by now k.ask k.added) c.told in
       by r.0 slot ask before behind
     where
       by : (op : Op) → slot_of x.slots session ≡ Some op → c.call.ask ≡ asked_of x.sets op → acts_left old (slot_of x.slots session) ≡ left_by old c.call.ask c.call.added

@@ -9,8 +9,8 @@ use Rattle.index_model.specs.declared.range.Range.{Range}
 use Rattle.session_calls.specs.Ops.{call_kind}
 use Rattle.session_calls.specs.declared.request.Request.TheVariants.{Insert as ToInsert, Scan as ToScan, Bulk as ToBulk, Cleanup as ToCleanup}
 use Rattle.schedule.proofs.Lists.{get_some, get_within, get_append_new, get_append_some, same_some}
-use Rattle.whole_calls.proofs.Words.{Effect, Action, contents_after, Ask, AskInsert, AskScan, AskBulkDelete, Entry, asked_by, op_before, set_at, RunsOn, GivenUp, Call, Circumstances, HasCause, Fault, Backing, Ghosts, DeadSets, acts_of, asked_of, IsCaused, Told, IsAsked, ended, AnswersStep, AnswersNext, AnswersEnd, Answer, Going, Added, Ready, Done, Finished, Gave, Ended, Refused, Op, Request, Moment, IsRunningCall, EventDoes, Fits, slot_of, SlotRuns, SlotMatches, has_call, one_vacuums, Move, Steps, Takes, Upkeep, KeepsStore, BeginsCall, MovesCall, GivesUp, CallMoves, CallBegins, Stays, MovesOn, MayBegin, causes_of_begun_at, AnswersMove}
-use Rattle.whole_calls.specs.Telling.{IsSilent, MayAnswer, MayComeTo, IsOwnEffect, IsTold, StepTold, TellsStep, HasNone, HasBegun, begun_of, BeginTold, TellsEnd, with_one_call, first_call, NextTold}
+use Rattle.whole_calls.proofs.Words.{Effect, Action, contents_after, Ask, AskInsert, AskScan, AskBulkDelete, Entry, asked_by, op_before, set_at, RunsOn, GivenUp, Call, Circumstances, HasCause, Fault, Backing, Ghosts, DeadSets, acts_of, asked_of, IsCaused, AnswerMeans, IsAsked, ended, AnswersStep, AnswersNext, AnswersEnd, Answer, Going, Added, Ready, Done, Finished, Gave, Ended, Refused, Op, Request, Moment, IsRunningCall, EventDoes, Fits, slot_of, SlotRuns, SlotMatches, has_call, one_vacuums, Move, Steps, Takes, Upkeep, MaintainsStore, BeginsCall, MovesCall, GivesUp, CallMoves, CallBegins, Stays, MovesOn, MayBegin, causes_of_begun_at, AnswersMove}
+use Rattle.whole_calls.specs.Meanings.{IsSameHistory, MayAnswer, MayComeTo, IsOwnEffect, CallAnswers, StepMeans, SessionStepMeans, HasNone, HasBegun, begun_of, BeginMeans, EndMeans, with_one_call, first_call, NextMeans}
 use Rattle.whole_calls.proofs.Gone.{silent_then}
 use Rattle.schedule.proofs.Fitting.{running_of}
 
@@ -67,7 +67,7 @@ next_may sets op answer h = absurd h
 
 -- an answer that is no refusal was told by a step
 pub was_told : {S : Type 0} (number : ℕ) (call : Call) (answer : Answer) (x y : Moment S) → ((fault : Fault) → answer ≡ Refused fault → ⊥)
-    → StepTold number call answer x y → IsTold number call answer x y
+    → StepMeans number call answer x y → CallAnswers number call answer x y
 was_told number call answer x y apart (inl t) = t
 was_told number call answer x y apart (inr h) = absurd (apart h.fault h.refused)
 
@@ -129,7 +129,7 @@ comes_on sets None (Some op) answer on h = absurd on
 comes_on sets (Some p) (Some q) answer on h = kind_may sets p q answer on h
 
 -- what a call came to it may answer
-pub came_may : {S : Type 0} (number : ℕ) (call : Call) (answer : Answer) (x y : Moment S) → StepTold number call answer x y → MayAnswer call.ask answer
+pub came_may : {S : Type 0} (number : ℕ) (call : Call) (answer : Answer) (x y : Moment S) → StepMeans number call answer x y → MayAnswer call.ask answer
 came_may number call answer x y (inl t) = t.may
 came_may number call answer x y (inr h) = subst (λ (a : Answer). MayAnswer call.ask a) (sym h.refused) (refused_may call.ask h.fault)
 
@@ -147,7 +147,7 @@ may_of sets GivesUp of op after answer h = absurd of
 -- an event of a session that has a running call
 pub moves_tells : {S : Type 0} (g : Ghosts S) (start : Entry → Bool) (x y : Moment S) (session : ℕ) (move : Move) (answer : Answer) → GoesOnBy move
     → Fits g start x → EventDoes g start (MovesCall session move) answer x y
-    → (number : ℕ) (call : Call) → IsRunningCall x.calls session number call → IsTold number call answer x y
+    → (number : ℕ) (call : Call) → IsRunningCall x.calls session number call → CallAnswers number call answer x y
 moves_tells g start x y session move answer of fits does number call is =
     let goes : CallMoves g start session answer x y = subst (λ (b : Bool). MovesOn g start b session answer x y) (runs_has_call g start x fits session number call is) does.also.happens in
     let same = one_runs g start x fits session number goes.number call goes.call is goes.is in
@@ -162,8 +162,8 @@ moves_tells g start x y session move answer of fits does number call is =
       may = subst (λ (a : Ask). MayAnswer a answer) (sym (ap (λ (c : Call). c.ask) (sym asks.1) ∙ r.2.runs.ask)) (may_of x.sets move of r.0 (slot_of y.slots session) answer kind);
       own = tt;
       own_last = subst (λ (c : Call). IsOwnEffect c goes.effect) same.1 (own_of goes.call goes.effect goes.asked);
-      told = subst (λ (l : List Action). Told answer (length l) goes.effect call goes.after) (sym (append-nil x.history))
-          (subst (λ (c : Call). Told answer (length x.history) goes.effect c goes.after) same.1 goes.told);
+      told = subst (λ (l : List Action). AnswerMeans answer (length l) goes.effect call goes.after) (sym (append-nil x.history))
+          (subst (λ (c : Call). AnswerMeans answer (length x.history) goes.effect c goes.after) same.1 goes.told);
       history_is = subst (λ (n : ℕ). y.history ≡ x.history ++ acts_of n goes.effect) same.0 goes.history_is ∙ ap (λ (l : List Action). l ++ acts_of number goes.effect) (sym (append-nil x.history));
       calls_is = subst (λ (n : ℕ). y.calls ≡ slice_set x.calls n goes.after) same.0 goes.calls_is;
     }
@@ -200,27 +200,27 @@ begins_at g session request x = causes_of_begun_at g x.store (one_vacuums x.slot
 
 -- a beginning
 pub begins_told : {S : Type 0} (g : Ghosts S) (start : Entry → Bool) (session : ℕ) (request : Request) (answer : Answer) (x y : Moment S)
-    → EventDoes g start (BeginsCall session request) answer x y → BeginTold session request (begun_of answer) x y
+    → EventDoes g start (BeginsCall session request) answer x y → BeginMeans session request (begun_of answer) x y
 begins_told {S} g start session request answer x y does = of (slice_get x.slots session) does.also.happens (begin_not_exists g x.store (one_vacuums x.slots) x.sets request (slice_get x.slots session))
   where
-    stays : ((fault : Fault) → HasCause (begins_at g session request x) fault → IsNotOfEntry fault) → Stays g answer x y → BeginTold session request (begun_of answer) x y
-    stays why s = subst (λ (a : Answer). BeginTold session request (begun_of a) x y) (sym s.refused) (record {
+    stays : ((fault : Fault) → HasCause (begins_at g session request x) fault → IsNotOfEntry fault) → Stays g answer x y → BeginMeans session request (begun_of answer) x y
+    stays why s = subst (λ (a : Answer). BeginMeans session request (begun_of a) x y) (sym s.refused) (record {
       silent = record { history_is = s.still.history_is; calls_is = s.still.calls_is };
       not_exists = (why s.fault (subst (λ (a : Answer). IsCaused (begins_at g session request x) a) s.refused does.also.caused)).0;
       not_key_exists = (why s.fault (subst (λ (a : Answer). IsCaused (begins_at g session request x) a) s.refused does.also.caused)).1;
     })
 
-    begun : CallBegins g session request answer x y → BeginTold session request (begun_of answer) x y
-    begun b = subst (λ (a : Answer). BeginTold session request (begun_of a) x y) (sym b.told) (record { history_is = b.history_is; calls_is = b.calls_is })
+    begun : CallBegins g session request answer x y → BeginMeans session request (begun_of answer) x y
+    begun b = subst (λ (a : Answer). BeginMeans session request (begun_of a) x y) (sym b.told) (record { history_is = b.history_is; calls_is = b.calls_is })
 
     of : (p : Option (Option Op)) → MayBegin g p session request answer x y
-        → ((fault : Fault) → HasCause (begins_at g session request x) fault → IsNotOfEntry fault) → BeginTold session request (begun_of answer) x y
+        → ((fault : Fault) → HasCause (begins_at g session request x) fault → IsNotOfEntry fault) → BeginMeans session request (begun_of answer) x y
     of None h why = stays why h
     of (Some None) h why = elim h [ inl b ↦ begun b | inr s ↦ stays why s ]
     of (Some (Some op)) h why = stays why h
 
 -- what is done for the store tells nothing
-pub keeps_silent : {S : Type 0} (g : Ghosts S) (start : Entry → Bool) (upkeep : Upkeep) (answer : Answer) (x y : Moment S) → EventDoes g start (KeepsStore upkeep) answer x y → IsSilent x y
+pub keeps_silent : {S : Type 0} (g : Ghosts S) (start : Entry → Bool) (upkeep : Upkeep) (answer : Answer) (x y : Moment S) → EventDoes g start (MaintainsStore upkeep) answer x y → IsSameHistory x y
 keeps_silent g start upkeep answer x y does = elim does.also.happens [
   | inl kept ↦ record { history_is = kept.still.history_is; calls_is = kept.still.calls_is }
   | inr stays ↦ record { history_is = stays.still.history_is; calls_is = stays.still.calls_is }
@@ -228,7 +228,7 @@ keeps_silent g start upkeep answer x y does = elim does.also.happens [
 
 -- an end
 pub ends_tells : {S : Type 0} (g : Ghosts S) (start : Entry → Bool) (x y : Moment S) (session : ℕ) (answer : Answer) → Fits g start x
-    → EventDoes g start (MovesCall session GivesUp) answer x y → TellsEnd session x y
+    → EventDoes g start (MovesCall session GivesUp) answer x y → EndMeans session x y
 ends_tells {S} g start x y session answer fits does = of (has_call x.slots session) refl does.also.happens
   where
     given_up : (number : ℕ) (call : Call) → IsRunningCall x.calls session number call → answer ≡ Ended
@@ -237,9 +237,9 @@ ends_tells {S} g start x y session answer fits does = of (has_call x.slots sessi
         let was : slot_of x.slots session ≡ Some r.0 = ap (λ (o : Option (Option Op)). unwrap_or o None) r.1 in
         subst (λ (o : Option Op). AnswersEnd o answer) was does.also.always.answers
 
-    of : (b : Bool) → has_call x.slots session ≡ b → MovesOn g start b session answer x y → TellsEnd session x y
+    of : (b : Bool) → has_call x.slots session ≡ b → MovesOn g start b session answer x y → EndMeans session x y
     of true is goes =
-        let told = subst (λ (b : Answer). Told b (length x.history) goes.effect goes.call goes.after) (given_up goes.number goes.call goes.is) goes.told in
+        let told = subst (λ (b : Answer). AnswerMeans b (length x.history) goes.effect goes.call goes.after) (given_up goes.number goes.call goes.is) goes.told in
         record {
           history_is = goes.history_is ∙ ap (λ (o : Option Effect). x.history ++ acts_of goes.number o) told.none ∙ append-nil x.history;
           calls_is = λ free. absurd (free goes.number goes.call goes.is);
@@ -266,7 +266,7 @@ module _ {S : Type 0} (session : ℕ) (request : Request) (x y z : Moment S) (be
   next_runs : IsRunningCall (with_one_call x first).calls session (length x.calls) first
   next_runs = record { found = get_append_new x.calls first; session_is = refl; running = refl }
 
-  pub begun_next : (answer : Answer) → TellsStep session answer y z → NextTold session request answer x z
+  pub begun_next : (answer : Answer) → SessionStepMeans session answer y z → NextMeans session request answer x z
   begun_next answer tells = silent_then session answer (with_one_call x first) y z (record { history_is = began.history_is; calls_is = began.calls_is }) tells (length x.calls) first next_runs
 
   pub begun_runs : IsRunningCall y.calls session (length x.calls) first

@@ -6,17 +6,17 @@ use Rattle.session_calls.specs.Sessions.{start_number, after_slot}
 use Rattle.session_calls.specs.declared.request.Request.TheVariants.{Insert as ToInsert, Scan as ToScan, Bulk as ToBulk, Cleanup as ToCleanup}
 use Rattle.whole_calls.proofs.Words.{Action, Ask, Call, Entry, State, Ghosts, DeadSets, asked_by, IsCaused, set_at, slot_add, Answer, Finished, Op, Request, Moment, IsRunningCall, Fits, here_at, slot_of, Laws}
 use Rattle.whole_calls.specs.Refusing.{causes_of_asked, is_full_vacuum}
-use Rattle.whole_calls.specs.Stepping.{Lasts, FinishGoes, BeginGoes, HasCompleted}
-use Rattle.whole_calls.specs.Sweeping.{Followed, of_sweep, of_cleanup, FollowsFrom, IsCountedAs, CountsThrough, TellsFor}
-use Rattle.whole_calls.specs.Telling.{noted_behind, first_call, TellsEnd}
+use Rattle.whole_calls.specs.Stepping.{Lasts, FinishIsRun, BeginIsRun, HasCompleted}
+use Rattle.whole_calls.specs.Vacuuming.{Followed, of_bulk_delete, of_cleanup, FollowsFrom, IsCountedAs, CountsThrough, StatsCountFor}
+use Rattle.whole_calls.specs.Meanings.{noted_after, first_call, EndMeans}
 use Rattle.whole_calls.proofs.Counting.{tells_on}
 use Rattle.whole_calls.proofs.Filling.{bulk_fills, cleanup_fills}
 use Rattle.whole_calls.proofs.Gone.{gone_runs, same_ask, far_last}
 use Rattle.whole_calls.proofs.Lasting.{lasts_then, later_of, busier_of}
-use Rattle.whole_calls.proofs.Refusing.{AsksToCount, cause_wider, asked_wider, asked_behind}
+use Rattle.whole_calls.proofs.Refusing.{AsksToCount, cause_wider, asked_wider, asked_after}
 use Rattle.whole_calls.proofs.Tellings.{begun_next, begun_free, begun_runs}
 
--- the one store's pages and log are the other's, and so are the start numbers of its calls, but for the session's
+-- the one store's pages and log are the other's, and so are the start numbers of its calls, except for the session's
 pub record LeavesAll {S : Type 0} (g : Ghosts S) (session : ℕ) (old new : S) : Type 0 where
   pub backing : g.backing new ≡ g.backing old
   pub acts : (g.state new).acts ≡ (g.state old).acts
@@ -30,19 +30,19 @@ pub record LeavesAll {S : Type 0} (g : Ghosts S) (session : ℕ) (old new : S) :
 pub record RunsOut {S : Type 0} (g : Ghosts S) (session least_room : ℕ) (answer : Answer) (added : Option ℕ) (start : Entry → Bool) (old new : Moment S) : Type 0 where
   pub here : Moment S
   pub fits : Fits g start here
-  pub finish : FinishGoes g session least_room answer start old here
+  pub finish : FinishIsRun g session least_room answer start old here
   pub add : added ≡ slot_add (slot_of here.slots session)
-  pub end : TellsEnd session here new
+  pub end : EndMeans session here new
   pub leaves : LeavesAll g session here.store new.store
   pub state : g.state new.store ≡ after_slot (slot_of here.slots session) (g.state here.store)
 
--- the moments before the call, behind its beginning, behind its last step, and behind its end
+-- the moments before the call, after its beginning, after its last step, and after its end
 module _ {S : Type 0} (g : Ghosts S) (laws : Laws g) (start : Entry → Bool) (session least_room : ℕ) (request : Request) (answer : Answer) (added : Option ℕ) (x y w : Moment S)
-    (begun : BeginGoes g session request (Ok tt) x y) (fits_y : Fits g start y) (first : Lasts g session x y) (out : RunsOut g session least_room answer added start y w) where
+    (begun : BeginIsRun g session request (Ok tt) x y) (fits_y : Fits g start y) (first : Lasts g session x y) (out : RunsOut g session least_room answer added start y w) where
   abbrev z : Moment S
   z = out.here
 
-  abbrev finish : FinishGoes g session least_room answer start y out.here
+  abbrev finish : FinishIsRun g session least_room answer start y out.here
   finish = out.finish
 
   abbrev last : Moment S
@@ -71,14 +71,14 @@ module _ {S : Type 0} (g : Ghosts S) (laws : Laws g) (start : Entry → Bool) (s
       of (ToScan range) is history asks so = absurd asks
       of (ToBulk set) is history asks so =
           bulk_fills g laws start session y fits_y are number (first_call session (ToBulk set) x) (set_at x.sets set) is refl
-          (sym (ap (λ (l : List Action). length l) history)) last finish.fits finish.gone (so of_sweep tt) full
+          (sym (ap (λ (l : List Action). length l) history)) last finish.fits finish.gone (so of_bulk_delete tt) full
       of ToCleanup is history asks so = cleanup_fills g laws start session y fits_y are last finish.gone (so of_cleanup tt) full
 
   -- why it is refused, told from the moment before it
   caused : AreLimits (g.state y.store).limits → IsCaused (causes_of_asked g session least_room (Some (g.state x.store).begun) false (asked_by x.sets request) (here_at x) z.store) answer
   caused are =
       let far = finish.gone.far number call runs in
-      let then_call = noted_behind call (length y.history) far.0 in
+      let then_call = noted_after call (length y.history) far.0 in
       let then_runs = gone_runs number call far.0 y last last far.1 session runs in
       let up_to = lasts_then g session x y last first finish.gone.lasts in
       let behind = later_of g session laws last z finish.lasts in
@@ -93,15 +93,15 @@ module _ {S : Type 0} (g : Ghosts S) (laws : Laws g) (start : Entry → Bool) (s
       (busier_of g session x last up_to) (Some (g.state x.store).begun) full false call.ask (has_room are)) answer came_so
 
   -- what it tells at its end
-  told_stats : (stats : VacuumStats) → answer ≡ Finished stats → TellsFor (asked_by x.sets request) (g.state w.store) stats
+  told_stats : (stats : VacuumStats) → answer ≡ Finished stats → StatsCountFor (asked_by x.sets request) (g.state w.store) stats
   told_stats stats finished =
       let far = finish.gone.far number call runs in
-      let then_call = noted_behind call (length y.history) far.0 in
+      let then_call = noted_after call (length y.history) far.0 in
       let then_runs = gone_runs number call far.0 y last last far.1 session runs in
       let asked : then_call.ask ≡ call.ask = same_ask call (length y.history) far.0 in
       let same : g.state w.store ≡ g.state z.store = out.state ∙ ap (λ (slot : Option Op). after_slot slot (g.state z.store)) (finish.step.over stats finished) in
-      subst (λ (st : State). TellsFor (asked_by x.sets request) st stats) (sym same)
-      (subst (λ (a : Ask). TellsFor a (g.state z.store) stats) asked (finish.step.stats number then_call then_runs stats finished))
+      subst (λ (st : State). StatsCountFor (asked_by x.sets request) st stats) (sym same)
+      (subst (λ (a : Ask). StatsCountFor a (g.state z.store) stats) asked (finish.step.stats number then_call then_runs stats finished))
 
   pub has_run : AreLimits (g.state y.store).limits → HasCompleted g session least_room request answer added start x w
   has_run are = record {
@@ -111,7 +111,7 @@ module _ {S : Type 0} (g : Ghosts S) (laws : Laws g) (start : Entry → Bool) (s
     told = begun_next session request x y z begun.told answer (far_last session answer y last z finish.gone.far finish.step.told);
     add_is = sym out.add;
     end = out.end;
-    caused = rw (asked_behind g session least_room (Some (g.state x.store).begun) false (asked_by x.sets request) (here_at x) z.store w.store
+    caused = rw (asked_after g session least_room (Some (g.state x.store).begun) false (asked_by x.sets request) (here_at x) z.store w.store
         out.leaves.backing out.leaves.acts out.leaves.frames out.leaves.limits out.leaves.pages out.leaves.counted
         (out.leaves.numbers (Some (g.state x.store).begun))) (caused are);
     stats = told_stats;

@@ -11,22 +11,22 @@ use Rattle.session_calls.specs.declared.answer.Answer.{Answer}
 use Rattle.session_calls.specs.declared.answer.Answer.TheVariants.{Going, Ready, Done, Gave, Refused}
 use Rattle.session_calls.specs.declared.op.Op.{Op}
 use Rattle.schedule.specs.TheoremMoments.{Moment, IsRunningCall}
-use Rattle.whole_calls.specs.Telling.{IsSilent, StepTold}
+use Rattle.whole_calls.specs.Meanings.{IsSameHistory, StepMeans}
 
 -- where the scan is to go on, or has given an entry, less is left to do
-abbrev pub GoesDown : State → State → Option Op → Option Op → Answer → Type 0
-GoesDown old new before after Going = work_in new after < work_in old before
-GoesDown old new before after (Ready count) = work_in new after < work_in old before
-GoesDown old new before after (Gave (Some entry)) = work_in new after < work_in old before
-GoesDown old new before after answer = Unit {0}
+abbrev pub LessIsLeft : State → State → Option Op → Option Op → Answer → Type 0
+LessIsLeft old new before after Going = work_in new after < work_in old before
+LessIsLeft old new before after (Ready count) = work_in new after < work_in old before
+LessIsLeft old new before after (Gave (Some entry)) = work_in new after < work_in old before
+LessIsLeft old new before after answer = Unit {0}
 
 -- a step, or what was asked for, is told of the session's scan, if it runs one
-abbrev pub TellsScan : {S : Type 0} → ℕ → Answer → Moment S → Moment S → Type 0
-TellsScan session answer old new = (number : ℕ) (call : Call) (range : Range) → IsRunningCall old.calls session number call → call.ask ≡ AskScan range → StepTold number call answer old new
+abbrev pub SessionScanMeans : {S : Type 0} → ℕ → Answer → Moment S → Moment S → Type 0
+SessionScanMeans session answer old new = (number : ℕ) (call : Call) (range : Range) → IsRunningCall old.calls session number call → call.ask ≡ AskScan range → StepMeans number call answer old new
 
 -- nothing is told of the session's scan
-abbrev pub ScanIsUntold : {S : Type 0} → ℕ → Moment S → Moment S → Type 0
-ScanIsUntold session old new = (number : ℕ) (call : Call) (range : Range) → IsRunningCall old.calls session number call → call.ask ≡ AskScan range → IsSilent old new
+abbrev pub ScanIsUnanswered : {S : Type 0} → ℕ → Moment S → Moment S → Type 0
+ScanIsUnanswered session old new = (number : ℕ) (call : Call) (range : Range) → IsRunningCall old.calls session number call → call.ask ≡ AskScan range → IsSameHistory old new
 
 -- what asking a scan for its next entry, or else a step of it, may answer
 abbrev pub AnswersAdvance : Answer → Type 0
@@ -58,9 +58,9 @@ given_outcome (Ok None) = Some Done
 given_outcome (Err fault) = Some (Refused fault)
 
 -- each entry that a scan gives leaves less to do
-abbrev pub GiveLeavesLess : State → State → Option Op → Option Op → Result (Option Entry) Fault → Type 0
-GiveLeavesLess old new before after (Ok (Some entry)) = work_in new after < work_in old before
-GiveLeavesLess old new before after result = Unit {0}
+abbrev pub GiveHasLessLeft : State → State → Option Op → Option Op → Result (Option Entry) Fault → Type 0
+GiveHasLessLeft old new before after (Ok (Some entry)) = work_in new after < work_in old before
+GiveHasLessLeft old new before after result = Unit {0}
 
 -- a session that gives no entry runs nothing then
 abbrev pub EndsUnlessGiven : Result (Option Entry) Fault → Option Op → Type 0
@@ -74,11 +74,11 @@ pub record Becomes {S : Type 0} (number : ℕ) (after : Call) (old new : Moment 
   pub calls_is : new.calls ≡ slice_set old.calls number after
 
 -- the call has given one entry more; or it has finished, with all that it gave; or it is over, and no action is appended
-abbrev pub GivenTold : {S : Type 0} → ℕ → Call → Result (Option Entry) Fault → Moment S → Moment S → Type 0
-GivenTold number call (Ok (Some entry)) old new = Becomes number (given_one call entry) old new
-GivenTold number call (Ok None) old new = Becomes number (ended call EndsFinished (length old.history)) old new
-GivenTold number call (Err fault) old new = new.history ≡ old.history
+abbrev pub GivenMeans : {S : Type 0} → ℕ → Call → Result (Option Entry) Fault → Moment S → Moment S → Type 0
+GivenMeans number call (Ok (Some entry)) old new = Becomes number (given_one call entry) old new
+GivenMeans number call (Ok None) old new = Becomes number (ended call EndsFinished (length old.history)) old new
+GivenMeans number call (Err fault) old new = new.history ≡ old.history
 
 -- ... of the session's running scan
-abbrev pub TellsGiven : {S : Type 0} → ℕ → Result (Option Entry) Fault → Moment S → Moment S → Type 0
-TellsGiven session result old new = (number : ℕ) (call : Call) (range : Range) → IsRunningCall old.calls session number call → call.ask ≡ AskScan range → GivenTold number call result old new
+abbrev pub SessionGivenMeans : {S : Type 0} → ℕ → Result (Option Entry) Fault → Moment S → Moment S → Type 0
+SessionGivenMeans session result old new = (number : ℕ) (call : Call) (range : Range) → IsRunningCall old.calls session number call → call.ask ≡ AskScan range → GivenMeans number call result old new

@@ -16,9 +16,9 @@ IsAmong [] answer = ⊥
 IsAmong (x ∷ answers) answer = (x ≡ answer) ⊎ IsAmong answers answer
 
 -- what a call came to, if it says so, is one of these answers
-abbrev pub CameBy : List Answer → Option Answer → Type 0
-CameBy answers None = Unit {0}
-CameBy answers (Some answer) = IsAmong answers answer
+abbrev pub IsOutcomeOf : List Answer → Option Answer → Type 0
+IsOutcomeOf answers None = Unit {0}
+IsOutcomeOf answers (Some answer) = IsAmong answers answer
 
 -- There is a continuation of the history and of the calls that fits now, by a run of events of this session with these
 -- answers. What the call came to is the answer of one of them, so a refusal has the cause of that event; and this is told
@@ -31,13 +31,13 @@ pub record CallRuns {S : Type 0} (g : Ghosts S) (session : ℕ) (Tells : Moment 
   pub answers : List Answer
   pub own : AreOf session events
   pub ran : Ran g start events answers (snapshot_of old history calls) (snapshot_of new then_history then_calls)
-  pub came_by : CameBy answers came
+  pub outcome_by : IsOutcomeOf answers came
   pub tells : Tells (snapshot_of old history calls) (snapshot_of new then_history then_calls)
 
 -- ... for whatever fitted before, where the device has kept its model up to now
-abbrev pub CallGoes : {S : Type 0} → Ghosts S → ℕ → (Moment S → Moment S → Type 0) → Option Answer → StoreAndSlots S → StoreAndSlots S → Type 0
-CallGoes g session Tells came old new = ForEachHistory g old new (CallRuns g session Tells came old new)
+abbrev pub CallIsRun : {S : Type 0} → Ghosts S → ℕ → (Moment S → Moment S → Type 0) → Option Answer → StoreAndSlots S → StoreAndSlots S → Type 0
+CallIsRun g session Tells came old new = ForEachHistory g old new (CallRuns g session Tells came old new)
 
 -- ... where what is told speaks of the contents at the start
-abbrev pub GoesFrom : {S : Type 0} → Ghosts S → ℕ → ((Entry → Bool) → Moment S → Moment S → Type 0) → Option Answer → StoreAndSlots S → StoreAndSlots S → Type 0
-GoesFrom g session Tells came old new = ForEachHistory g old new (λ start history calls. CallRuns g session (Tells start) came old new start history calls)
+abbrev pub CallIsRunFrom : {S : Type 0} → Ghosts S → ℕ → ((Entry → Bool) → Moment S → Moment S → Type 0) → Option Answer → StoreAndSlots S → StoreAndSlots S → Type 0
+CallIsRunFrom g session Tells came old new = ForEachHistory g old new (λ start history calls. CallRuns g session (Tells start) came old new start history calls)

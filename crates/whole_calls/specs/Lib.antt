@@ -1,7 +1,7 @@
 pub mod Going
-pub mod Telling
+pub mod Meanings
 pub mod Giving
-pub mod Sweeping
+pub mod Vacuuming
 pub mod Spending
 pub mod Inserting
 pub mod Refusing

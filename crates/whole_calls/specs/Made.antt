@@ -8,19 +8,19 @@ use Rattle.page_action.specs.declared.page_store.PageStore.{Ghosts}
 use Rattle.session_calls.specs.declared.answer.Answer.{Answer}
 use Rattle.session_calls.specs.declared.answer.Answer.TheVariants.{Added, Refused}
 use Rattle.schedule.specs.TheoremMoments.{StoreAndSlots}
-use Rattle.schedule.specs.TheoremKinds.{Steps, Checkpoints, Kind, MovesCall, KeepsStore, kind_of}
+use Rattle.schedule.specs.TheoremKinds.{Steps, Checkpoints, Kind, MovesCall, MaintainsStore, kind_of}
 use Rattle.schedule.specs.Events.{AreOf}
-use Rattle.schedule.specs.Making.{Makes}
+use Rattle.schedule.specs.Making.{EventEffect}
 use Rattle.schedule.specs.declared.event.Event.{Event}
 use Rattle.whole_calls.specs.Going.{IsAmong}
-use Rattle.whole_calls.specs.Telling.{RoomIsMade}
+use Rattle.whole_calls.specs.Meanings.{RoomIsMade}
 use Rattle.whole_calls.specs.declared.inserted.Inserted.{Inserted}
 
 -- the log's room is as an event asks: a checkpoint is made only where there is room for fewer images than these; a step only where there is
 -- room for so many, or the whole room; and nothing else is done for the store
 abbrev pub HasItsRoom : ℕ → Kind → Format → Backing → Type 0
-HasItsRoom least_room (KeepsStore Checkpoints) limits backing = backing.room < least_room
-HasItsRoom least_room (KeepsStore upkeep) limits backing = ⊥
+HasItsRoom least_room (MaintainsStore Checkpoints) limits backing = backing.room < least_room
+HasItsRoom least_room (MaintainsStore upkeep) limits backing = ⊥
 HasItsRoom least_room (MovesCall session Steps) limits backing = RoomIsMade least_room limits backing
 HasItsRoom least_room kind limits backing = Unit {0}
 
@@ -29,18 +29,18 @@ abbrev pub AreMade : {S : Type 0} → Ghosts S → ℕ → List Event → List A
 AreMade g least_room [] [] first last = first ≡ last
 AreMade {S} g least_room (event ∷ events) (answer ∷ answers) first last =
     HasItsRoom least_room (kind_of event) (g.state first.store).limits (g.backing first.store)
-    × ((next : StoreAndSlots S) × Makes g (kind_of event) answer first next × AreMade g least_room events answers next last)
+    × ((next : StoreAndSlots S) × EventEffect g (kind_of event) answer first next × AreMade g least_room events answers next last)
 AreMade g least_room [] (answer ∷ answers) first last = ⊥
 AreMade g least_room (event ∷ events) [] first last = ⊥
 
 -- The call is made of events of this session and of checkpoints, whatever the pages are, each where the log's room is as it asks. What it came
 -- to, it came to by their answers.
-pub record IsMadeOf {S : Type 0} (g : Ghosts S) (session least_room : ℕ) (Came : List Answer → Type 0) (old new : StoreAndSlots S) : Type 0 where
+pub record IsMadeOf {S : Type 0} (g : Ghosts S) (session least_room : ℕ) (CallOutcome : List Answer → Type 0) (old new : StoreAndSlots S) : Type 0 where
   pub events : List Event
   pub answers : List Answer
   pub own : AreOf session events
   pub made : AreMade g least_room events answers old new
-  pub came_by : Came answers
+  pub outcome_by : CallOutcome answers
 
 -- one of these answers was this; or a call that was stepped 2^64 - 1 times was refused for that
 abbrev pub Answered : Answer → List Answer → Type 0
@@ -51,7 +51,7 @@ abbrev pub ComesTo : Option Answer → List Answer → Type 0
 ComesTo None answers = Unit {0}
 ComesTo (Some answer) answers = Answered answer answers
 
--- ... of what an insert answers: that its entry is added, or a refusal; a refusal behind its Add stands in `unfinished`
+-- ... of what an insert answers: that its entry is added, or a refusal; a refusal after its Add stands in `unfinished`
 abbrev pub InsertComesTo : Result Inserted Fault → List Answer → Type 0
 InsertComesTo (Ok inserted) answers =
     IsAmong answers (Added inserted.action inserted.unfinished) ⊎ ((fault : Fault) × (inserted.unfinished ≡ Some fault) × Answered (Refused fault) answers)

@@ -1,4 +1,4 @@
--- Why a call is refused that is run to its end, told from the moment before to the moment behind it.
+-- Why a call is refused that is run to its end, told from the moment before to the moment after it.
 use Rattle.std.specs.Prelude.{◌≡◌, ℕ, suc, ◌&&◌, ◌||◌, ◌==◌, not, nat_lt, nat_le, Bool, true, false, Option, Some, None, Result, Ok, Err, List, [], ◌∷◌, slice_get, slice_set, is_none, IfErr}
 use Rattle.index_model.specs.Calls.{Ask, AskInsert, AskScan, AskBulkDelete, AskCleanup, Call}
 use Rattle.index_model.specs.Faults.{Circumstances, HasCause}
@@ -9,8 +9,8 @@ use Rattle.index_model.specs.declared.range.Range.{Range}
 use Rattle.page_action.specs.Causes.{nothing_wrong, has_failed, is_at_end}
 use Rattle.page_action.specs.States.{State}
 use Rattle.page_action.specs.declared.page_store.PageStore.{Ghosts}
-use Rattle.descent.specs.Shared.{is_out_of_blocks}
-use Rattle.descent.specs.Ways.{root_level}
+use Rattle.tree_acts.specs.StepEffects.{is_out_of_blocks}
+use Rattle.tree_acts.specs.Levels.{root_level}
 use Rattle.session_calls.specs.Ops.{asks_vacuum, IsFaultCaused, IsCaused}
 use Rattle.session_calls.specs.Sessions.{start_number, is_busy}
 use Rattle.session_calls.specs.declared.answer.Answer.{Answer}

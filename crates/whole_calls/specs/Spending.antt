@@ -13,7 +13,7 @@ abbrev pub brought_by : Option ℕ → ℕ
 brought_by None = 33
 brought_by (Some action) = 0
 
--- how many actions the call may append, at most, behind which its steps are counted anew: each split that is finished leaves
+-- how many actions the call may append, at most, after which its steps are counted anew: each split that is finished leaves
 -- the unfinished ones weighing less. Those of a bulk delete and of a cleanup are counted through.
 abbrev pub acts_left : State → Option Op → ℕ
 acts_left st None = weight st

@@ -1,5 +1,5 @@
 -- A call that is begun, stepped and given up: what is told of it, why it is refused, and what is counted, by the moment before and the one
--- behind.
+-- after.
 use Rattle.std.specs.Prelude.{◌≡◌, ◌⊎◌, ℕ, Bool, false, Option, None, Some, Result, Ok, slice_get}
 use Rattle.index_model.specs.Calls.{Call}
 use Rattle.index_model.specs.Faults.{HasCause}
@@ -19,62 +19,62 @@ use Rattle.schedule.specs.TheoremRuns.{Fits}
 use Rattle.session_calls.specs.Slots.{slot_of, one_vacuums}
 use Rattle.schedule.specs.MomentInvariants.{here_at}
 use Rattle.schedule.specs.Events.{OthersStay, causes_of_begun_at}
-use Rattle.whole_calls.specs.Giving.{TellsScan, ScanIsUntold}
+use Rattle.whole_calls.specs.Giving.{SessionScanMeans, ScanIsUnanswered}
 use Rattle.whole_calls.specs.Refusing.{causes_of_asked, is_full_vacuum, CallIsCaused, ScanIsCaused}
 use Rattle.whole_calls.specs.Spending.{TakesFewer}
-use Rattle.whole_calls.specs.Sweeping.{Followed, IsCountedAs, TellsAs, TellsFor, CountsThrough, BeginsToCount, FollowsFrom}
-use Rattle.whole_calls.specs.Telling.{IsSilent, TellsStep, HasGoneFar, HasNone, BeginTold, NextTold, NothingTold, TellsEnd}
+use Rattle.whole_calls.specs.Vacuuming.{Followed, IsCountedAs, StatsCountAs, StatsCountFor, CountsThrough, BeginsToCount, FollowsFrom}
+use Rattle.whole_calls.specs.Meanings.{IsSameHistory, SessionStepMeans, HasRunSoFar, HasNone, BeginMeans, NextMeans, NothingIsDone, EndMeans}
 
 -- the room for an act is made, or not: nothing is told, and neither pages nor slots are changed
-pub record RoomTold {S : Type 0} (g : Ghosts S) (old new : Moment S) : Type 0 where
-  pub silent : IsSilent old new
+pub record RoomMeans {S : Type 0} (g : Ghosts S) (old new : Moment S) : Type 0 where
+  pub silent : IsSameHistory old new
   pub state_is : g.state new.store ≡ g.state old.store
   pub slots_are : new.slots ≡ old.slots
   pub sets_are : new.sets ≡ old.sets
 
--- the one store comes behind the other, and what other sessions run is as it was
+-- the one store comes after the other, and what other sessions run is as it was
 pub record Lasts {S : Type 0} (g : Ghosts S) (session : ℕ) (old new : Moment S) : Type 0 where
   pub steps : Continues g.follows old.store new.store
   pub others : OthersStay session old.slots new.slots
 
 -- the session's running call that finishes tells how many pages there are
-abbrev pub FinishTells : {S : Type 0} → Ghosts S → ℕ → Answer → Moment S → Moment S → Type 0
-FinishTells g session answer old new =
-    (number : ℕ) (call : Call) → IsRunningCall old.calls session number call → (stats : VacuumStats) → answer ≡ Finished stats → TellsFor call.ask (g.state new.store) stats
+abbrev pub FinishCounts : {S : Type 0} → Ghosts S → ℕ → Answer → Moment S → Moment S → Type 0
+FinishCounts g session answer old new =
+    (number : ℕ) (call : Call) → IsRunningCall old.calls session number call → (stats : VacuumStats) → answer ≡ Finished stats → StatsCountFor call.ask (g.state new.store) stats
 
 -- What a step of the session's call tells, or the refusal of the room for it; why it is refused; what is counted on; that fewer steps are
--- left where it goes on, and each running call keeps its start number then; and the statistics where it finishes, behind which the session
+-- left where it goes on, and each running call keeps its start number then; and the statistics where it finishes, after which the session
 -- runs nothing.
-pub record StepGoes {S : Type 0} (g : Ghosts S) (session least_room : ℕ) (answer : Answer) (old new : Moment S) : Type 0 where
-  pub told : TellsStep session answer old new
+pub record StepIsRun {S : Type 0} (g : Ghosts S) (session least_room : ℕ) (answer : Answer) (old new : Moment S) : Type 0 where
+  pub told : SessionStepMeans session answer old new
   pub caused : CallIsCaused g session least_room (is_full_vacuum (slot_of old.slots session)) answer old new
   pub counts : (what : Followed) → CountsThrough what old.sets (g.state old.store) (g.state new.store) (slot_of old.slots session) (slot_of new.slots session) answer
   pub fewer : TakesFewer (g.state old.store) (g.state new.store) (slot_of old.slots session) (slot_of new.slots session) answer
   pub numbers : answer ≡ Going → (g.state new.store).running ≡ (g.state old.store).running
-  pub stats : FinishTells g session answer old new
+  pub stats : FinishCounts g session answer old new
   pub over : (stats : VacuumStats) → answer ≡ Finished stats → slot_of new.slots session ≡ None
 
 -- the session's call has gone on so far, and has counted on; each running call has its start number still
-pub record HasGoneTo {S : Type 0} (g : Ghosts S) (session : ℕ) (old new : Moment S) : Type 0 where
+pub record HasReached {S : Type 0} (g : Ghosts S) (session : ℕ) (old new : Moment S) : Type 0 where
   pub lasts : Lasts g session old new
   pub sets_are : new.sets ≡ old.sets
   pub limits_are : (g.state new.store).limits ≡ (g.state old.store).limits
   pub numbers : (g.state new.store).running ≡ (g.state old.store).running
-  pub far : HasGoneFar session old new
+  pub far : HasRunSoFar session old new
   pub counted : (what : Followed) → IsCountedAs what old.sets (g.state old.store) (slot_of old.slots session) → IsCountedAs what old.sets (g.state new.store) (slot_of new.slots session)
 
 -- steps that went on, up to a moment that fits, and the last one
-pub record FinishGoes {S : Type 0} (g : Ghosts S) (session least_room : ℕ) (answer : Answer) (start : Entry → Bool) (old new : Moment S) : Type 0 where
+pub record FinishIsRun {S : Type 0} (g : Ghosts S) (session least_room : ℕ) (answer : Answer) (start : Entry → Bool) (old new : Moment S) : Type 0 where
   pub last : Moment S
   pub fits : Fits g start last
-  pub gone : HasGoneTo g session old last
+  pub gone : HasReached g session old last
   pub lasts : Lasts g session last new
-  pub step : StepGoes g session least_room answer last new
+  pub step : StepIsRun g session least_room answer last new
 
 -- a call is begun, or nothing is told; what has begun has the count of calls begun before it for its start number; and what a vacuum
 -- follows that has begun
-pub record BeginGoes {S : Type 0} (g : Ghosts S) (session : ℕ) (request : Request) (result : Result (Unit {0}) Fault) (old new : Moment S) : Type 0 where
-  pub told : BeginTold session request result old new
+pub record BeginIsRun {S : Type 0} (g : Ghosts S) (session : ℕ) (request : Request) (result : Result (Unit {0}) Fault) (old new : Moment S) : Type 0 where
+  pub told : BeginMeans session request result old new
   pub number : result ≡ Ok tt → start_number (g.state new.store) session ≡ Some (g.state old.store).begun
   pub counts : (what : Followed) → FollowsFrom what request (g.state old.store) session → BeginsToCount what new.sets (g.state new.store) (slot_of new.slots session) result
 
@@ -83,7 +83,7 @@ pub record NotRun {S : Type 0} (g : Ghosts S) (session : ℕ) (request : Request
   pub fault : Fault
   pub refused : answer ≡ Refused fault
   pub none : added ≡ None
-  pub told : NothingTold fault old new
+  pub told : NothingIsDone fault old new
   pub cause : HasCause (causes_of_begun_at g old.store (one_vacuums old.slots) old.sets request (slice_get old.slots session)) fault
 
 -- the call was begun in a session with none, came to this answer, and was given up, so far as it still ran: its Add was this then; why
@@ -92,27 +92,27 @@ pub record HasCompleted {S : Type 0} (g : Ghosts S) (session least_room : ℕ) (
   pub here : Moment S
   pub fits : Fits g start here
   pub free : HasNone session old
-  pub told : NextTold session request answer old here
+  pub told : NextMeans session request answer old here
   pub add_is : slot_add (slot_of here.slots session) ≡ added
-  pub end : TellsEnd session here new
+  pub end : EndMeans session here new
   pub caused : IsCaused (causes_of_asked g session least_room (Some (g.state old.store).begun) false (asked_by old.sets request) (here_at old) new.store) answer
-  pub counts : (what : Followed) (stats : VacuumStats) → FollowsFrom what request (g.state old.store) session → answer ≡ Finished stats → TellsAs what (g.state new.store) (Ok stats)
-  pub stats : (stats : VacuumStats) → answer ≡ Finished stats → TellsFor (asked_by old.sets request) (g.state new.store) stats
+  pub counts : (what : Followed) (stats : VacuumStats) → FollowsFrom what request (g.state old.store) session → answer ≡ Finished stats → StatsCountAs what (g.state new.store) (Ok stats)
+  pub stats : (stats : VacuumStats) → answer ≡ Finished stats → StatsCountFor (asked_by old.sets request) (g.state new.store) stats
 
 -- the one or the other
-abbrev pub RunGoes : {S : Type 0} → Ghosts S → ℕ → ℕ → Request → Answer → Option ℕ → (Entry → Bool) → Moment S → Moment S → Type 0
-RunGoes g session least_room request answer added start old new =
+abbrev pub RequestIsRun : {S : Type 0} → Ghosts S → ℕ → ℕ → Request → Answer → Option ℕ → (Entry → Bool) → Moment S → Moment S → Type 0
+RequestIsRun g session least_room request answer added start old new =
     NotRun g session request answer added old new ⊎ HasCompleted g session least_room request answer added start old new
 
 -- nothing is told of the session's scan so far
 pub record ScanGivesNothing {S : Type 0} (g : Ghosts S) (session : ℕ) (old new : Moment S) : Type 0 where
   pub lasts : Lasts g session old new
-  pub stays : ScanIsUntold session old new
+  pub stays : ScanIsUnanswered session old new
 
--- behind steps of the session's scan that told nothing, one with this answer, and why it is refused
-pub record ScanGoes {S : Type 0} (g : Ghosts S) (session least_room : ℕ) (answer : Answer) (old new : Moment S) : Type 0 where
+-- after steps of the session's scan that told nothing, one with this answer, and why it is refused
+pub record ScanIsRun {S : Type 0} (g : Ghosts S) (session least_room : ℕ) (answer : Answer) (old new : Moment S) : Type 0 where
   pub last : Moment S
   pub waits : ScanGivesNothing g session old last
   pub lasts : Lasts g session last new
-  pub told : TellsScan session answer last new
+  pub told : SessionScanMeans session answer last new
   pub caused : ScanIsCaused g session least_room answer last new

@@ -5,16 +5,16 @@ ghost use Rattle.index_model.specs.Faults.{HasCause};
 ghost use Rattle.page_action.specs.States.{Continues};
 ghost use Rattle.session_calls.specs.Ops.{op_before, RunsOn};
 ghost use Rattle.session_calls.specs.declared.request.Request.TheVariants.{Scan as ToScan};
-ghost use Rattle.schedule.specs.Sessions.{here, op_of, KeepsOthers};
+ghost use Rattle.schedule.specs.Sessions.{here, op_of, SameOthers};
 ghost use Rattle.session_calls.specs.Slots.{one_vacuums};
-ghost use Rattle.schedule.specs.Events.{IsUnchanged, causes_of_begun_at};
+ghost use Rattle.schedule.specs.Events.{IsSameStore, causes_of_begun_at};
 ghost use Rattle.schedule.specs.TheoremRuns.{ForEachHistory};
-ghost use Rattle.whole_calls.specs.Telling.{BeginTold, begin_outcome};
-ghost use Rattle.whole_calls.specs.Giving.{GoesDown, AnswersAdvance, AnswersSeek, EndsUnlessGiven, GiveLeavesLess, TellsGiven, given_of, given_outcome};
-ghost use Rattle.whole_calls.specs.Going.{IsAmong, CallGoes};
+ghost use Rattle.whole_calls.specs.Meanings.{BeginMeans, begin_outcome};
+ghost use Rattle.whole_calls.specs.Giving.{LessIsLeft, AnswersAdvance, AnswersSeek, EndsUnlessGiven, GiveHasLessLeft, SessionGivenMeans, given_of, given_outcome};
+ghost use Rattle.whole_calls.specs.Going.{IsAmong, CallIsRun};
 ghost use Rattle.whole_calls.specs.Made.{IsMadeOf, Answered, ComesTo};
 ghost use Rattle.whole_calls.specs.Refusing.{GiveIsCaused};
-ghost use Rattle.whole_calls.specs.Stepping.{ScanGoes};
+ghost use Rattle.whole_calls.specs.Stepping.{ScanIsRun};
 
 use crate::running::{begin, give_up, step};
 use index_model::{DeadRows, Entry, Fault, Range};
@@ -31,15 +31,15 @@ fn advance<S: PageStore, T: DeadRows>(
     least_room: u32,
 ) -> Answer
     ensures steps { Continues S.follows store.old store.new }
-    ensures others { KeepsOthers session calls.old calls.new }
-    ensures goes { CallGoes S.PageStore session (ScanGoes S.PageStore session least_room result)
+    ensures others { SameOthers session calls.old calls.new }
+    ensures goes { CallIsRun S.PageStore session (ScanIsRun S.PageStore session least_room result)
         (Some result) (here T.DeadRows store.old calls.old sets.now)
         (here T.DeadRows store.new calls.new sets.now) }
     ensures made { IsMadeOf S.PageStore session least_room (λ answers. IsAmong answers result)
         (here T.DeadRows store.old calls.old sets.now)
         (here T.DeadRows store.new calls.new sets.now) }
     ensures less { (S.backing store.new).honest ≡ true
-        → GoesDown (S.state store.old) (S.state store.new) (op_of calls.old session)
+        → LessIsLeft (S.state store.old) (S.state store.new) (op_of calls.old session)
         (op_of calls.new session) result }
     ensures kind { AnswersAdvance result }
     ensures runs_on { RunsOn (op_of calls.old session) (op_of calls.new session) }
@@ -60,8 +60,8 @@ fn seek<S: PageStore, T: DeadRows>(
     least_room: u32,
 ) -> Answer
     ensures steps { Continues S.follows store.old store.new }
-    ensures others { KeepsOthers session calls.old calls.new }
-    ensures goes { CallGoes S.PageStore session (ScanGoes S.PageStore session least_room result)
+    ensures others { SameOthers session calls.old calls.new }
+    ensures goes { CallIsRun S.PageStore session (ScanIsRun S.PageStore session least_room result)
         (Some result) (here T.DeadRows store.old calls.old sets.now)
         (here T.DeadRows store.new calls.new sets.now) }
     ensures made { IsMadeOf S.PageStore session least_room (Answered result)
@@ -70,7 +70,7 @@ fn seek<S: PageStore, T: DeadRows>(
     ensures kind { AnswersSeek result }
     ensures runs_on { RunsOn (op_of calls.old session) (op_of calls.new session) }
     ensures less { (S.backing store.new).honest ≡ true
-        → GoesDown (S.state store.old) (S.state store.new) (op_of calls.old session)
+        → LessIsLeft (S.state store.old) (S.state store.new) (op_of calls.old session)
         (op_of calls.new session) result }
 {
     let _limits = store.limits();
@@ -110,16 +110,16 @@ pub fn give<S: PageStore, T: DeadRows>(
     least_room: u32,
 ) -> Result<Option<Entry>, Fault>
     ensures steps { Continues S.follows store.old store.new }
-    ensures others { KeepsOthers session calls.old calls.new }
+    ensures others { SameOthers session calls.old calls.new }
     ensures over { EndsUnlessGiven result (op_of calls.new session) }
     ensures runs_on { RunsOn (op_of calls.old session) (op_of calls.new session) }
     ensures less { (S.backing store.new).honest ≡ true
-        → GiveLeavesLess (S.state store.old) (S.state store.new)
+        → GiveHasLessLeft (S.state store.old) (S.state store.new)
         (op_of calls.old session) (op_of calls.new session) result }
-    ensures goes { CallGoes S.PageStore session (TellsGiven session result) (given_outcome result)
+    ensures goes { CallIsRun S.PageStore session (SessionGivenMeans session result) (given_outcome result)
         (here T.DeadRows store.old calls.old sets.now)
         (here T.DeadRows store.new calls.new sets.now) }
-    // Whatever the pages are: so it answers None only behind a step that answered `Done`.
+    // Whatever the pages are: so it answers None only after a step that answered `Done`.
     ensures made { IsMadeOf S.PageStore session least_room (ComesTo (given_outcome result))
         (here T.DeadRows store.old calls.old sets.now)
         (here T.DeadRows store.new calls.new sets.now) }
@@ -153,8 +153,8 @@ pub fn open<S: PageStore, T: DeadRows>(
     range: Range,
 ) -> Result<(), Fault>
     ensures steps { Continues S.follows store.old store.new }
-    ensures others { KeepsOthers session calls.old calls.new }
-    ensures goes { CallGoes S.PageStore session (BeginTold session (ToScan range) result)
+    ensures others { SameOthers session calls.old calls.new }
+    ensures goes { CallIsRun S.PageStore session (BeginMeans session (ToScan range) result)
         (begin_outcome result)
         (here T.DeadRows store.old calls.old sets.now)
         (here T.DeadRows store.new calls.new sets.now) }
@@ -163,7 +163,7 @@ pub fn open<S: PageStore, T: DeadRows>(
         (here T.DeadRows store.new calls.new sets.now) }
     ensures begins { OnOk result (op_of calls.new session
         ≡ Some (op_before session (ToScan range))) }
-    ensures refused { OnErr result (IsUnchanged S.PageStore
+    ensures refused { OnErr result (IsSameStore S.PageStore
         (here T.DeadRows store.old calls.old sets.now)
         (here T.DeadRows store.new calls.new sets.now)) }
     ensures cause { IfErr result

@@ -5,10 +5,10 @@ mod giving;
 mod inserted;
 mod one_step;
 mod running;
-mod sweeping;
+mod vacuuming;
 
 pub use giving::{give, open};
 pub use inserted::Inserted;
 pub use one_step::take_step;
 pub use running::{give_up, insert};
-pub use sweeping::{bulk_delete, clean_up};
+pub use vacuuming::{bulk_delete, clean_up};

@@ -3,9 +3,9 @@
 ghost use Rattle.std.specs.Prelude.{◌≡◌, None, length};
 ghost use Rattle.page_action.specs.States.{Continues};
 ghost use Rattle.schedule.specs.Sessions.{here};
-ghost use Rattle.whole_calls.specs.Going.{CallGoes};
+ghost use Rattle.whole_calls.specs.Going.{CallIsRun};
 ghost use Rattle.whole_calls.specs.Made.{IsMadeOf};
-ghost use Rattle.whole_calls.specs.OneStep.{IsMadeAsStep, OneStepAlways, OneStepComesTo, OneStepGoes, cut_short};
+ghost use Rattle.whole_calls.specs.OneStep.{IsMadeAsStep, OneStepAlways, OneStepComesTo, OneStepIsRun, cut_short};
 
 use crate::running::{give_up, make_room};
 use index_model::{DeadRows, Fault};
@@ -39,8 +39,8 @@ pub fn take_step<S: PageStore, T: DeadRows>(
     ensures steps { Continues S.follows store.old store.new }
     ensures sessions { length calls.new.slots.items ≡ length calls.old.slots.items }
     // With `least_room` 5 or more it never answers `LogFull`.
-    ensures goes { CallGoes S.PageStore session
-        (OneStepGoes S.PageStore session least_room result) None
+    ensures goes { CallIsRun S.PageStore session
+        (OneStepIsRun S.PageStore session least_room result) None
         (here T.DeadRows store.old calls.old sets.now)
         (here T.DeadRows store.new calls.new sets.now) }
     // Whatever the pages are.

@@ -8,22 +8,22 @@ ghost use Rattle.page_action.specs.Causes.{causes_of_forced};
 ghost use Rattle.page_action.specs.States.{Continues};
 ghost use Rattle.session_calls.specs.TheoremCalls.{DeadSets, asked_by};
 ghost use Rattle.session_calls.specs.Ops.{op_before, RunsOn};
-ghost use Rattle.session_calls.specs.Sessions.{AnswersStep, StepLeavesLess, OnlyWritersAct, after_slot};
+ghost use Rattle.session_calls.specs.Sessions.{AnswersStep, StepHasLessLeft, OnlyWritersAct, after_slot};
 ghost use Rattle.session_calls.specs.declared.op.Op.{Op};
-ghost use Rattle.schedule.specs.Sessions.{here, op_of, KeepsOthers};
+ghost use Rattle.schedule.specs.Sessions.{here, op_of, SameOthers};
 ghost use Rattle.session_calls.specs.Slots.{one_vacuums};
 ghost use Rattle.schedule.specs.MomentInvariants.{here_with};
-ghost use Rattle.schedule.specs.Events.{IsUnchanged, causes_of_begun_at};
-ghost use Rattle.schedule.specs.Making.{Makes};
+ghost use Rattle.schedule.specs.Events.{IsSameStore, causes_of_begun_at};
+ghost use Rattle.schedule.specs.Making.{EventEffect};
 ghost use Rattle.schedule.specs.TheoremKinds.{BeginsCall, GivesUp, MovesCall, kind_of};
 ghost use Rattle.schedule.specs.TheoremRuns.{ForEachHistory};
-ghost use Rattle.whole_calls.specs.Going.{IsAmong, CameBy, CallGoes, GoesFrom};
-ghost use Rattle.whole_calls.specs.Inserting.{InsertGoes};
+ghost use Rattle.whole_calls.specs.Going.{IsAmong, IsOutcomeOf, CallIsRun, CallIsRunFrom};
+ghost use Rattle.whole_calls.specs.Inserting.{InsertIsRun};
 ghost use Rattle.whole_calls.specs.Made.{IsMadeOf, Answered, ComesTo, InsertComesTo};
 ghost use Rattle.whole_calls.specs.OneStep.{MakesRoom};
 ghost use Rattle.whole_calls.specs.Refusing.{InsertCallIsCaused};
-ghost use Rattle.whole_calls.specs.Stepping.{RoomTold, BeginGoes, StepGoes, FinishGoes, RunGoes};
-ghost use Rattle.whole_calls.specs.Telling.{RoomIsMade, MayAnswer, MayComeTo, TellsEnd, left_behind, outcome_of, begun_of, begin_outcome, room_outcome};
+ghost use Rattle.whole_calls.specs.Stepping.{RoomMeans, BeginIsRun, StepIsRun, FinishIsRun, RequestIsRun};
+ghost use Rattle.whole_calls.specs.Meanings.{RoomIsMade, MayAnswer, MayComeTo, EndMeans, left_behind, outcome_of, begun_of, begin_outcome, room_outcome};
 
 use crate::inserted::Inserted;
 use index_model::{DeadRows, Entry, Fault};
@@ -36,11 +36,11 @@ use vacuum::nothing_is_counted;
 pub(crate) fn make_room<S: PageStore>(store: &mut S, least_room: u32) -> Result<(), Fault>
     ensures steps { Continues S.follows store.old store.new }
     ensures goes { (session : ℕ) (slots : List (Option Op)) (sets : DeadSets)
-        → CallGoes S.PageStore session (RoomTold S.PageStore) (room_outcome result)
+        → CallIsRun S.PageStore session (RoomMeans S.PageStore) (room_outcome result)
         (here_with store.old slots sets) (here_with store.new slots sets) }
     // Where the log has the room, none is made.
     ensures made { (session : ℕ) (slots : List (Option Op)) (sets : DeadSets)
-        → IsMadeOf S.PageStore session least_room (λ answers. CameBy answers (room_outcome result))
+        → IsMadeOf S.PageStore session least_room (λ answers. IsOutcomeOf answers (room_outcome result))
         (here_with store.old slots sets) (here_with store.new slots sets) }
     ensures tried { (slots : List (Option Op)) (sets : DeadSets)
         → MakesRoom S.PageStore least_room result
@@ -73,8 +73,8 @@ pub(crate) fn step<S: PageStore, T: DeadRows>(
     least_room: u32,
 ) -> Answer
     ensures steps { Continues S.follows store.old store.new }
-    ensures others { KeepsOthers session calls.old calls.new }
-    ensures goes { CallGoes S.PageStore session (StepGoes S.PageStore session least_room result)
+    ensures others { SameOthers session calls.old calls.new }
+    ensures goes { CallIsRun S.PageStore session (StepIsRun S.PageStore session least_room result)
         (Some result) (here T.DeadRows store.old calls.old sets.now)
         (here T.DeadRows store.new calls.new sets.now) }
     ensures made { IsMadeOf S.PageStore session least_room (λ answers. IsAmong answers result)
@@ -84,7 +84,7 @@ pub(crate) fn step<S: PageStore, T: DeadRows>(
     ensures calm { OnlyWritersAct (op_of calls.old session) (S.state store.old)
         (S.state store.new) }
     ensures less { (S.backing store.new).honest ≡ true
-        → StepLeavesLess (S.state store.old) (S.state store.new)
+        → StepHasLessLeft (S.state store.old) (S.state store.new)
         (op_of calls.old session) (op_of calls.new session) result }
     ensures kind { AnswersStep (op_of calls.old session) (op_of calls.new session) result }
     // What the session runs then, if anything, is of the kind that it ran before.
@@ -106,8 +106,8 @@ fn finish<S: PageStore, T: DeadRows>(
     least_room: u32,
 ) -> Answer
     ensures steps { Continues S.follows store.old store.new }
-    ensures others { KeepsOthers session calls.old calls.new }
-    ensures goes { GoesFrom S.PageStore session (FinishGoes S.PageStore session least_room result)
+    ensures others { SameOthers session calls.old calls.new }
+    ensures goes { CallIsRunFrom S.PageStore session (FinishIsRun S.PageStore session least_room result)
         (Some result) (here T.DeadRows store.old calls.old sets.now)
         (here T.DeadRows store.new calls.new sets.now) }
     ensures made { IsMadeOf S.PageStore session least_room (Answered result)
@@ -150,17 +150,17 @@ pub(crate) fn begin<S: PageStore, T: DeadRows>(
     request: Request,
 ) -> Result<(), Fault>
     ensures steps { Continues S.follows store.old store.new }
-    ensures others { KeepsOthers session calls.old calls.new }
-    ensures goes { CallGoes S.PageStore session (BeginGoes S.PageStore session request result)
+    ensures others { SameOthers session calls.old calls.new }
+    ensures goes { CallIsRun S.PageStore session (BeginIsRun S.PageStore session request result)
         (begin_outcome result)
         (here T.DeadRows store.old calls.old sets.now)
         (here T.DeadRows store.new calls.new sets.now) }
     ensures made { (least_room : ℕ) → IsMadeOf S.PageStore session least_room
-        (λ answers. CameBy answers (begin_outcome result))
+        (λ answers. IsOutcomeOf answers (begin_outcome result))
         (here T.DeadRows store.old calls.old sets.now)
         (here T.DeadRows store.new calls.new sets.now) }
     ensures begins { OnOk result (op_of calls.new session ≡ Some (op_before session request)) }
-    ensures refused { OnErr result (IsUnchanged S.PageStore
+    ensures refused { OnErr result (IsSameStore S.PageStore
         (here T.DeadRows store.old calls.old sets.now)
         (here T.DeadRows store.new calls.new sets.now)) }
     ensures cause { IfErr result
@@ -174,7 +174,7 @@ pub(crate) fn begin<S: PageStore, T: DeadRows>(
 
 // What a call came to that is over.
 #[derive(Clone, Copy)]
-pub(crate) struct Came {
+pub(crate) struct CallOutcome {
     // Its last answer, or the refusal of its beginning.
     pub(crate) answer: Answer,
     // The number of the action that added an insert's entry, where it still ran then.
@@ -190,14 +190,14 @@ pub(crate) fn run_call<S: PageStore, T: DeadRows>(
     session: u32,
     request: Request,
     least_room: u32,
-) -> Came
+) -> CallOutcome
     ensures steps { Continues S.follows store.old store.new }
-    ensures others { KeepsOthers session calls.old calls.new }
+    ensures others { SameOthers session calls.old calls.new }
     ensures over { op_of calls.old session ≡ None → op_of calls.new session ≡ None }
     ensures ended { result.answer ≢ Answer.Going }
     ensures kind { MayAnswer (asked_by (map T.is_in sets.now) request) result.answer }
-    ensures goes { GoesFrom S.PageStore session
-        (RunGoes S.PageStore session least_room request result.answer result.added)
+    ensures goes { CallIsRunFrom S.PageStore session
+        (RequestIsRun S.PageStore session least_room request result.answer result.added)
         (Some result.answer) (here T.DeadRows store.old calls.old sets.now)
         (here T.DeadRows store.new calls.new sets.now) }
     ensures made { IsMadeOf S.PageStore session least_room (Answered result.answer)
@@ -208,7 +208,7 @@ pub(crate) fn run_call<S: PageStore, T: DeadRows>(
     match begin(store, calls, sets, session, request) {
         Ok(()) => {}
         Err(fault) => {
-            return Came {
+            return CallOutcome {
                 answer: Answer::Refused(fault),
                 added: None,
             };
@@ -217,11 +217,11 @@ pub(crate) fn run_call<S: PageStore, T: DeadRows>(
     let answer = finish(store, calls, sets, session, least_room);
     let added = calls.added(session);
     give_up(store, calls, sets, session);
-    Came { answer, added }
+    CallOutcome { answer, added }
 }
 
 // What an insert answers that is refused: where its entry is added, the fault is what it leaves
-// behind.
+// after.
 fn refused(added: Option<u64>, fault: Fault) -> Result<Inserted, Fault>
     ensures { result ≡ left_behind added fault }
 {
@@ -235,10 +235,10 @@ fn refused(added: Option<u64>, fault: Fault) -> Result<Inserted, Fault>
 }
 
 // What an insert answers that came to this.
-fn outcome(came: Came) -> Result<Inserted, Fault>
+fn outcome(came: CallOutcome) -> Result<Inserted, Fault>
     ensures { result ≡ outcome_of came.answer came.added }
 {
-    let Came { answer, added } = came;
+    let CallOutcome { answer, added } = came;
     match answer {
         Answer::Added { action, unfinished } => Ok(Inserted { action, unfinished }),
         Answer::Refused(fault) => refused(added, fault),
@@ -254,7 +254,7 @@ pub fn give_up<S: PageStore, T: DeadRows>(
     session: u32,
 )
     ensures steps { Continues S.follows store.old store.new }
-    ensures others { KeepsOthers session calls.old calls.new }
+    ensures others { SameOthers session calls.old calls.new }
     ensures over { op_of calls.new session ≡ None }
     ensures backing { S.backing store.new ≡ S.backing store.old }
     ensures pages { (S.state store.new).pages ≡ (S.state store.old).pages }
@@ -265,14 +265,14 @@ pub fn give_up<S: PageStore, T: DeadRows>(
     // What the call held is let go, if it has one.
     ensures state { S.state store.new
         ≡ after_slot (op_of calls.old session) (S.state store.old) }
-    ensures goes { CallGoes S.PageStore session (TellsEnd session) None
+    ensures goes { CallIsRun S.PageStore session (EndMeans session) None
         (here T.DeadRows store.old calls.old sets.now)
         (here T.DeadRows store.new calls.new sets.now) }
     ensures made { (least_room : ℕ) → IsMadeOf S.PageStore session least_room (ComesTo None)
         (here T.DeadRows store.old calls.old sets.now)
         (here T.DeadRows store.new calls.new sets.now) }
     // It is the event `End`, with some answer.
-    ensures ends { (answer : Answer) × Makes S.PageStore (MovesCall session GivesUp) answer
+    ensures ends { (answer : Answer) × EventEffect S.PageStore (MovesCall session GivesUp) answer
         (here T.DeadRows store.old calls.old sets.now)
         (here T.DeadRows store.new calls.new sets.now) }
 {
@@ -292,9 +292,9 @@ pub fn insert<S: PageStore, T: DeadRows>(
     least_room: u32,
 ) -> Result<Inserted, Fault>
     ensures steps { Continues S.follows store.old store.new }
-    ensures others { KeepsOthers session calls.old calls.new }
+    ensures others { SameOthers session calls.old calls.new }
     ensures over { op_of calls.old session ≡ None → op_of calls.new session ≡ None }
-    ensures goes { InsertGoes S.PageStore session entry result
+    ensures goes { InsertIsRun S.PageStore session entry result
         (here T.DeadRows store.old calls.old sets.now)
         (here T.DeadRows store.new calls.new sets.now) }
     // Whatever the pages are.

@@ -62,11 +62,6 @@ at_end [] a b (suc j) n e = absurd (some-ne-none b (sym e))
 at_end (x ∷ xs) a b zero n e = absurd (n e)
 at_end (x ∷ xs) a b (suc j) n e = ap suc (at_end xs a b j n e)
 
-at_front : (l : List SeatView) (a b : SeatView) (j : ℕ) → get_elem? l j ≡ some b → get_elem? (l ++ a ∷ []) j ≡ some b
-at_front [] a b j e = absurd (some-ne-none b (sym e))
-at_front (x ∷ xs) a b zero e = e
-at_front (x ∷ xs) a b (suc j) e = at_front xs a b j e
-
 at_cases : (l : List SeatView) (a b : SeatView) (j : ℕ) → get_elem? (l ++ a ∷ []) j ≡ some b → (get_elem? l j ≡ some b) ⊎ ((j ≡ length l) × (a ≡ b))
 at_cases [] a b zero e = inr (refl, some-injective _ _ e)
 at_cases [] a b (suc j) e = absurd (some-ne-none b (sym e))

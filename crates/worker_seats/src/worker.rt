@@ -21,7 +21,7 @@ pub struct Worker<J: Run, T> {
     pub ghost popped: { (view pass).popped ≡ jobs_in (known_by seat.pass).notes },
 }
 
-/// Takes the passes of these workers into one, and puts their seats behind those that are there.
+/// Takes the passes of these workers into one, and puts their seats after those that are there.
 pub fn gather<J: Run, T: Ticket>(
     queue: &JobQueue<T>,
     pass: &mut QueuePass<T>,

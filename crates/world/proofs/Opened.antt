@@ -41,9 +41,9 @@ none_runs : (start : ℕ) → IsStart (replicate 64 None) start → ⊥
 none_runs start is = (let none : Some start ≡ None = sym (ap (λ (o : Option (Option ℕ)). unwrap_or o None) is.is) ∙ all_same 64 is.session None in cc)
 
 -- pages that are a tree, of a unique index keyed, each stored and counted, are in order as they are opened
-opened_unused : (limits : Format) (frames : ℕ) (pages : List Page) (counted : List ℕ) (counter : ℕ) → IsTreeFor limits pages → AreStored limits 0 pages → length counted ≡ length pages
-    → ((block : ℕ) → slice_index counted block ≡ 0) → IsUnused (opened_state limits frames pages counted counter)
-opened_unused limits frames pages counted counter tree stored count none = record {
+opened_unused : (limits : Format) (frames : ℕ) (pages : List Page) (counted : List ℕ) (last_cycle : ℕ) → IsTreeFor limits pages → AreStored limits 0 pages → length counted ≡ length pages
+    → ((block : ℕ) → slice_index counted block ≡ 0) → IsUnused (opened_state limits frames pages counted last_cycle)
+opened_unused limits frames pages counted last_cycle tree stored count none = record {
   order = record {
     tree = record {
       tree = tree.0;

@@ -1,4 +1,4 @@
--- What is left of a world behind a crash, and what a world that is opened again begins with.
+-- What is left of a world after a crash, and what a world that is opened again begins with.
 use Rattle.std.specs.Prelude.{◌≡◌, ℕ, ◌≤◌, Bool, false, List, [], length, take, Result, Ok, Err}
 use Rattle.device.specs.declared.device.Device.{Ghosts as DeviceGhosts}
 use Rattle.index_model.specs.Actions.{Action}
@@ -16,9 +16,9 @@ use Rattle.world.specs.Worlds.{WorldFits, WorldKeeps}
 use Rattle.world.specs.declared.opening.NotOpened.{NotOpened}
 use Rattle.world.specs.declared.world.World.{World}
 
--- these bytes are an index whose pages are a B-link tree, with the contents after a first part of the history of at least
+-- these bytes are an index whose pages are a B-link tree, with the contents after a prefix of the history of at least
 -- so many actions
-pub record IsIndexAfterFirstPart (limits : Format) (start : Entry → Bool) (history : List Action) (least : ℕ) (image : List ℕ) : Type 0 where
+pub record IsIndexAfterPrefix (limits : Format) (start : Entry → Bool) (history : List Action) (least : ℕ) (image : List ℕ) : Type 0 where
   pub part : ℕ
   pub from : least ≤ part
   pub to : part ≤ length history
@@ -37,9 +37,9 @@ abbrev pub world_device : {D T : Type 0} (d : DeviceGhosts D) → Result (World 
 world_device d (Ok world) = device_of d world.store
 world_device d (Err not_opened) = not_opened.device
 
--- the world begins with the pages of an index that hold the contents after a first part of the history, of at least so
+-- the world begins with the pages of an index that hold the contents after a prefix of the history, of at least so
 -- many actions
-pub record BeginsAfterFirstPart {D T : Type 0} (d : DeviceGhosts D) (g : Ghosts (Store D d)) (rows : SetGhosts T) (limits : Format)
+pub record BeginsAfterPrefix {D T : Type 0} (d : DeviceGhosts D) (g : Ghosts (Store D d)) (rows : SetGhosts T) (limits : Format)
     (start : Entry → Bool) (history : List Action) (least : ℕ) (world : World (Store D d) T) : Type 0 where
   pub part : ℕ
   pub from : least ≤ part

@@ -24,11 +24,11 @@ snapshot_in rows world history calls = snapshot_of (inside rows world) history c
 abbrev pub WorldFits : {S T : Type 0} → Ghosts S → SetGhosts T → World S T → (Entry → Bool) → List Action → List Call → Type 0
 WorldFits g rows world start history calls = Fits g start (snapshot_in rows world history calls)
 
--- ... and each crash leaves a first part of the history
+-- ... and each crash leaves a prefix of the history
 abbrev pub WorldKeeps : {S T : Type 0} → Ghosts S → SetGhosts T → World S T → (Entry → Bool) → List Action → List Call → Type 0
 WorldKeeps g rows world start history calls = KeepsHistory g start (snapshot_in rows world history calls)
 
--- where the history was kept, it is so still, and a crash in between leaves a first part of it
+-- where the history was kept, it is so still, and a crash in between leaves a prefix of it
 abbrev pub WorldIsSafe : {S T : Type 0} → Ghosts S → SetGhosts T → World S T → World S T → (Entry → Bool) → List Action → List Call → Type 0
 WorldIsSafe g rows old new start history calls = WorldKeeps g rows old start history calls → IsCrashSafe g start (snapshot_in rows old history calls) (snapshot_in rows new history calls)
 
@@ -37,8 +37,8 @@ abbrev pub ForEachWorldHistory : {S T : Type 0} → Ghosts S → SetGhosts T →
 ForEachWorldHistory g rows old new goes = ForEachHistory g (inside rows old) (inside rows new) goes
 
 -- there is a continuation of the history and of the calls that fits the world now, by this event with this answer
-abbrev pub WorldGoes : {S T : Type 0} → Ghosts S → SetGhosts T → World S T → World S T → Event → Answer → (Entry → Bool) → List Action → List Call → Type 0
-WorldGoes g rows old new event answer start history calls = EventFollows g (inside rows old) (inside rows new) event answer start history calls
+abbrev pub WorldIsRun : {S T : Type 0} → Ghosts S → SetGhosts T → World S T → World S T → Event → Answer → (Entry → Bool) → List Action → List Call → Type 0
+WorldIsRun g rows old new event answer start history calls = EventFollows g (inside rows old) (inside rows new) event answer start history calls
 
 -- there is a continuation of the history and of the calls that fits the world now, by a run of these events with these
 -- answers
@@ -46,6 +46,6 @@ abbrev pub WorldRuns : {S T : Type 0} → Ghosts S → SetGhosts T → World S T
 WorldRuns g rows old new events answers start history calls = Runs g (inside rows old) (inside rows new) events answers start history calls
 
 -- the sessions and the sets of dead rows are the same
-pub record KeepsSessions {S T : Type 0} (old new : World S T) : Type 0 where
+pub record SameSessions {S T : Type 0} (old new : World S T) : Type 0 where
   pub sessions : length new.calls.slots.items ≡ length old.calls.slots.items
   pub sets : new.sets ≡ old.sets

@@ -1,7 +1,7 @@
 //! A world over a device in memory: the device's calls are made to fail, and it is asked what a crash leaves.
 
 ghost use Rattle.std.specs.Prelude.{◌≡◌, Bool, List, IfOk, IfErr};
-ghost use Rattle.device.specs.Disk.{MayLeave, first};
+ghost use Rattle.device.specs.Disk.{MayCrashTo, first};
 ghost use Rattle.device.specs.Memory.{trace_of, left_by, plan_of};
 ghost use Rattle.device.specs.Plans.{no_plan, failing_at, stopping_at};
 ghost use Rattle.index_model.specs.Actions.{Action};
@@ -9,7 +9,7 @@ ghost use Rattle.index_model.specs.Calls.{Call};
 ghost use Rattle.index_model.specs.declared.entry.Entry.{Entry};
 ghost use Rattle.page_action.specs.States.{Continues};
 ghost use Rattle.page_store.specs.Stores.{state_of, held_by, device_of};
-ghost use Rattle.world.specs.Worlds.{WorldFits, WorldKeeps, KeepsSessions};
+ghost use Rattle.world.specs.Worlds.{WorldFits, WorldKeeps, SameSessions};
 
 use crate::world::World;
 use device::{CrashImage, Device, MemDevice};
@@ -26,7 +26,7 @@ impl<T: DeadRows + Drop> World<Store<MemDevice>, T> {
             ≡ failing_at n (plan_of (device_of ⟦<MemDevice as Device>⟧ self.old.store)) }
         ensures state { state_of ⟦<MemDevice as Device>⟧ self.new.store
             ≡ state_of ⟦<MemDevice as Device>⟧ self.old.store }
-        ensures same { KeepsSessions self.old self.new }
+        ensures same { SameSessions self.old self.new }
         ensures steps { Continues ⟦<Store<MemDevice> as PageStore>⟧.follows
             self.old.store self.new.store }
         ensures fits { (start : Entry → Bool) (history : List Action) (calls : List Call)
@@ -47,7 +47,7 @@ impl<T: DeadRows + Drop> World<Store<MemDevice>, T> {
             ≡ stopping_at n (plan_of (device_of ⟦<MemDevice as Device>⟧ self.old.store)) }
         ensures state { state_of ⟦<MemDevice as Device>⟧ self.new.store
             ≡ state_of ⟦<MemDevice as Device>⟧ self.old.store }
-        ensures same { KeepsSessions self.old self.new }
+        ensures same { SameSessions self.old self.new }
         ensures steps { Continues ⟦<Store<MemDevice> as PageStore>⟧.follows
             self.old.store self.new.store }
         ensures fits { (start : Entry → Bool) (history : List Action) (calls : List Call)
@@ -65,7 +65,7 @@ impl<T: DeadRows + Drop> World<Store<MemDevice>, T> {
     pub fn crash(&self, alloc: Global, image: CrashImage) -> Result<MemDevice, Fault>
         ensures bytes { IfOk result (λ d.
             trace_of d ≡ first (left_by image (device_of ⟦<MemDevice as Device>⟧ self.now.store))) }
-        ensures left { MayLeave (held_by ⟦<MemDevice as Device>⟧ self.now.store).trace.now
+        ensures left { MayCrashTo (held_by ⟦<MemDevice as Device>⟧ self.now.store).trace.now
             (left_by image (device_of ⟦<MemDevice as Device>⟧ self.now.store)) }
         ensures plan { IfOk result (λ d. plan_of d ≡ no_plan) }
         ensures fault { IfErr result (λ e. e ≡ Fault.NoMemory) }

@@ -1,10 +1,10 @@
 //! A world over the index that a device holds.
 
 ghost use Rattle.std.specs.Prelude.{◌≡◌, ◌⊎◌, ◌≤◌, ◌<◌, suc, List, IsTrue, IfOk, IfErr, OnOk, MatchResult, length};
-ghost use Rattle.device.specs.Moments.{Goes};
+ghost use Rattle.device.specs.Moments.{AtEachMoment};
 ghost use Rattle.index_model.specs.declared.format.Format.{Format};
 ghost use Rattle.page_codec.specs.declared.page.Page.{Page};
-ghost use Rattle.page_store.specs.Restart.{LeavesPages};
+ghost use Rattle.page_store.specs.Restart.{CrashesToPages};
 ghost use Rattle.page_store.specs.Stores.{state_of};
 ghost use Rattle.recovery.specs.Index.{HasIndex};
 ghost use Rattle.recovery.specs.Opening.{AreFrames, IsFreshlyOpened, IsNoMemoryOrIo, IsRefusal};
@@ -45,7 +45,8 @@ impl<D: Device, T: DeadRows + Drop> World<Store<D>, T> {
         ensures asked { OnOk result (AreFrames frames × (1 ≤ sessions) × (sessions ≤ 64)) }
         ensures sets { IfOk result (λ world. world.sets ≡ sets) }
         ensures sets_back { IfErr result (λ not_opened. not_opened.sets ≡ sets) }
-        // An index whose pages are a B-link tree, of a unique one keyed, is opened with them, or refused for want of memory or of the device.
+        // An index whose pages are a B-link tree, of a unique one keyed, is opened with them, or refused for want of memory or of
+        // the device.
         ensures begins { IsTrue (D.is_honest (world_device D.Device result))
             → AreFrames frames → 1 ≤ sessions → sessions ≤ 64
             → (limits : Format) (pages : List Page)
@@ -57,7 +58,7 @@ impl<D: Device, T: DeadRows + Drop> World<Store<D>, T> {
         ensures moments { IsTrue (D.is_honest (world_device D.Device result))
             → (limits : Format) (pages : List Page)
             → HasIndex limits pages (D.trace device).now.seen
-            → Goes (LeavesPages limits pages) (D.trace device)
+            → AtEachMoment (CrashesToPages limits pages) (D.trace device)
             (D.trace (world_device D.Device result)) }
         ensures len { length (D.trace (world_device D.Device result)).now.seen
             ≡ length (D.trace device).now.seen }

@@ -8,13 +8,13 @@ use page_store::Store;
 
 impl<D: Device, T: DeadRows + Drop> World<Store<D>, T> {
     ghost use Rattle.std.specs.Prelude.{◌≡◌, ℕ, Bool, List};
-    ghost use Rattle.device.specs.Disk.{MayLeave};
+    ghost use Rattle.device.specs.Disk.{MayCrashTo};
     ghost use Rattle.index_model.specs.Actions.{Action};
     ghost use Rattle.index_model.specs.Calls.{Call};
     ghost use Rattle.index_model.specs.declared.entry.Entry.{Entry};
     ghost use Rattle.page_store.specs.Logged.{backing_of};
-    ghost use Rattle.device.specs.Moments.{MayHaveLeft};
-    ghost use Rattle.world.specs.Reopening.{IsIndexAfterFirstPart};
+    ghost use Rattle.device.specs.Moments.{MayHaveCrashedTo};
+    ghost use Rattle.world.specs.Reopening.{IsIndexAfterPrefix};
     ghost use Rattle.world.specs.Worlds.{WorldFits, WorldKeeps};
     ghost use Rattle.page_codec.specs.declared.page.Page.{Page};
     ghost use Rattle.page_store.specs.Restart.{RestartsTo};
@@ -29,7 +29,7 @@ impl<D: Device, T: DeadRows + Drop> World<Store<D>, T> {
         ensures own { (s : Store D D.Device)
             → IsOwnStore D.Device s → ⟦<Store<D> as PageStore>⟧.own s }
         ensures leaves { (s t : Store D D.Device) (image : List ℕ)
-            → MayHaveLeft (held_by D.Device s).trace (held_by D.Device t).trace image
+            → MayHaveCrashedTo (held_by D.Device s).trace (held_by D.Device t).trace image
             → ⟦<Store<D> as PageStore>⟧.leaves s t image }
         ensures restarts { (s : Store D D.Device) (image : List ℕ) (pages : List Page)
             → ⟦<Store<D> as PageStore>⟧.restarts s image pages
@@ -42,17 +42,17 @@ impl<D: Device, T: DeadRows + Drop> World<Store<D>, T> {
             → WorldFits ⟦<Store<D> as PageStore>⟧ T.DeadRows self.now start history calls
             → WorldKeeps ⟦<Store<D> as PageStore>⟧ T.DeadRows self.now start history calls
             → (image : List ℕ)
-            → MayHaveLeft (held_by D.Device first).trace
+            → MayHaveCrashedTo (held_by D.Device first).trace
             (held_by D.Device self.now.store).trace image
-            → IsIndexAfterFirstPart (state_of D.Device self.now.store).limits start history
+            → IsIndexAfterPrefix (state_of D.Device self.now.store).limits start history
             (backing_of (held_by D.Device first)).durable image }
         // ... and so is what a crash now leaves.
         ensures now { (start : Entry → Bool) (history : List Action) (calls : List Call)
             → (image : List ℕ)
             → WorldFits ⟦<Store<D> as PageStore>⟧ T.DeadRows self.now start history calls
             → WorldKeeps ⟦<Store<D> as PageStore>⟧ T.DeadRows self.now start history calls
-            → MayLeave (held_by D.Device self.now.store).trace.now image
-            → IsIndexAfterFirstPart (state_of D.Device self.now.store).limits start history
+            → MayCrashTo (held_by D.Device self.now.store).trace.now image
+            → IsIndexAfterPrefix (state_of D.Device self.now.store).limits start history
             (backing_of (held_by D.Device self.now.store)).durable image }
     {}
 

@@ -11,15 +11,15 @@ use std::alloc::Global;
 ///
 /// A world stores no history. Its promise is one of each run: whatever history and calls fitted it before, there is a
 /// continuation that fits it afterwards, by events with exactly these answers. Where nobody else writes to the store's
-/// device, a crash at any moment leaves the contents after some first part of that history, with all that was durable.
+/// device, a crash at any moment leaves the contents after some prefix of that history, with all that was durable.
 ///
 /// Of what its clauses name: `steps`, that what its store followed it follows still; `same`, that the sessions and the sets
 /// stay; `always`, of each event, what holds of it whatever the pages are (what it may answer; that a refusal changes nothing; that
 /// a stopped log refuses first; that a step that goes on leaves less to do, over a device that keeps its model, unless it
 /// does an act; that an event does one act at most, and only a step does one; that no other session is touched; what an end
-/// leaves; which pages wait to be written behind a force, a flush and a checkpoint; and why a beginning is refused); `goes` of
+/// leaves; which pages wait to be written after a force, a flush and a checkpoint; and why a beginning is refused); `goes` of
 /// one event and `runs` of a list, the continuation, in which each event also says this, how many steps its call takes, which
-/// pages it leaves flagged, that no low of a page rises, and what it leaves as it was.
+/// pages it leaves with incomplete splits, that no low of a page rises, and what it leaves as it was.
 #[derive(Drop)]
 pub struct World<S, T> {
     pub(crate) store: S,
@@ -43,16 +43,16 @@ impl<S: PageStore, T: DeadRows + Drop> World<S, T> {
     ghost use Rattle.page_action.specs.Contents.{entry_on_live_leaf};
     ghost use Rattle.page_action.specs.States.{Continues};
     ghost use Rattle.schedule.specs.TheoremKinds.{MovesCall, GivesUp, kind_of};
-    ghost use Rattle.schedule.specs.Events.{EventAlways, IsUnchanged};
+    ghost use Rattle.schedule.specs.Events.{EventAlways, IsSameStore};
     ghost use Rattle.schedule.specs.Making.{EachAlways};
     ghost use Rattle.schedule.specs.TheoremRuns.{ForEachHistory, Runs};
     ghost use Rattle.session_calls.specs.Sessions.{ready_count};
     ghost use Rattle.session_calls.specs.Slots.{has_call, slot_of};
     ghost use Rattle.schedule.specs.MomentInvariants.{IsUnused};
-    ghost use Rattle.whole_calls.specs.Going.{CallGoes};
+    ghost use Rattle.whole_calls.specs.Going.{CallIsRun};
     ghost use Rattle.whole_calls.specs.Made.{IsMadeOf};
-    ghost use Rattle.whole_calls.specs.OneStep.{IsMadeAsStep, OneStepAlways, OneStepComesTo, OneStepGoes};
-    ghost use Rattle.world.specs.Worlds.{WorldFits, WorldKeeps, WorldIsSafe, WorldGoes, ForEachWorldHistory, KeepsSessions, inside};
+    ghost use Rattle.whole_calls.specs.OneStep.{IsMadeAsStep, OneStepAlways, OneStepComesTo, OneStepIsRun};
+    ghost use Rattle.world.specs.Worlds.{WorldFits, WorldKeeps, WorldIsSafe, WorldIsRun, ForEachWorldHistory, SameSessions, inside};
 
     /// A world over the store with so many sessions, none of which has a call, and the sets of dead rows that its events
     /// may name. Refused with `BadLimits` unless it is 1 to 64 sessions, and with `NoMemory`; the store and the sets are
@@ -96,9 +96,9 @@ impl<S: PageStore, T: DeadRows + Drop> World<S, T> {
     /// `Stopped` too.
     pub fn one(&mut self, event: Event) -> Answer
         ensures steps { Continues S.follows self.old.store self.new.store }
-        ensures same { KeepsSessions self.old self.new }
+        ensures same { SameSessions self.old self.new }
         ensures goes { ForEachWorldHistory S.PageStore T.DeadRows self.old self.new
-            (WorldGoes S.PageStore T.DeadRows self.old self.new event result) }
+            (WorldIsRun S.PageStore T.DeadRows self.old self.new event result) }
         ensures always { EventAlways S.PageStore (kind_of event) result
             (inside T.DeadRows self.old) (inside T.DeadRows self.new) }
     {
@@ -111,9 +111,9 @@ impl<S: PageStore, T: DeadRows + Drop> World<S, T> {
     /// With 5 it never answers `LogFull`.
     pub fn take_step(&mut self, session: u32, least_room: u32) -> Answer
         ensures steps { Continues S.follows self.old.store self.new.store }
-        ensures same { KeepsSessions self.old self.new }
-        ensures goes { CallGoes S.PageStore session
-            (OneStepGoes S.PageStore session least_room result) None
+        ensures same { SameSessions self.old self.new }
+        ensures goes { CallIsRun S.PageStore session
+            (OneStepIsRun S.PageStore session least_room result) None
             (inside T.DeadRows self.old) (inside T.DeadRows self.new) }
         ensures made { IsMadeOf S.PageStore session least_room (OneStepComesTo result)
             (inside T.DeadRows self.old) (inside T.DeadRows self.new) }
@@ -131,11 +131,11 @@ impl<S: PageStore, T: DeadRows + Drop> World<S, T> {
         )
     }
 
-    /// Does these events one after the other, and puts an answer for each behind the answers that are there. Refused
+    /// Does these events one after the other, and puts an answer for each after the answers that are there. Refused
     /// with `NoMemory` where there is no room for the answers: nothing is done then.
     pub fn run(&mut self, events: &[Event], answers: &mut Vec<Answer>) -> Result<(), Fault>
         ensures steps { Continues S.follows self.old.store self.new.store }
-        ensures same { KeepsSessions self.old self.new }
+        ensures same { SameSessions self.old self.new }
         ensures runs { OnOk result (let old = inside T.DeadRows self.old in
             let new = inside T.DeadRows self.new in
             ForEachHistory S.PageStore old new (Runs S.PageStore old new events.now
@@ -167,7 +167,7 @@ impl<S: PageStore, T: DeadRows + Drop> World<S, T> {
     pub fn page(&mut self, block: u32) -> Result<Page, Fault>
         ensures steps { Continues S.follows self.old.store self.new.store }
         ensures sets { self.new.sets ≡ self.old.sets }
-        ensures unchanged { IsUnchanged S.PageStore
+        ensures unchanged { IsSameStore S.PageStore
             (inside T.DeadRows self.old) (inside T.DeadRows self.new) }
         ensures fits { ForEachWorldHistory S.PageStore T.DeadRows self.old self.new
             (WorldFits S.PageStore T.DeadRows self.new) }
@@ -184,9 +184,9 @@ impl<S: PageStore, T: DeadRows + Drop> World<S, T> {
     /// Gives the session's call up, as an `End` of it does: nothing is logged, and what the session held is let go.
     pub fn abandon(&mut self, session: u32) -> Answer
         ensures steps { Continues S.follows self.old.store self.new.store }
-        ensures same { KeepsSessions self.old self.new }
+        ensures same { SameSessions self.old self.new }
         ensures goes { ForEachWorldHistory S.PageStore T.DeadRows self.old self.new
-            (WorldGoes S.PageStore T.DeadRows self.old self.new (Event.End session) result) }
+            (WorldIsRun S.PageStore T.DeadRows self.old self.new (Event.End session) result) }
         ensures always { EventAlways S.PageStore (MovesCall session GivesUp) result
             (inside T.DeadRows self.old) (inside T.DeadRows self.new) }
     {

@@ -3,7 +3,9 @@
 ghost use Rattle.std.specs.Prelude.{◌≡◌, IfOk};
 
 use access_method::in_file::{self, InFile};
-use access_method::{Entry, Fault, FileDevice, Index, Limits, PageStore, Range, ScanToken, Start};
+use access_method::{
+    Entry, Fault, FileDevice, Index, Limits, NoProgress, PageStore, Range, ScanToken, Start,
+};
 use std::alloc::Global;
 use std::fs::File;
 use std::rt::Files;
@@ -21,7 +23,7 @@ const LIMITS: Limits = Limits {
 /// What it held is `S`, as no code can read it: so what is promised of an index in a file is promised for all bytes. `main`
 /// names some, by `access_method::Unknown`.
 pub fn make<F: Files<File = File>, S: Start>(rt: &F, path: &str) -> Result<(), Fault> {
-    let _device: FileDevice<S> = in_file::create(rt, path, &LIMITS)?;
+    let _device: FileDevice<S> = in_file::create(rt, path, &LIMITS, &NoProgress)?;
     Ok(())
 }
 
@@ -48,7 +50,7 @@ pub fn add<S: PageStore>(index: &mut Index<S>, entry: Entry) -> Result<u64, Faul
     index.commit()
 }
 
-/// Puts the first entries of a range behind those that are there, in order, and as many as this at most. Refused also with
+/// Puts the first entries of a range after those that are there, in order, and as many as this at most. Refused also with
 /// `NoMemory`.
 pub fn list<S: PageStore>(
     index: &mut Index<S>,

@@ -118,13 +118,13 @@ fn parents(rt: HostRuntime) -> Result<(), Fail> {
     is_found_of_parents(&rt, path, &FIVE, &gone, FIVE_ARE, "damage 8 block 2\n")
 }
 
-/// Downlinks too many: to the page right behind a flagged one, to a half-dead page, and to one on no chain.
+/// Downlinks too many: to the page right after one with an incomplete split, to a half-dead page, and to one on no chain.
 #[test]
 fn downlinks(rt: HostRuntime) -> Result<(), Fail> {
     let path = "btidx_damage_9.idx";
-    let flagged: [Patch<'_>; 1] = [(73_739, &[3])];
+    let incomplete: [Patch<'_>; 1] = [(73_739, &[3])];
     let sound = "ok levels=2 pages=4 entries=5 halfdead=0 deleted=0 unfinished=1\n";
-    is_found_of_parents(&rt, path, &FIVE, &flagged, sound, "damage 9 block 3\n")?;
+    is_found_of_parents(&rt, path, &FIVE, &incomplete, sound, "damage 9 block 3\n")?;
     let half_dead: [Patch<'_>; 5] = [
         (77_856, &[0, 0]),
         (77_931, &[0; 213]),
@@ -151,9 +151,9 @@ fn on_no_chain(rt: HostRuntime) -> Result<(), Fail> {
     is_found_of_parents(&rt, path, &FIVE, &leaf, sound, "damage 11 block 4\n")
 }
 
-/// A half-dead page right behind a flagged one.
+/// A half-dead page right after one with an incomplete split.
 #[test]
-fn half_dead_behind_flagged(rt: HostRuntime) -> Result<(), Fail> {
+fn half_dead_after_incomplete(rt: HostRuntime) -> Result<(), Fail> {
     let path = "btidx_damage_12.idx";
     let half_dead: [Patch<'_>; 4] = [
         (77_856, &[0, 0]),

@@ -197,7 +197,7 @@ fn altered_files(rt: HostRuntime) -> Result<(), Fail> {
         is_refused(&rt, path, said)?;
         runs(&rt, ["btidx", "dump", path].as_slice(), "", "", said, 2)?;
     }
-    // The gate is closed, whatever stands behind.
+    // The gate is closed, whatever stands after.
     create(&rt, path)?;
     patch(&rt, path, 4_096, &[2, 16, 0, 0, 0])?;
     checks(&rt, path, FRESH, 0)?;

@@ -12,7 +12,7 @@ use text_forms::print_answer;
 
 const PLAY: [&str; 3] = ["btidx", "play", "--help"];
 
-/// What stands behind a heading, up to the next empty line.
+/// What stands after a heading, up to the next empty line.
 pub fn part<'a>(help: &'a str, heading: &str) -> &'a str {
     match help.split_once(heading) {
         Some((_, rest)) => before_blank(rest),
@@ -27,7 +27,7 @@ fn before_blank(text: &str) -> &str {
     }
 }
 
-/// The first column of a line, and what stands behind it. The line begins with two spaces, and the column ends with two.
+/// The first column of a line, and what stands after it. The line begins with two spaces, and the column ends with two.
 pub fn columns(line: &str) -> Option<(&str, &str)> {
     let text = line.strip_prefix("  ")?;
     if text.starts_with(" ") {
@@ -373,7 +373,7 @@ fn the_example_runs(rt: HostRuntime) -> Result<(), Fail> {
     )
 }
 
-/// The fault behind this one.
+/// The fault after this one.
 fn next(fault: Fault) -> Option<Fault> {
     match fault {
         Fault::NoMemory => Some(Fault::Io),
@@ -421,7 +421,7 @@ fn misnamed(alloc: Global, table: &str) -> Result<Option<String>, AllocError> {
     }
 }
 
-/// The fault behind this one.
+/// The fault after this one.
 fn behind(fault: &Option<Fault>) -> Option<Fault> {
     match fault {
         Some(fault) => next(*fault),

@@ -37,7 +37,7 @@ fn number_read(text: &[u8]) -> usize {
     }
 }
 
-/// What stands behind so many words, each with one space behind it.
+/// What stands after so many words, each with one space after it.
 fn behind(line: &str, words: u32) -> &str {
     let mut rest = line;
     for _ in 0..words {
@@ -102,9 +102,9 @@ fn jobs_are_shown(rt: HostRuntime) -> Result<(), Fail> {
     Ok(())
 }
 
-/// The lines behind those of the jobs are those that the help shows, in their order.
+/// The lines after those of the jobs are those that the help shows, in their order.
 #[test]
-fn lines_behind_the_jobs(rt: HostRuntime) -> Result<(), Fail> {
+fn lines_after_the_jobs(rt: HostRuntime) -> Result<(), Fail> {
     let help = played(&rt, &["btidx", "run", "--help"], "");
     let forms = part(text(&help.out), "the checkpoint behind them:");
     let out = ran(&rt, "commit\n")?;

@@ -100,7 +100,7 @@ checkpointed 14
     prints(&rt, ["btidx_sets.idx", "btidx_sets.jobs"], lines, printed)
 }
 
-/// A page whose right link leads to itself: the scan that meets it tells so, and the lines behind it stand as ever.
+/// A page whose right link leads to itself: the scan that meets it tells so, and the lines after it stand as ever.
 #[test]
 fn a_damaged_page(rt: HostRuntime) -> Result<(), Fail> {
     let [path, jobs] = ["btidx_damaged_run.idx", "btidx_damaged_run.jobs"];

@@ -190,7 +190,7 @@ fn is_found(
     check_ends(rt, path, parents, printed.as_str(), 1)
 }
 
-/// Makes a file of 1,250 leaves. Those at two places are damaged: the first is found, and behind it, mended, the second.
+/// Makes a file of 1,250 leaves. Those at two places are damaged: the first is found, and after it, mended, the second.
 fn are_found(
     rt: &(impl Abort + AllocGlobal + Print + Eprint + Files<File = File> + Threads + Wait + Sync),
     path: &str,
@@ -229,7 +229,7 @@ fn several_damages(rt: HostRuntime) -> Result<(), Fail> {
     Ok(())
 }
 
-/// Behind it, mended, that of the second.
+/// After it, mended, that of the second.
 #[test]
 fn first_mended(rt: HostRuntime) -> Result<(), Fail> {
     let path = "btidx_first_mended.idx";
@@ -240,7 +240,7 @@ fn first_mended(rt: HostRuntime) -> Result<(), Fail> {
     Ok(())
 }
 
-/// Behind both, mended, that of the root.
+/// After both, mended, that of the root.
 #[test]
 fn both_mended(rt: HostRuntime) -> Result<(), Fail> {
     let path = "btidx_both_mended.idx";
@@ -269,7 +269,7 @@ fn border_of_the_halves(rt: HostRuntime) -> Result<(), Fail> {
     are_found(&rt, "btidx_625.idx", 624, 625)
 }
 
-/// Damages at both ends of the chain. The first leaf's left link, which leads to the leaf itself, lies on the way to it. Behind
+/// Damages at both ends of the chain. The first leaf's left link, which leads to the leaf itself, lies on the way to it. After
 /// both, mended, the index is sound.
 #[test]
 fn both_ends(rt: HostRuntime) -> Result<(), Fail> {

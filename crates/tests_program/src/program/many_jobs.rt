@@ -1,4 +1,4 @@
-//! Four thousand jobs over indexes in files, a thousand on each, in runs of 1, 2, 4 and 8 workers. Behind each run the file is opened
+//! Four thousand jobs over indexes in files, a thousand on each, in runs of 1, 2, 4 and 8 workers. After each run the file is opened
 //! again, checked, and listed; what it lists is what the runs told of their jobs.
 
 use super::runs;
@@ -57,11 +57,11 @@ fn entry(alloc: Global, key: u16) -> Result<String, AllocError> {
 }
 
 /// Whether the bulk delete of a run names the row of the key: the second or the third row of the run before. The last run has none.
-fn is_dead_behind(run: u16, key: u16) -> bool {
+fn is_dead_after(run: u16, key: u16) -> bool {
     key / KEYS + 1 == run && key % 3 != 0 && run < 3
 }
 
-/// The jobs of a run: each of its keys is inserted, each eighth twice; a scan behind each tenth, a commit behind each twenty-fifth;
+/// The jobs of a run: each of its keys is inserted, each eighth twice; a scan after each tenth, a commit after each twenty-fifth;
 /// in the middle a bulk delete of rows of the run before, or in the last run a cleanup.
 fn jobs_of(alloc: Global, run: u16, stride: u16) -> Result<JobLines, AllocError> {
     let mut jobs = JobLines {
@@ -97,7 +97,7 @@ fn jobs_of(alloc: Global, run: u16, stride: u16) -> Result<JobLines, AllocError>
     Ok(jobs)
 }
 
-/// The number behind `job ` of a line, and what stands behind it.
+/// The number after `job ` of a line, and what stands after it.
 fn numbered(line: &str) -> Option<(usize, &str)> {
     let (number, rest) = line.strip_prefix("job ")?.split_once(" ")?;
     Some((number.parse::<usize>().ok()?, rest))
@@ -206,7 +206,7 @@ fn looks(
     runs(rt, words.as_slice(), "", lines.as_str(), "", 0)
 }
 
-/// A thousand jobs on one index: what each run tells is what is there behind it.
+/// A thousand jobs on one index: what each run tells is what is there after it.
 fn a_thousand_jobs(
     rt: &(impl Abort + AllocGlobal + Print + Eprint + Files<File = File> + Threads + Wait + Sync),
     plan: Plan<'_>,
@@ -225,7 +225,7 @@ fn a_thousand_jobs(
         for (key, is_present) in present.iter_mut().enumerate() {
             let key = key as u16;
             assert!(rt; key / KEYS != number || *is_present);
-            if is_dead_behind(number, key) {
+            if is_dead_after(number, key) {
                 *is_present = false;
             }
         }

@@ -62,8 +62,8 @@ fn works(
     Ok(())
 }
 
-/// An insert writes its leaf in the second layout, and leaves the metapage and the superblock as they were; a split writes all that it
-/// changes; a bulk delete and a cleanup do too.
+/// An insert writes its leaf in the second layout, and leaves the metapage and the superblock as they were; a split writes all that
+/// it changes; a bulk delete and a cleanup do too.
 #[test]
 fn an_old_file_is_worked_on(rt: HostRuntime) -> Result<(), Fail> {
     let path = "btidx_old.idx";
@@ -132,7 +132,7 @@ worker 0 calls 5\nhistory 5\ncheckpointed 6\n";
     Ok(())
 }
 
-/// Writes bytes over those of a device. Refused with `DeviceTooSmall` where they lie behind the end.
+/// Writes bytes over those of a device. Refused with `DeviceTooSmall` where they lie after the end.
 fn write(device: &mut MemDevice, at: u64, bytes: &[u8]) -> Result<(), Fault> {
     let len = bytes.len() as u64;
     if device.len() < len || at > device.len() - len {
@@ -180,8 +180,8 @@ fn an_old_index_outlives_a_crash(rt: HostRuntime) -> Result<(), Fail> {
     Ok(())
 }
 
-/// An index of the second layout has no page of the first: refused at the page's place and in the log. Nor is there a bound before all
-/// rows of the empty key, or one with a block and no offset.
+/// An index of the second layout has no page of the first: refused at the page's place and in the log. Nor is there a bound before
+/// all rows of the empty key, or one with a block and no offset.
 #[test]
 fn pages_that_the_second_layout_has_not(rt: HostRuntime) -> Result<(), Fail> {
     let path = "btidx_wrong_layouts.idx";

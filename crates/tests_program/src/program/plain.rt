@@ -4,7 +4,7 @@
 use access_method::Index;
 use command_line::{DeadList, End, check_pages_one};
 use device::{CrashImage, MemDevice};
-use index_model::{DeadRows, Entry, Fault, Limits};
+use index_model::{DeadRows, Entry, Fault, Limits, NoProgress};
 use page_action::PageStore;
 use page_store::Store;
 use recovery::{create, open};
@@ -91,5 +91,5 @@ pub fn check(
     parents: bool,
     out: &mut Vec<u8>,
 ) -> io::Result<End> {
-    check_pages_one(alloc, store, parents, out)
+    check_pages_one(alloc, store, parents, &NoProgress, out)
 }

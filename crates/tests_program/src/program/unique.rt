@@ -62,7 +62,7 @@ refused 21 (0,5)
 added 7
 ";
 
-/// An index stays unique behind a crash. A key is free again once a bulk delete has taken its entry.
+/// An index stays unique after a crash. A key is free again once a bulk delete has taken its entry.
 const BEHIND_A_CRASH: &str = "> put 0 61 (0,1)
 added 1
 > force
@@ -180,7 +180,7 @@ fn eight_workers(rt: HostRuntime) -> Result<(), Fail> {
     Ok(())
 }
 
-/// Any other number than 0 and 1 is refused, and 1 too where the layout is the first: behind a layout and sizes that there aren't.
+/// Any other number than 0 and 1 is refused, and 1 too where the layout is the first: after a layout and sizes that there aren't.
 #[test]
 fn other_numbers(rt: HostRuntime) -> Result<(), Fail> {
     let path = "btidx_unique_altered.idx";

@@ -93,7 +93,7 @@ done 6
 ";
 
 /// A scan stands on leaf 1, which is then emptied and deleted, as leaf 2 is. It has stepped to leaf 2 already. An entry is
-/// added behind it, on leaf 4.
+/// added after it, on leaf 4.
 const PASSED: &str = "> scan 1 * *
 begun
 > run 1
@@ -122,7 +122,7 @@ finished pages=5 tuples=2 removed=0 new=1 deleted=2 free=0
 added 17
 ";
 
-/// It goes on by the links that it reads, and gives nothing that is behind it.
+/// It goes on by the links that it reads, and gives nothing that is after it.
 const DELETED: &str = "> run 1
 ready 2
 > next 1
@@ -135,7 +135,7 @@ none
 done
 ";
 
-/// More are added behind it, and leaf 4 is split before it comes there: it still gives what was there.
+/// More are added after it, and leaf 4 is split before it comes there: it still gives what was there.
 const BEHIND: &str = "> put 0 61 (0,9)
 added 18
 > put 0 60 (0,9)

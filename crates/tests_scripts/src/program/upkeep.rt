@@ -67,7 +67,7 @@ refused 3
     )
 }
 
-/// A log that is full has room again behind a checkpoint.
+/// A log that is full has room again after a checkpoint.
 #[test]
 fn full_log(rt: HostRuntime) -> Result<(), Fail> {
     runs(

@@ -1,17 +1,17 @@
 use Rattle.std.proofs.Common.{ℕ, List, sym, ap, subst, ◌∙◌}
 use Rattle.std.proofs.lemmas.Result.{IfErr-weaker, on_ok_weaker}
-use Rattle.device.specs.Disk.{MayLeave}
+use Rattle.device.specs.Disk.{MayCrashTo}
 use Rattle.index_model.specs.Actions.{Action}
 use Rattle.index_model.specs.declared.format.Format.{Format}
 use Rattle.page_store.specs.Crashing.{left_now}
 use Rattle.page_store.specs.Following.{follows_same}
 use Rattle.page_store.specs.Stores.{state_of, held_by}
 use Rattle.world.proofs.Leaving.{left_index}
-use Rattle.world.specs.Reopening.{IsIndexAfterFirstPart}
+use Rattle.world.specs.Reopening.{IsIndexAfterPrefix}
 use Rattle.access_method.proofs.Closing.{both_told}
 use Rattle.access_method.proofs.in_file.close.Goals as goal
 
--- nothing was done but to make durable, so a crash leaves all of the same actions; the device is that of the index behind it
+-- nothing was done but to make durable, so a crash leaves all of the same actions; the device is that of the index after it
 pub returns-clause-stands : goal.returns-clause-stands
 returns-clause-stands g c =
     let d = g.D.Device in
@@ -24,11 +24,11 @@ returns-clause-stands g c =
     let kept = (run.ran.crash keeps).keeps in
     let on = (c.checkpoint-written.ensures.steps old (follows_same (held_by d old))).grows keeps.own in
     let same = sym store.held.log_limits ∙ on.limits ∙ old.held.log_limits in
-    let there = subst (λ x. MayLeave (d.trace x).now image) device may in
+    let there = subst (λ x. MayCrashTo (d.trace x).now image) device may in
     let left = left_index d store store kept.own (follows_same (held_by d store)) start run.then_history run.ran.fits.explains.count kept.parts image (left_now (held_by d store) image there) in
-    subst (λ (limits : Format). IsIndexAfterFirstPart limits start history n image) same
-    (subst (λ (m : ℕ). IsIndexAfterFirstPart (state_of d store).limits start history m image) (durable ∙ sym number)
-    (subst (λ (actions : List Action). IsIndexAfterFirstPart (state_of d store).limits start actions (held_by d store).durable image) run.tells.history_is left)))
+    subst (λ (limits : Format). IsIndexAfterPrefix limits start history n image) same
+    (subst (λ (m : ℕ). IsIndexAfterPrefix (state_of d store).limits start history m image) (durable ∙ sym number)
+    (subst (λ (actions : List Action). IsIndexAfterPrefix (state_of d store).limits start actions (held_by d store).durable image) run.tells.history_is left)))
     c.checkpoint-written.ensures.number c.checkpoint-written.ensures.durable
 
 pub returns-clause-empties : goal.returns-clause-empties

@@ -1,7 +1,7 @@
 use Rattle.std.proofs.Common.{◌≡◌, ℕ, slice_get, Some, sym, subst, ◌∙◌, arith}
 use Rattle.tree_shape.specs.Chains.{from_low}
 use Rattle.page_action.proofs.StoredPages.{slice_get_at}
-use Rattle.amcheck.proofs.ItemsNoted.{low_first, low_behind}
+use Rattle.amcheck.proofs.ItemsNoted.{low_first, low_after}
 use Rattle.amcheck.proofs.downlinks.link_at.Goals as goal
 
 pub returns-then-item-eq0 : goal.returns-then-item-eq0
@@ -14,4 +14,4 @@ pub returns : goal.returns
 returns c =
     let found = slice_get_at c.args.links.now c.args.item c.index-links-item.result c.requires c.index-links-item.is in
     let not_first = c.if-item-eq0.false in
-    low_behind c.args.low.now c.args.links.now c.args.item (omega arith) ∙ found
+    low_after c.args.low.now c.args.links.now c.args.item (omega arith) ∙ found

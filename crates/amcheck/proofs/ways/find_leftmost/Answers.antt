@@ -1,7 +1,7 @@
 use Rattle.std.proofs.Common.{◌≡◌, ◌+◌, true, false, length, refl, sym, ◌∙◌, arith}
 use Rattle.damages.specs.Damages.{index_of, left_after_steps}
 use Rattle.damages.proofs.TreePlaces.{head_is}
-use Rattle.amcheck.specs.Ways.{IsClearWay}
+use Rattle.amcheck.specs.Ways.{IsClearPath}
 use Rattle.amcheck.proofs.WaysLeft.{begin_way, way_off, way_back, way_goes_on, way_ends, kept_more, kept_so_far, way_is_short, level_there, level_back}
 use Rattle.amcheck.proofs.ways.find_leftmost.Goals as goal
 
@@ -31,7 +31,7 @@ returns-in-None-clause-kept c =
     (λ mark. let k : true ≡ false = sym mark ∙ c.if-seen-block.false in absurd cc)
 
 -- the way ends at the leftmost page
-ends : (c : goal.In-None) → (c.loop.block ≡ left_after_steps (index_of c.args.pages.now) c.args.depth (length c.args.pages.now)) × IsClearWay (index_of c.args.pages.now) c.args.depth
+ends : (c : goal.In-None) → (c.loop.block ≡ left_after_steps (index_of c.args.pages.now) c.args.depth (length c.args.pages.now)) × IsClearPath (index_of c.args.pages.now) c.args.depth
 ends c =
     let on = level_there c.args.pages.now c.args.level c.args.depth c.loop.block c.requires.level (c.if-not-is_on_level.ensures.0 refl) in
     let left = sym c.sketch.ensures.is.left ∙ c.in-None.is in

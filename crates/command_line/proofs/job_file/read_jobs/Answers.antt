@@ -1,7 +1,7 @@
 use Rattle.std.proofs.Common.{ℕ, List, ◌≡◌, ◌∷◌, ◌++◌, [], ◌∙◌, ap, sym, subst, append-nil}
-use Rattle.command_line.specs.JobFiles.{SpellJobs, SpellsJob, sets_with, sets_behind}
+use Rattle.command_line.specs.JobFiles.{SpellJobs, SpellsJob, sets_with, sets_after}
 use Rattle.text_forms.specs.Spelling.{lines_of}
-use Rattle.command_line.proofs.JobsRead.{spelled_on, behind_on, none_left, some_left}
+use Rattle.command_line.proofs.JobsRead.{spelled_on, after_on, none_left, some_left}
 use Rattle.command_line.proofs.job_file.read_jobs.Goals as goal
 
 pub loop-rest-preserved : goal.loop-rest-preserved
@@ -24,7 +24,7 @@ loop-rest-preserved c =
     record {
       spelled = λ more. rw (counted, pushed)
           (spelled_on all here (lines_of c.first_line.result.1.now) c.first_line.result.0.now c.loop-rest.set jobs c.job_of-job.result first spells old.spelled more);
-      behind = λ more. rw (counted, pushed) (behind_on c.loop-rest.set jobs c.job_of-job.result old.behind more);
+      behind = λ more. rw (counted, pushed) (after_on c.loop-rest.set jobs c.job_of-job.result old.behind more);
       sets = c.in_ok-set.ensures.sets old.sets;
     }
 
@@ -36,4 +36,4 @@ returns-clause-jobs c =
 
 pub returns-clause-sets : goal.returns-clause-sets
 returns-clause-sets c =
-    c.loop-rest.invariant.sets ∙ c.loop-rest.invariant.behind [] ∙ ap (sets_behind 0) (append-nil c.loop-rest.jobs.items)
+    c.loop-rest.invariant.sets ∙ c.loop-rest.invariant.behind [] ∙ ap (sets_after 0) (append-nil c.loop-rest.jobs.items)

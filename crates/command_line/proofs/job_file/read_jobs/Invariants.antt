@@ -1,6 +1,6 @@
 use Rattle.std.proofs.Common.{◌≡◌, ◌++◌, List, length}
 use Rattle.std.specs.Prelude.{vec_len}
-use Rattle.command_line.specs.JobFiles.{SpellJobs, sets_behind}
+use Rattle.command_line.specs.JobFiles.{SpellJobs, sets_after}
 use Rattle.text_forms.specs.Spelling.{lines_of}
 use Rattle.command_line.proofs.job_file.read_jobs.Given as goal
 use Rattle.sessions.specs.declared.job.Job.{Job}
@@ -11,6 +11,6 @@ decreases-loop-rest l = length l.rest
 abbrev pub invariant-loop-rest : goal.invariant-loop-rest
 invariant-loop-rest l = record {
   spelled : (more : List Job) → SpellJobs l.set (lines_of l.rest) more → SpellJobs 0 (lines_of l.text) (l.jobs.items ++ more);
-  behind : (more : List Job) → sets_behind l.set more ≡ sets_behind 0 (l.jobs.items ++ more);
+  behind : (more : List Job) → sets_after l.set more ≡ sets_after 0 (l.jobs.items ++ more);
   sets : vec_len l.sets ≡ l.set;
 }

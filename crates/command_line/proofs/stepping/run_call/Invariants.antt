@@ -1,8 +1,8 @@
 use Rattle.std.proofs.Common.{◌≡◌}
 use Rattle.page_action.specs.States.{Continues}
 use Rattle.world.specs.Worlds.{ForEachWorldHistory}
-use Rattle.command_line.specs.Stepping.{KeepsSizes}
-use Rattle.command_line.proofs.Stepped.{HasGone, IsWithin}
+use Rattle.command_line.specs.Stepping.{SameSizes}
+use Rattle.command_line.proofs.Stepped.{IsKeptFromReuse, IsWithin}
 use Rattle.command_line.proofs.stepping.run_call.Given as goal
 
 abbrev pub invariant-loop-left : goal.invariant-loop-left
@@ -12,8 +12,8 @@ invariant-loop-left g l =
     record {
       steps : Continues store.follows l.fn.world.store l.world.store;
       limits : (store.state l.world.store).limits ≡ (store.state l.fn.world.store).limits;
-      sizes : KeepsSizes store l.fn.world l.world;
-      gone : ForEachWorldHistory store rows l.fn.world l.world (HasGone store rows l.session l.fn.world l.world);
+      sizes : SameSizes store l.fn.world l.world;
+      gone : ForEachWorldHistory store rows l.fn.world l.world (IsKeptFromReuse store rows l.session l.fn.world l.world);
       within : ForEachWorldHistory store rows l.fn.world l.world (λ start history calls. IsWithin store rows l.session l.left l.fn.world l.world);
     }
 

@@ -1,13 +1,13 @@
 use Rattle.std.proofs.Common.{arith, true, ◌<◌, ◌≤◌, sym, subst}
 use Rattle.index_model.specs.Faults.{HasCause}
 use Rattle.page_action.specs.States.{State}
-use Rattle.descent.specs.Shared.{causes_of_working}
+use Rattle.tree_acts.specs.StepEffects.{causes_of_working}
 use Rattle.descent.proofs.Blocks.{fresh_past_meta}
 use Rattle.descent.proofs.Working.{full_cause}
 use Rattle.descent.proofs.splitting.take_block.Goals as goal
 
-pub returns-in-Ok-ask_for-clause-block : goal.returns-in-Ok-ask_for-clause-block
-returns-in-Ok-ask_for-clause-block g c some =
+pub returns-in-Ok-check_latch-clause-block : goal.returns-in-Ok-check_latch-clause-block
+returns-in-Ok-check_latch-clause-block g c some =
     let st : State = g.S.PageStore.state c.args.store.now in
     let fresh = c.in-Ok.ensures.fresh in
     let few : st.limits.pages ≤ 65536 = c.limits-limits.ensures.allowed.pages_to in

@@ -8,7 +8,7 @@ use Rattle.index_model.proofs.Words.{next_word}
 use Rattle.index_model.proofs.key.order_of_cells.Goals.{After-cmp-found}
 use Rattle.index_model.proofs.key.order_of_cells.Goals as goal
 
--- the words at this place decide, or what is behind them
+-- the words at this place decide, or what is after them
 decides : (c : After-cmp-found) → slice_cmp nat_cmp c.args.cells.now c.args.others.now
     ≡ ordering_then c.cmp-found.result (slice_cmp nat_cmp (drop (8 * (c.loop-at.at + 1)) c.args.cells.now) (drop (8 * (c.loop-at.at + 1)) c.args.others.now))
 decides c =

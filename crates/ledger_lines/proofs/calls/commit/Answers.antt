@@ -4,10 +4,10 @@ use Rattle.page_store.specs.Crashing.{left_now}
 use Rattle.page_store.specs.Following.{follows_same}
 use Rattle.page_store.specs.Stores.{state_of, held_by}
 use Rattle.world.proofs.Leaving.{left_index}
-use Rattle.world.specs.Reopening.{IsIndexAfterFirstPart}
+use Rattle.world.specs.Reopening.{IsIndexAfterPrefix}
 use Rattle.ledger_lines.proofs.calls.commit.Goals as goal
 
--- nothing was done but to make durable, so a crash leaves a first part of the same actions
+-- nothing was done but to make durable, so a crash leaves a prefix of the same actions
 pub returns-in-Ok-clause-stands : goal.returns-in-Ok-clause-stands
 returns-in-Ok-clause-stands g c honest start history calls fits keeps image may =
     let d = g.D.Device in
@@ -16,5 +16,5 @@ returns-in-Ok-clause-stands g c honest start history calls fits keeps image may 
     let kept = (run.ran.crash keeps).keeps in
     let limits = (state_of d store).limits in
     let left = left_index d store store kept.own (follows_same (held_by d store)) start run.then_history run.ran.fits.explains.count kept.parts image (left_now (held_by d store) image may) in
-    subst (λ (n : ℕ). IsIndexAfterFirstPart limits start history n image) (c.in-Ok.ensures.durable ∙ sym c.in-Ok.ensures.number)
-    (subst (λ (actions : List Action). IsIndexAfterFirstPart limits start actions (held_by d store).durable image) run.tells.history_is left)
+    subst (λ (n : ℕ). IsIndexAfterPrefix limits start history n image) (c.in-Ok.ensures.durable ∙ sym c.in-Ok.ensures.number)
+    (subst (λ (actions : List Action). IsIndexAfterPrefix limits start actions (held_by d store).durable image) run.tells.history_is left)

@@ -1,6 +1,6 @@
 use Rattle.std.specs.Prelude.{◌≡◌, false, Some, IfErr, OnOk}
 use Rattle.std.proofs.Common.{inl, subst}
-use Rattle.access_method.specs.Indexes.{IndexGoes, NotRescannedFor, RescanTold, SeatBecomes, seat_with}
+use Rattle.access_method.specs.Indexes.{IndexIsRun, NotRescannedFor, RescanMeans, SeatBecomes, seat_with}
 use Rattle.access_method.specs.declared.token.ScanToken.{ScanToken}
 use Rattle.schedule.specs.Sessions.{op_of}
 use Rattle.session_calls.specs.Ops.{op_before}
@@ -13,7 +13,7 @@ pub returns-in-Ok-clause-means : goal.returns-in-Ok-clause-means
 returns-in-Ok-clause-means g c =
     let told = c.amrescan.ensures in let range = c.in-Ok.range in let outcome = c.amrescan.result in
     let old = c.args.index.now in let new = c.amrescan.new.self in
-    let of_asked = subst (λ (token : ScanToken). OnOk outcome (IndexGoes g.S.PageStore token.session (RescanTold token.session range) (Some Begun) old new)
+    let of_asked = subst (λ (token : ScanToken). OnOk outcome (IndexIsRun g.S.PageStore token.session (RescanMeans token.session range) (Some Begun) old new)
     × OnOk outcome (op_of new.calls token.session ≡ Some (op_before token.session (ToScan range)))
     × OnOk outcome (SeatBecomes token (seat_with token false) old new) × IfErr outcome (NotRescannedFor g.S.PageStore old token))
     c.token.ensures (told.runs, told.begins, told.tokens, told.cause) in

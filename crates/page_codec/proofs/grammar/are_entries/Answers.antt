@@ -1,7 +1,7 @@
 use Rattle.std.proofs.Common.{List, sym, subst}
 use Rattle.index_model.specs.declared.entry.Entry.{Entry}
 use Rattle.page_codec.specs.Grammar.{AreEntries}
-use Rattle.page_codec.proofs.Pieces.{behind, first_and_behind}
+use Rattle.page_codec.proofs.Pieces.{behind, first_and_after}
 use Rattle.page_codec.proofs.Runs.{entries_more, entries_rest}
 use Rattle.page_codec.proofs.grammar.are_entries.Goals as goal
 
@@ -10,7 +10,7 @@ loop-rest-preserved c =
     let high = c.args.high.now in
     let rest = c.loop-rest.rest.now in
     let first = c.first-item.result in
-    let parts = first_and_behind rest first c.in-len1-up.len_at_least c.first-item.is in
+    let parts = first_and_after rest first c.in-len1-up.len_at_least c.first-item.is in
     let place = c.is_entry_in_place.ensures.0 c.if-not-is_entry_in_place.false in
     record {
       whole = λ h. c.loop-rest.invariant.whole (subst (λ (es : List Entry). AreEntries high es) (sym parts) (entries_more high first (behind rest) c.seen.ensures place h));

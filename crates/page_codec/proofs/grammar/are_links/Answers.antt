@@ -1,7 +1,7 @@
 use Rattle.std.proofs.Common.{List, sym, subst}
 use Rattle.page_codec.specs.declared.page.Downlink.{Downlink}
 use Rattle.page_codec.specs.Grammar.{AreLinks}
-use Rattle.page_codec.proofs.Pieces.{behind, first_and_behind}
+use Rattle.page_codec.proofs.Pieces.{behind, first_and_after}
 use Rattle.page_codec.proofs.Runs.{links_more, links_rest}
 use Rattle.page_codec.proofs.grammar.are_links.Goals as goal
 
@@ -11,7 +11,7 @@ loop-rest-preserved c =
     let high = c.args.high.now in
     let rest = c.loop-rest.rest.now in
     let first = c.first-item.result in
-    let parts = first_and_behind rest first c.in-len1-up.len_at_least c.first-item.is in
+    let parts = first_and_after rest first c.in-len1-up.len_at_least c.first-item.is in
     let valid = c.is_downlink.ensures.0 c.if-not-is_downlink.false in
     let place = c.is_link_in_place.ensures.0 c.if-not-is_link_in_place.false in
     record {

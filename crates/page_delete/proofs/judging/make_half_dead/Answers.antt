@@ -7,7 +7,7 @@ use Rattle.page_action.specs.Stored.{AreActable}
 use Rattle.tree_shape.specs.Nodes.{links_of}
 use Rattle.descent.proofs.Working.{act_cause_of, two_are}
 use Rattle.page_delete.specs.Needs.{blocks_judged}
-use Rattle.page_delete.specs.Parts.{DeletesOn, IsCandidate, IsTakenToChange, BlocksAreInUse, LeafDies, IsSpared, PinnedLeavesStay}
+use Rattle.page_delete.specs.Parts.{DeletesOn, IsCandidate, IsTakenToChange, BlocksAreInUse, LeafDies, IsSpared, PinnedLeafPagesStay}
 use Rattle.page_delete.proofs.Moving.{dying_moves}
 use Rattle.page_delete.proofs.Pinned.{pinned_dying}
 use Rattle.page_delete.proofs.Trying.{tried_acted, tried_refused}
@@ -63,7 +63,7 @@ returns-in-Ok-clause-all g c =
     (c.requires.leaf.found honest) (c.requires.parent.found honest) c.requires.leaf.may_die
     c.requires.place.internal c.in-Ok.ensures.may c.mark_half_dead.ensures.only c.hand_on_link.ensures.only))
     (λ h. let honest = was_honest g at h in
-    subst (λ (s : State). PinnedLeavesStay c.args.session old s) (sym c.in-Ok.ensures.done)
+    subst (λ (s : State). PinnedLeafPagesStay c.args.session old s) (sym c.in-Ok.ensures.done)
     (pinned_dying old c.args.session c.args.leaf c.args.parent c.mark_half_dead.new.page c.hand_on_link.new.page c.requires.leaf.free
     (c.requires.parent.found honest) c.requires.place.internal c.in-Ok.ensures.may
     (ap (λ (p : Page). p.block) c.mark_half_dead.ensures.only) c.hand_on_link.ensures.block))

@@ -7,7 +7,7 @@ use Rattle.page_delete.proofs.judging.siblings_allow.Given.{Over}
 use Rattle.page_delete.proofs.judging.siblings_allow.Goals.{After-right_is_live}
 use Rattle.page_delete.proofs.judging.siblings_allow.Goals as goal
 
--- the second reading is behind the first
+-- the second reading is after the first
 mid_honest : (g : Over) (c : After-right_is_live g) → (g.S.PageStore.backing c.right_is_live.new.store).honest ≡ true → (g.S.PageStore.backing c.left_is_whole.new.store).honest ≡ true
 mid_honest g c h =
     let later : IsLater (g.S.PageStore.backing c.left_is_whole.new.store) (g.S.PageStore.backing c.right_is_live.new.store) =

@@ -1,6 +1,6 @@
 use Rattle.std.proofs.Common.{false}
 use Rattle.tree_acts.proofs.Overlays.{inside}
-use Rattle.descent.specs.Shared.{frames_for}
+use Rattle.tree_acts.specs.StepEffects.{frames_for}
 use Rattle.descent.proofs.Working.{frames_some}
 use Rattle.page_delete.proofs.unlinking.take_right.Goals as goal
 

@@ -4,7 +4,7 @@ use Rattle.page_action.specs.States.{State, IsLater, after_act}
 use Rattle.page_action.specs.Stored.{AreActable}
 use Rattle.descent.proofs.Working.{act_cause_of}
 use Rattle.page_delete.specs.Needs.{blocks_unlinked_at}
-use Rattle.page_delete.specs.Parts.{DeletesOn, IsTakenToChange, IsTakenLeft, IsTakenRight, IsInUse, PageGoes, IsNotDead, PinnedLeavesStay, unlinked}
+use Rattle.page_delete.specs.Parts.{DeletesOn, IsTakenToChange, IsTakenLeft, IsTakenRight, IsInUse, PageIsDeleted, IsNotDead, PinnedLeafPagesStay, unlinked}
 use Rattle.page_delete.proofs.Moving.{unlinking_moves}
 use Rattle.page_delete.proofs.Pinned.{pinned_unlinking}
 use Rattle.page_delete.proofs.Trying.{tried_acted, tried_refused}
@@ -39,17 +39,17 @@ pub returns-in-Ok-clause-all : goal.returns-in-Ok-clause-all
 returns-in-Ok-clause-all g c =
     let at = (goal.at.returns-in-Ok-clause-all g c).After-act_between in
     let old = g.S.PageStore.state c.args.store.now in
-    tried_acted g.S.PageStore c.args.session (blocks_unlinked_at c.args.page.block) (IsInUse c.args.page.block) (PageGoes c.args.page.block)
+    tried_acted g.S.PageStore c.args.session (blocks_unlinked_at c.args.page.block) (IsInUse c.args.page.block) (PageIsDeleted c.args.page.block)
     (IsNotDead c.args.page.block) c.args.store.now c.act_between.new.store
     (unlinked c.args.left c.args.page c.args.right c.begun-number.result) c.act_between.ensures.steps c.in-Ok.ensures.done
     (ap (λ (s : State). length s.pages) c.in-Ok.ensures.done
     ∙ used_unlinking old c.args.session _ c.args.page c.args.right c.begun-number.result c.args.left c.requires.page.used c.requires.right.taken.used c.requires.left)
     (λ h. let honest = was_honest g at h in
-    subst (λ (s : State). PageGoes c.args.page.block old s) (sym c.in-Ok.ensures.done)
+    subst (λ (s : State). PageIsDeleted c.args.page.block old s) (sym c.in-Ok.ensures.done)
     (unlinking_moves old c.args.page c.args.right c.begun-number.result (c.requires.page.found honest) c.requires.dead
     (c.requires.right.taken.found honest) c.args.session c.args.left (left_taken g at honest) c.in-Ok.ensures.may))
     (λ h. let honest = was_honest g at h in
-    subst (λ (s : State). PinnedLeavesStay c.args.session old s) (sym c.in-Ok.ensures.done)
+    subst (λ (s : State). PinnedLeafPagesStay c.args.session old s) (sym c.in-Ok.ensures.done)
     (pinned_unlinking old c.args.page c.args.right c.begun-number.result (c.requires.page.found honest) c.requires.dead
     (c.requires.right.taken.found honest) c.args.session c.args.left (left_taken g at honest) c.in-Ok.ensures.may))
     (λ h order below.
@@ -62,7 +62,7 @@ pub returns-in-Err-clause-all : goal.returns-in-Err-clause-all
 returns-in-Err-clause-all g c =
     let at = (goal.at.returns-in-Err-clause-all g c).After-act_between in
     let old = g.S.PageStore.state c.args.store.now in
-    tried_refused g.S.PageStore c.args.session (blocks_unlinked_at c.args.page.block) (IsInUse c.args.page.block) (PageGoes c.args.page.block)
+    tried_refused g.S.PageStore c.args.session (blocks_unlinked_at c.args.page.block) (IsInUse c.args.page.block) (PageIsDeleted c.args.page.block)
     (IsNotDead c.args.page.block) c.args.store.now c.act_between.new.store c.in-Err.fault
     c.act_between.ensures.steps c.in-Err.ensures.refused
     (λ h order room there.

@@ -1,7 +1,7 @@
 use Rattle.std.proofs.Common.{◌≡◌, Bool, true, subst}
 use Rattle.page_action.specs.States.{IsLater}
 use Rattle.page_delete.specs.Needs.{blocks_unlinked_at}
-use Rattle.page_delete.specs.Parts.{IsTakenToChange, IsInUse, PageGoes, IsNotDead}
+use Rattle.page_delete.specs.Parts.{IsTakenToChange, IsInUse, PageIsDeleted, IsNotDead}
 use Rattle.page_delete.proofs.Trying.{HasRead, read_on, tried_later, tried_refused, taken_later}
 use Rattle.page_delete.proofs.Deleting.{dead_links}
 use Rattle.page_delete.proofs.unlinking.unlink_dead.Given.{Over}
@@ -25,14 +25,14 @@ unlink_right-requires-clause-page g c =
 
 pub returns-in-Ok-clause-all : goal.returns-in-Ok-clause-all
 returns-in-Ok-clause-all g c =
-    tried_later g.S.PageStore c.args.session (blocks_unlinked_at c.args.page.block) (IsInUse c.args.page.block) (PageGoes c.args.page.block)
+    tried_later g.S.PageStore c.args.session (blocks_unlinked_at c.args.page.block) (IsInUse c.args.page.block) (PageIsDeleted c.args.page.block)
     (IsNotDead c.args.page.block) c.args.store.now c.take_left.new.store c.unlink_right.new.store c.unlink_right.result
     (reads g (goal.at.returns-in-Ok-clause-all g c).After-take_left c.in-Ok.ensures.alive) c.unlink_right.ensures.all
 
 pub returns-in-Err-clause-all : goal.returns-in-Err-clause-all
 returns-in-Err-clause-all g c =
     let st = g.S.PageStore.state c.args.store.now in
-    tried_refused g.S.PageStore c.args.session (blocks_unlinked_at c.args.page.block) (IsInUse c.args.page.block) (PageGoes c.args.page.block)
+    tried_refused g.S.PageStore c.args.session (blocks_unlinked_at c.args.page.block) (IsInUse c.args.page.block) (PageIsDeleted c.args.page.block)
     (IsNotDead c.args.page.block) c.args.store.now c.take_left.new.store c.in-Err.fault c.take_left.ensures.steps c.take_left.ensures.state
     (λ h order room there.
     let page = subst (λ (k : Bool). IsTakenToChange st k c.args.session c.args.page.block c.args.page) (was_honest g (goal.at.returns-in-Err-clause-all g c).After-take_left h) c.requires.page in

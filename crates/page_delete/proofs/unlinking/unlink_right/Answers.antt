@@ -1,14 +1,14 @@
 use Rattle.std.proofs.Common.{◌≡◌, Bool, true, subst}
 use Rattle.page_action.specs.States.{IsLater}
 use Rattle.page_delete.specs.Needs.{blocks_unlinked_at}
-use Rattle.page_delete.specs.Parts.{IsTakenToChange, IsInUse, PageGoes, IsNotDead}
+use Rattle.page_delete.specs.Parts.{IsTakenToChange, IsInUse, PageIsDeleted, IsNotDead}
 use Rattle.page_delete.proofs.Trying.{HasRead, read_on, tried_later, tried_refused, taken_later, left_later}
 use Rattle.page_delete.proofs.Deleting.{dead_links}
 use Rattle.page_delete.proofs.unlinking.unlink_right.Given.{Over}
 use Rattle.page_delete.proofs.unlinking.unlink_right.Goals.{After-take_right}
 use Rattle.page_delete.proofs.unlinking.unlink_right.Goals as goal
 
--- behind the reading
+-- after the reading
 reads : (g : Over) (c : After-take_right g)
     → ((g.S.PageStore.backing c.take_right.new.store).stopped ≡ true → (g.S.PageStore.backing c.args.store.now).stopped ≡ true) → HasRead g.S.PageStore c.args.store.now c.take_right.new.store
 reads g c alive = read_on g.S.PageStore c.args.store.now c.take_right.new.store c.take_right.ensures.steps c.take_right.ensures.state alive c.take_right.ensures.promised
@@ -31,14 +31,14 @@ unlink_between-requires-clause-left g c =
 
 pub returns-in-Ok-clause-all : goal.returns-in-Ok-clause-all
 returns-in-Ok-clause-all g c =
-    tried_later g.S.PageStore c.args.session (blocks_unlinked_at c.args.page.block) (IsInUse c.args.page.block) (PageGoes c.args.page.block)
+    tried_later g.S.PageStore c.args.session (blocks_unlinked_at c.args.page.block) (IsInUse c.args.page.block) (PageIsDeleted c.args.page.block)
     (IsNotDead c.args.page.block) c.args.store.now c.take_right.new.store c.unlink_between.new.store c.unlink_between.result
     (reads g (goal.at.returns-in-Ok-clause-all g c).After-take_right c.in-Ok.ensures.alive) c.unlink_between.ensures.all
 
 pub returns-in-Err-clause-all : goal.returns-in-Err-clause-all
 returns-in-Err-clause-all g c =
     let st = g.S.PageStore.state c.args.store.now in
-    tried_refused g.S.PageStore c.args.session (blocks_unlinked_at c.args.page.block) (IsInUse c.args.page.block) (PageGoes c.args.page.block)
+    tried_refused g.S.PageStore c.args.session (blocks_unlinked_at c.args.page.block) (IsInUse c.args.page.block) (PageIsDeleted c.args.page.block)
     (IsNotDead c.args.page.block) c.args.store.now c.take_right.new.store c.in-Err.fault c.take_right.ensures.steps c.take_right.ensures.state
     (λ h order room there.
     let page = subst (λ (k : Bool). IsTakenToChange st k c.args.session c.args.page.block c.args.page) (was_honest g (goal.at.returns-in-Err-clause-all g c).After-take_right h) c.requires.page in

@@ -1,7 +1,7 @@
 use Rattle.std.specs.Prelude.{OnOk}
 use Rattle.std.proofs.Common.{subst}
 use Rattle.index_model.specs.declared.format.Format.{Format}
-use Rattle.recovery.specs.Fresh.{LeavesEmpty}
+use Rattle.recovery.specs.Fresh.{CrashesToEmpty}
 use Rattle.recovery.proofs.Creating.{on_ok}
 use Rattle.recovery.proofs.Emptying.{fresh_leaves}
 use Rattle.recovery.proofs.creation.create.Goals as goal
@@ -10,4 +10,4 @@ pub returns-clause-own : goal.returns-clause-own
 returns-clause-own g c =
     let device = (g.D.Device.trace c.write_index.new.device).now in
     let leaves = on_ok _ _ c.write_index.result (fresh_leaves c.new-format.result (c.are_valid.ensures.0 c.if-not-are_valid.false) device) c.write_index.ensures.made in
-    subst (λ (format : Format). OnOk c.write_index.result (LeavesEmpty format device)) c.new-format.ensures leaves
+    subst (λ (format : Format). OnOk c.write_index.result (CrashesToEmpty format device)) c.new-format.ensures leaves

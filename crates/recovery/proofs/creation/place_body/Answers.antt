@@ -1,27 +1,27 @@
 use Rattle.std.proofs.Common.{ℕ, ◌+◌, ◌-◌, ◌*◌, arith}
-use Rattle.device.specs.Moments.{Goes}
+use Rattle.device.specs.Moments.{AtEachMoment}
 use Rattle.device.specs.Places.{ChangesOnly}
 use Rattle.page_codec.specs.Places.{place}
 use Rattle.index_model.specs.declared.format.Format.{Format}
 use Rattle.recovery.proofs.Creating.{only_now, wider_goes, more_goes, synced_goes, body_made}
 use Rattle.recovery.proofs.creation.place_body.Given.{Over}
 use Rattle.recovery.proofs.creation.place_body.Goals.{After-place, After-place_pages}
-use Rattle.recovery.specs.Outside.{KeepsLogBytes}
+use Rattle.recovery.specs.Outside.{SameLogBytes}
 use Rattle.recovery.proofs.Outside.{untouched_on, sync_untouched, gate_keeps, pages_keep}
 use Rattle.recovery.proofs.creation.place_body.Goals as goal
 
--- the bytes behind the superblock
+-- the bytes after the superblock
 abbrev behind : Format → ℕ
 behind limits = limits.log_bytes + 4096 * limits.pages
 
 -- the gate is one of them
 gate_goes : (g : Over) (c : After-place g)
-    → Goes (ChangesOnly 4096 (behind c.args.limits.now) (g.D.Device.trace c.args.device.now).now) (g.D.Device.trace c.args.device.now) (g.D.Device.trace c.place.new.device)
+    → AtEachMoment (ChangesOnly 4096 (behind c.args.limits.now) (g.D.Device.trace c.args.device.now).now) (g.D.Device.trace c.args.device.now) (g.D.Device.trace c.place.new.device)
 gate_goes g c = wider_goes 4096 1 4096 (behind c.args.limits.now) _ _ (omega arith) (omega (arith, c.requires.allowed.log_from)) c.place.ensures.moments
 
 -- and so are the pages
 pages_go : (g : Over) (c : After-place_pages g)
-    → Goes (ChangesOnly 4096 (behind c.args.limits.now) (g.D.Device.trace c.args.device.now).now) (g.D.Device.trace c.args.device.now) (g.D.Device.trace c.place_pages.new.device)
+    → AtEachMoment (ChangesOnly 4096 (behind c.args.limits.now) (g.D.Device.trace c.args.device.now).now) (g.D.Device.trace c.args.device.now) (g.D.Device.trace c.place_pages.new.device)
 pages_go g c =
     let limits = c.args.limits.now in
     more_goes (place limits 0) (4096 * limits.pages) 4096 (behind limits) _ _ _ (omega arith) (omega arith) (gate_goes g (goal.at.After-place_pages g c).After-place) c.place_pages.ensures.moments
@@ -41,11 +41,11 @@ returns-clause-there g c =
 pub returns-clause-moments : goal.returns-clause-moments
 returns-clause-moments g c = synced_goes 4096 (behind c.args.limits.now) c.sync.result _ _ _ (pages_go g (goal.at.returns-clause-moments g c).After-place_pages) c.sync.ensures.trace
 
--- the bytes of the log behind the gate stay
-gate_stays : (g : Over) (c : After-place g) → KeepsLogBytes c.args.limits.now (g.D.Device.trace c.args.device.now) (g.D.Device.trace c.place.new.device)
+-- the bytes of the log after the gate stay
+gate_stays : (g : Over) (c : After-place g) → SameLogBytes c.args.limits.now (g.D.Device.trace c.args.device.now) (g.D.Device.trace c.place.new.device)
 gate_stays g c = gate_keeps c.args.limits.now _ _ c.place.ensures.moments
 
-pages_stay : (g : Over) (c : After-place_pages g) → KeepsLogBytes c.args.limits.now (g.D.Device.trace c.args.device.now) (g.D.Device.trace c.place_pages.new.device)
+pages_stay : (g : Over) (c : After-place_pages g) → SameLogBytes c.args.limits.now (g.D.Device.trace c.args.device.now) (g.D.Device.trace c.place_pages.new.device)
 pages_stay g c =
     untouched_on 4097 (c.args.limits.now.log_bytes - 1) _ _ _ (gate_stays g (goal.at.After-place_pages g c).After-place)
     (pages_keep c.args.limits.now _ _ (omega (arith, c.requires.allowed.log_from)) c.place_pages.ensures.moments)

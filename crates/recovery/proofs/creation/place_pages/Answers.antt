@@ -1,6 +1,6 @@
 use Rattle.std.proofs.Common.{ℕ, ◌-◌, ◌*◌, ◌<◌, ◌≤◌, arith}
 use Rattle.device.specs.Disk.{Trace}
-use Rattle.device.specs.Moments.{Goes}
+use Rattle.device.specs.Moments.{AtEachMoment}
 use Rattle.device.specs.Places.{ChangesOnly}
 use Rattle.page_codec.specs.Places.{place}
 use Rattle.index_model.specs.declared.format.Format.{Format}
@@ -11,7 +11,7 @@ use Rattle.recovery.proofs.creation.place_pages.Goals as goal
 
 -- nothing but the places of the blocks changes
 abbrev PagesGo : Format → Trace → Trace → Type 0
-PagesGo limits t u = Goes (ChangesOnly (place limits 0) (4096 * limits.pages) t.now) t u
+PagesGo limits t u = AtEachMoment (ChangesOnly (place limits 0) (4096 * limits.pages) t.now) t u
 
 zeros_go : (g : Over) (c : After-place_zeros g) → PagesGo c.args.limits.now (g.D.Device.trace c.args.device.now) (g.D.Device.trace c.place_zeros.new.device)
 zeros_go g c =
@@ -19,7 +19,7 @@ zeros_go g c =
     wider_goes (place limits 2) (4096 * (limits.pages - 2)) (place limits 0) (4096 * limits.pages) _ _ (omega arith) (omega (arith, c.requires.allowed.pages_from)) c.place_zeros.ensures.moments
 
 -- also where one page more is written, at a block of the first two
-page_goes : (limits : Format) (block : ℕ) (t u v : Trace) → block < 2 → 2 ≤ limits.pages → PagesGo limits t u → Goes (ChangesOnly (place limits block) 4096 u.now) u v → PagesGo limits t v
+page_goes : (limits : Format) (block : ℕ) (t u v : Trace) → block < 2 → 2 ≤ limits.pages → PagesGo limits t u → AtEachMoment (ChangesOnly (place limits block) 4096 u.now) u v → PagesGo limits t v
 page_goes limits block t u v below few = more_goes (place limits block) 4096 (place limits 0) (4096 * limits.pages) t u v (omega arith) (omega arith)
 
 meta_goes : (g : Over) (c : After-place_page g) → PagesGo c.args.limits.now (g.D.Device.trace c.args.device.now) (g.D.Device.trace c.place_page.new.device)

@@ -1,5 +1,5 @@
 use Rattle.std.proofs.Common.{ℕ, ◌∙◌, ◌-◌, ◌*◌, replicate, subst, arith}
-use Rattle.device.specs.Moments.{Goes}
+use Rattle.device.specs.Moments.{AtEachMoment}
 use Rattle.device.specs.Places.{Has, ChangesOnly}
 use Rattle.page_codec.specs.Places.{place}
 use Rattle.recovery.proofs.Creating.{only_now, more_goes, zeros_more}
@@ -9,12 +9,12 @@ use Rattle.recovery.proofs.creation.place_zeros.Goals as goal
 
 -- one block more is written
 module _ (g : Over) (c : After-place g) where
-  written : Goes (ChangesOnly (place c.args.limits.now c.loop-block.block) 4096 (g.D.Device.trace c.loop-block.device).now) (g.D.Device.trace c.loop-block.device) (g.D.Device.trace c.place.new.device)
+  written : AtEachMoment (ChangesOnly (place c.args.limits.now c.loop-block.block) 4096 (g.D.Device.trace c.loop-block.device).now) (g.D.Device.trace c.loop-block.device) (g.D.Device.trace c.place.new.device)
   written =
       let before = g.D.Device.trace c.loop-block.device in
-      subst (λ (n : ℕ). Goes (ChangesOnly n 4096 before.now) before (g.D.Device.trace c.place.new.device)) c.page_place.ensures c.place.ensures.moments
+      subst (λ (n : ℕ). AtEachMoment (ChangesOnly n 4096 before.now) before (g.D.Device.trace c.place.new.device)) c.page_place.ensures c.place.ensures.moments
 
-  more : Goes (ChangesOnly (place c.args.limits.now 2) (4096 * (c.args.limits.now.pages - 2)) (g.D.Device.trace c.args.device.now).now)
+  more : AtEachMoment (ChangesOnly (place c.args.limits.now 2) (4096 * (c.args.limits.now.pages - 2)) (g.D.Device.trace c.args.device.now).now)
       (g.D.Device.trace c.args.device.now) (g.D.Device.trace c.place.new.device)
   more =
       more_goes (place c.args.limits.now c.loop-block.block) 4096 (place c.args.limits.now 2) (4096 * (c.args.limits.now.pages - 2)) _ (g.D.Device.trace c.loop-block.device) _

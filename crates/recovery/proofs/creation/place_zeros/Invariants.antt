@@ -1,5 +1,5 @@
 use Rattle.std.proofs.Common.{◌≡◌, ◌-◌, ◌*◌, length}
-use Rattle.device.specs.Moments.{Goes}
+use Rattle.device.specs.Moments.{AtEachMoment}
 use Rattle.device.specs.Places.{ChangesOnly}
 use Rattle.page_codec.specs.Places.{place}
 use Rattle.recovery.specs.Fresh.{AreZero}
@@ -8,7 +8,7 @@ use Rattle.recovery.proofs.creation.place_zeros.Given as goal
 abbrev pub invariant-loop-block : goal.invariant-loop-block
 invariant-loop-block g l = record {
   there : AreZero l.limits 2 l.block (g.D.Device.trace l.device).now.seen;
-  moments : Goes (ChangesOnly (place l.limits 2) (4096 * (l.limits.pages - 2)) (g.D.Device.trace l.fn.device).now) (g.D.Device.trace l.fn.device) (g.D.Device.trace l.device);
+  moments : AtEachMoment (ChangesOnly (place l.limits 2) (4096 * (l.limits.pages - 2)) (g.D.Device.trace l.fn.device).now) (g.D.Device.trace l.fn.device) (g.D.Device.trace l.device);
   len : length (g.D.Device.trace l.device).now.seen ≡ length (g.D.Device.trace l.fn.device).now.seen;
   honest : g.D.Device.is_honest l.device ≡ g.D.Device.is_honest l.fn.device;
   failures : g.D.Device.failures l.device ≡ g.D.Device.failures l.fn.device;

@@ -1,5 +1,5 @@
 use Rattle.std.proofs.Common.{◌≡◌, ◌∙◌, ◌+◌, length, sym, subst}
-use Rattle.device.specs.Moments.{Goes}
+use Rattle.device.specs.Moments.{AtEachMoment}
 use Rattle.device.proofs.Going.{goes_on, goes_now}
 use Rattle.recovery.specs.Homing.{ChangesNamed}
 use Rattle.recovery.proofs.Named.{HomedBelow, named_goes, one_homed, none_homed}
@@ -18,7 +18,7 @@ abbrev Written : (g : Over) → Joined-image g → g.row.D.Denot → Type 0
 Written g c device =
     let trace = g.D.Device.trace in
     record {
-      moments : Goes (ChangesNamed c.args.limits c.args.found.now (trace c.args.device.now).now) (trace c.args.device.now) (trace device);
+      moments : AtEachMoment (ChangesNamed c.args.limits c.args.found.now (trace c.args.device.now).now) (trace c.args.device.now) (trace device);
       now : ChangesNamed c.args.limits c.args.found.now (trace c.args.device.now).now (trace device).now;
       written : HomedBelow c.args.limits c.args.found.now (c.loop-block.block + 1) (trace device).now.seen;
       len : length (trace device).now.seen ≡ length (trace c.args.device.now).now.seen;

@@ -1,5 +1,5 @@
 use Rattle.std.proofs.Common.{◌≡◌, length}
-use Rattle.device.specs.Moments.{Goes}
+use Rattle.device.specs.Moments.{AtEachMoment}
 use Rattle.recovery.specs.Homing.{ChangesNamed}
 use Rattle.recovery.proofs.Named.{HomedBelow}
 use Rattle.recovery.proofs.homing.write_images.Given as goal
@@ -8,7 +8,7 @@ abbrev pub invariant-loop-block : goal.invariant-loop-block
 invariant-loop-block g l =
     let trace = g.D.Device.trace in
     record {
-      moments : Goes (ChangesNamed l.limits l.found (trace l.fn.device).now) (trace l.fn.device) (trace l.device);
+      moments : AtEachMoment (ChangesNamed l.limits l.found (trace l.fn.device).now) (trace l.fn.device) (trace l.device);
       now : ChangesNamed l.limits l.found (trace l.fn.device).now (trace l.device).now;
       written : HomedBelow l.limits l.found l.block (trace l.device).now.seen;
       len : length (trace l.device).now.seen ≡ length (trace l.fn.device).now.seen;

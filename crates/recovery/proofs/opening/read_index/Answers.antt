@@ -1,13 +1,13 @@
 use Rattle.std.proofs.Common.{◌≡◌, ◌≤◌, List, ⊎_elim, inl, inr, length, sym, ap, subst, arith}
 use Rattle.device.specs.Disk.{Trace}
-use Rattle.device.specs.Moments.{Goes}
+use Rattle.device.specs.Moments.{AtEachMoment}
 use Rattle.index_model.specs.declared.format.Format.{Format}
 use Rattle.page_codec.specs.Places.{place}
-use Rattle.page_store.specs.Restart.{LeavesPages, RestartsTo}
+use Rattle.page_store.specs.Restart.{CrashesToPages, RestartsTo}
 use Rattle.page_codec.specs.declared.page.Page.{Page}
 use Rattle.recovery.specs.Index.{HasIndex}
 use Rattle.recovery.proofs.Blocks.{refused}
-use Rattle.recovery.proofs.Answering.{front_of, one_front, found_same, found_index, fails_behind, restore_refuses}
+use Rattle.recovery.proofs.Answering.{front_of, one_front, found_same, found_index, fails_after, restore_refuses}
 use Rattle.recovery.proofs.opening.read_index.Given.{Over}
 use Rattle.recovery.proofs.opening.read_index.Goals.{After-restore}
 use Rattle.recovery.proofs.Outside.{one_index}
@@ -42,11 +42,11 @@ returns-clause-moments g c = λ honest limits pages index.
     let found = c.in_ok-limits.limits in
     let is = one_front found limits t.now.seen (c.in_ok-limits.ensures.front (c.restore.ensures.calls.honest honest)) (front_of limits pages t.now.seen index) in
     let moments = c.restore.ensures.moments honest pages (index_found g (goal.at.returns-clause-moments g c).After-restore limits pages is index) in
-    subst (λ (l : Format). Goes (LeavesPages l pages) t v) is (subst (λ (u : Trace). Goes (LeavesPages found pages) u v) c.find_limits.ensures.calls.trace moments)
+    subst (λ (l : Format). AtEachMoment (CrashesToPages l pages) t v) is (subst (λ (u : Trace). AtEachMoment (CrashesToPages found pages) u v) c.find_limits.ensures.calls.trace moments)
 
 pub returns-clause-cause : goal.returns-clause-cause
 returns-clause-cause g c =
-    fails_behind c.restore.result _ _ _ _ _ c.in_ok-limits.ensures.cause
+    fails_after c.restore.result _ _ _ _ _ c.in_ok-limits.ensures.cause
     (λ e why. restore_refuses c.in_ok-limits.limits (g.D.Device.is_honest c.restore.new.device) (g.D.Device.is_honest c.find_limits.new.device)
     c.args.frames (g.D.Device.trace c.args.device.now) (g.D.Device.trace c.find_limits.new.device)
     (g.D.Device.trace c.restore.new.device) e _ _ _ c.in_ok-limits.ensures.frames c.restore.ensures.calls.honest c.in_ok-limits.ensures.front

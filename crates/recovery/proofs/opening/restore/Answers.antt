@@ -1,10 +1,10 @@
 use Rattle.std.proofs.Common.{IsTrue, List, sym, ap, subst}
 use Rattle.device.specs.Disk.{Trace}
-use Rattle.device.specs.Moments.{Goes}
+use Rattle.device.specs.Moments.{AtEachMoment}
 use Rattle.device.proofs.Going.{goes_on}
 use Rattle.page_codec.specs.declared.page.Page.{Page}
 use Rattle.page_store.specs.Logged.{StandsOpened}
-use Rattle.page_store.specs.Restart.{RestartsTo, LeavesPages}
+use Rattle.page_store.specs.Restart.{RestartsTo, CrashesToPages}
 use Rattle.recovery.proofs.Restoring.{sync_leaves}
 use Rattle.recovery.specs.Calls.{IsIoOr}
 use Rattle.recovery.specs.Opening.{HasGroups, IsSynced, IsRestoreRefusal}
@@ -12,11 +12,11 @@ use Rattle.recovery.proofs.Blocks.{refused}
 use Rattle.recovery.proofs.Answering.{firm_then, restarts_then, log_refuses, opened_in_use, pages_refuse, same_pages}
 use Rattle.recovery.proofs.opening.restore.Given.{Over}
 use Rattle.recovery.proofs.opening.restore.Goals.{After-restore_log, In_ok-log, After-read_pages}
-use Rattle.recovery.specs.Outside.{ChangesBehindFront}
-use Rattle.recovery.proofs.Outside.{behind_on, sync_inside}
+use Rattle.recovery.specs.Outside.{ChangesAfterFront}
+use Rattle.recovery.proofs.Outside.{after_on, sync_inside}
 use Rattle.recovery.proofs.opening.restore.Goals as goal
 
--- behind the sync the same index stands, through a crash too
+-- after the sync the same index stands, through a crash too
 synced : (g : Over) (c : After-restore_log g) (pages : List Page) → RestartsTo c.args.limits (g.D.Device.trace c.args.device.now).now.seen pages
     → IsSynced (g.D.Device.trace c.sync.new.self).now × RestartsTo c.args.limits (g.D.Device.trace c.sync.new.self).now.seen pages
 synced g c pages restarts =
@@ -28,7 +28,7 @@ synced g c pages restarts =
 -- a crash leaves it while the log is restored
 log_leaves : (g : Over) (c : After-restore_log g) → IsTrue (g.D.Device.is_honest c.restore_log.new.device) → (pages : List Page)
     → RestartsTo c.args.limits (g.D.Device.trace c.args.device.now).now.seen pages
-    → Goes (LeavesPages c.args.limits pages) (g.D.Device.trace c.args.device.now) (g.D.Device.trace c.restore_log.new.device)
+    → AtEachMoment (CrashesToPages c.args.limits pages) (g.D.Device.trace c.args.device.now) (g.D.Device.trace c.restore_log.new.device)
 log_leaves g c honest pages restarts =
     let here = synced g c pages restarts in
     goes_on _ (g.D.Device.trace c.args.device.now) (g.D.Device.trace c.sync.new.self) _ (sync_leaves c.args.limits pages c.sync.result _ _ restarts c.sync.ensures.trace)
@@ -37,9 +37,9 @@ log_leaves g c honest pages restarts =
 -- ... and while the pages are read
 pages_leave : (g : Over) (c : After-read_pages g) → IsTrue (g.D.Device.is_honest c.read_pages.new.device) → (pages : List Page)
     → RestartsTo c.args.limits (g.D.Device.trace c.args.device.now).now.seen pages
-    → Goes (LeavesPages c.args.limits pages) (g.D.Device.trace c.args.device.now) (g.D.Device.trace c.read_pages.new.device)
+    → AtEachMoment (CrashesToPages c.args.limits pages) (g.D.Device.trace c.args.device.now) (g.D.Device.trace c.read_pages.new.device)
 pages_leave g c honest pages restarts =
-    subst (λ (w : Trace). Goes (LeavesPages c.args.limits pages) (g.D.Device.trace c.args.device.now) w) (sym c.read_pages.ensures.calls.trace)
+    subst (λ (w : Trace). AtEachMoment (CrashesToPages c.args.limits pages) (g.D.Device.trace c.args.device.now) w) (sym c.read_pages.ensures.calls.trace)
     (log_leaves g (goal.at.After-read_pages g c).After-restore_log (c.read_pages.ensures.calls.honest honest) pages restarts)
 
 -- the log as it was opened
@@ -92,15 +92,15 @@ pub returns-clause-undamaged : goal.returns-clause-undamaged
 returns-clause-undamaged g c = λ honest. subst (λ (w : Trace). HasGroups c.args.limits w.now.seen) c.in_ok-sync.ensures.trace (c.in_ok-log.ensures.undamaged (c.read_pages.ensures.calls.honest honest))
 
 -- a sync writes nothing
-synced_inside : (g : Over) (c : After-restore_log g) → ChangesBehindFront c.args.limits (g.D.Device.trace c.args.device.now) (g.D.Device.trace c.sync.new.self)
+synced_inside : (g : Over) (c : After-restore_log g) → ChangesAfterFront c.args.limits (g.D.Device.trace c.args.device.now) (g.D.Device.trace c.sync.new.self)
 synced_inside g c = sync_inside c.args.limits c.sync.result _ _ c.sync.ensures.trace
 
-log_inside : (g : Over) (c : After-restore_log g) → ChangesBehindFront c.args.limits (g.D.Device.trace c.args.device.now) (g.D.Device.trace c.restore_log.new.device)
-log_inside g c = behind_on c.args.limits _ _ _ (synced_inside g c) c.restore_log.ensures.outside
+log_inside : (g : Over) (c : After-restore_log g) → ChangesAfterFront c.args.limits (g.D.Device.trace c.args.device.now) (g.D.Device.trace c.restore_log.new.device)
+log_inside g c = after_on c.args.limits _ _ _ (synced_inside g c) c.restore_log.ensures.outside
 
-pages_inside : (g : Over) (c : After-read_pages g) → ChangesBehindFront c.args.limits (g.D.Device.trace c.args.device.now) (g.D.Device.trace c.read_pages.new.device)
+pages_inside : (g : Over) (c : After-read_pages g) → ChangesAfterFront c.args.limits (g.D.Device.trace c.args.device.now) (g.D.Device.trace c.read_pages.new.device)
 pages_inside g c =
-    subst (λ (w : Trace). ChangesBehindFront c.args.limits (g.D.Device.trace c.args.device.now) w) (sym c.read_pages.ensures.calls.trace)
+    subst (λ (w : Trace). ChangesAfterFront c.args.limits (g.D.Device.trace c.args.device.now) w) (sym c.read_pages.ensures.calls.trace)
     (log_inside g (goal.at.After-read_pages g c).After-restore_log)
 
 pub returns-in_err-sync-clause-outside : goal.returns-in_err-sync-clause-outside

@@ -1,18 +1,18 @@
 use Rattle.std.proofs.Common.{◌∙◌, IsTrue, Err, List, length, ap, subst, arith}
 use Rattle.device.specs.Disk.{Trace}
-use Rattle.device.specs.Moments.{Goes}
+use Rattle.device.specs.Moments.{AtEachMoment}
 use Rattle.device.proofs.Going.{goes_on, goes_weaker}
 use Rattle.index_model.specs.declared.format.Format.{Format}
 use Rattle.page_codec.specs.declared.page.Page.{Page}
-use Rattle.page_store.specs.Restart.{RestartsTo, LeavesPages}
+use Rattle.page_store.specs.Restart.{RestartsTo, CrashesToPages}
 use Rattle.recovery.specs.Homing.{ChangesNamed, AreHomed}
 use Rattle.recovery.specs.Opening.{IsSynced}
 use Rattle.recovery.proofs.Restoring.{IsReplayed, named_from, written_leaves, closed_goes, closed_stands, replay_refuses}
 use Rattle.recovery.proofs.opening.restore_log.Given.{Over}
 use Rattle.recovery.proofs.opening.restore_log.Goals.{After-bring_home, After-reset, In_ok-bring_home}
 use Rattle.redo_log.specs.Kept.{ChangesItsRange}
-use Rattle.recovery.specs.Outside.{ChangesBehindFront}
-use Rattle.recovery.proofs.Outside.{named_inside, log_inside, behind_on, same_inside}
+use Rattle.recovery.specs.Outside.{ChangesAfterFront}
+use Rattle.recovery.proofs.Outside.{named_inside, log_inside, after_on, same_inside}
 use Rattle.recovery.proofs.opening.restore_log.Goals as goal
 
 pub returns-in-Err-clause-same : goal.returns-in-Err-clause-same
@@ -40,13 +40,13 @@ index g c honest firm pages restarts = record {
 
 -- while its images are brought home only places of their blocks change
 named : (g : Over) (c : After-bring_home g)
-    → Goes (ChangesNamed c.args.limits c.in-Ok.found (g.D.Device.trace c.args.device.now).now) (g.D.Device.trace c.args.device.now) (g.D.Device.trace c.bring_home.new.device)
+    → AtEachMoment (ChangesNamed c.args.limits c.in-Ok.found (g.D.Device.trace c.args.device.now).now) (g.D.Device.trace c.args.device.now) (g.D.Device.trace c.bring_home.new.device)
 named g c =
     named_from c.args.limits c.in-Ok.found _ (g.D.Device.trace c.replay.new.device) _ c.replay.ensures.trace c.bring_home.ensures.moments
 
 -- so a crash leaves the index
 home_leaves : (g : Over) (c : After-bring_home g) (pages : List Page) → Index g c pages
-    → Goes (LeavesPages c.args.limits pages) (g.D.Device.trace c.args.device.now) (g.D.Device.trace c.bring_home.new.device)
+    → AtEachMoment (CrashesToPages c.args.limits pages) (g.D.Device.trace c.args.device.now) (g.D.Device.trace c.bring_home.new.device)
 home_leaves g c pages r = goes_weaker _ _ _ (g.D.Device.trace c.bring_home.new.device) (written_leaves _ _ _ _ _ r) (named g c)
 
 pub returns-in_err-bring_home-clause-moments : goal.returns-in_err-bring_home-clause-moments
@@ -71,7 +71,7 @@ module _ (g : Over) (c : After-reset g) where
   homed : AreHomed c.args.limits c.in-Ok.found (g.D.Device.trace c.bring_home.new.device).now
   homed = c.in_ok-bring_home.ensures.home
 
-  reset_leaves : (pages : List Page) → Index g found pages → Goes (LeavesPages c.args.limits pages) (g.D.Device.trace c.args.device.now) (g.D.Device.trace c.reset.new.device)
+  reset_leaves : (pages : List Page) → Index g found pages → AtEachMoment (CrashesToPages c.args.limits pages) (g.D.Device.trace c.args.device.now) (g.D.Device.trace c.reset.new.device)
   reset_leaves pages r =
       goes_on _ _ (g.D.Device.trace c.bring_home.new.device) (g.D.Device.trace c.reset.new.device) (home_leaves g found pages r)
       (closed_goes _ _ _ _ _ r (g.D.Device.trace c.bring_home.new.device) (g.D.Device.trace c.reset.new.device) (named g found) homed c.reset.ensures.moments c.reset.ensures.outside)
@@ -95,7 +95,7 @@ pub returns-clause-undamaged : goal.returns-clause-undamaged
 returns-clause-undamaged g c = λ honest. (let found = c.in-Ok.ensures.ok.replays (subst IsTrue (c.reset.ensures.honest ∙ c.bring_home.ensures.calls.honest) honest) in (found.groups, found.spells))
 
 -- nothing but the log and the pages is written
-home_inside : (g : Over) (c : After-bring_home g) → ChangesBehindFront c.args.limits (g.D.Device.trace c.args.device.now) (g.D.Device.trace c.bring_home.new.device)
+home_inside : (g : Over) (c : After-bring_home g) → ChangesAfterFront c.args.limits (g.D.Device.trace c.args.device.now) (g.D.Device.trace c.bring_home.new.device)
 home_inside g c = named_inside c.args.limits c.in-Ok.found _ _ (named g c)
 
 pub returns-in-Err-clause-outside : goal.returns-in-Err-clause-outside
@@ -104,11 +104,11 @@ returns-in-Err-clause-outside g c = same_inside c.args.limits _ _ c.replay.ensur
 pub returns-in_err-bring_home-clause-outside : goal.returns-in_err-bring_home-clause-outside
 returns-in_err-bring_home-clause-outside g c = home_inside g (goal.at.returns-in_err-bring_home-clause-outside g c).After-bring_home
 
-reset_inside : (g : Over) (c : After-reset g) → ChangesBehindFront c.args.limits (g.D.Device.trace c.args.device.now) (g.D.Device.trace c.reset.new.device)
+reset_inside : (g : Over) (c : After-reset g) → ChangesAfterFront c.args.limits (g.D.Device.trace c.args.device.now) (g.D.Device.trace c.reset.new.device)
 reset_inside g c =
     let range = subst (λ (limits : Format). ChangesItsRange limits (g.D.Device.trace c.bring_home.new.device) (g.D.Device.trace c.reset.new.device))
     c.in-Ok.ensures.opened.limits_are c.reset.ensures.outside in
-    behind_on c.args.limits _ _ _ (home_inside g (found g c)) (log_inside c.args.limits _ _ range)
+    after_on c.args.limits _ _ _ (home_inside g (found g c)) (log_inside c.args.limits _ _ range)
 
 pub returns-in_err-reset-clause-outside : goal.returns-in_err-reset-clause-outside
 returns-in_err-reset-clause-outside g c = reset_inside g (goal.at.returns-in_err-reset-clause-outside g c).After-reset

@@ -5,7 +5,7 @@ use Rattle.redo_log.proofs.Parsing.{group_fits, group_images, group_noted, take_
 use Rattle.redo_log.proofs.reading.note_group.Goals.{After-from_le_bytes-count, then-count-eq0-via-then-count-eq0, then-count-eq0-via-else-count-eq0+then-bodies-count}
 use Rattle.redo_log.proofs.reading.note_group.Goals as goal
 
--- the number that the group begins with, and the images behind it
+-- the number that the group begins with, and the images after it
 module _ (c : After-from_le_bytes-count) where
   abbrev behind : List ℕ
   behind = drop c.args.at c.args.log.now

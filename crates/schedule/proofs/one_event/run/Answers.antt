@@ -6,22 +6,22 @@ use Rattle.session_calls.specs.declared.answer.Answer.{Answer}
 use Rattle.schedule.specs.declared.event.Event.{Event}
 use Rattle.schedule.specs.TheoremMoments.{StoreAndSlots, Moment, snapshot_of}
 use Rattle.schedule.specs.MomentInvariants.{here_with}
-use Rattle.schedule.specs.Making.{EachAlways, answers_behind}
+use Rattle.schedule.specs.Making.{EachAlways, answers_after}
 use Rattle.schedule.specs.TheoremRuns.{Ran}
 use Rattle.schedule.proofs.Running.{none_ran, makes_runs, ran_more, always_more}
 use Rattle.schedule.proofs.one_event.run.Goals as goal
 
--- what was answered behind some answers, with one answer more
-behind_more : (before answers : List Answer) (answer : Answer) → length before ≤ length answers → answers_behind before (answers ++ answer ∷ []) ≡ answers_behind before answers ++ answer ∷ []
-behind_more before answers answer le = drop-append-le (length before) answers (answer ∷ []) le
+-- what was answered after some answers, with one answer more
+after_more : (before answers : List Answer) (answer : Answer) → length before ≤ length answers → answers_after before (answers ++ answer ∷ []) ≡ answers_after before answers ++ answer ∷ []
+after_more before answers answer le = drop-append-le (length before) answers (answer ∷ []) le
 
--- what holds of some events and answers, with one of each more, holds of the first events and of the answers put behind those before
+-- what holds of some events and answers, with one of each more, holds of the first events and of the answers put after those before
 grown : (Holds : List Event → List Answer → Type 0) (taken some : List Event) (event : Event) (before answers pushed : List Answer) (answer : Answer)
-    → some ≡ taken ++ event ∷ [] → pushed ≡ answers ++ answer ∷ [] → length before ≤ length answers → Holds (taken ++ event ∷ []) (answers_behind before answers ++ answer ∷ [])
-    → Holds some (answers_behind before pushed)
+    → some ≡ taken ++ event ∷ [] → pushed ≡ answers ++ answer ∷ [] → length before ≤ length answers → Holds (taken ++ event ∷ []) (answers_after before answers ++ answer ∷ [])
+    → Holds some (answers_after before pushed)
 grown Holds taken some event before answers pushed answer more is le h =
-    subst (λ (es : List Event). Holds es (answers_behind before pushed)) (sym more)
-    (subst (λ (xs : List Answer). Holds (taken ++ event ∷ []) xs) (sym (ap (λ (xs : List Answer). answers_behind before xs) is ∙ behind_more before answers answer le)) h)
+    subst (λ (es : List Event). Holds es (answers_after before pushed)) (sym more)
+    (subst (λ (xs : List Answer). Holds (taken ++ event ∷ []) xs) (sym (ap (λ (xs : List Answer). answers_after before xs) is ∙ after_more before answers answer le)) h)
 
 pub loop-event-init : goal.loop-event-init
 loop-event-init g c =
@@ -72,7 +72,7 @@ loop-event-preserved g c =
           let new : StoreAndSlots g.row.S.Denot = here_with c.one-answer.new.store c.one-answer.new.calls.slots.items (map g.T.DeadRows.is_in c.args.sets.now) in
           grown (λ (es : List Event) (xs : List Answer). EachAlways g.S.PageStore es xs start new) (take index events) (take (index + 1) events) event
           before answers c.push_reserved.new.self.items answer more pushed le
-          (always_more g.S.PageStore (take index events) (answers_behind before answers) event answer start mid new c.loop-event.invariant.always
+          (always_more g.S.PageStore (take index events) (answers_after before answers) event answer start mid new c.loop-event.invariant.always
           (c.one-answer.ensures.steps mid.store (laws.follows_same mid.store)) c.one-answer.ensures.makes.always);
       runs = λ honest start history calls fits.
           let mid = here_with c.loop-event.store c.loop-event.calls.slots.items (map g.T.DeadRows.is_in c.args.sets.now) in
@@ -84,8 +84,8 @@ loop-event-preserved g c =
           let first : Moment g.row.S.Denot = snapshot_of (here_with c.args.store.now c.args.calls.now.slots.items (map g.T.DeadRows.is_in c.args.sets.now)) history calls in
           let between : Moment g.row.S.Denot = snapshot_of mid ran.then_history ran.then_calls in
           let last : Moment g.row.S.Denot = snapshot_of new one.then_history one.then_calls in
-          let done : Ran g.S.PageStore start (take index events ++ event ∷ []) (answers_behind before answers ++ answer ∷ []) first last =
-          ran_more g.S.PageStore laws start (take index events) (answers_behind before answers) event answer first between last follows ran.ran one.ran in
+          let done : Ran g.S.PageStore start (take index events ++ event ∷ []) (answers_after before answers ++ answer ∷ []) first last =
+          ran_more g.S.PageStore laws start (take index events) (answers_after before answers) event answer first between last follows ran.ran one.ran in
           record {
             then_history = one.then_history;
             then_calls = one.then_calls;
@@ -103,17 +103,17 @@ returns-clause-runs g c honest start history calls fits =
     record {
       then_history = ran.then_history;
       then_calls = ran.then_calls;
-      ran = subst (λ (es : List Event). Ran g.S.PageStore start es (answers_behind c.args.answers.now.items c.loop-event.answers.items) first last)
+      ran = subst (λ (es : List Event). Ran g.S.PageStore start es (answers_after c.args.answers.now.items c.loop-event.answers.items) first last)
           (take_all c.loop-event.event-index c.args.events.now c.loop-event-test.false)
           (subst (λ (xs : List Answer).
-          Ran g.S.PageStore start (take c.loop-event.event-index c.args.events.now) (answers_behind xs c.loop-event.answers.items) first last) c.in-Ok.ensures.items ran.ran);
+          Ran g.S.PageStore start (take c.loop-event.event-index c.args.events.now) (answers_after xs c.loop-event.answers.items) first last) c.in-Ok.ensures.items ran.ran);
     }
 
 pub returns-clause-always : goal.returns-clause-always
 returns-clause-always g c =
     let first : StoreAndSlots g.row.S.Denot = here_with c.args.store.now c.args.calls.now.slots.items (map g.T.DeadRows.is_in c.args.sets.now) in
     let last : StoreAndSlots g.row.S.Denot = here_with c.loop-event.store c.loop-event.calls.slots.items (map g.T.DeadRows.is_in c.args.sets.now) in
-    subst (λ (es : List Event). EachAlways g.S.PageStore es (answers_behind c.args.answers.now.items c.loop-event.answers.items) first last)
+    subst (λ (es : List Event). EachAlways g.S.PageStore es (answers_after c.args.answers.now.items c.loop-event.answers.items) first last)
     (take_all c.loop-event.event-index c.args.events.now c.loop-event-test.false)
     (subst (λ (xs : List Answer).
-    EachAlways g.S.PageStore (take c.loop-event.event-index c.args.events.now) (answers_behind xs c.loop-event.answers.items) first last) c.in-Ok.ensures.items c.loop-event.invariant.always)
+    EachAlways g.S.PageStore (take c.loop-event.event-index c.args.events.now) (answers_after xs c.loop-event.answers.items) first last) c.in-Ok.ensures.items c.loop-event.invariant.always)

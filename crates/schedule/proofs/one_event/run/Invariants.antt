@@ -2,7 +2,7 @@ use Rattle.std.proofs.Common.{◌≡◌, ◌+◌, ◌≤◌, length, take}
 use Rattle.std.specs.Vec.{vec_capacity}
 use Rattle.page_action.specs.States.{Continues}
 use Rattle.schedule.specs.Sessions.{here}
-use Rattle.schedule.specs.Making.{EachAlways, answers_behind}
+use Rattle.schedule.specs.Making.{EachAlways, answers_after}
 use Rattle.schedule.specs.TheoremRuns.{ForEachHistory, Runs}
 use Rattle.schedule.proofs.one_event.run.Given as goal
 
@@ -13,9 +13,9 @@ invariant-loop-event g l = record {
   kept : take (length l.initial.answers.items) l.answers.items ≡ l.initial.answers.items;
   steps : Continues g.S.PageStore.follows l.fn.store l.store;
   sessions : length l.calls.slots.items ≡ length l.fn.calls.slots.items;
-  always : EachAlways g.S.PageStore (take l.event-index l.events) (answers_behind l.initial.answers.items l.answers.items)
+  always : EachAlways g.S.PageStore (take l.event-index l.events) (answers_after l.initial.answers.items l.answers.items)
       (here g.T.DeadRows l.fn.store l.fn.calls l.sets) (here g.T.DeadRows l.store l.calls l.sets);
   runs : ForEachHistory g.S.PageStore (here g.T.DeadRows l.fn.store l.fn.calls l.sets) (here g.T.DeadRows l.store l.calls l.sets)
       (Runs g.S.PageStore (here g.T.DeadRows l.fn.store l.fn.calls l.sets) (here g.T.DeadRows l.store l.calls l.sets)
-      (take l.event-index l.events) (answers_behind l.initial.answers.items l.answers.items));
+      (take l.event-index l.events) (answers_after l.initial.answers.items l.answers.items));
 }

@@ -1,14 +1,14 @@
 use Rattle.std.specs.Prelude.{map}
 use Rattle.std.proofs.Common.{◌≡◌, ◌<◌, ℕ, Bool, true, Option, refl, sym, ap, subst, ◌∙◌}
-use Rattle.session_calls.specs.Ops.{session_of, is_sweep}
+use Rattle.session_calls.specs.Ops.{session_of, is_bulk_delete}
 use Rattle.session_calls.specs.Sessions.{SlotFits, let_go}
 use Rattle.session_calls.specs.declared.op.Op.{Op}
 use Rattle.session_calls.proofs.Going.{event_of_last, event_of_more, low_of}
 use Rattle.std.specs.Prelude.{if◌then◌else◌, Some, None}
 use Rattle.page_action.specs.States.{State, Backing}
 use Rattle.session_calls.specs.Due.{DueCountsDown}
-use Rattle.session_calls.specs.Sessions.{LeavesOwnFlagged, StandsByAnswer, KeepsBeforePins, CountsEntries, CountsPages, SparesLeaves}
-use Rattle.session_calls.proofs.Counting.{flagged_on, counts_over}
+use Rattle.session_calls.specs.Sessions.{LeavesOwnIncomplete, StandsByAnswer, KeepsBeforePins, CountsEntries, CountsPages, SparesLeaves}
+use Rattle.session_calls.proofs.Counting.{incomplete_on, counts_over}
 use Rattle.session_calls.proofs.Deleting.{tells_over, deletes_over, spares_over}
 use Rattle.session_calls.proofs.Effects.{go_pages}
 use Rattle.session_calls.proofs.Freeing.{frees_over, tells_no_more}
@@ -33,8 +33,8 @@ returns-then-is_last-clause-goes g c honest start history number call fits =
     let goes = rw (sym c.let_go.ensures.backing) at (c.step-answer.ensures.goes (rw (sym c.let_go.ensures.backing) honest) start history number call mine) in
     rw is (event_of_last _ old mid (g.S.PageStore.state c.let_go.new.store) start history number call c.in-Some.op c.step-answer.new.self c.step-answer.result mine.runs.ask mine.world low goes
     (sym c.is_last.ensures ∙ c.if-is_last.true)
-    (c.let_go.ensures.state ∙ ap (λ (v : Bool). let_go v (session_of c.step-answer.new.self) mid) c.step-answer.ensures.all.sweep
-    ∙ ap (λ (t : ℕ). let_go (is_sweep c.in-Some.op) t mid) (c.step-answer.ensures.all.session ∙ mine.runs.session)) mine.running)
+    (c.let_go.ensures.state ∙ ap (λ (v : Bool). let_go v (session_of c.step-answer.new.self) mid) c.step-answer.ensures.all.same_bulk
+    ∙ ap (λ (t : ℕ). let_go (is_bulk_delete c.in-Some.op) t mid) (c.step-answer.ensures.all.session ∙ mine.runs.session)) mine.running)
 
 pub returns-else-is_last-clause-goes : goal.returns-else-is_last-clause-goes
 returns-else-is_last-clause-goes g c honest start history number call fits =
@@ -59,24 +59,24 @@ returns-then-is_last-clause-follows g c honest =
     let after = c.step-answer.new.self in
     let model : (g.S.PageStore.backing c.step-answer.new.store).honest ≡ true = ap (λ (b : Backing). b.honest) (sym c.let_go.ensures.backing) ∙ honest in
     let last = sym c.is_last.ensures ∙ c.if-is_last.true in
-    let pages = ap (λ (st : State). st.pages) c.let_go.ensures.state ∙ go_pages (is_sweep after) (session_of after) mid in
+    let pages = ap (λ (st : State). st.pages) c.let_go.ensures.state ∙ go_pages (is_bulk_delete after) (session_of after) mid in
     rw is (record {
       due = λ fitted left due. counts_over old mid new (Some c.in-Some.op) left c.step-answer.result
           (subst (λ (b : Bool). DueCountsDown old mid (Some c.in-Some.op) (if b then None else Some after) left c.step-answer.result) last
           (c.step-answer.ensures.due model fitted.fits.world.order fitted.fits.runs.fits left due));
-      flagged = λ fitted own. flagged_on mid new (Some c.in-Some.op) None c.step-answer.result pages
-          (subst (λ (b : Bool). LeavesOwnFlagged mid (Some c.in-Some.op) (if b then None else Some after) c.step-answer.result) last
-          (c.step-answer.ensures.flagged model fitted.fits.world.order fitted.fits.world.starts fitted.fits.runs.fits own));
+      incomplete = λ fitted own. incomplete_on mid new (Some c.in-Some.op) None c.step-answer.result pages
+          (subst (λ (b : Bool). LeavesOwnIncomplete mid (Some c.in-Some.op) (if b then None else Some after) c.step-answer.result) last
+          (c.step-answer.ensures.incomplete model fitted.fits.world.order fitted.fits.world.starts fitted.fits.runs.fits own));
       stands = λ fitted. stands_over new (Some c.in-Some.op) c.step-answer.result last;
       waits = subst (λ (b : Bool). KeepsBeforePins old (Some c.in-Some.op) (if b then None else Some after) c.step-answer.result) last (c.step-answer.ensures.pins model);
       entries = subst (λ (st : State). CountsEntries sets old st (Some c.in-Some.op) None c.step-answer.result) (sym c.let_go.ensures.state)
-          (tells_over sets (is_sweep after) (session_of after) old mid (Some c.in-Some.op) _ c.step-answer.result (c.step-answer.ensures.entries model));
+          (tells_over sets (is_bulk_delete after) (session_of after) old mid (Some c.in-Some.op) _ c.step-answer.result (c.step-answer.ensures.entries model));
       deletes = subst (λ (st : State). CountsPages old st (Some c.in-Some.op) None c.step-answer.result) (sym c.let_go.ensures.state)
-          (deletes_over (is_sweep after) (session_of after) old mid (Some c.in-Some.op) _ c.step-answer.result (c.step-answer.ensures.deletes model));
-      frees = λ fitted. frees_over (is_sweep after) (session_of after) old mid new after c.let_go.ensures.state c.in-Some.op c.step-answer.result c.step-answer.ensures.all.session
+          (deletes_over (is_bulk_delete after) (session_of after) old mid (Some c.in-Some.op) _ c.step-answer.result (c.step-answer.ensures.deletes model));
+      frees = λ fitted. frees_over (is_bulk_delete after) (session_of after) old mid new after c.let_go.ensures.state c.in-Some.op c.step-answer.result c.step-answer.ensures.all.session
           c.step-answer.ensures.all.stats (c.step-answer.ensures.goes model fitted.start fitted.history fitted.number fitted.call fitted.fits);
       spares = subst (λ (st : State). SparesLeaves old st (Some c.in-Some.op) None c.step-answer.result) (sym c.let_go.ensures.state)
-          (spares_over (is_sweep after) (session_of after) old mid (Some c.in-Some.op) _ c.step-answer.result (c.step-answer.ensures.spares model));
+          (spares_over (is_bulk_delete after) (session_of after) old mid (Some c.in-Some.op) _ c.step-answer.result (c.step-answer.ensures.spares model));
     })
 
 -- ... that goes on
@@ -91,8 +91,8 @@ returns-else-is_last-clause-follows g c honest =
     rw (is, c.if-not-slot.false) (record {
       due = λ fitted left due. subst (λ (b : Bool). DueCountsDown old new (Some c.in-Some.op) (if b then None else Some after) left c.step-answer.result) on
           (c.step-answer.ensures.due honest fitted.fits.world.order fitted.fits.runs.fits left due);
-      flagged = λ fitted own. subst (λ (b : Bool). LeavesOwnFlagged new (Some c.in-Some.op) (if b then None else Some after) c.step-answer.result) on
-          (c.step-answer.ensures.flagged honest fitted.fits.world.order fitted.fits.world.starts fitted.fits.runs.fits own);
+      incomplete = λ fitted own. subst (λ (b : Bool). LeavesOwnIncomplete new (Some c.in-Some.op) (if b then None else Some after) c.step-answer.result) on
+          (c.step-answer.ensures.incomplete honest fitted.fits.world.order fitted.fits.world.starts fitted.fits.runs.fits own);
       stands = λ fitted. subst (λ (b : Bool). StandsByAnswer new (Some c.in-Some.op) (if b then None else Some after) c.step-answer.result) on
           (c.step-answer.ensures.stands honest fitted.fits.world.order fitted.fits.runs.fits);
       waits = subst (λ (b : Bool). KeepsBeforePins old (Some c.in-Some.op) (if b then None else Some after) c.step-answer.result) on (c.step-answer.ensures.pins honest);

@@ -1,7 +1,7 @@
 use Rattle.std.proofs.Common.{◌≡◌}
 use Rattle.worker_seats.specs.Seats.{known_by}
-use Rattle.sessions.specs.Turns.{SeatTold}
+use Rattle.sessions.specs.Turns.{SeatMeans}
 use Rattle.sessions.proofs.worker.one_job.Given as goal
 
 abbrev pub invariant-loop : goal.invariant-loop
-invariant-loop g l = (l.mine.worker ≡ l.fn.seat.worker) × SeatTold l.job l.at (known_by l.fn.seat.pass) (known_by l.mine.pass)
+invariant-loop g l = (l.mine.worker ≡ l.fn.seat.worker) × SeatMeans l.job l.at (known_by l.fn.seat.pass) (known_by l.mine.pass)

@@ -2,7 +2,7 @@ use Rattle.std.proofs.Common.{◌≡◌, None, false, refl, subst, sym, ◌∙�
 use Rattle.index_model.specs.Order.{bound_of, bound_cmp}
 use Rattle.std.specs.Ordering.{is_lt}
 use Rattle.tree_shape.specs.Separators.{IsKeyBefore}
-use Rattle.tree_shape.proofs.Shortest.{lies_before, stands_before, never_itself, not_behind, not_behind_itself}
+use Rattle.tree_shape.proofs.Shortest.{lies_before, stands_before, never_itself, not_behind, not_after_itself}
 use Rattle.tree_shape.proofs.separators.part.Goals as goal
 
 pub returns-then-lt-clause-is : goal.returns-then-lt-clause-is
@@ -22,4 +22,4 @@ returns-then-lt-clause-beyond c =
 
 pub returns-else-lt-clause-up_to : goal.returns-else-lt-clause-up_to
 returns-else-lt-clause-up_to c =
-    subst (λ b. is_lt (bound_cmp b (bound_of c.args.last.now)) ≡ false) (sym c.bound.ensures) (not_behind_itself (bound_of c.args.last.now))
+    subst (λ b. is_lt (bound_cmp b (bound_of c.args.last.now)) ≡ false) (sym c.bound.ensures) (not_after_itself (bound_of c.args.last.now))

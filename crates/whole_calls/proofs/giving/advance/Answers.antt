@@ -2,18 +2,18 @@ use Rattle.std.proofs.Common.{map, rules, ◌≡◌, Some, None, refl, inl}
 use Rattle.schedule.specs.declared.event.Event.TheVariants.{Next}
 use Rattle.schedule.proofs.Running.{makes_runs}
 use Rattle.whole_calls.proofs.Words.{Gave, MovesCall, Takes, snapshot_of, here_with}
-use Rattle.whole_calls.specs.Going.{IsAmong, CallGoes}
+use Rattle.whole_calls.specs.Going.{IsAmong, CallIsRun}
 use Rattle.whole_calls.specs.Made.{IsMadeOf}
-use Rattle.whole_calls.specs.Stepping.{StepGoes, ScanGoes}
+use Rattle.whole_calls.specs.Stepping.{StepIsRun, ScanIsRun}
 use Rattle.whole_calls.proofs.Composing.{joined, to_second, goes_once, among_right}
 use Rattle.whole_calls.proofs.Made.{made_then, made_once}
-use Rattle.whole_calls.proofs.Lasting.{scan_steps, scan_nexts, waits_behind, waits_none}
+use Rattle.whole_calls.proofs.Lasting.{scan_steps, scan_nexts, waits_after, waits_none}
 use Rattle.whole_calls.proofs.giving.advance.Given.{Over}
 use Rattle.whole_calls.proofs.giving.advance.Goals.{After-next-answer}
 use Rattle.whole_calls.proofs.giving.advance.Goals as goal
 
 -- it was asked for its next entry
-asked : (g : Over) (c : After-next-answer g) → CallGoes g.S.PageStore c.args.session (ScanGoes g.S.PageStore c.args.session c.args.least_room c.next-answer.result) (Some c.next-answer.result)
+asked : (g : Over) (c : After-next-answer g) → CallIsRun g.S.PageStore c.args.session (ScanIsRun g.S.PageStore c.args.session c.args.least_room c.next-answer.result) (Some c.next-answer.result)
     (here_with c.args.store.now c.args.calls.now.slots.items (map g.T.DeadRows.is_in c.args.sets.now))
     (here_with c.next-answer.new.store c.next-answer.new.calls.slots.items (map g.T.DeadRows.is_in c.args.sets.now))
 asked g c =
@@ -24,7 +24,7 @@ asked g c =
     let sets = map g.T.DeadRows.is_in c.args.sets.now in
     let old = here_with c.args.store.now c.args.calls.now.slots.items sets in
     let new = here_with c.next-answer.new.store c.next-answer.new.calls.slots.items sets in
-    goes_once g.S.PageStore laws session (ScanGoes g.S.PageStore session least answer) (Next session) answer old new refl
+    goes_once g.S.PageStore laws session (ScanIsRun g.S.PageStore session least answer) (Next session) answer old new refl
     (makes_runs g.S.PageStore laws (Next session) answer old new c.next-answer.ensures.makes)
     (λ start h hc k kc honest fits does. scan_nexts g.S.PageStore session least start answer (snapshot_of old h hc) (snapshot_of new k kc) fits
     (record { steps = c.next-answer.ensures.steps; others = c.next-answer.ensures.makes.always.others session refl }) does)
@@ -45,10 +45,10 @@ returns-in-Gave-None-clause-goes g c =
     let mid = here_with c.next-answer.new.store c.next-answer.new.calls.slots.items sets in
     let new = here_with c.step.new.store c.step.new.calls.slots.items sets in
     let none : c.next-answer.result ≡ Gave None = search rules in
-    joined g.S.PageStore g.met.S.PageStore.laws session (λ s. ScanGoes g.S.PageStore session least c.next-answer.result)
-    (λ s. StepGoes g.S.PageStore session least answer) (λ s. ScanGoes g.S.PageStore session least answer)
+    joined g.S.PageStore g.met.S.PageStore.laws session (λ s. ScanIsRun g.S.PageStore session least c.next-answer.result)
+    (λ s. StepIsRun g.S.PageStore session least answer) (λ s. ScanIsRun g.S.PageStore session least answer)
     (Some c.next-answer.result) (Some answer) (Some answer) old mid new c.next-answer.ensures.steps c.step.ensures.steps (to_second (Some c.next-answer.result) (Some answer))
-    (λ start h hc k kc l lc fx fy fz one two. waits_behind g.S.PageStore session least answer (snapshot_of old h hc) (snapshot_of mid k kc) (snapshot_of new l lc)
+    (λ start h hc k kc l lc fx fy fz one two. waits_after g.S.PageStore session least answer (snapshot_of old h hc) (snapshot_of mid k kc) (snapshot_of new l lc)
     (waits_none g.S.PageStore session least c.next-answer.result (snapshot_of old h hc) (snapshot_of mid k kc) none one)
     (scan_steps g.S.PageStore session least answer (snapshot_of mid k kc) (snapshot_of new l lc) (record { steps = c.step.ensures.steps; others = c.step.ensures.others.others }) two))
     (asked g ((goal.at.returns-in-Gave-None-clause-goes g c).After-next-answer)) c.step.ensures.goes

@@ -1,7 +1,7 @@
 use Rattle.std.proofs.Common.{map, ◌≡◌, ◌++◌, false, Ok, Err, Option, None, Some, sym, ap, ◌∙◌}
 use Rattle.whole_calls.proofs.Words.{Entry, snapshot_of, here_with}
-use Rattle.whole_calls.specs.Giving.{TellsGiven, given_of, given_outcome}
-use Rattle.whole_calls.specs.Stepping.{ScanGoes}
+use Rattle.whole_calls.specs.Giving.{SessionGivenMeans, given_of, given_outcome}
+use Rattle.whole_calls.specs.Stepping.{ScanIsRun}
 use Rattle.whole_calls.specs.Made.{Answered, ComesTo}
 use Rattle.whole_calls.proofs.Composing.{goes_told}
 use Rattle.whole_calls.proofs.Made.{made_then, made_told, answered_left}
@@ -20,7 +20,7 @@ returns-in-Ok-Some-clause-goes g c =
     let old = here_with c.args.store.now c.args.calls.now.slots.items sets in
     let new = here_with c.seek-came.new.store c.seek-came.new.calls.slots.items sets in
     let is : given_of came ≡ Ok (Some entry) = sym c.given.ensures ∙ c.in-Ok-Some.is ∙ ap (λ (o : Option Entry). Ok o) c.in-Ok-Some.field-0-is in
-    goes_told g.S.PageStore session (λ s. ScanGoes g.S.PageStore session least came) (λ s. TellsGiven session (Ok (Some entry))) (Some came) (given_outcome (Ok (Some entry))) old new
+    goes_told g.S.PageStore session (λ s. ScanIsRun g.S.PageStore session least came) (λ s. SessionGivenMeans session (Ok (Some entry))) (Some came) (given_outcome (Ok (Some entry))) old new
     (λ start h hc k kc answers fits by t. (
       rw is at (give_comes came answers c.seek-came.ensures.kind by),
       some_given session came entry (snapshot_of old h hc) (snapshot_of new k kc) c.seek-came.ensures.kind is

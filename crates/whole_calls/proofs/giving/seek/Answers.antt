@@ -2,13 +2,13 @@ use Rattle.std.proofs.Common.{map, ◌≤◌, length-append, arith, Some, None, 
 use Rattle.session_calls.proofs.RunningOn.{runs_on_same, runs_on_then}
 use Rattle.schedule.proofs.Bounds.{work_bounded}
 use Rattle.whole_calls.proofs.Words.{Format, snapshot_of, here_with, slot_of}
-use Rattle.whole_calls.specs.Stepping.{ScanGivesNothing, ScanGoes}
+use Rattle.whole_calls.specs.Stepping.{ScanGivesNothing, ScanIsRun}
 use Rattle.whole_calls.specs.Going.{IsAmong}
 use Rattle.whole_calls.specs.Made.{Answered}
 use Rattle.whole_calls.proofs.Composing.{joined, to_second, goes_nowhere, among_right}
 use Rattle.whole_calls.proofs.Made.{made_nowhere, made_then, made_told, among_some}
 use Rattle.whole_calls.proofs.Given.{down_after, down_on}
-use Rattle.whole_calls.proofs.Lasting.{lasts_here, waits_then, waits_behind, waits_on}
+use Rattle.whole_calls.proofs.Lasting.{lasts_here, waits_then, waits_after, waits_on}
 use Rattle.whole_calls.proofs.giving.seek.Goals as goal
 
 pub loop-left-init : goal.loop-left-init
@@ -35,10 +35,10 @@ returns-in_default-clause-goes g c =
     let mid = here_with c.loop-left.store c.loop-left.calls.slots.items sets in
     let new = here_with c.advance.new.store c.advance.new.calls.slots.items sets in
     joined g.S.PageStore g.met.S.PageStore.laws session (λ s. ScanGivesNothing g.S.PageStore session)
-    (λ s. ScanGoes g.S.PageStore session least answer) (λ s. ScanGoes g.S.PageStore session least answer) None (Some answer) (Some answer) old mid new
+    (λ s. ScanIsRun g.S.PageStore session least answer) (λ s. ScanIsRun g.S.PageStore session least answer) None (Some answer) (Some answer) old mid new
     c.loop-left.invariant.steps c.advance.ensures.steps (to_second None (Some answer))
     (λ start h hc k kc l lc fx fy fz one two.
-    waits_behind g.S.PageStore session least answer (snapshot_of old h hc) (snapshot_of mid k kc) (snapshot_of new l lc) one two) c.loop-left.invariant.goes c.advance.ensures.goes
+    waits_after g.S.PageStore session least answer (snapshot_of old h hc) (snapshot_of mid k kc) (snapshot_of new l lc) one two) c.loop-left.invariant.goes c.advance.ensures.goes
 
 pub loop-left-preserved : goal.loop-left-preserved
 loop-left-preserved g c =
@@ -58,7 +58,7 @@ loop-left-preserved g c =
       others = λ o ne. c.advance.ensures.others.others o ne ∙ c.loop-left.invariant.others o ne;
       runs_on = runs_on_then (slot_of c.args.calls.now.slots.items session) (slot_of c.loop-left.calls.slots.items session)
           (slot_of c.advance.new.calls.slots.items session) c.loop-left.invariant.runs_on c.advance.ensures.runs_on;
-      goes = joined g.S.PageStore laws session (λ s. ScanGivesNothing g.S.PageStore session) (λ s. ScanGoes g.S.PageStore session least answer)
+      goes = joined g.S.PageStore laws session (λ s. ScanGivesNothing g.S.PageStore session) (λ s. ScanIsRun g.S.PageStore session least answer)
           (λ s. ScanGivesNothing g.S.PageStore session) None (Some answer) None old mid new
           c.loop-left.invariant.steps c.advance.ensures.steps (λ xs ys none so. tt)
           (λ start h hc k kc l lc fx fy fz one two. waits_then g.S.PageStore session least (snapshot_of old h hc) (snapshot_of mid k kc) (snapshot_of new l lc) one

@@ -1,8 +1,8 @@
 use Rattle.std.proofs.Common.{map, refl, ◌∷◌, [], inl}
 use Rattle.schedule.proofs.Running.{makes_runs}
 use Rattle.whole_calls.proofs.Words.{here_with, BeginsCall}
-use Rattle.whole_calls.specs.Going.{CameBy}
-use Rattle.whole_calls.specs.Telling.{begun_of, begin_outcome}
+use Rattle.whole_calls.specs.Going.{IsOutcomeOf}
+use Rattle.whole_calls.specs.Meanings.{begun_of, begin_outcome}
 use Rattle.whole_calls.proofs.Beginning.{beginning, beginning_is, begun_by, goes_begun}
 use Rattle.whole_calls.proofs.Made.{made_once}
 use Rattle.whole_calls.proofs.running.begin.Goals as goal
@@ -29,7 +29,7 @@ returns-clause-made g c least_room =
     let answer = c.begin.result in
     let sets = map g.T.DeadRows.is_in c.args.sets.now in
     let m = c.begin.ensures.makes in
-    rw c.begun.ensures (made_once g.S.PageStore c.args.session least_room (λ answers. CameBy answers (begin_outcome (begun_of answer)))
+    rw c.begun.ensures (made_once g.S.PageStore c.args.session least_room (λ answers. IsOutcomeOf answers (begin_outcome (begun_of answer)))
     (beginning c.args.session c.args.request) (BeginsCall c.args.session c.args.request) answer
     (here_with c.args.store.now c.args.calls.now.slots.items sets) (here_with c.begin.new.store c.begin.new.calls.slots.items sets)
     (beginning_is c.args.session c.args.request) refl tt m (begun_by answer (answer ∷ []) m.always.answers (inl refl)))

@@ -4,10 +4,10 @@ use Rattle.index_model.specs.declared.fault.Fault.TheVariants.{PageDamaged}
 use Rattle.whole_calls.proofs.Words.{Format, Answer, Going, snapshot_of, here_with, slot_of}
 use Rattle.whole_calls.specs.Going.{IsAmong}
 use Rattle.whole_calls.specs.Made.{Answered}
-use Rattle.whole_calls.specs.Stepping.{StepGoes, HasGoneTo, FinishGoes}
+use Rattle.whole_calls.specs.Stepping.{StepIsRun, HasReached, FinishIsRun}
 use Rattle.whole_calls.proofs.Composing.{joined, to_second, goes_nowhere, among_right}
 use Rattle.whole_calls.proofs.Gone.{far_nowhere}
-use Rattle.whole_calls.proofs.Lasting.{lasts_here, gone_on}
+use Rattle.whole_calls.proofs.Lasting.{lasts_here, moved_beyond}
 use Rattle.whole_calls.proofs.Made.{made_nowhere, made_then, made_told, among_some}
 use Rattle.whole_calls.proofs.Tellings.{step_comes, comes_on, refused_comes}
 use Rattle.whole_calls.proofs.Spending.{steps_few}
@@ -19,7 +19,7 @@ loop-left-init g c = record {
   sessions = refl;
   others = λ o ne. refl;
   limits = refl;
-  goes = goes_nowhere g.S.PageStore g.met.S.PageStore.laws c.args.session (HasGoneTo g.S.PageStore c.args.session)
+  goes = goes_nowhere g.S.PageStore g.met.S.PageStore.laws c.args.session (HasReached g.S.PageStore c.args.session)
       (here_with c.args.store.now c.args.calls.now.slots.items (map g.T.DeadRows.is_in c.args.sets.now))
       (λ x. record { lasts = lasts_here g.S.PageStore c.args.session x; sets_are = refl; limits_are = refl; far = far_nowhere c.args.session x; counted = λ what so. so; numbers = refl });
   runs_on = runs_on_same (slot_of c.args.calls.now.slots.items c.args.session);
@@ -36,8 +36,8 @@ returns-in_default-clause-goes g c =
     let old = here_with c.args.store.now c.args.calls.now.slots.items sets in
     let mid = here_with c.loop-left.store c.loop-left.calls.slots.items sets in
     let new = here_with c.step.new.store c.step.new.calls.slots.items sets in
-    joined g.S.PageStore g.met.S.PageStore.laws session (λ s. HasGoneTo g.S.PageStore session) (λ s. StepGoes g.S.PageStore session least answer)
-    (FinishGoes g.S.PageStore session least answer) None (Some answer) (Some answer) old mid new
+    joined g.S.PageStore g.met.S.PageStore.laws session (λ s. HasReached g.S.PageStore session) (λ s. StepIsRun g.S.PageStore session least answer)
+    (FinishIsRun g.S.PageStore session least answer) None (Some answer) (Some answer) old mid new
     c.loop-left.invariant.steps c.step.ensures.steps (to_second None (Some answer))
     (λ start h hc k kc l lc fx fy fz one two.
     record { last = snapshot_of mid k kc; fits = fy; gone = one; lasts = record { steps = c.step.ensures.steps; others = c.step.ensures.others.others }; step = two })
@@ -59,12 +59,12 @@ loop-left-preserved g c =
       sessions = c.step.ensures.others.sessions ∙ c.loop-left.invariant.sessions;
       others = λ o ne. c.step.ensures.others.others o ne ∙ c.loop-left.invariant.others o ne;
       limits = c.step.ensures.limits ∙ c.loop-left.invariant.limits;
-      goes = joined g.S.PageStore laws session (λ s. HasGoneTo g.S.PageStore session) (λ s. StepGoes g.S.PageStore session least answer)
-          (λ s. HasGoneTo g.S.PageStore session) None (Some answer) None old mid new
+      goes = joined g.S.PageStore laws session (λ s. HasReached g.S.PageStore session) (λ s. StepIsRun g.S.PageStore session least answer)
+          (λ s. HasReached g.S.PageStore session) None (Some answer) None old mid new
           c.loop-left.invariant.steps c.step.ensures.steps (λ xs ys none so. tt)
-          (λ start h hc k kc l lc fx fy fz one two. gone_on g.S.PageStore session least (snapshot_of old h hc) (snapshot_of mid k kc) (snapshot_of new l lc) one
+          (λ start h hc k kc l lc fx fy fz one two. moved_beyond g.S.PageStore session least (snapshot_of old h hc) (snapshot_of mid k kc) (snapshot_of new l lc) one
           (record { steps = c.step.ensures.steps; others = c.step.ensures.others.others }) refl c.step.ensures.limits
-          (subst (λ (a : Answer). StepGoes g.S.PageStore session least a (snapshot_of mid k kc) (snapshot_of new l lc)) going two))
+          (subst (λ (a : Answer). StepIsRun g.S.PageStore session least a (snapshot_of mid k kc) (snapshot_of new l lc)) going two))
           c.loop-left.invariant.goes c.step.ensures.goes;
       runs_on = runs_on_then (slot_of c.args.calls.now.slots.items session) (slot_of c.loop-left.calls.slots.items session)
           (slot_of c.step.new.calls.slots.items session) c.loop-left.invariant.runs_on c.step.ensures.runs_on;

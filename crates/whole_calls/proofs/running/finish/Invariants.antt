@@ -1,10 +1,10 @@
 use Rattle.std.proofs.Common.{◌≡◌, ◌+◌, ◌≤◌, None, length}
 use Rattle.whole_calls.proofs.Words.{Continues, RunsOn, slot_of, OthersStay, ForEachHistory}
 use Rattle.schedule.specs.Sessions.{here}
-use Rattle.whole_calls.specs.Going.{CallGoes}
+use Rattle.whole_calls.specs.Going.{CallIsRun}
 use Rattle.whole_calls.specs.Made.{IsMadeOf}
 use Rattle.whole_calls.specs.Spending.{steps_left}
-use Rattle.whole_calls.specs.Stepping.{HasGoneTo}
+use Rattle.whole_calls.specs.Stepping.{HasReached}
 use Rattle.whole_calls.proofs.running.finish.Given as goal
 
 abbrev pub invariant-loop-left : goal.invariant-loop-left
@@ -13,7 +13,7 @@ invariant-loop-left g l = record {
   sessions : length l.calls.slots.items ≡ length l.fn.calls.slots.items;
   others : OthersStay l.session l.fn.calls.slots.items l.calls.slots.items;
   limits : (g.S.PageStore.state l.store).limits ≡ (g.S.PageStore.state l.fn.store).limits;
-  goes : CallGoes g.S.PageStore l.session (HasGoneTo g.S.PageStore l.session) None (here g.T.DeadRows l.fn.store l.fn.calls l.sets) (here g.T.DeadRows l.store l.calls l.sets);
+  goes : CallIsRun g.S.PageStore l.session (HasReached g.S.PageStore l.session) None (here g.T.DeadRows l.fn.store l.fn.calls l.sets) (here g.T.DeadRows l.store l.calls l.sets);
   runs_on : RunsOn (slot_of l.fn.calls.slots.items l.session) (slot_of l.calls.slots.items l.session);
   made : IsMadeOf g.S.PageStore l.session l.least_room (λ answers. 18446744073709551615 ≤ l.left + length answers)
       (here g.T.DeadRows l.fn.store l.fn.calls l.sets) (here g.T.DeadRows l.store l.calls l.sets);

@@ -1,10 +1,10 @@
 use Rattle.std.proofs.Common.{map, Option, Some, None, Ok, Err, refl, sym, subst, inl, inr, ◌∙◌}
 use Rattle.index_model.specs.Limits.{AreLimits}
 use Rattle.whole_calls.proofs.Words.{Format, Ask, asked_by, Op, Begun, Refused, snapshot_of, here_with, slot_of}
-use Rattle.whole_calls.specs.Going.{CameBy}
+use Rattle.whole_calls.specs.Going.{IsOutcomeOf}
 use Rattle.whole_calls.specs.Made.{Answered, ComesTo}
-use Rattle.whole_calls.specs.Stepping.{BeginGoes, FinishGoes, RunGoes}
-use Rattle.whole_calls.specs.Telling.{MayAnswer, MayComeTo, TellsEnd, begin_outcome}
+use Rattle.whole_calls.specs.Stepping.{BeginIsRun, FinishIsRun, RequestIsRun}
+use Rattle.whole_calls.specs.Meanings.{MayAnswer, MayComeTo, EndMeans, begin_outcome}
 use Rattle.whole_calls.proofs.Blocks.{given_up_counted, given_up_numbers}
 use Rattle.whole_calls.proofs.Composing.{joined, to_first, to_second, goes_told}
 use Rattle.whole_calls.proofs.Whole.{RunsOut, has_run}
@@ -27,7 +27,7 @@ returns-clause-goes g c =
     let there = here_with c.give_up.new.store c.give_up.new.calls.slots.items sets in
     let are = subst (λ (l : Format). AreLimits l) (sym c.begin.ensures.limits) c.limits-limits.ensures.allowed in
     let end = c.give_up.ensures in
-    let out = joined g.S.PageStore laws session (FinishGoes g.S.PageStore session least answer) (λ s. TellsEnd session)
+    let out = joined g.S.PageStore laws session (FinishIsRun g.S.PageStore session least answer) (λ s. EndMeans session)
     (RunsOut g.S.PageStore session least answer added) (Some answer) None (Some answer) begun here there
     c.finish-answer.ensures.steps end.steps (to_first (Some answer) None)
     (λ start h hc k kc l lc fx fy fz one two. record {
@@ -47,8 +47,8 @@ returns-clause-goes g c =
       };
       state = end.state;
     }) c.finish-answer.ensures.goes end.goes in
-    joined g.S.PageStore laws session (λ s. BeginGoes g.S.PageStore session request (Ok tt)) (RunsOut g.S.PageStore session least answer added)
-    (RunGoes g.S.PageStore session least request answer added) (Some Begun) (Some answer) (Some answer) old begun there
+    joined g.S.PageStore laws session (λ s. BeginIsRun g.S.PageStore session request (Ok tt)) (RunsOut g.S.PageStore session least answer added)
+    (RequestIsRun g.S.PageStore session least request answer added) (Some Begun) (Some answer) (Some answer) old begun there
     c.begin.ensures.steps (λ f h. end.steps f (c.finish-answer.ensures.steps f h)) (to_second (Some Begun) (Some answer))
     (λ start h hc k kc l lc fx fy fz one two. inr (has_run g.S.PageStore laws start session least request answer added (snapshot_of old h hc) (snapshot_of begun k kc) (snapshot_of there l lc) one fy
     (record { steps = c.begin.ensures.steps; others = c.begin.ensures.others.others }) two are))
@@ -62,8 +62,8 @@ returns-in-Err-clause-goes g c =
     let sets = map g.T.DeadRows.is_in c.args.sets.now in
     let old = here_with c.args.store.now c.args.calls.now.slots.items sets in
     let new = here_with c.begin.new.store c.begin.new.calls.slots.items sets in
-    goes_told g.S.PageStore session (λ s. BeginGoes g.S.PageStore session request (Err fault))
-    (RunGoes g.S.PageStore session c.args.least_room request (Refused fault) None) (Some (Refused fault)) (Some (Refused fault)) old new
+    goes_told g.S.PageStore session (λ s. BeginIsRun g.S.PageStore session request (Err fault))
+    (RequestIsRun g.S.PageStore session c.args.least_room request (Refused fault) None) (Some (Refused fault)) (Some (Refused fault)) old new
     (λ start h hc k kc answers fits came begun. (came, inl (record { fault = fault; refused = refl; none = refl; told = begun.told; cause = c.in-Err.ensures.cause })))
     (rw c.in-Err.is at c.begin.ensures.goes)
 
@@ -77,7 +77,7 @@ returns-clause-made g c =
     let begun = here_with c.begin.new.store c.begin.new.calls.slots.items sets in
     let here = here_with c.finish-answer.new.store c.finish-answer.new.calls.slots.items sets in
     let there = here_with c.give_up.new.store c.give_up.new.calls.slots.items sets in
-    made_then g.S.PageStore session least (λ answers. CameBy answers (begin_outcome c.begin.result)) (Answered answer) (Answered answer) old begun
+    made_then g.S.PageStore session least (λ answers. IsOutcomeOf answers (begin_outcome c.begin.result)) (Answered answer) (Answered answer) old begun
     there (λ xs ys one two. answered_right xs ys answer two) (c.begin.ensures.made least)
     (made_then g.S.PageStore session least (Answered answer) (ComesTo None) (Answered answer) begun here there
     (λ xs ys one two. answered_left xs ys answer one) c.finish-answer.ensures.made (c.give_up.ensures.made least))
@@ -85,7 +85,7 @@ returns-clause-made g c =
 pub returns-in-Err-clause-made : goal.returns-in-Err-clause-made
 returns-in-Err-clause-made g c =
     let sets = map g.T.DeadRows.is_in c.args.sets.now in
-    made_told g.S.PageStore c.args.session c.args.least_room (λ answers. CameBy answers (Some (Refused c.in-Err.fault)))
+    made_told g.S.PageStore c.args.session c.args.least_room (λ answers. IsOutcomeOf answers (Some (Refused c.in-Err.fault)))
     (Answered (Refused c.in-Err.fault)) (here_with c.args.store.now c.args.calls.now.slots.items sets)
     (here_with c.begin.new.store c.begin.new.calls.slots.items sets) (λ xs came. inl came) (rw c.in-Err.is at (c.begin.ensures.made c.args.least_room))
 

@@ -22,7 +22,7 @@ returns-in-Ok-new-clause-begins g c honest frames limits pages index tree =
 pub returns-in-Err-new-clause-begins : goal.returns-in-Err-new-clause-begins
 returns-in-Err-new-clause-begins g c honest frames limits pages index tree = inl c.in-Err-new.ensures.fault
 
--- there was no room for the calls of its sessions behind an index that was opened
+-- there was no room for the calls of its sessions after an index that was opened
 pub returns-in-Err-new-clause-cause : goal.returns-in-Err-new-clause-cause
 returns-in-Err-new-clause-cause g c =
     let same : c.into_device.result ≡ device_of g.D.Device c.in-Ok.store = c.into_device.ensures ∙ ap (device_of g.D.Device) c.in-Err-new.ensures.given_back in

@@ -14,49 +14,49 @@ use Rattle.schedule.specs.TheoremRuns.{Fits}
 use Rattle.schedule.specs.MomentInvariants.{here_with}
 use Rattle.schedule.specs.TheoremRuns.{ForEachHistory}
 use Rattle.schedule.proofs.Unused.{fits_with, no_set_runs}
-use Rattle.whole_calls.specs.Going.{CallGoes}
+use Rattle.whole_calls.specs.Going.{CallIsRun}
 use Rattle.whole_calls.specs.Made.{IsMadeOf, ComesTo}
-use Rattle.whole_calls.specs.Sweeping.{SweepTold, sweep_outcome, TellsEntries, TellsPages}
+use Rattle.whole_calls.specs.Vacuuming.{VacuumMeans, vacuum_outcome, StatsCountEntries, StatsCountPages}
 use Rattle.session_calls.specs.declared.request.Request.TheVariants.{Bulk as ToBulk}
 use Rattle.access_method.specs.Indexes.{slots_within, slots_with, IndexFits}
-use Rattle.access_method.proofs.Sweeps.{swept_or_less, none_sweeps, safe_within}
+use Rattle.access_method.proofs.BulkDeletions.{bulk_deleted_or_less, none_sweeps, safe_within}
 use Rattle.access_method.proofs.index.Index.ambulkdelete.Given.{Over}
 use Rattle.access_method.proofs.index.Index.ambulkdelete.Goals.{After-bulk_delete}
 use Rattle.access_method.proofs.index.Index.ambulkdelete.Goals as goal
 
 -- the run over the one set
 goes : (g : Over) (c : After-bulk_delete g)
-    → CallGoes g.S.PageStore 63 (SweepTold 63 (ToBulk 0) c.bulk_delete.result) (sweep_outcome c.bulk_delete.result)
+    → CallIsRun g.S.PageStore 63 (VacuumMeans 63 (ToBulk 0) c.bulk_delete.result) (vacuum_outcome c.bulk_delete.result)
     (slots_with (g.T.DeadRows.is_in c.args.dead.now) c.args.self.now) (here_with c.bulk_delete.new.store c.bulk_delete.new.calls.slots.items (g.T.DeadRows.is_in c.args.dead.now ∷ []))
 goes g c = subst (λ (l : List (Row → Bool)).
-    CallGoes g.S.PageStore 63 (SweepTold 63 (ToBulk 0) c.bulk_delete.result) (sweep_outcome c.bulk_delete.result)
+    CallIsRun g.S.PageStore 63 (VacuumMeans 63 (ToBulk 0) c.bulk_delete.result) (vacuum_outcome c.bulk_delete.result)
     (here_with c.args.self.now.store c.args.self.now.calls.slots.items l) (here_with c.bulk_delete.new.store c.bulk_delete.new.calls.slots.items l))
     refl c.bulk_delete.ensures.goes
 
 counted : (g : Over) (c : After-bulk_delete g)
     → ForEachHistory g.S.PageStore (slots_with (g.T.DeadRows.is_in c.args.dead.now) c.args.self.now)
     (here_with c.bulk_delete.new.store c.bulk_delete.new.calls.slots.items (g.T.DeadRows.is_in c.args.dead.now ∷ [])) (λ start history calls.
-    TellsEntries (g.S.PageStore.state c.bulk_delete.new.store) c.bulk_delete.result)
+    StatsCountEntries (g.S.PageStore.state c.bulk_delete.new.store) c.bulk_delete.result)
 counted g c = subst (λ (l : List (Row → Bool)).
     ForEachHistory g.S.PageStore (here_with c.args.self.now.store c.args.self.now.calls.slots.items l) (here_with c.bulk_delete.new.store c.bulk_delete.new.calls.slots.items l) (λ start history calls.
-    TellsEntries (g.S.PageStore.state c.bulk_delete.new.store) c.bulk_delete.result))
+    StatsCountEntries (g.S.PageStore.state c.bulk_delete.new.store) c.bulk_delete.result))
     refl c.bulk_delete.ensures.entries
 
 pages_told : (g : Over) (c : After-bulk_delete g)
     → ForEachHistory g.S.PageStore (slots_with (g.T.DeadRows.is_in c.args.dead.now) c.args.self.now)
     (here_with c.bulk_delete.new.store c.bulk_delete.new.calls.slots.items (g.T.DeadRows.is_in c.args.dead.now ∷ [])) (λ start history calls.
-    IfOk c.bulk_delete.result (λ stats. TellsPages (g.S.PageStore.state c.bulk_delete.new.store) stats × (stats.pages_newly_deleted ≡ 0)))
+    IfOk c.bulk_delete.result (λ stats. StatsCountPages (g.S.PageStore.state c.bulk_delete.new.store) stats × (stats.pages_newly_deleted ≡ 0)))
 pages_told g c = subst
     (λ (l : List (Row → Bool)).
     ForEachHistory g.S.PageStore (here_with c.args.self.now.store c.args.self.now.calls.slots.items l)
     (here_with c.bulk_delete.new.store c.bulk_delete.new.calls.slots.items l) (λ start history calls.
-    IfOk c.bulk_delete.result (λ stats. TellsPages (g.S.PageStore.state c.bulk_delete.new.store) stats × (stats.pages_newly_deleted ≡ 0))))
+    IfOk c.bulk_delete.result (λ stats. StatsCountPages (g.S.PageStore.state c.bulk_delete.new.store) stats × (stats.pages_newly_deleted ≡ 0))))
     refl c.bulk_delete.ensures.stats
 
 pub returns-clause-made : goal.returns-clause-made
 returns-clause-made g c =
     subst (λ (l : List (Row → Bool)).
-    IsMadeOf g.S.PageStore 63 5 (ComesTo (sweep_outcome c.bulk_delete.result))
+    IsMadeOf g.S.PageStore 63 5 (ComesTo (vacuum_outcome c.bulk_delete.result))
     (here_with c.args.self.now.store c.args.self.now.calls.slots.items l) (here_with c.bulk_delete.new.store c.bulk_delete.new.calls.slots.items l))
     refl c.bulk_delete.ensures.made
 
@@ -67,15 +67,15 @@ fits_then g c start history calls fits =
     let now = snapshot_of (slots_within c.args.self.now) history calls in
     fits_with g.S.PageStore start now (g.T.DeadRows.is_in c.args.dead.now ∷ []) (no_set_runs g.S.PageStore start now refl fits) fits
 
-pub returns-clause-sweeps : goal.returns-clause-sweeps
-returns-clause-sweeps g c honest start history calls fits =
-    let after = (goal.at.returns-clause-sweeps g c).After-bulk_delete in
+pub returns-clause-deletions : goal.returns-clause-deletions
+returns-clause-deletions g c honest start history calls fits =
+    let after = (goal.at.returns-clause-deletions g c).After-bulk_delete in
     let dead = g.T.DeadRows.is_in c.args.dead.now in
     let now = snapshot_of (slots_within c.args.self.now) history calls in
     let r = goes g after honest start history calls (fits_then g after start history calls fits) in
     let behind = snapshot_of (here_with c.bulk_delete.new.store c.bulk_delete.new.calls.slots.items (dead ∷ [])) r.then_history r.then_calls in
     record {
-      sweeps = r;
+      deletions = r;
       fits = fits_with g.S.PageStore start behind []
           (none_sweeps c.args.self.now.calls.slots.items c.bulk_delete.new.calls.slots.items c.bulk_delete.ensures.others.others (c.bulk_delete.ensures.over c.args.self.now.agree.inserts)
           (no_set_runs g.S.PageStore start now refl fits)) r.ran.fits;
@@ -88,7 +88,7 @@ returns-clause-deletes g c honest start history calls fits =
     let dead = g.T.DeadRows.is_in c.args.dead.now in
     let then_fits = fits_then g after start history calls fits in
     let r = goes g after honest start history calls then_fits in
-    swept_or_less g.S.PageStore dead (slots_with dead c.args.self.now)
+    bulk_deleted_or_less g.S.PageStore dead (slots_with dead c.args.self.now)
     (here_with c.bulk_delete.new.store c.bulk_delete.new.calls.slots.items (dead ∷ [])) refl start history calls then_fits c.bulk_delete.result r
     (counted g after honest start history calls then_fits)
     (pages_told g after honest start history calls then_fits)

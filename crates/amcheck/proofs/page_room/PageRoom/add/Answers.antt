@@ -1,6 +1,6 @@
 use Rattle.std.proofs.Common.{◌≡◌, ◌++◌, ℕ, ◌<◌, Option, Some, List, length, ◌≤◌, sym, ap, subst, ◌∙◌}
 use Rattle.page_codec.specs.declared.page.Page.{Page}
-use Rattle.amcheck.specs.Sketches.{KeepsSketch, links_at}
+use Rattle.amcheck.specs.Sketches.{HoldsSketch, links_at}
 use Rattle.amcheck.proofs.Kept.{kept_more, inside_of}
 use Rattle.amcheck.proofs.page_room.PageRoom.add.Goals as goal
 
@@ -8,7 +8,7 @@ pub returns-clause-room : goal.returns-clause-room
 returns-clause-room c =
     let whole = c.keep_links-place.new.whole.items in
     let old = c.requires.room.kept in
-    let new : KeepsSketch whole c.args.page.now c.sketch_of.result = record {
+    let new : HoldsSketch whole c.args.page.now c.sketch_of.result = record {
       is = c.sketch_of.ensures.is;
       entries = c.sketch_of.ensures.entries;
       few = c.sketch_of.ensures.few;

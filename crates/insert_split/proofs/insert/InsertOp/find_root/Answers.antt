@@ -3,7 +3,7 @@ use Rattle.page_codec.specs.declared.page.Page.{Page}
 use Rattle.page_action.specs.States.{State}
 use Rattle.page_action.specs.Stored.{IsStored}
 use Rattle.tree_shape.specs.Walks.{entry_aim}
-use Rattle.split_finish.specs.Targets.{OnlyTargetsAreFlagged}
+use Rattle.split_finish.specs.Targets.{OnlyTargetsAreIncomplete}
 use Rattle.descent.proofs.Shortening.{walk_is_long}
 use Rattle.insert_split.specs.Inserts.{InsertStands, IsToCome, targets_at}
 use Rattle.insert_split.specs.Straight.{straight_steps}
@@ -16,13 +16,13 @@ pub returns-clause-all : goal.returns-clause-all
 returns-clause-all g c =
     let old : State = g.S.PageStore.state c.args.store.now in
     let meta : Page = c.view.result.now in
-    let stored : IsStored old.limits 0 meta = subst (λ (st : State). IsStored st.limits 0 meta) c.look.ensures.state c.view.ensures.stored in
-    let found : (g.S.PageStore.backing c.look.new.store).honest ≡ true → slice_get old.pages 0 ≡ Some meta =
-    λ honest. subst (λ (st : State). slice_get st.pages 0 ≡ Some meta) c.look.ensures.state (c.view.ensures.page honest) in
+    let stored : IsStored old.limits 0 meta = subst (λ (st : State). IsStored st.limits 0 meta) c.read_shared.ensures.state c.view.ensures.stored in
+    let found : (g.S.PageStore.backing c.read_shared.new.store).honest ≡ true → slice_get old.pages 0 ≡ Some meta =
+    λ honest. subst (λ (st : State). slice_get st.pages 0 ≡ Some meta) c.read_shared.ensures.state (c.view.ensures.page honest) in
     let most : ℕ = old.limits.pages in
     let low : c.in-Some.way.level ≤ 255 = (let l = level_low meta stored.storable.admitted in let e = c.in-Some.ensures.level in omega arith) in
     let shorter = walk_is_long most c.in-Some.way low in
-    rw c.come_to.ensures (goes_on g.S.PageStore c.args.self.now _ c.args.store.now c.look.new.store c.look.ensures.steps c.look.ensures.state refl refl c.requires.alive
+    rw c.come_to.ensures (goes_on g.S.PageStore c.args.self.now _ c.args.store.now c.read_shared.new.store c.read_shared.ensures.steps c.read_shared.ensures.state refl refl c.requires.alive
     (λ honest. rw c.requires.at (omega (arith, shorter)))
     (λ honest order fits.
     let session = c.args.self.now.session in
@@ -40,7 +40,7 @@ returns-clause-all g c =
         to_come = subst (λ (a : InsertAt). IsToCome a c.args.self.now.added) c.requires.at fits.to_come;
       };
       added = refl;
-      flags = λ only. subst (λ (a : InsertAt). OnlyTargetsAreFlagged old (targets_at a)) c.requires.at only;
+      flags = λ only. subst (λ (a : InsertAt). OnlyTargetsAreIncomplete old (targets_at a)) c.requires.at only;
     })
     (λ honest order whole on.
     let there = root_covers_there old (entry_aim c.args.self.now.entry) meta c.in-Some.way order.tree whole (found honest) (λ root names. sym c.in-Some.is ∙ c.way_down.ensures.named root names) in (

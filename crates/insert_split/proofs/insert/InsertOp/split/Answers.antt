@@ -11,7 +11,7 @@ use Rattle.tree_shape.specs.Edits.{LeafHalves}
 use Rattle.tree_shape.specs.Nodes.{Node, node_of}
 use Rattle.insert_split.specs.declared.insert.InsertAt.TheVariants.{Finishing}
 use Rattle.insert_split.specs.declared.insert.InsertOp.{InsertOp}
-use Rattle.descent.specs.Shared.{fresh_block, causes_of_acting, causes_of_working}
+use Rattle.tree_acts.specs.StepEffects.{fresh_block, causes_of_acting, causes_of_working}
 use Rattle.descent.specs.Splitting.{if_read, mended_to}
 use Rattle.descent.proofs.Working.{working_later, act_cause, fresh_is}
 use Rattle.insert_split.specs.Inserts.{blocks_halved}

@@ -1,7 +1,7 @@
 use Rattle.std.proofs.Common.{◌≡◌, ℕ, List, [], ◌≤◌, true, false, Some, length, slice_get, sym, ap, subst, ◌∙◌, arith}
 use Rattle.index_model.specs.declared.limits.Limits.{Limits}
 use Rattle.page_action.specs.States.{State}
-use Rattle.descent.specs.Onward.{LeavesLess}
+use Rattle.descent.specs.NextPage.{DescentIsShorter}
 use Rattle.index_model.specs.Faults.{HasCause}
 use Rattle.page_delete.specs.Cleanups.{CleanupIsUnderway}
 use Rattle.page_delete.specs.Needs.{blocks_written, causes_of_trying}
@@ -13,12 +13,12 @@ use Rattle.page_delete.proofs.steps.CleanupOp.read_page.Goals as goal
 pub returns-in-Err-clause-all : goal.returns-in-Err-clause-all
 returns-in-Err-clause-all g c =
     let old = g.S.PageStore.state c.args.store.now in
-    refuses g.S.PageStore c.args.self.now c.args.store.now c.look.new.store c.in-Err.fault c.look.ensures.steps c.look.ensures.state (λ h. absurd (clash (sym c.requires.alive ∙ h)))
+    refuses g.S.PageStore c.args.self.now c.args.store.now c.read_shared.new.store c.in-Err.fault c.read_shared.ensures.steps c.read_shared.ensures.state (λ h. absurd (clash (sym c.requires.alive ∙ h)))
     (λ honest order fits.
     let u = subst (CleanupIsUnderway old fits.start c.args.self.now.cursor) c.requires.at fits.at in
-    working_cause old (g.S.PageStore.backing c.args.store.now) (g.S.PageStore.backing c.look.new.store) c.args.self.now c.in-Err.fault
+    working_cause old (g.S.PageStore.backing c.args.store.now) (g.S.PageStore.backing c.read_shared.new.store) c.args.self.now c.in-Err.fault
     (let none : [] ≡ blocks_written c.args.self.now.at c.args.self.now.cursor old = ap (λ (a : CleanupAt). blocks_written a c.args.self.now.cursor old) (sym c.requires.at) in
-    subst (λ (n : List ℕ). HasCause (causes_of_trying old (g.S.PageStore.backing c.args.store.now) (g.S.PageStore.backing c.look.new.store) c.args.self.now.session n) c.in-Err.fault) none
+    subst (λ (n : List ℕ). HasCause (causes_of_trying old (g.S.PageStore.backing c.args.store.now) (g.S.PageStore.backing c.read_shared.new.store) c.args.self.now.session n) c.in-Err.fault) none
     (c.in-Err.ensures.works honest (has_room old c.args.self.now fits)
     (trail_in_use old fits.start c.args.way.level c.args.way.block c.args.way.moves order.tree u.1.trail) [] 1 false false (omega arith))))
   where
@@ -28,13 +28,13 @@ returns-in-Err-clause-all g c =
 pub returns-clause-all : goal.returns-clause-all
 returns-clause-all g c =
     let old = g.S.PageStore.state c.args.store.now in
-    let most : c.limits-most.result.pages ≡ old.limits.pages = ap (λ (l : Limits). l.pages) c.limits-most.ensures.value ∙ ap (λ (s : State). s.limits.pages) c.look.ensures.state in
-    descends g.S.PageStore c.args.self.now c.turn_from_page.new.self c.args.high c.args.way c.args.store.now c.look.new.store c.lead-onward.result
+    let most : c.limits-most.result.pages ≡ old.limits.pages = ap (λ (l : Limits). l.pages) c.limits-most.ensures.value ∙ ap (λ (s : State). s.limits.pages) c.read_shared.ensures.state in
+    descends g.S.PageStore c.args.self.now c.turn_from_page.new.self c.args.high c.args.way c.args.store.now c.read_shared.new.store c.lead-next_page.result
     c.turn_from_page.result c.requires.at c.requires.alive
-    c.look.ensures.steps c.look.ensures.state c.if-way-eq0.false
-    (subst (λ (n : ℕ). LeavesLess 1 n c.args.way c.lead-onward.result) most c.lead-onward.ensures.less)
-    (λ honest start order way. c.lead-onward.ensures.goes old start false order.tree
-    (subst (λ (st : State). slice_get st.pages c.args.way.block ≡ Some c.view.result.now) c.look.ensures.state (c.view.ensures.page honest)) way (λ e. absurd (clash e))
+    c.read_shared.ensures.steps c.read_shared.ensures.state c.if-way-eq0.false
+    (subst (λ (n : ℕ). DescentIsShorter 1 n c.args.way c.lead-next_page.result) most c.lead-next_page.ensures.less)
+    (λ honest start order way. c.lead-next_page.ensures.goes old start false order.tree
+    (subst (λ (st : State). slice_get st.pages c.args.way.block ≡ Some c.view.result.now) c.read_shared.ensures.state (c.view.ensures.page honest)) way (λ e. absurd (clash e))
     (subst (λ (n : ℕ). length old.pages ≤ n) (sym most) c.in-Ok.ensures.inside))
     c.turn_from_page.ensures.op c.turn_from_page.ensures.answer
   where

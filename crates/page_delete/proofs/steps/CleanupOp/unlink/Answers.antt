@@ -1,6 +1,6 @@
 use Rattle.std.proofs.Common.{◌≡◌, Bool, Ok, refl, sym, subst}
 use Rattle.page_delete.specs.Needs.{blocks_unlinked_at, blocks_written}
-use Rattle.page_delete.specs.Parts.{IsInUse, PageGoes, IsNotDead, IsTried}
+use Rattle.page_delete.specs.Parts.{IsInUse, PageIsDeleted, IsNotDead, IsTried}
 use Rattle.page_delete.proofs.Stepping.{page_goes, page_stays, unlink_in_use, try_refused}
 use Rattle.page_delete.specs.Cleanups.{CleanupSteps}
 use Rattle.page_delete.specs.declared.steps.CleanupAt.{CleanupAt}
@@ -10,7 +10,7 @@ use Rattle.page_delete.proofs.steps.CleanupOp.unlink.Goals as goal
 
 pub returns-in-Err-clause-all : goal.returns-in-Err-clause-all
 returns-in-Err-clause-all g c =
-    try_refused g.S.PageStore (blocks_unlinked_at c.args.self.now.cursor) (IsInUse c.args.self.now.cursor) (PageGoes c.args.self.now.cursor)
+    try_refused g.S.PageStore (blocks_unlinked_at c.args.self.now.cursor) (IsInUse c.args.self.now.cursor) (PageIsDeleted c.args.self.now.cursor)
     (IsNotDead c.args.self.now.cursor) c.args.self.now c.args.store.now c.try_unlink.new.store c.in-Err.fault
     c.in-Err.ensures.all c.requires.alive
     (subst (λ (a : CleanupAt).
@@ -23,7 +23,7 @@ returns-in-Ok-true-clause-all g c =
     (page_goes g.S.PageStore c.args.self.now c.args.store.now c.try_unlink.new.store c.requires.at c.requires.alive
     (subst (λ (b : Bool).
     IsTried g.S.PageStore c.args.self.now.session (blocks_unlinked_at c.args.self.now.cursor) (IsInUse c.args.self.now.cursor)
-    (PageGoes c.args.self.now.cursor) (IsNotDead c.args.self.now.cursor) c.args.store.now c.try_unlink.new.store (Ok b))
+    (PageIsDeleted c.args.self.now.cursor) (IsNotDead c.args.self.now.cursor) c.args.store.now c.try_unlink.new.store (Ok b))
     c.in-Ok-true.field-0-test c.in-Ok-true.ensures.all))
 
 pub returns-in-Ok-false-clause-all : goal.returns-in-Ok-false-clause-all
@@ -32,5 +32,5 @@ returns-in-Ok-false-clause-all g c =
     (page_stays g.S.PageStore c.args.self.now c.args.store.now c.try_unlink.new.store c.requires.at c.requires.alive
     (subst (λ (b : Bool).
     IsTried g.S.PageStore c.args.self.now.session (blocks_unlinked_at c.args.self.now.cursor) (IsInUse c.args.self.now.cursor)
-    (PageGoes c.args.self.now.cursor) (IsNotDead c.args.self.now.cursor) c.args.store.now c.try_unlink.new.store (Ok b))
+    (PageIsDeleted c.args.self.now.cursor) (IsNotDead c.args.self.now.cursor) c.args.store.now c.try_unlink.new.store (Ok b))
     c.in-Ok-false.field-0-test c.in-Ok-false.ensures.all))

@@ -17,7 +17,7 @@ use Rattle.page_store.proofs.logged_pages.LoggedPages.close.Given.{Over}
 use Rattle.page_store.proofs.logged_pages.LoggedPages.close.Goals.{After-reset}
 use Rattle.page_store.proofs.logged_pages.LoggedPages.close.Goals as goal
 
--- what is so behind the closing of the log, or behind one that failed
+-- what is so after the closing of the log, or after one that failed
 closing : (g : Over) (c : After-reset g)
     → IsClosing (held_of g.D.Device c.args.self.now) c.reset.new.self (g.D.Device.trace c.reset.new.device) (g.D.Device.is_honest c.reset.new.device) (g.D.Device.failures c.reset.new.device)
 closing g c =

@@ -1,7 +1,7 @@
 use Rattle.std.proofs.Common.{◌≡◌, ℕ, None, subst, ap, ◌∙◌}
 use Rattle.buffer_pool.specs.Pools.{IsPut, frame_of, pool_blocks}
 use Rattle.buffer_pool.specs.declared.pool.Pool.{Pool}
-use Rattle.page_store.specs.Quiet.{IsQuiet}
+use Rattle.page_store.specs.Quiet.{IsSameButWritten}
 use Rattle.page_store.specs.Taking.{CostsFrame, GetsFrame}
 use Rattle.page_store.proofs.Costing.{changes_same, none_of, costs_on, gets_none, gets_one}
 use Rattle.page_store.proofs.Frames.{kept_put}
@@ -11,7 +11,7 @@ use Rattle.page_store.proofs.logged_pages.LoggedPages.fetch.Goals.{After-read, A
 use Rattle.page_store.proofs.logged_pages.LoggedPages.fetch.Goals as goal
 
 -- a frame is had, and the page was read or not
-read : (g : Over) (c : After-read g) → IsQuiet g.D.Device c.args.self.now c.read.new.self
+read : (g : Over) (c : After-read g) → IsSameButWritten g.D.Device c.args.self.now c.read.new.self
 read g c = quiet_both g.D.Device c.args.self.now c.free_frame.new.self c.read.new.self c.free_frame.ensures.quiet c.read.ensures.quiet
 
 -- no frame held it

@@ -2,7 +2,7 @@ use Rattle.std.proofs.Common.{◌≡◌, ◌<◌, ◌≤◌, ◌∙◌, ℕ, tru
 use Rattle.buffer_pool.specs.Frames.{has_block}
 use Rattle.buffer_pool.specs.Pools.{act_of, changed_of}
 use Rattle.buffer_pool.specs.declared.pool.Pool.{Pool}
-use Rattle.page_store.specs.Quiet.{IsQuiet}
+use Rattle.page_store.specs.Quiet.{IsSameButWritten}
 use Rattle.page_action.specs.Frames.{LogStays}
 use Rattle.page_store.specs.Logged.{held_of, backing_of}
 use Rattle.page_store.specs.Taking.{CostsFrame}
@@ -19,11 +19,11 @@ write_over-requires-clause-changed g c =
     subst (λ (n : ℕ). 0 < n) (sym oldest.changed) (changed_at c.choose-choice.new.self.pool c.law.ensures c.in-Oldest.place c.in-Oldest.block oldest.at)
 
 -- the first one was written or not
-first : (g : Over) (c : After-write_over g) → IsQuiet g.D.Device c.args.self.now c.write_over.new.self
+first : (g : Over) (c : After-write_over g) → IsSameButWritten g.D.Device c.args.self.now c.write_over.new.self
 first g c = quiet_both g.D.Device c.args.self.now c.choose-choice.new.self c.write_over.new.self c.choose-choice.ensures.quiet c.write_over.ensures.quiet
 
--- it was, and some behind it
-ahead : (g : Over) (c : After-write_ahead g) → IsQuiet g.D.Device c.args.self.now c.write_ahead.new.self
+-- it was, and some after it
+ahead : (g : Over) (c : After-write_ahead g) → IsSameButWritten g.D.Device c.args.self.now c.write_ahead.new.self
 ahead g c =
     quiet_both g.D.Device c.args.self.now c.write_over.new.self c.write_ahead.new.self
     (quiet_both g.D.Device c.args.self.now c.choose-choice.new.self c.write_over.new.self c.choose-choice.ensures.quiet c.write_over.ensures.quiet)

@@ -1,13 +1,13 @@
 use Rattle.std.proofs.Common.{ap}
 use Rattle.buffer_pool.specs.Pools.{changed_of}
-use Rattle.page_store.specs.Quiet.{IsQuiet}
+use Rattle.page_store.specs.Quiet.{IsSameButWritten}
 use Rattle.page_store.proofs.Ordering.{part_is}
 use Rattle.page_store.proofs.Quieting.{quiet_same}
 use Rattle.page_store.proofs.logged_pages.LoggedPages.make_durable.Given.{Over}
 use Rattle.page_store.proofs.logged_pages.LoggedPages.make_durable.Goals.{After-force}
 use Rattle.page_store.proofs.logged_pages.LoggedPages.make_durable.Goals as goal
 
-forced : (g : Over) (c : After-force g) → IsQuiet g.D.Device c.args.self.now c.force.new.self
+forced : (g : Over) (c : After-force g) → IsSameButWritten g.D.Device c.args.self.now c.force.new.self
 forced g c = record {
   follows = c.force.ensures.steps;
   pages = c.force.ensures.pages;

@@ -1,7 +1,7 @@
 use Rattle.std.proofs.Common.{◌≡◌, ℕ, None, subst, ap, ◌∙◌}
 use Rattle.buffer_pool.specs.Pools.{IsPut, frame_of, pool_blocks}
 use Rattle.buffer_pool.specs.declared.pool.Pool.{Pool}
-use Rattle.page_store.specs.Quiet.{IsQuiet}
+use Rattle.page_store.specs.Quiet.{IsSameButWritten}
 use Rattle.page_store.specs.Taking.{CostsFrame, GetsFrame}
 use Rattle.page_store.proofs.Costing.{changes_same, none_of, costs_on, gets_none, gets_one}
 use Rattle.page_store.proofs.Frames.{kept_put}
@@ -11,7 +11,7 @@ use Rattle.page_store.proofs.logged_pages.LoggedPages.take_frame.Goals.{After-re
 use Rattle.page_store.proofs.logged_pages.LoggedPages.take_frame.Goals as goal
 
 -- a frame is had, and the page was read or not
-read : (g : Over) (c : After-read_or_copy g) → IsQuiet g.D.Device c.args.self.now c.read_or_copy.new.self
+read : (g : Over) (c : After-read_or_copy g) → IsSameButWritten g.D.Device c.args.self.now c.read_or_copy.new.self
 read g c = quiet_both g.D.Device c.args.self.now c.free_frame.new.self c.read_or_copy.new.self c.free_frame.ensures.quiet c.read_or_copy.ensures.quiet
 
 -- no frame held it

@@ -3,13 +3,13 @@ use Rattle.std.specs.Prelude.{IsSome}
 use Rattle.buffer_pool.specs.Pools.{most_of, frame_of}
 use Rattle.page_codec.specs.declared.page.Page.{Page}
 use Rattle.redo_log.specs.Kept.{is_stopped}
-use Rattle.page_store.specs.Quiet.{IsQuiet}
+use Rattle.page_store.specs.Quiet.{IsSameButWritten}
 use Rattle.page_store.specs.Taking.{GetFrames}
 use Rattle.page_store.proofs.logged_pages.LoggedPages.take_frames.Given as goal
 
 abbrev pub invariant-loop-page : goal.invariant-loop-page
 invariant-loop-page g l = record {
-  quiet : IsQuiet g.D.Device l.fn.self l.self;
+  quiet : IsSameButWritten g.D.Device l.fn.self l.self;
   frames : GetFrames g.D.Device l.pinned (map (λ page. page.block) (take l.page-index l.pages)) l.fn.self l.self;
   most : most_of l.self.pool ≡ most_of l.fn.self.pool;
   has : (k : ℕ) (page : Page) → k < l.page-index → slice_get l.pages k ≡ Some page → IsSome (frame_of l.self.pool page.block);

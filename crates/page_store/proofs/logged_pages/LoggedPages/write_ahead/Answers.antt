@@ -2,7 +2,7 @@ use Rattle.std.proofs.Common.{ℕ, refl, sym, subst, ◌∙◌, arith}
 use Rattle.buffer_pool.specs.Pools.{HasSamePages}
 use Rattle.buffer_pool.specs.declared.pool.Pool.{Pool}
 use Rattle.buffer_pool.proofs.Noting.{pages_both}
-use Rattle.page_store.specs.Quiet.{IsQuiet}
+use Rattle.page_store.specs.Quiet.{IsSameButWritten}
 use Rattle.page_store.specs.Taking.{IsWrittenNext, AreWrittenAhead}
 use Rattle.page_store.proofs.Evicting.{goes_none, goes_next, ahead_of}
 use Rattle.page_store.proofs.Quieting.{quiet_same, quiet_both}
@@ -11,7 +11,7 @@ use Rattle.page_store.proofs.logged_pages.LoggedPages.write_ahead.Goals.{After-w
 use Rattle.page_store.proofs.logged_pages.LoggedPages.write_ahead.Goals as goal
 
 -- one more page was written or not
-tried : (g : Over) (c : After-write_next g) → IsQuiet g.D.Device c.args.self.now c.write_next.new.self
+tried : (g : Over) (c : After-write_next g) → IsSameButWritten g.D.Device c.args.self.now c.write_next.new.self
 tried g c = quiet_both g.D.Device c.args.self.now c.loop-count.self c.write_next.new.self c.loop-count.invariant.quiet c.write_next.ensures.quiet
 
 held : (g : Over) (c : After-write_next g) → HasSamePages c.args.self.now.pool c.write_next.new.self.pool

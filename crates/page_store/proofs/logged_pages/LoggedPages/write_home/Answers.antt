@@ -1,5 +1,5 @@
 use Rattle.std.proofs.Common.{sym, subst}
-use Rattle.device.specs.Moments.{Goes}
+use Rattle.device.specs.Moments.{AtEachMoment}
 use Rattle.device.specs.Places.{ChangesOnly}
 use Rattle.device.proofs.Going.{goes_now}
 use Rattle.device.proofs.Standing.{same_only}
@@ -29,7 +29,7 @@ returns-in-Some-clause-steps g c =
     follows_written (held_of g.D.Device held) c.args.block (g.D.Device.trace c.write_page.new.device) (g.D.Device.is_honest c.write_page.new.device)
     (g.D.Device.failures c.write_page.new.device) c.requires.alive c.requires.changed c.requires.durable
     (subst (λ (l : Format).
-    Goes (ChangesOnly (place l c.args.block) 4096 (g.D.Device.trace held.device).now) (g.D.Device.trace held.device)
+    AtEachMoment (ChangesOnly (place l c.args.block) 4096 (g.D.Device.trace held.device).now) (g.D.Device.trace held.device)
     (g.D.Device.trace c.write_page.new.device)) (sym held.log_limits) c.write_page.ensures.moments) c.write_page.ensures.honest
     (counts_rise c.write_page.result _ _ c.write_page.ensures.failures)
 

@@ -1,11 +1,11 @@
-use Rattle.page_store.specs.Quiet.{IsQuiet}
+use Rattle.page_store.specs.Quiet.{IsSameButWritten}
 use Rattle.page_store.proofs.Quieting.{quiet_same, quiet_both, quiet_device}
 use Rattle.page_store.proofs.logged_pages.LoggedPages.write_next.Given.{Over}
 use Rattle.page_store.proofs.logged_pages.LoggedPages.write_next.Goals.{After-write_home}
 use Rattle.page_store.proofs.logged_pages.LoggedPages.write_next.Goals as goal
 
 -- the page was written or not
-tried : (g : Over) (c : After-write_home g) → IsQuiet g.D.Device c.args.self.now c.write_home.new.self
+tried : (g : Over) (c : After-write_home g) → IsSameButWritten g.D.Device c.args.self.now c.write_home.new.self
 tried g c = quiet_device g.D.Device c.args.self.now c.write_home.new.self c.write_home.ensures.steps c.write_home.ensures.same
 
 pub returns-in_default-clause-quiet : goal.returns-in_default-clause-quiet

@@ -1,7 +1,7 @@
 use Rattle.std.proofs.Common.{◌≡◌, ◌+◌, ◌*◌, ◌<◌, ◌++◌, [], ◌∷◌, List, ℕ, take, drop, refl, sym, ◌∙◌, ap, arith, length-take-le}
 use Rattle.page_codec.specs.declared.page.Page.{Page}
 use Rattle.redo_log.specs.Groups.{body}
-use Rattle.redo_log.specs.Kept.{Keeps, RestartsThroughout, ChangesItsRange, limits_of, waiting_count}
+use Rattle.redo_log.specs.Kept.{LogHolds, RestartsThroughout, ChangesItsRange, limits_of, waiting_count}
 use Rattle.redo_log.proofs.Forcing.{all_forced, sealed_piece, forced_goes, forced_keeps, publish_only}
 use Rattle.redo_log.proofs.log.Log.force.Given.{Over}
 use Rattle.redo_log.proofs.log.Log.force.Goals.{After-publish}
@@ -12,7 +12,7 @@ returns-then-count-eq0-clause-keeps g c = λ acts forced k. all_forced c.args.se
 
 -- the group that waits is published
 module _ (g : Over) (c : After-publish g) where
-  piece : (acts : List (List Page)) (forced : ℕ) (k : Keeps c.args.self.now (g.D.Device.trace c.args.device.now).now acts forced)
+  piece : (acts : List (List Page)) (forced : ℕ) (k : LogHolds c.args.self.now (g.D.Device.trace c.args.device.now).now acts forced)
       → take (5 + 4096 * c.count-count.result) c.deref.result.now ≡ body k.waiting ++ 0 ∷ []
   piece acts forced k =
       let s = c.args.self.now in

@@ -2,8 +2,8 @@ use Rattle.std.proofs.Common.{rules, ◌≡◌, ◌<◌, false, Some, slice_get,
 use Rattle.page_codec.specs.declared.page.Page.{Page}
 use Rattle.page_action.specs.States.{State, IsLater, with_table}
 use Rattle.tree_shape.specs.Walks.{frontier_aim}
-use Rattle.descent.specs.Onward.{IsOnWay, way_from}
-use Rattle.descent.specs.declared.way.Way.{Way}
+use Rattle.descent.specs.NextPage.{IsOnDescent, way_from}
+use Rattle.descent.specs.declared.way.Position.{Position}
 use Rattle.scan.specs.declared.steps.ScanAt.{ScanAt}
 use Rattle.scan.specs.Scans.{without_leaf, ScanInvariant, ScanWaits, IsUnderway}
 use Rattle.scan.specs.Straight.{scan_straight_steps, ScanCountsDown}
@@ -23,9 +23,9 @@ returns-clause-all g c =
     let before : ScanOp = c.args.self.now in
     let after : ScanOp = c.go_on.new.self in
     let page : Page = c.view.result.now in
-    let way : Way = c.in-Some.way in
+    let way : Position = c.in-Some.way in
     let is : new ≡ with_table old (without_leaf old.table before.session before.leaf) =
-    c.go_on.ensures.state ∙ ap (λ (st : State). with_table st (without_leaf st.table before.session before.leaf)) c.look.ensures.state in
+    c.go_on.ensures.state ∙ ap (λ (st : State). with_table st (without_leaf st.table before.session before.leaf)) c.read_shared.ensures.state in
     let low : way.level < 256 = search rules in
     let less : scan_left old.limits.pages old.pages after < scan_left old.limits.pages old.pages before =
     subst (λ (op : ScanOp). scan_left old.limits.pages old.pages op < scan_left old.limits.pages old.pages before) (sym c.go_on.ensures.op)
@@ -43,31 +43,31 @@ returns-clause-all g c =
       less = λ honest. less;
       no_more = λ honest. omega arith;
       stepped = λ honest order fits.
-          let later : IsLater (g.S.PageStore.backing c.look.new.store) (g.S.PageStore.backing c.go_on.new.store) =
+          let later : IsLater (g.S.PageStore.backing c.read_shared.new.store) (g.S.PageStore.backing c.go_on.new.store) =
           g.met.S.PageStore.laws.follows_later _ _ (c.go_on.ensures.steps _ (g.met.S.PageStore.laws.follows_same _)) in
-          let found : slice_get old.pages 0 ≡ Some page = subst (λ (st : State). slice_get st.pages 0 ≡ Some page) c.look.ensures.state (c.view.ensures.page (later.honest honest)) in
+          let found : slice_get old.pages 0 ≡ Some page = subst (λ (st : State). slice_get st.pages 0 ≡ Some page) c.read_shared.ensures.state (c.view.ensures.page (later.honest honest)) in
           let root = root_way old fits.start (frontier_aim before.frontier) false page order.tree found in
           let named : Some way ≡ Some (way_from root.root page.level) = sym c.in-Some.is ∙ c.way_down.ensures.named root.root root.names in
           let same : way ≡ way_from root.root page.level = cc in
           record {
             does = going_does old new before order fits is;
             fits = subst (ScanInvariant new) (sym c.go_on.ensures.op)
-                (going_fits old new before order fits is way (subst (IsOnWay old fits.start (frontier_aim before.frontier) false 0) (sym same) root.on));
+                (going_fits old new before order fits is way (subst (IsOnDescent old fits.start (frontier_aim before.frontier) false 0) (sym same) root.on));
             none = c.requires.none;
             from = subst IsUnderway (sym c.requires.at) tt;
             way = way;
             op = c.go_on.ensures.op;
           };
       straight = λ honest order whole none starts.
-          let later : IsLater (g.S.PageStore.backing c.look.new.store) (g.S.PageStore.backing c.go_on.new.store) =
+          let later : IsLater (g.S.PageStore.backing c.read_shared.new.store) (g.S.PageStore.backing c.go_on.new.store) =
           g.met.S.PageStore.laws.follows_later _ _ (c.go_on.ensures.steps _ (g.met.S.PageStore.laws.follows_same _)) in
-          let found : slice_get old.pages 0 ≡ Some page = subst (λ (st : State). slice_get st.pages 0 ≡ Some page) c.look.ensures.state (c.view.ensures.page (later.honest honest)) in
+          let found : slice_get old.pages 0 ≡ Some page = subst (λ (st : State). slice_get st.pages 0 ≡ Some page) c.read_shared.ensures.state (c.view.ensures.page (later.honest honest)) in
           let root = straight_root old (frontier_aim before.frontier) page order.tree whole found in
           let named : Some way ≡ Some (way_from root.root page.level) = sym c.in-Some.is ∙ c.way_down.ensures.named root.root root.names in
           let same : way ≡ way_from root.root page.level = cc in
           subst (λ (op : ScanOp). ScanCountsDown old before op (Ok Going)) (sym c.go_on.ensures.op) (
-            subst (λ (w : Way). HasCover old w.level (frontier_aim before.frontier) w.block) (sym same) root.covers,
+            subst (λ (w : Position). HasCover old w.level (frontier_aim before.frontier) w.block) (sym same) root.covers,
             subst (λ (a : ScanAt). suc (suc way.level) ≡ scan_straight_steps old.pages a) (sym c.requires.at)
-                (let l : way.level ≡ page.level = ap (λ (w : Way). w.level) same in let m = root.level_is in omega arith),
+                (let l : way.level ≡ page.level = ap (λ (w : Position). w.level) same in let m = root.level_is in omega arith),
           );
     }

@@ -14,17 +14,17 @@ use Rattle.page_action.specs.Stored.{IsStored}
 use Rattle.tree_shape.specs.Leaf.{IsCopiedFrom}
 use Rattle.tree_shape.specs.Walks.{frontier_aim}
 use Rattle.tree_acts.specs.Leaves.{IsLeafAt}
-use Rattle.tree_acts.specs.Trees.{HasPlace, HasCover}
-use Rattle.tree_acts.proofs.Telling.{place_inside}
+use Rattle.tree_acts.specs.Trees.{LeadsTo, HasCover}
+use Rattle.tree_acts.proofs.Meanings.{place_inside}
 use Rattle.descent.proofs.Looking.{if_err}
-use Rattle.descent.specs.Onward.{IsOnWay, LeadsOnward, LeadsStraight, LeavesLess, IsShorter, IsArrived}
-use Rattle.descent.specs.declared.way.Way.{Way}
-use Rattle.descent.specs.declared.way.Onward.TheVariants.{Going, Here}
+use Rattle.descent.specs.NextPage.{IsOnDescent, LeadsToNext, LeadsStraight, DescentIsShorter, IsShorter, IsArrived}
+use Rattle.descent.specs.declared.way.Position.{Position}
+use Rattle.descent.specs.declared.way.NextPage.TheVariants.{Going, Here}
 use Rattle.scan.specs.declared.steps.ScanAt.{ScanAt}
 use Rattle.scan.specs.Scans.{waiting, behind, without_leaf, causes_of_scanning, ScanStands, ScanInvariant, ScanWaits, IsUnderway, LeafIsRead}
 use Rattle.scan.specs.Straight.{scan_straight_steps, ScanIsStraight, ScanCountsDown}
 use Rattle.scan.specs.Work.{scan_left}
-use Rattle.scan.specs.declared.steps.ScanStep.TheVariants.{Going as Goes, Ready}
+use Rattle.scan.specs.declared.steps.ScanStep.TheVariants.{Going as AtEachMoment, Ready}
 use Rattle.scan.specs.declared.steps.ScanOp.{ScanOp}
 use Rattle.scan.proofs.Arriving.{leaf_has_entries, other_items, live_leaf, scan_has_room}
 use Rattle.scan.proofs.Causes.{scanning_cause}
@@ -38,15 +38,15 @@ use Rattle.scan.proofs.steps.ScanOp.read.Goals as goal
 
 -- the page that was read is stored
 stored_there : (g : Over) (c : After-view-page g) → IsStored (g.S.PageStore.state c.args.store.now).limits c.args.way.block c.view-page.result.now
-stored_there g c = subst (λ (st : State). IsStored st.limits c.args.way.block c.view-page.result.now) c.look.ensures.state c.view-page.ensures.stored
+stored_there g c = subst (λ (st : State). IsStored st.limits c.args.way.block c.view-page.result.now) c.read_shared.ensures.state c.view-page.ensures.stored
 
 -- ... and the one in use, where the device kept its model
-found_there : (g : Over) (c : After-view-page g) → (g.S.PageStore.backing c.look.new.store).honest ≡ true
+found_there : (g : Over) (c : After-view-page g) → (g.S.PageStore.backing c.read_shared.new.store).honest ≡ true
     → slice_get (g.S.PageStore.state c.args.store.now).pages c.args.way.block ≡ Some c.view-page.result.now
-found_there g c honest = subst (λ (st : State). slice_get st.pages c.args.way.block ≡ Some c.view-page.result.now) c.look.ensures.state (c.view-page.ensures.page honest)
+found_there g c honest = subst (λ (st : State). slice_get st.pages c.args.way.block ≡ Some c.view-page.result.now) c.read_shared.ensures.state (c.view-page.ensures.page honest)
 
-pub returns-in_err-look-clause-all : goal.returns-in_err-look-clause-all
-returns-in_err-look-clause-all g c = record {
+pub returns-in_err-read_shared-clause-all : goal.returns-in_err-read_shared-clause-all
+returns-in_err-read_shared-clause-all g c = record {
   steps = search rules;
   session = refl;
   range = refl;
@@ -61,12 +61,12 @@ returns-in_err-look-clause-all g c = record {
   stepped = λ honest order fits.
       let old : State = g.S.PageStore.state c.args.store.now in
       let before : ScanOp = c.args.self.now in
-      let way : Way = c.args.way in
-      let on_way : IsOnWay old fits.start (frontier_aim before.frontier) false 0 way = subst (ScanStands old fits.start before.leaf before.frontier) c.requires.at fits.stands in
+      let way : Position = c.args.way in
+      let on_way : IsOnDescent old fits.start (frontier_aim before.frontier) false 0 way = subst (ScanStands old fits.start before.leaf before.frontier) c.requires.at fits.stands in
       let used = place_inside old fits.start way.level (frontier_aim before.frontier) false way.block order.tree on_way.place in
-      let cause : IfErr c.look.result (HasCause (causes_of_scanning old (g.S.PageStore.backing c.args.store.now) (g.S.PageStore.backing c.look.new.store) before.session)) =
-      if_err c.look.result _ _ (λ f h. scanning_cause old (g.S.PageStore.backing c.args.store.now) (g.S.PageStore.backing c.look.new.store) before.session way.block f honest used h)
-      (c.look.ensures.cause (scan_has_room old before fits)) in
+      let cause : IfErr c.read_shared.result (HasCause (causes_of_scanning old (g.S.PageStore.backing c.args.store.now) (g.S.PageStore.backing c.read_shared.new.store) before.session)) =
+      if_err c.read_shared.result _ _ (λ f h. scanning_cause old (g.S.PageStore.backing c.args.store.now) (g.S.PageStore.backing c.read_shared.new.store) before.session way.block f honest used h)
+      (c.read_shared.ensures.cause (scan_has_room old before fits)) in
       search rules;
   straight = λ honest order whole none starts. search rules;
 }
@@ -75,15 +75,15 @@ pub returns-in_default-clause-all : goal.returns-in_default-clause-all
 returns-in_default-clause-all g c =
     let old : State = g.S.PageStore.state c.args.store.now in
     let before : ScanOp = c.args.self.now in
-    let way : Way = c.args.way in
+    let way : Position = c.args.way in
     let page : Page = c.view-page.result.now in
-    refuses g.S.PageStore before c.args.store.now c.look.new.store _ c.look.ensures.steps c.look.ensures.state c.requires.none
-    (λ h. (let k = sym c.in_ok-look.was ∙ c.look.ensures.stopped h in cc))
+    refuses g.S.PageStore before c.args.store.now c.read_shared.new.store _ c.read_shared.ensures.steps c.read_shared.ensures.state c.requires.none
+    (λ h. (let k = sym c.in_ok-read_shared.was ∙ c.read_shared.ensures.stopped h in cc))
     (λ honest order fits.
     let found = found_there g (goal.at.returns-in_default-clause-all g c).After-view-page honest in
     let led = scan_led old before way page c.limits-most.result c.lead.result c.requires.at order fits found
-    (c.limits-most.ensures.value ∙ ap (λ (st : State). sizes_of st.limits) c.look.ensures.state) c.in_ok-look.ensures.inside c.lead.ensures.goes in
-    let here = subst (LeadsOnward old fits.start (frontier_aim before.frontier) false 0 way) (c.in-Some-Here.is ∙ ap Some c.in-Some-Here.field-0-is) led in
+    (c.limits-most.ensures.value ∙ ap (λ (st : State). sizes_of st.limits) c.read_shared.ensures.state) c.in_ok-read_shared.ensures.inside c.lead.ensures.goes in
+    let here = subst (LeadsToNext old fits.start (frontier_aim before.frontier) false 0 way) (c.in-Some-Here.is ∙ ap Some c.in-Some-Here.field-0-is) led in
     let block_is : page.block ≡ way.block = (stored_there g (goal.at.returns-in_default-clause-all g c).After-view-page).block_is in
     absurd (other_items page.items c.in_default.not-Entries (leaf_has_entries old (frontier_aim before.frontier) page order.tree
     (subst (λ (b : ℕ). slice_get old.pages b ≡ Some page) (sym block_is) found) (stored_there g (goal.at.returns-in_default-clause-all g c).After-view-page).storable.admitted
@@ -92,13 +92,13 @@ returns-in_default-clause-all g c =
 pub returns-in-None-clause-all : goal.returns-in-None-clause-all
 returns-in-None-clause-all g c =
     let old : State = g.S.PageStore.state c.args.store.now in
-    refuses g.S.PageStore c.args.self.now c.args.store.now c.look.new.store _ c.look.ensures.steps c.look.ensures.state c.requires.none
-    (λ h. (let k = sym c.in_ok-look.was ∙ c.look.ensures.stopped h in cc))
+    refuses g.S.PageStore c.args.self.now c.args.store.now c.read_shared.new.store _ c.read_shared.ensures.steps c.read_shared.ensures.state c.requires.none
+    (λ h. (let k = sym c.in_ok-read_shared.was ∙ c.read_shared.ensures.stopped h in cc))
     (λ honest order fits.
-    absurd (subst (LeadsOnward old fits.start (frontier_aim c.args.self.now.frontier) false 0 c.args.way) c.in-None.is
+    absurd (subst (LeadsToNext old fits.start (frontier_aim c.args.self.now.frontier) false 0 c.args.way) c.in-None.is
     (scan_led old c.args.self.now c.args.way c.view-page.result.now c.limits-most.result c.lead.result c.requires.at order fits
     (found_there g (goal.at.returns-in-None-clause-all g c).After-view-page honest)
-    (c.limits-most.ensures.value ∙ ap (λ (st : State). sizes_of st.limits) c.look.ensures.state) c.in_ok-look.ensures.inside c.lead.ensures.goes)))
+    (c.limits-most.ensures.value ∙ ap (λ (st : State). sizes_of st.limits) c.read_shared.ensures.state) c.in_ok-read_shared.ensures.inside c.lead.ensures.goes)))
 
 pub returns-in-Some-Going-clause-all : goal.returns-in-Some-Going-clause-all
 returns-in-Some-Going-clause-all g c =
@@ -106,13 +106,13 @@ returns-in-Some-Going-clause-all g c =
     let new : State = g.S.PageStore.state c.go_on.new.store in
     let before : ScanOp = c.args.self.now in
     let after : ScanOp = c.go_on.new.self in
-    let on : Way = c.in-Some-Going.on in
+    let on : Position = c.in-Some-Going.on in
     let is : new ≡ with_table old (without_leaf old.table before.session before.leaf) =
-    c.go_on.ensures.state ∙ ap (λ (st : State). with_table st (without_leaf st.table before.session before.leaf)) c.look.ensures.state in
+    c.go_on.ensures.state ∙ ap (λ (st : State). with_table st (without_leaf st.table before.session before.leaf)) c.read_shared.ensures.state in
     let answer : c.lead.result ≡ Some (Going on) = c.in-Some-Going.is ∙ ap Some c.in-Some-Going.field-0-is in
-    let most : c.limits-most.result.pages ≡ old.limits.pages = ap (λ (l : Limits). l.pages) c.limits-most.ensures.value ∙ ap (λ (st : State). st.limits.pages) c.look.ensures.state in
+    let most : c.limits-most.result.pages ≡ old.limits.pages = ap (λ (l : Limits). l.pages) c.limits-most.ensures.value ∙ ap (λ (st : State). st.limits.pages) c.read_shared.ensures.state in
     let shorter : IsShorter 0 old.limits.pages c.args.way on =
-    subst (λ (n : ℕ). IsShorter 0 n c.args.way on) most (subst (LeavesLess 0 c.limits-most.result.pages c.args.way) answer c.lead.ensures.less) in
+    subst (λ (n : ℕ). IsShorter 0 n c.args.way on) most (subst (DescentIsShorter 0 c.limits-most.result.pages c.args.way) answer c.lead.ensures.less) in
     let less : scan_left old.limits.pages old.pages after < scan_left old.limits.pages old.pages before =
     subst (λ (op : ScanOp). scan_left old.limits.pages old.pages op < scan_left old.limits.pages old.pages before) (sym c.go_on.ensures.op)
     (going_less old.limits.pages old.pages before c.args.way on c.requires.at shorter) in
@@ -125,33 +125,33 @@ returns-in-Some-Going-clause-all g c =
       refused = tt;
       stopped = search rules;
       ready = tt;
-      waits = λ alive some. absurd {A = ScanWaits old new before after (Ok Goes)} (some c.requires.none);
+      waits = λ alive some. absurd {A = ScanWaits old new before after (Ok AtEachMoment)} (some c.requires.none);
       less = λ honest. less;
       no_more = λ honest. omega arith;
       stepped = λ honest order fits.
-          let later : IsLater (g.S.PageStore.backing c.look.new.store) (g.S.PageStore.backing c.go_on.new.store) =
+          let later : IsLater (g.S.PageStore.backing c.read_shared.new.store) (g.S.PageStore.backing c.go_on.new.store) =
           g.met.S.PageStore.laws.follows_later _ _ (c.go_on.ensures.steps _ (g.met.S.PageStore.laws.follows_same _)) in
-          let way : Way = c.args.way in
+          let way : Position = c.args.way in
           let led = scan_led old before way c.view-page.result.now c.limits-most.result c.lead.result c.requires.at order fits
           (found_there g (goal.at.returns-in-Some-Going-clause-all g c).After-view-page (later.honest honest))
-          (c.limits-most.ensures.value ∙ ap (λ (st : State). sizes_of st.limits) c.look.ensures.state) c.in_ok-look.ensures.inside c.lead.ensures.goes in
+          (c.limits-most.ensures.value ∙ ap (λ (st : State). sizes_of st.limits) c.read_shared.ensures.state) c.in_ok-read_shared.ensures.inside c.lead.ensures.goes in
           record {
             does = going_does old new before order fits is;
             fits = subst (ScanInvariant new) (sym c.go_on.ensures.op)
-                (going_fits old new before order fits is on (subst (LeadsOnward old fits.start (frontier_aim before.frontier) false 0 way) answer led));
+                (going_fits old new before order fits is on (subst (LeadsToNext old fits.start (frontier_aim before.frontier) false 0 way) answer led));
             none = c.requires.none;
             from = subst IsUnderway (sym c.requires.at) tt;
             way = on;
             op = c.go_on.ensures.op;
           };
       straight = λ honest order whole none starts.
-          let later : IsLater (g.S.PageStore.backing c.look.new.store) (g.S.PageStore.backing c.go_on.new.store) =
+          let later : IsLater (g.S.PageStore.backing c.read_shared.new.store) (g.S.PageStore.backing c.go_on.new.store) =
           g.met.S.PageStore.laws.follows_later _ _ (c.go_on.ensures.steps _ (g.met.S.PageStore.laws.follows_same _)) in
           let found : slice_get old.pages c.args.way.block ≡ Some c.view-page.result.now = found_there g (goal.at.returns-in-Some-Going-clause-all g c).After-view-page (later.honest honest) in
           let cover : HasCover old c.args.way.level (frontier_aim before.frontier) c.args.way.block = subst (ScanIsStraight old before.frontier) c.requires.at starts in
           let led : LeadsStraight old (frontier_aim before.frontier) 0 c.args.way (Some (Going on)) =
           subst (LeadsStraight old (frontier_aim before.frontier) 0 c.args.way) answer (c.lead.ensures.straight old order.tree whole found cover) in
-          subst (λ (op : ScanOp). ScanCountsDown old before op (Ok Goes)) (sym c.go_on.ensures.op)
+          subst (λ (op : ScanOp). ScanCountsDown old before op (Ok AtEachMoment)) (sym c.go_on.ensures.op)
           (led.1, subst (λ (a : ScanAt). suc (suc on.level) ≡ scan_straight_steps old.pages a) (sym c.requires.at) (ap suc led.0));
     }
 
@@ -161,20 +161,20 @@ returns-in-Entries-clause-all g c =
     let new : State = g.S.PageStore.state c.stand_on.new.store in
     let before : ScanOp = c.args.self.now in
     let after : ScanOp = c.stand_on.new.self in
-    let way : Way = c.args.way in
+    let way : Position = c.args.way in
     let page : Page = c.view-page.result.now in
     let es : List Entry = c.take.new.self.copied.items in
     let taken : c.take.new.self ≡ behind before page.high page.right es = c.take.ensures.op in
     let is : new ≡ with_table old (pinned (without_leaf old.table before.session before.leaf) before.session way.block) =
     subst (λ (op : ScanOp).
-    new ≡ with_table (g.S.PageStore.state c.look.new.store)
-    (pinned (without_leaf (g.S.PageStore.state c.look.new.store).table op.session op.leaf) op.session way.block)) taken c.stand_on.ensures.state
-    ∙ ap (λ (st : State). with_table st (pinned (without_leaf st.table before.session before.leaf) before.session way.block)) c.look.ensures.state in
+    new ≡ with_table (g.S.PageStore.state c.read_shared.new.store)
+    (pinned (without_leaf (g.S.PageStore.state c.read_shared.new.store).table op.session op.leaf) op.session way.block)) taken c.stand_on.ensures.state
+    ∙ ap (λ (st : State). with_table st (pinned (without_leaf st.table before.session before.leaf) before.session way.block)) c.read_shared.ensures.state in
     let op_is : after ≡ behind (record before { leaf = Some way.block }) page.high page.right es =
     c.stand_on.ensures.op ∙ ap (λ (op : ScanOp). record op { leaf = Some way.block }) taken in
     let arrived : IsArrived page (frontier_aim before.frontier) = c.lead.ensures.here (c.in-Some-Here.is ∙ ap Some c.in-Some-Here.field-0-is) in
     let many : length es ≤ 50 = c.take.ensures.many in
-    let later : IsLater (g.S.PageStore.backing c.look.new.store) (g.S.PageStore.backing c.stand_on.new.store) =
+    let later : IsLater (g.S.PageStore.backing c.read_shared.new.store) (g.S.PageStore.backing c.stand_on.new.store) =
     g.met.S.PageStore.laws.follows_later _ _ (c.stand_on.ensures.steps _ (g.met.S.PageStore.laws.follows_same _)) in
     let less : (g.S.PageStore.backing c.stand_on.new.store).honest ≡ true → scan_left old.limits.pages old.pages after < scan_left old.limits.pages old.pages before =
     λ honest. subst (λ (op : ScanOp). scan_left old.limits.pages old.pages op < scan_left old.limits.pages old.pages before) (sym op_is)
@@ -193,12 +193,12 @@ returns-in-Entries-clause-all g c =
       less = λ honest none. less honest;
       no_more = λ honest. (let l = less honest in omega arith);
       stepped = λ honest order fits.
-          let on_way : IsOnWay old fits.start (frontier_aim before.frontier) false 0 way = subst (ScanStands old fits.start before.leaf before.frontier) c.requires.at fits.stands in
+          let on_way : IsOnDescent old fits.start (frontier_aim before.frontier) false 0 way = subst (ScanStands old fits.start before.leaf before.frontier) c.requires.at fits.stands in
           let found : slice_get old.pages way.block ≡ Some page = found_there g (goal.at.returns-in-Entries-clause-all g c).After-view-page (later.honest honest) in
           let led = scan_led old before way page c.limits-most.result c.lead.result c.requires.at order fits found
-          (c.limits-most.ensures.value ∙ ap (λ (st : State). sizes_of st.limits) c.look.ensures.state) c.in_ok-look.ensures.inside c.lead.ensures.goes in
+          (c.limits-most.ensures.value ∙ ap (λ (st : State). sizes_of st.limits) c.read_shared.ensures.state) c.in_ok-read_shared.ensures.inside c.lead.ensures.goes in
           let here : (way.level ≡ 0) × HasCover old 0 (frontier_aim before.frontier) way.block =
-          subst (LeadsOnward old fits.start (frontier_aim before.frontier) false 0 way) (c.in-Some-Here.is ∙ ap Some c.in-Some-Here.field-0-is) led in
+          subst (LeadsToNext old fits.start (frontier_aim before.frontier) false 0 way) (c.in-Some-Here.is ∙ ap Some c.in-Some-Here.field-0-is) led in
           let admitted = (stored_there g (goal.at.returns-in-Entries-clause-all g c).After-view-page).storable.admitted in
           let block_is : page.block ≡ way.block = (stored_there g (goal.at.returns-in-Entries-clause-all g c).After-view-page).block_is in
           let there : slice_get old.pages page.block ≡ Some page = subst (λ (b : ℕ). slice_get old.pages b ≡ Some page) (sym block_is) found in
@@ -206,9 +206,9 @@ returns-in-Entries-clause-all g c =
           let has = leaf_has_entries old (frontier_aim before.frontier) page order.tree there admitted cover in
           let live = live_leaf page has arrived.alive admitted in
           let at : IsLeafAt old.pages way.block page = record { found = found; alive = arrived.alive; leaf = has } in
-          let place : HasPlace old fits.start 0 (frontier_aim before.frontier) false page.block =
-          subst (λ (b : ℕ). HasPlace old fits.start 0 (frontier_aim before.frontier) false b) (sym block_is)
-          (subst (λ (k : ℕ). HasPlace old fits.start k (frontier_aim before.frontier) false way.block) here.0 on_way.place) in
+          let place : LeadsTo old fits.start 0 (frontier_aim before.frontier) false page.block =
+          subst (λ (b : ℕ). LeadsTo old fits.start 0 (frontier_aim before.frontier) false b) (sym block_is)
+          (subst (λ (k : ℕ). LeadsTo old fits.start k (frontier_aim before.frontier) false way.block) here.0 on_way.place) in
           let entries = c.as_slice.ensures.value ∙ ap entries_of (sym c.in-Entries.is) in
           let copied_by : IsCopiedFrom c.as_slice.result.now before.frontier before.range.below es = c.take.ensures.copied (subst IsAscending (sym entries) live.entries.ascends) in
           let copied : IsCopiedFrom (entries_of page.items) before.frontier before.range.below es =

@@ -11,7 +11,7 @@ use Rattle.session_calls.proofs.Scanning.{moving_goes, ready_goes, done_goes, mo
 use Rattle.std.proofs.Common.{Bool}
 use Rattle.index_model.specs.Faults.{HasCause}
 use Rattle.index_model.specs.Row.{Row}
-use Rattle.vacuum.specs.BulkDeletes.{BulkDeleteGoesOn, IsDueOf, causes_of_deleting}
+use Rattle.vacuum.specs.BulkDeletes.{BulkDeleteContinues, IsDueOf, causes_of_deleting}
 use Rattle.std.proofs.Common.{ap, refl}
 use Rattle.index_model.specs.Calls.{AskScan}
 use Rattle.scan.specs.declared.steps.ScanOp.{ScanOp}
@@ -117,7 +117,7 @@ returns-in-Ok-Going-step-2-clause-goes g c honest start history number call fits
     let comes = c.in-Ok-Going-step-2.ensures.all.due honest in
     rw c.in-Bulk.is (bulk_goes_on old new (g.S.PageStore.backing c.args.store.now) (g.S.PageStore.backing c.step-in-Some.new.store) start history
     number call c.in-Bulk.set c.in-Bulk.op c.step-in-Some.new.self mine
-    c.step-in-Some.ensures.all.session (subst (λ (d : Row → Bool). BulkDeleteGoesOn d old new c.in-Bulk.op c.step-in-Some.new.self) dead_is step)
+    c.step-in-Some.ensures.all.session (subst (λ (d : Row → Bool). BulkDeleteContinues d old new c.in-Bulk.op c.step-in-Some.new.self) dead_is step)
     (λ due are before. rw c.in-Ok-Going-step-2.field-0-is at (comes due (subst (λ (d : Row → Bool). IsDueOf d due) (sym dead_is) are) before)))
 
 pub returns-in-Ok-Finished-clause-goes : goal.returns-in-Ok-Finished-clause-goes

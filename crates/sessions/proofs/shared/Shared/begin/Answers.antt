@@ -1,7 +1,7 @@
 use Rattle.std.proofs.Common.{◌<◌, ◌+◌, ◌++◌, ◌∷◌, [], map, List, length, Some, None, slice_set, refl, sym, ap, ◌∙◌, subst, arith}
 use Rattle.std.proofs.Math.Logic.{∥∥₁_map}
 use Rattle.schedule.specs.Events.{EventAlways}
-use Rattle.schedule.specs.Making.{Makes}
+use Rattle.schedule.specs.Making.{EventEffect}
 use Rattle.schedule.specs.TheoremKinds.{kind_of}
 use Rattle.schedule.specs.declared.event.Event.{Event}
 use Rattle.session_calls.specs.declared.answer.Answer.{Answer}
@@ -49,7 +49,7 @@ invariant_of-self g c =
       acted = ∥∥₁_map self.acted
           (λ a. acts_begun g.S.PageStore g.J.Jobs.handed g.J.Jobs.jobs old new self.pending.items self.history.items a w p c.args.asked idle
           c.requires.job c.requires.holds c.actions-from.ensures seen c.requires.given
-          (subst (λ (x : Event × Answer). Makes g.S.PageStore (kind_of x.0) x.1 old new) (λ i. (c.beginning.ensures i, told i))
+          (subst (λ (x : Event × Answer). EventEffect g.S.PageStore (kind_of x.0) x.1 old new) (λ i. (c.beginning.ensures i, told i))
           (makes_of g.S.PageStore c.beginning.result answer old new one.same.sessions one.goes one.always)));
       matches = ∥∥₁_map self.matches (λ m. matches_runs old.slots new.slots self.pending.items w p (within self.pending.items w None known) runs.0 runs.1 m);
       seats = omega (arith, self.seats, one.same.sessions);
@@ -97,7 +97,7 @@ invariant_of-self-2 g c =
           (begin_acts g.S.PageStore laws g.J.Jobs.jobs g.J.Jobs.stood g.J.Jobs.kept_then old new one.steps sets self.start self.pending.items
           self.history.items w p idle c.args.asked c.requires.job c.beginning.result (ap kind_of c.beginning.ensures) answer one.goes always
           c.actions-from.ensures seen c.requires.given c.requires.holds ∙ sym c.actions-from.ensures)
-          (subst (λ (e : Event). Makes g.S.PageStore (kind_of e) answer old new) c.beginning.ensures
+          (subst (λ (e : Event). EventEffect g.S.PageStore (kind_of e) answer old new) c.beginning.ensures
           (makes_of g.S.PageStore c.beginning.result answer old new one.same.sessions one.goes one.always))));
       matches = ∥∥₁_map self.matches (λ m. matches_stays old.slots new.slots self.pending.items same m);
       seats = omega (arith, self.seats, one.same.sessions);

@@ -11,7 +11,7 @@ use Rattle.sessions.specs.Kept.{KeepsAll, MatchesPending, record_of}
 use Rattle.sessions.specs.Notes.{notes_of, jobs_of, job_of}
 use Rattle.sessions.proofs.Handing.{comes_on}
 use Rattle.sessions.proofs.Noting.{some_there, within, jobs_of_set, notes_of_snoc, length_notes, runs_there, seat_runs, last_of, others_run_on, matches_goes, matches_ends}
-use Rattle.sessions.proofs.Telling.{steps_no_gift}
+use Rattle.sessions.proofs.Meanings.{steps_no_gift}
 use Rattle.sessions.proofs.Transiting.{step_acts_on, step_acts_last}
 use Rattle.sessions.proofs.Stepping.{step_keeps_on, step_keeps_last, steps_no_end}
 use Rattle.sessions.proofs.shared.Shared.step.Goals as goal

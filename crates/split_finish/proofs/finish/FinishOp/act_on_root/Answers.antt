@@ -1,7 +1,7 @@
 use Rattle.std.proofs.Common.{◌≤◌, map, sym, ap, subst, ◌∙◌}
 use Rattle.page_codec.specs.declared.page.Page.{Page}
 use Rattle.page_action.specs.States.{State, IsLater}
-use Rattle.descent.specs.Shared.{fresh_block}
+use Rattle.tree_acts.specs.StepEffects.{fresh_block}
 use Rattle.descent.proofs.Working.{fresh_is}
 use Rattle.split_finish.specs.Finishes.{finish_blocks}
 use Rattle.split_finish.proofs.Needs.{root_takes, three_are}

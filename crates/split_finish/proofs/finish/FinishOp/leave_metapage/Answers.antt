@@ -1,7 +1,7 @@
 use Rattle.std.proofs.Common.{◌≤◌, sym, ap, subst, ◌∙◌, arith, eq-eqb}
 use Rattle.tree_shape.specs.Nodes.{Node, nodes_of}
 use Rattle.tree_acts.proofs.Overlays.{node_there}
-use Rattle.split_finish.specs.Turns.{TurnGoesOn}
+use Rattle.split_finish.specs.Turns.{TurnContinues}
 use Rattle.split_finish.specs.declared.finish.FinishAt.{FinishAt}
 use Rattle.split_finish.specs.declared.finish.FinishAt.TheVariants.{Start, Down, Root}
 use Rattle.split_finish.proofs.Counting.{less_root, less_down}
@@ -14,12 +14,12 @@ pub returns-clause-turn : goal.returns-clause-turn
 returns-clause-turn c = λ st found.
     let op = c.args.self.now in
     elim c.if-meta-self-2.branch [
-      | then-meta-self-2 w ↦ subst (λ (a : FinishAt). TurnGoesOn st op (record op { at = a })) (sym w.self-is)
+      | then-meta-self-2 w ↦ subst (λ (a : FinishAt). TurnContinues st op (record op { at = a })) (sym w.self-is)
           (turn_moved st op Start Root c.requires
           (less_root st.limits.pages (nodes_of st.pages) op.below.items op.target
           (eq-eqb _ op.target.level (ap (λ (n : Node). n.level) (node_there st.pages 0 c.args.meta.now found) ∙ w.if-meta-self-2.true)))
           (λ h fits stands. tt))
-      | else-meta-self-2 w ↦ subst (λ (a : FinishAt). TurnGoesOn st op (record op { at = a })) (sym w.self-is)
+      | else-meta-self-2 w ↦ subst (λ (a : FinishAt). TurnContinues st op (record op { at = a })) (sym w.self-is)
           (turn_moved st op Start (Down c.in-Some.way) c.requires
           (less_down st.limits.pages (nodes_of st.pages) op.below.items op.target c.in-Some.way (omega arith))
           (λ h fits stands. starts_down st fits.start op.target c.args.meta.now c.in-Some.way h found

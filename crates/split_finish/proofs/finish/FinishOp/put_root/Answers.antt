@@ -1,7 +1,7 @@
 use Rattle.std.proofs.Common.{◌≡◌, Bool, true, sym, ap, subst, ◌∙◌}
 use Rattle.index_model.specs.Faults.{HasCause}
 use Rattle.page_action.specs.States.{Backing}
-use Rattle.descent.specs.Shared.{causes_of_working}
+use Rattle.tree_acts.specs.StepEffects.{causes_of_working}
 use Rattle.split_finish.specs.Finishes.{finish_blocks, frames_of, takes_block_of}
 use Rattle.split_finish.specs.Turns.{splits_root_of}
 use Rattle.split_finish.proofs.Needs.{to_grow}

@@ -4,7 +4,7 @@ use Rattle.std.proofs.lemmas.Bool.Decides.{eqb_tells}
 use Rattle.std.proofs.Common.{inl, inr}
 use Rattle.tree_acts.proofs.Sizes.{low_level}
 use Rattle.split_finish.specs.Targets.{FinishStands}
-use Rattle.split_finish.proofs.Standing.{live_level, flagged_in}
+use Rattle.split_finish.proofs.Standing.{live_level, incomplete_in}
 use Rattle.split_finish.proofs.Turning.{turn_risen}
 use Rattle.split_finish.proofs.finish.FinishOp.rise_to.Goals as goal
 use Rattle.split_finish.proofs.finish.FinishOp.rise_to.Goals.{then-page-way-via-then-page-way, then-page-way-via-else-page-way+then-is_full}
@@ -23,11 +23,11 @@ returns-then-page-way-clause-turn c = λ st found h fits.
     ]
 
 pub returns-in_default-clause-turn : goal.returns-in_default-clause-turn
-returns-in_default-clause-turn c = λ st found h fits. absurd ((flagged_in st c.args.way.block c.args.page.now h found c.requires.flagged).0 c.in_default.is)
+returns-in_default-clause-turn c = λ st found h fits. absurd ((incomplete_in st c.args.way.block c.args.page.now h found c.requires.incomplete).0 c.in_default.is)
 
 pub returns-clause-turn : goal.returns-clause-turn
 returns-clause-turn c = λ st found.
-    turn_risen st c.args.self.now c.push.new.self c.args.way c.args.page.now c.in-Some.separator c.requires.down c.push.ensures found c.requires.live c.requires.flagged c.in-Some.is
+    turn_risen st c.args.self.now c.push.new.self c.args.way c.args.page.now c.in-Some.separator c.requires.down c.push.ensures found c.requires.live c.requires.incomplete c.in-Some.is
     (by (length c.args.self.now.below.items) c.is_full.ensures.fits (sym c.is_full.ensures.value ∙ c.if-is_full.false))
   where
     by : (n : ℕ) → n ≤ 31 → (n == 31) ≡ false → n < 31

@@ -10,7 +10,7 @@ use Rattle.page_action.specs.States.{State, Backing, IsLater, after_act}
 use Rattle.page_action.specs.Stored.{AreActable}
 use Rattle.tree_acts.proofs.Overlays.{inside}
 use Rattle.descent.proofs.Working.{act_cause_of, fresh_is}
-use Rattle.descent.specs.Shared.{fresh_block, causes_of_acting, causes_of_working}
+use Rattle.tree_acts.specs.StepEffects.{fresh_block, causes_of_acting, causes_of_working}
 use Rattle.split_finish.specs.Finishes.{finish_blocks, frames_of, takes_block_of, causes_of_finishing}
 use Rattle.split_finish.specs.Parting.{halves_and}
 use Rattle.split_finish.specs.Turns.{splits_root_of}

@@ -7,7 +7,7 @@ use Rattle.split_finish.specs.Turns.{splits_root_of}
 use Rattle.split_finish.proofs.Needs.{needs_frame}
 use Rattle.split_finish.proofs.Parting.{beside_parent}
 use Rattle.split_finish.proofs.Standing.{has_room}
-use Rattle.split_finish.proofs.Stepping.{acts_not, behind_more, still_meets}
+use Rattle.split_finish.proofs.Stepping.{acts_not, after_more, still_meets}
 use Rattle.split_finish.proofs.finish.FinishOp.split_parent.Goals as goal
 
 pub split_beside-requires-clause-meets : goal.split_beside-requires-clause-meets
@@ -25,7 +25,7 @@ pub returns-after-is_there-clause-all : goal.returns-after-is_there-clause-all
 returns-after-is_there-clause-all g c =
     let later : IsLater (g.S.PageStore.backing c.args.store.now) (g.S.PageStore.backing c.read_right.new.store) =
     g.met.S.PageStore.laws.follows_later _ _ (c.read_right.ensures.steps _ (g.met.S.PageStore.laws.follows_same _)) in
-    behind_more g.S.PageStore c.args.self.now c.split_beside.new.self c.args.store.now c.read_right.new.store c.split_beside.new.store c.split_beside.result
+    after_more g.S.PageStore c.args.self.now c.split_beside.new.self c.args.store.now c.read_right.new.store c.split_beside.new.store c.split_beside.result
     (record {
       steps = c.read_right.ensures.steps;
       same = c.read_right.ensures.state;

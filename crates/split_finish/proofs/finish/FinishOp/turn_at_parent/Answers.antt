@@ -5,7 +5,7 @@ use Rattle.tree_acts.proofs.Overlays.{node_there}
 use Rattle.split_finish.specs.Targets.{is_ready}
 use Rattle.split_finish.specs.declared.finish.FinishAt.TheVariants.{Start, Down, Link}
 use Rattle.split_finish.proofs.Counting.{less_back}
-use Rattle.split_finish.proofs.Standing.{live_level, flagged_in}
+use Rattle.split_finish.proofs.Standing.{live_level, incomplete_in}
 use Rattle.split_finish.proofs.Turning.{turn_moved, turn_popped, turn_retaken}
 use Rattle.split_finish.proofs.finish.FinishOp.turn_at_parent.Goals as goal
 
@@ -15,7 +15,7 @@ returns-then-not-page-clause-turn c = λ st found there.
 
 pub returns-in_default-clause-turn : goal.returns-in_default-clause-turn
 returns-in_default-clause-turn c = λ st found there h fits.
-    absurd ((flagged_in st c.args.self.now.target.block c.args.page.now h found c.if-not-page.false).0 c.in_default.is)
+    absurd ((incomplete_in st c.args.self.now.target.block c.args.page.now h found c.if-not-page.false).0 c.in_default.is)
 
 pub returns-then-not-are_same-clause-turn : goal.returns-then-not-are_same-clause-turn
 returns-then-not-are_same-clause-turn c = λ st found there.
@@ -25,7 +25,7 @@ returns-then-not-are_same-clause-turn c = λ st found there.
 pub returns-then-page-self-clause-turn : goal.returns-then-page-self-clause-turn
 returns-then-page-self-clause-turn c = λ st found there h fits.
     absurd (c.if-page-self.true (live_level st fits.start c.args.self.now.target.level _ true c.args.self.now.target.block c.args.page.now h fits.newest.place found
-    (flagged_in st c.args.self.now.target.block c.args.page.now h found c.if-not-page.false).1))
+    (incomplete_in st c.args.self.now.target.block c.args.page.now h found c.if-not-page.false).1))
 
 pub returns-clause-turn : goal.returns-clause-turn
 returns-clause-turn c = λ st found there.

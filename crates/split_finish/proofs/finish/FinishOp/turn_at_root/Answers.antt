@@ -6,18 +6,18 @@ use Rattle.page_codec.specs.declared.page.Items.TheVariants.{Meta}
 use Rattle.page_codec.specs.declared.page.Page.{Page}
 use Rattle.page_action.proofs.StoredPages.{stored_page}
 use Rattle.tree_shape.specs.Walks.{bound_aim}
-use Rattle.tree_acts.specs.Acts.{IsUnfinished}
-use Rattle.tree_acts.proofs.Telling.{root_tells}
+use Rattle.tree_acts.specs.Acts.{IsIncompleteSplit}
+use Rattle.tree_acts.proofs.Meanings.{root_shows}
 use Rattle.tree_shape.specs.Nodes.{Node, nodes_of}
 use Rattle.tree_acts.proofs.Overlays.{node_there}
-use Rattle.descent.specs.Shared.{is_flagged}
-use Rattle.descent.specs.Ways.{root_level}
+use Rattle.tree_acts.specs.StepEffects.{is_incomplete}
+use Rattle.tree_acts.specs.Levels.{root_level}
 use Rattle.split_finish.specs.Turns.{splits_root_of}
 use Rattle.split_finish.specs.declared.finish.FinishAt.{FinishAt}
 use Rattle.split_finish.specs.declared.finish.FinishAt.TheVariants.{Start, Root}
 use Rattle.split_finish.proofs.Counting.{less_again}
 use Rattle.split_finish.proofs.Needs.{level_is}
-use Rattle.split_finish.proofs.Standing.{live_level, flagged_in, to_finish}
+use Rattle.split_finish.proofs.Standing.{live_level, incomplete_in, to_finish}
 use Rattle.split_finish.proofs.Turning.{turn_moved, turn_popped, turn_retaken}
 use Rattle.split_finish.proofs.finish.FinishOp.turn_at_root.Goals as goal
 use Rattle.split_finish.proofs.finish.FinishOp.turn_at_root.Goals.{then-ne-via-then-ne, then-ne-via-else-ne+then-page-self}
@@ -48,14 +48,14 @@ returns-then-ne-clause-turn c = λ st there found h fits.
       | then-ne-via-then-ne w ↦ absurd (
           let op = c.args.self.now in
           let u = to_finish st fits.start op.target.level (bound_aim op.target.separator) op.target.block c.args.page.now h fits.newest.place found c.if-not-page.false in
-          let on : IsUnfinished st fits.start c.args.meta.now.level u.separator c.args.page.now u.new =
-          subst (λ (n : ℕ). IsUnfinished st fits.start n u.separator c.args.page.now u.new) (sym c.if-meta-self.false) u.is in
-          let root = root_tells st fits.start u.separator c.args.meta.now c.args.page.now u.new h there on in
+          let on : IsIncompleteSplit st fits.start c.args.meta.now.level u.separator c.args.page.now u.new =
+          subst (λ (n : ℕ). IsIncompleteSplit st fits.start n u.separator c.args.page.now u.new) (sym c.if-meta-self.false) u.is in
+          let root = root_shows st fits.start u.separator c.args.meta.now c.args.page.now u.new h there on in
           let here : c.args.page.now.block ≡ op.target.block = (stored_page st.limits op.target.block st.pages c.args.page.now h.stored found).block_is in
           not_same op.target.block (root ∙ ap Some here) (sym c.ne.ensures ∙ w.if-ne.true))
       | then-ne-via-else-ne+then-page-self w ↦
           absurd (w.if-page-self.true (live_level st fits.start c.args.self.now.target.level _ true c.args.self.now.target.block c.args.page.now h fits.newest.place found
-          (flagged_in st c.args.self.now.target.block c.args.page.now h found c.if-not-page.false).1))
+          (incomplete_in st c.args.self.now.target.block c.args.page.now h found c.if-not-page.false).1))
     ]
 
 pub returns-then-self-ge31-clause-turn : goal.returns-then-self-ge31-clause-turn
@@ -65,14 +65,14 @@ returns-then-self-ge31-clause-turn c = λ st there found h fits.
     let same : h.tree.meta ≡ meta = (let k : Some h.tree.meta ≡ Some meta = sym h.tree.meta_at ∙ there in cc) in
     let level : root_level st.pages ≡ op.target.level = level_is st meta there (subst (λ (p : Page). p.items ≡ Meta) same h.tree.names_root.kind) ∙ c.if-meta-self.false in
     subst (λ (a : FinishAt). (splits_root_of st op.target a && nat_le 31 (root_level st.pages)) ≡ true) (sym c.requires)
-    (and_from (is_flagged st op.target.block && (root_level st.pages == op.target.level)) (nat_le 31 (root_level st.pages))
-    (and_from (is_flagged st op.target.block) (root_level st.pages == op.target.level)
+    (and_from (is_incomplete st op.target.block && (root_level st.pages == op.target.level)) (nat_le 31 (root_level st.pages))
+    (and_from (is_incomplete st op.target.block) (root_level st.pages == op.target.level)
     (ap (λ (n : Node). n.split) (node_there st.pages op.target.block c.args.page.now found) ∙ c.if-not-page.false) (eq-eqb (root_level st.pages) op.target.level level))
     (le-leb 31 (root_level st.pages) (subst (λ (n : ℕ). 31 ≤ n) (sym level) c.if-self-ge31.true)))
 
 pub returns-in_default-high-clause-turn : goal.returns-in_default-high-clause-turn
 returns-in_default-high-clause-turn c = λ st there found h fits.
-    absurd ((flagged_in st c.args.self.now.target.block c.args.page.now h found c.if-not-page.false).0 c.in_default-high.is)
+    absurd ((incomplete_in st c.args.self.now.target.block c.args.page.now h found c.if-not-page.false).0 c.in_default-high.is)
 
 pub returns-clause-turn : goal.returns-clause-turn
 returns-clause-turn c = λ st there found.

@@ -1,7 +1,7 @@
 use Rattle.std.specs.Prelude.{length}
 use Rattle.std.proofs.Common.{arith, inl, inr, sym, ap, subst, ◌∙◌, ⊎_elim, IsTrue}
-use Rattle.device.specs.Moments.{Goes}
-use Rattle.page_store.specs.Restart.{LeavesPages}
+use Rattle.device.specs.Moments.{AtEachMoment}
+use Rattle.page_store.specs.Restart.{CrashesToPages}
 use Rattle.page_action.specs.States.{State}
 use Rattle.page_store.specs.Stores.{state_of, device_of}
 use Rattle.recovery.specs.Opening.{IsFreshlyOpened}
@@ -42,13 +42,13 @@ returns-in-Err-clause-cause g c =
 pub returns-in-Ok-new-clause-moments : goal.returns-in-Ok-new-clause-moments
 returns-in-Ok-new-clause-moments g c honest limits pages index =
     let same = ap (device_of g.D.Device) c.in-Ok-new.ensures.store in
-    subst (λ (d : g.row.D.Denot). Goes (LeavesPages limits pages) (g.D.Device.trace c.args.device) (g.D.Device.trace d)) (sym same)
+    subst (λ (d : g.row.D.Denot). AtEachMoment (CrashesToPages limits pages) (g.D.Device.trace c.args.device) (g.D.Device.trace d)) (sym same)
     (c.in-Ok.ensures.moments (subst (λ (d : g.row.D.Denot). IsTrue (g.D.Device.is_honest d)) same honest) limits pages index)
 
 pub returns-in-Err-new-clause-moments : goal.returns-in-Err-new-clause-moments
 returns-in-Err-new-clause-moments g c honest limits pages index =
     let same = c.into_device.ensures ∙ ap (device_of g.D.Device) c.in-Err-new.ensures.given_back in
-    subst (λ (d : g.row.D.Denot). Goes (LeavesPages limits pages) (g.D.Device.trace c.args.device) (g.D.Device.trace d)) (sym same)
+    subst (λ (d : g.row.D.Denot). AtEachMoment (CrashesToPages limits pages) (g.D.Device.trace c.args.device) (g.D.Device.trace d)) (sym same)
     (c.in-Ok.ensures.moments (subst (λ (d : g.row.D.Denot). IsTrue (g.D.Device.is_honest d)) same honest) limits pages index)
 
 pub returns-in-Ok-new-clause-frames : goal.returns-in-Ok-new-clause-frames
