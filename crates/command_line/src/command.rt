@@ -115,11 +115,12 @@ fn check<'a>(alloc: Global) -> Result<Command<'a>, AllocError>
     let command = Command::new(alloc, "check")
         .about("Look for damage in the index in a file")
         .after_help(REPORT)
-        .arg(file(alloc))?;
+        .arg(file(alloc))?
+        .arg(flag(alloc, "progress", PROGRESS))?;
     with_check_flags(alloc, command)
 }
 
-// What a check does, and tells.
+// What a check does.
 fn with_check_flags<'a>(alloc: Global, command: Command<'a>) -> Result<Command<'a>, AllocError>
     ensures app { IfOk result (λ whole. app_of whole ≡ with_check_flags (app_of command.entry)) }
     ensures local { (fields_of command.entry).has_globals ≡ false
@@ -127,8 +128,7 @@ fn with_check_flags<'a>(alloc: Global, command: Command<'a>) -> Result<Command<'
 {
     command
         .arg(flag(alloc, "parents", "Compare parents and children too"))?
-        .arg(flag(alloc, "one-thread", "Judge the pages in one thread"))?
-        .arg(flag(alloc, "progress", PROGRESS))
+        .arg(flag(alloc, "one-thread", "Judge the pages in one thread"))
 }
 
 fn run<'a>(alloc: Global) -> Result<Command<'a>, AllocError>

@@ -102,7 +102,7 @@ fn worked_on(
 
 /// Whether the entries of what was opened are those after some prefix of the actions that holds every forced one, and the
 /// verifier finds no damage.
-fn ends_sound<S: PageStore>(
+fn ends_sound<S: PageStore + Drop>(
     run: Run,
     mut world: World<S, Blocks>,
     judge: &mut Judge,
