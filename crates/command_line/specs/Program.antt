@@ -60,12 +60,8 @@ with_needed_sizes app = with_flag (codes "unique") (with_rule (with_rule (with_r
 abbrev pub create_app : App
 create_app = with_needed_sizes (with_flag (codes "progress") (file_app (codes "create")))
 
--- what a check does
-abbrev pub with_check_flags : App → App
-with_check_flags app = with_flag (codes "one-thread") (with_flag (codes "parents") app)
-
 abbrev pub check_app : App
-check_app = with_check_flags (with_flag (codes "progress") (file_app (codes "check")))
+check_app = with_flag (codes "one-thread") (with_flag (codes "parents") (file_app (codes "check")))
 
 abbrev pub dump_app : App
 dump_app = file_app (codes "dump")

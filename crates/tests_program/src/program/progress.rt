@@ -39,10 +39,6 @@ history 3
 checkpointed 2
 ";
     runs(&rt, run.as_slice(), "", printed, "\r3 of 3 jobs\n", 0)?;
-    let check = ["btidx", "check", path, "--progress", "--one-thread"];
-    let sound = "ok levels=1 pages=2 entries=2 halfdead=0 deleted=0 unfinished=0\n";
-    runs(&rt, &check[..4], "", sound, "\r2 of 2 pages\n", 0)?;
-    runs(&rt, check.as_slice(), "", sound, "\r2 of 2 pages\n", 0)?;
     fs::remove_file(&rt, path)?;
     fs::remove_file(&rt, jobs)?;
     Ok(())
@@ -53,6 +49,24 @@ checkpointed 2
 fn refused_work_tells_no_progress(rt: HostRuntime) -> Result<(), Fail> {
     let path = "btidx_no_progress.idx";
     let _ = fs::remove_file(&rt, path);
-    let check = ["btidx", "check", path, "--progress"];
-    runs(&rt, check.as_slice(), "", "", "btidx: refused 2 Io\n", 2)
+    let create = [
+        "btidx",
+        "create",
+        path,
+        "--items",
+        "3",
+        "--pages",
+        "64",
+        "--log",
+        "65536",
+        "--progress",
+    ];
+    runs(
+        &rt,
+        create.as_slice(),
+        "",
+        "",
+        "btidx: refused 18 BadLimits\n",
+        2,
+    )
 }
