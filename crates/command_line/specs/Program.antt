@@ -61,7 +61,7 @@ abbrev pub create_app : App
 create_app = with_needed_sizes (with_flag (codes "progress") (file_app (codes "create")))
 
 abbrev pub check_app : App
-check_app = with_flag (codes "one-thread") (with_flag (codes "parents") (file_app (codes "check")))
+check_app = with_flag (codes "progress") (with_flag (codes "one-thread") (with_flag (codes "parents") (file_app (codes "check"))))
 
 abbrev pub dump_app : App
 dump_app = file_app (codes "dump")

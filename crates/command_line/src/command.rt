@@ -4,7 +4,7 @@ ghost use Rattle.std.specs.Prelude.{◌≡◌, [], false, IfOk, codes, unwrap_or
 ghost use Rattle.clap.specs.Words.{app_of, found_of, first_value, one_text, rule_of};
 ghost use Rattle.clap.specs.declared.builder.command.Command.TheViews.{out-Command as fields_of};
 ghost use Rattle.command_line.specs.CommandLine.{HasFlag, HasLimits, HasNumber, HasRunSizes, HasSetting};
-ghost use Rattle.command_line.specs.Program.{check_app, create_app, dump_app, flag_rule, needed_rule, play_app, program_line, run_app, size_rule, start_app, with_file_apps, with_index_sizes, with_needed_sizes, with_run_sizes, word_rule};
+ghost use Rattle.command_line.specs.Program.{check_app, create_app, dump_app, flag_rule, needed_rule, play_app, program_line, run_app, size_rule, start_app, with_file_apps, with_flag, with_index_sizes, with_needed_sizes, with_run_sizes, word_rule};
 
 use crate::engine::Setting;
 use crate::help::{FAULTS, JOBS, REPORT, SCRIPT};
@@ -112,12 +112,23 @@ fn check<'a>(alloc: Global) -> Result<Command<'a>, AllocError>
     ensures app { IfOk result (λ command. app_of command ≡ check_app) }
     ensures local { IfOk result (λ command. (fields_of command).has_globals ≡ false) }
 {
-    Command::new(alloc, "check")
+    let command = Command::new(alloc, "check")
         .about("Look for damage in the index in a file")
         .after_help(REPORT)
         .arg(file(alloc))?
         .arg(flag(alloc, "parents", "Compare parents and children too"))?
-        .arg(flag(alloc, "one-thread", "Judge the pages in one thread"))
+        .arg(flag(alloc, "one-thread", "Judge the pages in one thread"))?;
+    with_progress(alloc, command)
+}
+
+// `--progress`, in a function of its own: each argument more in one chain costs the prover more than the one before.
+fn with_progress<'a>(alloc: Global, command: Command<'a>) -> Result<Command<'a>, AllocError>
+    ensures app { IfOk result (λ whole. app_of whole
+        ≡ with_flag (codes "progress") (app_of command.entry)) }
+    ensures local { (fields_of command.entry).has_globals ≡ false
+        → IfOk result (λ whole. (fields_of whole).has_globals ≡ false) }
+{
+    command.arg(flag(alloc, "progress", PROGRESS))
 }
 
 fn run<'a>(alloc: Global) -> Result<Command<'a>, AllocError>
@@ -266,7 +277,7 @@ pub fn has_parents(matches: &ArgMatches<'_>) -> bool
     matches.get_flag("parents")
 }
 
-/// Whether a command line of `create` or `run` asks to be told how far it is.
+/// Whether a command line of `create`, `check` or `run` asks to be told how far it is.
 pub fn has_progress(matches: &ArgMatches<'_>) -> bool {
     matches.get_flag("progress")
 }

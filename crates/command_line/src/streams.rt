@@ -22,7 +22,7 @@ use crate::running;
 use clap::error::ErrorKind;
 use clap::{ArgMatches, Error};
 use device::{Device, FileDevice, Start};
-use index_model::{DeadRows, Fault, NoProgress, Progress};
+use index_model::{DeadRows, Fault, Progress};
 use page_action::PageStore;
 use page_store::Store;
 use std::alloc::Global;
@@ -218,13 +218,10 @@ fn run<
             let line = ProgressLine::new(err, "pages", has_progress(matches));
             Left::Created(create::<F, B, _, W>(rt, path(matches), &limits(matches), &line, out))
         }
-        Some(("check", matches)) => Left::Checked(run_check::<F, B, _, W>(
-            rt,
-            alloc,
-            matches,
-            &NoProgress,
-            out,
-        )),
+        Some(("check", matches)) => {
+            let line = ProgressLine::new(err, "pages", has_progress(matches));
+            Left::Checked(run_check::<F, B, _, W>(rt, alloc, matches, &line, out))
+        }
         Some(("dump", matches)) => Left::Dumped(dump::<F, B, W>(rt, alloc, path(matches), out)),
         _ => Left::Nothing(Ok(End::AlreadyPrinted)),
     }

@@ -1,6 +1,6 @@
 -- What was done for the records and the jobs that run, after some more transitions of one session.
 use Rattle.std.proofs.Common.{◌≡◌, ◌≢◌, ◌==◌, if◌then◌else◌, Bool, true, false, ℕ, ◌<◌, ◌≤◌, List, [], ◌∷◌, ◌++◌, length, map, Option, Some, None, slice_get, slice_set, vec_capacity, refl, sym, ap, ◌∙◌, subst, inl, inr, ⊎_elim, arith, length-append, append_assoc}
-use Rattle.std.proofs.lemmas.List.{append-nil}
+use Rattle.std.proofs.lemmas.List.{append-nil, length-map}
 use Rattle.std.specs.List.{AllByRecursion}
 use Rattle.index_model.specs.declared.entry.Entry.{Entry}
 use Rattle.page_action.specs.declared.page_store.PageStore.{Ghosts}
@@ -20,13 +20,8 @@ use Rattle.sessions.specs.declared.job.Job.{Job}
 use Rattle.sessions.specs.declared.job.Job.TheVariants.{Scan}
 use Rattle.sessions.specs.declared.record.Record.{Record}
 use Rattle.sessions.specs.declared.record.Pending.{Pending}
-use Rattle.sessions.proofs.Owning.{same_test, other_test, all_both, all_so, all_mapped, length_map, owners_for, length_for, all_for, owned_nobody, owned_own, owned_else, gifts-append, handed_over, owned_by_record, owned_by_other_record, owned_by_other_session}
-
-some_same : {A : Type 0} {x y : A} → Some x ≡ Some y → x ≡ y
-some_same e = cc
-
-apart : (b : Bool) → b ≡ false → b ≡ true → ⊥
-apart b e f = absurd cc
+use Rattle.sessions.proofs.Noting.{some_same, clash}
+use Rattle.sessions.proofs.Owning.{same_test, other_test, all_both, all_so, all_mapped, owners_for, length_for, all_for, owned_nobody, owned_own, owned_else, gifts-append, handed_over, owned_by_record, owned_by_other_record, owned_by_other_session}
 
 -- one path after the other
 pub path_append : {S : Type 0} (g : Ghosts S) (a : LockMoment S) (xs ys : List (Transition S)) (b c : LockMoment S) → IsPath g a xs b → IsPath g b ys c → IsPath g a (xs ++ ys) c
@@ -221,7 +216,7 @@ module _ {S : Type 0} (g : Ghosts S) (handed : Handed) (jobs : List Job) (w v : 
       let owners = a.owners ++ owners_for (OfSession s) us in
       let ts = a.transitions ++ us in
       let long = long_more (OfSession s) us in
-      let mapped = length_map (handed_over s n) owners in
+      let mapped = length-map owners (handed_over s n) in
       let known : AllByRecursion (IsKnown pending records) owners = all_both _ a.owners (owners_for (OfSession s) us) a.known (all_for (IsKnown pending records) (OfSession s) us (p, at)) in
       let mine : owned_by (OfRecord n) (map (handed_over s n) owners) ts ≡ ran ++ us =
       owned_by_record s n owners ts (all_so (IsKnown pending records) _ owners apart_next known) ∙ owned_own (OfSession s) a.owners a.transitions us a.long in
@@ -267,7 +262,7 @@ module _ {S : Type 0} (g : Ghosts S) (handed : Handed) (jobs : List Job) (w v : 
         where
           by : (b : Bool) → (s == t) ≡ b → IsKnown (slice_set pending s None) (records ++ record_of s p answer to ∷ []) (if b then OfRecord n else OfSession t)
           by true e = (let longer = length-append records (record_of s p answer to ∷ []) in omega (arith, longer))
-          by false e = (h.0, set_else pending s t None (λ same. apart (s == t) e (same_test s t (sym same))) ∙ h.1)
+          by false e = (h.0, set_else pending s t None (λ same. clash (s == t) (same_test s t (sym same)) e) ∙ h.1)
 
 -- a run begins with the world as it was handed in
 pub acts_first : {S : Type 0} (g : Ghosts S) (handed : Handed) (jobs : List Job) (w : StoreAndSlots S) (pending : List (Option Pending)) → IsAsHanded g handed w

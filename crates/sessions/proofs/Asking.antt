@@ -6,7 +6,7 @@ use Rattle.index_model.specs.Order.{IsPast, last_or}
 use Rattle.index_model.specs.declared.range.Range.{Range}
 use Rattle.index_model.proofs.Histories.{at_some_moment_later}
 use Rattle.index_model.specs.declared.entry.Entry.{Entry}
-use Rattle.page_action.specs.States.{Continues, IsLater}
+use Rattle.index_model.specs.declared.dead_rows.DeadRows.{Ghosts as SetGhosts}
 use Rattle.page_action.specs.declared.page_store.PageStore.{Ghosts}
 use Rattle.session_calls.specs.Ops.{is_last}
 use Rattle.session_calls.specs.Sessions.{AnswersEnd, GivesLess, RunsUntilLast, is_busy, ready_count}
@@ -22,17 +22,23 @@ use Rattle.schedule.specs.TheoremKinds.{Takes, GivesUp}
 use Rattle.schedule.specs.TheoremMoments.{StoreAndSlots, snapshot_of}
 use Rattle.schedule.specs.declared.event.Event.TheVariants.{Next, End}
 use Rattle.schedule.proofs.Fitting.{goes_does}
-use Rattle.schedule.proofs.Keeping.{Laws}
+use Rattle.worker_seats.specs.declared.run.Run.{Ghosts as RunGhosts}
+use Rattle.worker_seats.proofs.Rows.{get_within}
+use Rattle.world.specs.Worlds.{inside}
+use Rattle.world.specs.declared.world.World.{World}
+use Rattle.sessions.specs.declared.jobs.Jobs.{Ghosts as JobGhosts}
+use Rattle.sessions.specs.declared.shared.Shared.{Shared}
 use Rattle.sessions.specs.declared.job.Job.{Job}
 use Rattle.sessions.specs.declared.job.Job.TheVariants.{Scan}
-use Rattle.sessions.specs.declared.record.Record.{Record}
 use Rattle.sessions.specs.declared.record.Pending.{Pending}
 use Rattle.sessions.specs.Doing.{IsEventDone, MayBeDone, HasTaken, IsFullScan, given_after}
 use Rattle.sessions.specs.Jobs.{IsRoomOf, request_of}
-use Rattle.sessions.specs.Kept.{IsCut, KeepsAll, record_of}
+use Rattle.sessions.specs.Kept.{IsCut, record_of}
 use Rattle.sessions.proofs.Happening.{keeps_going, keeps_ended}
-use Rattle.sessions.proofs.Keeping.{some_same}
-use Rattle.sessions.proofs.Noting.{set_same, busy_is, last_of, OthersRunOn, others_run_on}
+use Rattle.sessions.proofs.Handing.{IsNext}
+use Rattle.sessions.proofs.Noting.{some_same, set_same, busy_is, last_of, OthersRunOn, others_run_on, matches_runs, matches_ends}
+use Rattle.sessions.proofs.Sharing.{RunsAt, KeepsWith, CarriesOn}
+use Rattle.sessions.proofs.Transiting.{makes_of, next_acts, end_acts}
 use Rattle.sessions.proofs.Meanings.{MovesOnTo, moved, moved_on, moved_last}
 
 not_last : (b a l : Bool) → a ≡ (b && not l) → a ≡ b → b ≡ true → l ≡ false
@@ -75,65 +81,99 @@ cut_is start l more sets (Scan range room) request call s p answer to ready asks
         p.given.ok.0 in let fits = p.given.ok.1 in omega (arith, cap, over, long, fits))
 cut_is start l more sets job request call s p answer to ready asks ask began given is full le next = absurd full
 
-module _ {S : Type 0} (g : Ghosts S) (laws : Laws g) (one : OneCallRuns g) (jobs : List Job)
-    (stood kept_then : (Entry → Bool) → List Action → List Call → Type 0) (w v : StoreAndSlots S) (steps : Continues g.follows w.store v.store) (sets : v.sets ≡ w.sets)
-    (start : ℕ) (pending : List (Option Pending)) (records : List Record) (s : ℕ) (p : Pending) (at : slice_get pending s ≡ Some (Some p)) (runs : has_call w.slots s ≡ true) where
-  later : IsLater (g.backing w.store) (g.backing v.store)
-  later = laws.follows_later w.store v.store (steps w.store (laws.follows_same w.store))
-
+-- what a running call answers that is asked for its next entry or given up, and which sessions run a call then
+module _ {S : Type 0} (g : Ghosts S) (w v : StoreAndSlots S) (s : ℕ) (runs : has_call w.slots s ≡ true) where
+  -- it goes on
   goes_on : (answer : Answer) → IsEventDone g (Next s) answer w v → is_last answer ≡ false
   goes_on answer did = next_on answer (slot_of w.slots s) (slot_of v.slots s) did.always.less did.always.until_last (busy_is w.slots s ∙ runs)
 
-  -- asking for the next entry
-  pub next_keeps : (q : Pending) (o : Option Answer) → MayBeDone g (Next s) o w v → HasTaken o p q → KeepsAll g stood kept_then jobs w start pending records
-      → KeepsAll g stood kept_then jobs v start (slice_set pending s (Some q)) records
-  next_keeps q None is took all =
-      let same : slice_set pending s (Some q) ≡ pending = ap (λ (x : Pending). slice_set pending s (Some x)) (took.still refl) ∙ set_same pending s (Some p) at in
-      subst (λ (x : StoreAndSlots S × List (Option Pending)). KeepsAll g stood kept_then jobs x.0 start x.1 records) (λ i. (sym is i, sym same i)) all
-  next_keeps q (Some answer) did took all = λ honest contents acts calls so. (
-      let k = all (later.honest honest) contents acts calls so in
-      let y = k.runs s p at in
-      let r = did.goes honest contents k.history k.calls k.fit in
-      let was = snapshot_of w k.history k.calls in
-      let new = snapshot_of v r.then_history r.then_calls in
-      let given : given_after answer y.call.given ≡ q.given.items = ap (given_after answer) y.given_is ∙ sym took.items in
-      keeps_going g jobs contents acts calls (kept_then contents acts calls) w v sets start pending records k later.durable s p one q at new
-      (subst (λ l. MovesOnTo y.number y.call l was new) given
-      (moved_on y.number y.call answer was new (goes_on answer did) (moved g contents s Takes answer was new k.fit (goes_does r.goes) y.number y.call y.is)))
-      refl r.fits (λ h. (r.goes.crash h).keeps) took.job took.from took.seen took.room)
-
-  pub next_runs : (o : Option Answer) → MayBeDone g (Next s) o w v → (has_call v.slots s ≡ true) × OthersRunOn w.slots v.slots s
+  next_runs : (o : Option Answer) → MayBeDone g (Next s) o w v → (has_call v.slots s ≡ true) × OthersRunOn w.slots v.slots s
   next_runs None is = (ap (λ (x : StoreAndSlots S). has_call x.slots s) is ∙ runs, (λ t n. ap (λ (x : StoreAndSlots S). has_call x.slots t) is))
   next_runs (Some answer) did =
       (not_not (has_call v.slots s) (sym (last_of w.slots v.slots s answer did.always.until_last runs) ∙ goes_on answer did), others_run_on w.slots v.slots s (did.always.others s refl))
 
-  pub next_goes_on : (o : Option Answer) → MayBeDone g (Next s) o w v → (answer : Answer) → o ≡ Some answer → is_last answer ≡ false
+  next_goes_on : (o : Option Answer) → MayBeDone g (Next s) o w v → (answer : Answer) → o ≡ Some answer → is_last answer ≡ false
   next_goes_on None is answer e = absurd cc
   next_goes_on (Some told) did answer e = (let same : told ≡ answer = some_same e in ap is_last (sym same) ∙ goes_on told did)
 
-  -- giving the call up
   pub end_answers : (answer : Answer) → IsEventDone g (End s) answer w v → answer ≡ Ended
   end_answers answer did = ended_of (slot_of w.slots s) answer (busy_is w.slots s ∙ runs) did.always.answers
 
-  pub end_runs : (answer : Answer) → IsEventDone g (End s) answer w v → (has_call v.slots s ≡ false) × OthersRunOn w.slots v.slots s
+  end_runs : (answer : Answer) → IsEventDone g (End s) answer w v → (has_call v.slots s ≡ false) × OthersRunOn w.slots v.slots s
   end_runs answer did = (sym (busy_is v.slots s) ∙ ap is_busy did.always.left.over, others_run_on w.slots v.slots s (did.always.others s refl))
 
-  pub end_keeps : ReadyMayComeNext g → (answer : Answer) → IsEventDone g (End s) answer w v → (asked : Job) → slice_get jobs p.job ≡ Some asked
-      → IsFullScan asked (Some p) (ready_count (slot_of w.slots s)) → (to : ℕ) → to ≡ (g.state v.store).acts
-      → KeepsAll g stood kept_then jobs w start pending records → KeepsAll g stood kept_then jobs v start (slice_set pending s None) (records ++ record_of s p answer to ∷ [])
-  end_keeps law answer did asked is full to to_is all honest contents acts calls so =
-      let k = all (later.honest honest) contents acts calls so in
-      let y = k.runs s p at in
+-- ... and what either leaves under the lock
+module _ {S T J : Type 0} {g : Ghosts S} {rows : SetGhosts T} {j : JobGhosts J} {run : RunGhosts J} (self : Shared S T J g rows j run) (world : World S T)
+    (one : OneCallRuns g) (next : IsNext g (inside rows self.world) (inside rows world)) (s : ℕ) {job : ℕ} {p : Pending} (here : RunsAt self s job p) where
+  abbrev w : StoreAndSlots S
+  w = inside rows self.world
+
+  abbrev v : StoreAndSlots S
+  v = inside rows world
+
+  -- what is kept after it was asked
+  next_keeps : (q : Pending) (o : Option Answer) → MayBeDone g (Next s) o w v → HasTaken o p q → KeepsWith self w self.pending.items self.history.items
+      → KeepsWith self v (slice_set self.pending.items s (Some q)) self.history.items
+  next_keeps q None is took all =
+      let as_was : slice_set self.pending.items s (Some q) ≡ self.pending.items =
+      ap (λ (x : Pending). slice_set self.pending.items s (Some x)) (took.still refl) ∙ set_same self.pending.items s (Some p) here.found in
+      subst (λ (x : StoreAndSlots S × List (Option Pending)). KeepsWith self x.0 x.1 self.history.items) (λ i. (sym is i, sym as_was i)) all
+  next_keeps q (Some answer) did took all = λ honest contents acts calls so. (
+      let k = all (next.later.honest honest) contents acts calls so in
+      let y = k.runs s p here.found in
       let r = did.goes honest contents k.history k.calls k.fit in
       let was = snapshot_of w k.history k.calls in
       let new = snapshot_of v r.then_history r.then_calls in
-      let e = moved_last y.number y.call answer was new (ap is_last (end_answers answer did)) (moved g contents s GivesUp answer was new k.fit (goes_does r.goes) y.number y.call y.is) in
+      let given : given_after answer y.call.given ≡ q.given.items = ap (given_after answer) y.given_is ∙ sym took.items in
+      keeps_going g j.jobs contents acts calls (j.kept_then contents acts calls) w v next.sets self.start self.pending.items self.history.items k next.later.durable s p one q here.found new
+      (subst (λ l. MovesOnTo y.number y.call l was new) given
+      (moved_on y.number y.call answer was new (goes_on g w v s here.has answer did) (moved g contents s Takes answer was new k.fit (goes_does r.goes) y.number y.call y.is)))
+      refl r.fits (λ h. (r.goes.crash h).keeps) took.job took.from took.seen took.room)
+
+  -- ... and after it was given up
+  end_keeps : ReadyMayComeNext g → (answer : Answer) → IsEventDone g (End s) answer w v → (asked : Job) → slice_get j.jobs p.job ≡ Some asked
+      → IsFullScan asked (Some p) (ready_count (slot_of w.slots s)) → (to : ℕ) → to ≡ (g.state v.store).acts
+      → KeepsWith self w self.pending.items self.history.items → KeepsWith self v (slice_set self.pending.items s None) (self.history.items ++ record_of s p answer to ∷ [])
+  end_keeps law answer did asked is full to to_is all honest contents acts calls so =
+      let k = all (next.later.honest honest) contents acts calls so in
+      let y = k.runs s p here.found in
+      let r = did.goes honest contents k.history k.calls k.fit in
+      let was = snapshot_of w k.history k.calls in
+      let new = snapshot_of v r.then_history r.then_calls in
+      let e = moved_last y.number y.call answer was new (ap is_last (end_answers g w v s here.has answer did))
+      (moved g contents s GivesUp answer was new k.fit (goes_does r.goes) y.number y.call y.is) in
       let ready = ready_count (slot_of w.slots s) in
       let until : to ≡ length new.history = to_is ∙ r.fits.explains.count in
       let long : length k.history ≤ to = (let x = ap (λ (l : List Action). length l) e.to.history_is in let z = length-append k.history e.to.more in omega (arith, until, x, z)) in
-      keeps_ended g jobs contents acts calls (kept_then contents acts calls) w v sets start pending records k later.durable s p one at answer to new e
+      keeps_ended g j.jobs contents acts calls (j.kept_then contents acts calls) w v next.sets self.start self.pending.items self.history.items k next.later.durable s p one here.found answer to new e
       refl r.fits (λ h. (r.goes.crash h).keeps) until
       (λ _. subst (λ (l : List Action). IsCut contents l y.job (record_of s p answer to)) (sym e.to.history_is)
       (cut_is contents k.history e.to.more w.sets y.job y.request y.call s p answer to ready y.asks y.ask_is y.began_is y.given_is y.room
       (subst (λ (j : Job). IsFullScan j (Some p) ready) (some_same (sym is ∙ y.job_is)) full) long
       (λ range asks some. law contents was s y.number y.call range k.fit y.is asks some)))
+
+  -- asking for the next entry
+  pub next_leaves : (q : Pending) (o : Option Answer) → MayBeDone g (Next s) o w v → HasTaken o p q → CarriesOn self world (slice_set self.pending.items s (Some q)) self.history.items
+  next_leaves q o did took =
+      let runs = next_runs g w v s here.has o did in
+      record {
+        keeps = next_keeps q o did took;
+        acts = next_acts g j.handed j.jobs w v self.pending.items self.history.items s p here.found q o next.sessions did took (next_goes_on g w v s here.has o did);
+        matches = matches_runs w.slots v.slots self.pending.items s q (get_within self.pending.items s (Some p) here.found) runs.0 runs.1;
+        next = next;
+      }
+
+  -- giving the call up
+  pub end_leaves : ReadyMayComeNext g → (answer : Answer) → IsEventDone g (End s) answer w v → (asked : Job) → slice_get j.jobs job ≡ Some asked
+      → IsFullScan asked (Some p) (ready_count (slot_of w.slots s)) → (to : ℕ) → to ≡ (g.state v.store).acts
+      → CarriesOn self world (slice_set self.pending.items s None) (self.history.items ++ record_of s p answer to ∷ [])
+  end_leaves law answer did asked is full to to_is =
+      let runs = end_runs g w v s here.has answer did in
+      let asks = ap (slice_get j.jobs) here.job_is ∙ is in
+      record {
+        keeps = end_keeps law answer did asked asks full to to_is;
+        acts = end_acts g j.handed j.jobs w v self.pending.items self.history.items s p here.found answer (makes_of g (End s) answer w v next.sessions did.goes did.always)
+            (end_answers g w v s here.has answer did) asked asks full to to_is;
+        matches = matches_ends w.slots v.slots self.pending.items s runs.0 runs.1;
+        next = next;
+      }

@@ -1,12 +1,10 @@
 -- What the beginning of a job under the lock leaves of what is kept.
-use Rattle.std.proofs.Common.{◌≡◌, ◌⊎◌, Bool, true, false, ℕ, suc, ◌<◌, ◌≤◌, List, [], ◌∷◌, ◌++◌, length, Option, Some, None, slice_get, slice_set, vec_capacity, refl, sym, ap, ◌∙◌, subst, inl, inr, arith}
-use Rattle.index_model.specs.Actions.{Action}
-use Rattle.index_model.specs.Calls.{Call}
+use Rattle.std.proofs.Common.{◌≡◌, ◌⊎◌, Bool, true, false, ℕ, suc, ◌<◌, ◌≤◌, List, [], ◌∷◌, ◌++◌, length, Option, Some, None, slice_get, slice_set, vec_len, vec_capacity, refl, sym, ap, ◌∙◌, subst, inl, inr, arith}
 use Rattle.index_model.specs.Faults.{HasCause}
 use Rattle.index_model.specs.declared.entry.Entry.{Entry}
+use Rattle.index_model.specs.declared.dead_rows.DeadRows.{Ghosts as SetGhosts}
 use Rattle.index_model.specs.declared.fault.Fault.{Fault}
 use Rattle.index_model.specs.declared.fault.Fault.TheVariants.{Blocked}
-use Rattle.page_action.specs.States.{Continues, IsLater}
 use Rattle.page_action.specs.declared.page_store.PageStore.{Ghosts}
 use Rattle.session_calls.specs.Ops.{IsCaused}
 use Rattle.session_calls.specs.TheoremCalls.{DeadSets, asked_by}
@@ -18,23 +16,31 @@ use Rattle.session_calls.specs.declared.request.Request.{Request}
 use Rattle.session_calls.specs.declared.request.Request.TheVariants.{Insert as ToInsert, Scan as ToScan, Bulk as ToBulk, Cleanup as ToCleanup}
 use Rattle.schedule.specs.CallLists.{RefusedCallsFit}
 use Rattle.schedule.specs.Events.{AnswersEvent, AnswersBeginning, EventAlways, UpkeepIsDone, Stays, kept_answer, causes_of_begun_at}
-use Rattle.schedule.specs.Making.{EventDoes}
+use Rattle.schedule.specs.Making.{EventDoes, EventEffect}
 use Rattle.schedule.specs.TheoremCrashes.{KeepsHistory}
 use Rattle.schedule.specs.TheoremKinds.{Upkeep, Forces, Flushes, Checkpoints, Kind, BeginsCall, MaintainsStore, kind_of}
 use Rattle.schedule.specs.TheoremMoments.{StoreAndSlots, Moment, snapshot_of}
 use Rattle.schedule.specs.TheoremRuns.{ForEachHistory, EventFollows, Fits}
 use Rattle.schedule.specs.declared.event.Event.{Event}
 use Rattle.schedule.proofs.Fitting.{goes_does}
-use Rattle.schedule.proofs.Keeping.{Laws}
 use Rattle.whole_calls.specs.Meanings.{IsSameHistory, HasBegun, NothingIsDone, BeginMeans, begun_of}
 use Rattle.whole_calls.proofs.Tellings.{begins_told, keeps_silent}
+use Rattle.worker_seats.specs.declared.run.Run.{Ghosts as RunGhosts}
+use Rattle.worker_seats.proofs.Rows.{get_within}
+use Rattle.world.specs.Worlds.{inside}
+use Rattle.world.specs.declared.world.World.{World}
+use Rattle.sessions.specs.declared.jobs.Jobs.{Ghosts as JobGhosts}
+use Rattle.sessions.specs.declared.shared.Shared.{Shared}
 use Rattle.sessions.specs.declared.job.Job.{Job}
 use Rattle.sessions.specs.declared.job.Job.TheVariants.{Insert, Scan, Bulk, Cleanup, Commit, Checkpoint}
-use Rattle.sessions.specs.declared.record.Record.{Record}
 use Rattle.sessions.specs.declared.record.Pending.{Pending}
-use Rattle.sessions.specs.Jobs.{request_of, upkeep_of, begins, IsRoomOf}
-use Rattle.sessions.specs.Kept.{IsBlocked, KeepsFitting, KeepsAll, record_of}
-use Rattle.sessions.proofs.Noting.{set_same, busy_is, OthersRunOn}
+use Rattle.sessions.specs.Jobs.{event_of, request_of, upkeep_of, begins, IsRoomOf}
+use Rattle.sessions.specs.Kept.{IsBlocked, KeepsFitting, record_of}
+use Rattle.sessions.proofs.Noting.{set_same, busy_is, OthersRunOn, matches_runs, matches_stays}
+use Rattle.sessions.proofs.Handing.{IsNext}
+use Rattle.sessions.proofs.Sharing.{KeepsWith, CarriesOn}
+use Rattle.sessions.proofs.Acting.{acts_begun, acts_at_once}
+use Rattle.sessions.proofs.Transiting.{makes_of}
 use Rattle.sessions.proofs.Happening.{keeps_begun, keeps_refused, keeps_upkept}
 
 -- a job that asks for a call
@@ -96,29 +102,47 @@ kept_of g Forces answer x y (inr h) count e = absurd (forced_not count h.fault (
 kept_of g Checkpoints answer x y (inr h) count e = absurd (checkpointed_not count h.fault (e ∙ ap Some h.refused))
 kept_of g Flushes answer x y h count e = absurd cc
 
-module _ {S : Type 0} (g : Ghosts S) (laws : Laws g) (jobs : List Job) (stood kept_then : (Entry → Bool) → List Action → List Call → Type 0)
-    (w v : StoreAndSlots S) (steps : Continues g.follows w.store v.store) (sets : v.sets ≡ w.sets)
-    (start : ℕ) (pending : List (Option Pending)) (records : List Record) (s : ℕ) (p : Pending) (idle : slice_get pending s ≡ Some None) (job : Job)
-    (is : slice_get jobs p.job ≡ Some job) (event : Event) (kind : kind_of event ≡ begins s job) (answer : Answer)
-    (goes : ForEachHistory g w v (EventFollows g w v event answer)) (always : EventAlways g (begins s job) answer w v)
-    (from : p.from ≡ (g.state w.store).acts) (seen : p.seen ≡ length records) (given : p.given.items ≡ [])
-    (room : IsRoomOf job (vec_capacity p.given)) where
-  later : IsLater (g.backing w.store) (g.backing v.store)
-  later = laws.follows_later w.store v.store (steps w.store (laws.follows_same w.store))
+-- a beginning under the lock, and what it leaves there
+module _ {S T J : Type 0} {g : Ghosts S} {rows : SetGhosts T} {j : JobGhosts J} {run : RunGhosts J} (self : Shared S T J g rows j run) (world : World S T)
+    (next : IsNext g (inside rows self.world) (inside rows world)) (s : ℕ) (p : Pending) (idle : slice_get self.pending.items s ≡ Some None) (job : Job)
+    (is : slice_get j.jobs p.job ≡ Some job) (event : Event) (event_is : event ≡ event_of s job) (answer : Answer)
+    (goes : ForEachHistory g (inside rows self.world) (inside rows world) (EventFollows g (inside rows self.world) (inside rows world) event answer))
+    (sure : EventAlways g (kind_of event) answer (inside rows self.world) (inside rows world)) (from : p.from ≡ (g.state self.world.store).acts) (seen_is : p.seen ≡ vec_len self.history)
+    (given : p.given.items ≡ []) (room : IsRoomOf job (vec_capacity p.given)) where
+  abbrev w : StoreAndSlots S
+  w = inside rows self.world
+
+  abbrev v : StoreAndSlots S
+  v = inside rows world
+
+  -- so many records there were
+  seen : p.seen ≡ length self.history.items
+  seen = seen_is ∙ self.history.ok.0
+
+  -- the event is the job's, and so is what holds of it whatever the pages are
+  kind : kind_of event ≡ begins s job
+  kind = ap kind_of event_is
+
+  always : EventAlways g (begins s job) answer w v
+  always = subst (λ (kd : Kind). EventAlways g kd answer w v) kind sure
+
+  -- what it makes of the world
+  makes : EventEffect g (kind_of event) answer w v
+  makes = makes_of g event answer w v next.sessions goes sure
 
   -- its call has begun
-  pub begin_keeps_begun : answer ≡ Begun → KeepsAll g stood kept_then jobs w start pending records → KeepsAll g stood kept_then jobs v start (slice_set pending s (Some p)) records
+  begin_keeps_begun : answer ≡ Begun → KeepsWith self w self.pending.items self.history.items → KeepsWith self v (slice_set self.pending.items s (Some p)) self.history.items
   begin_keeps_begun told all honest contents acts calls so = by (asks_one s job)
     where
-      by : AsksCall s job ⊎ AsksStore s job → KeepsFitting g jobs contents acts calls (kept_then contents acts calls) v start (slice_set pending s (Some p)) records
+      by : AsksCall s job ⊎ AsksStore s job → KeepsFitting g j.jobs contents acts calls (j.kept_then contents acts calls) v self.start (slice_set self.pending.items s (Some p)) self.history.items
       by (inl a) =
-          let k = all (later.honest honest) contents acts calls so in
+          let k = all (next.later.honest honest) contents acts calls so in
           let r = goes honest contents k.history k.calls k.fit in
           let was = snapshot_of w k.history k.calls in
           let new = snapshot_of v r.then_history r.then_calls in
           let does = subst (λ (kd : Kind). EventDoes g contents kd answer was new) (kind ∙ a.kind) (goes_does r.goes) in
           let b : HasBegun s a.request was new = subst (λ (x : Answer). BeginMeans s a.request (begun_of x) was new) told (begins_told g contents s a.request answer was new does) in
-          keeps_begun g jobs contents acts calls (kept_then contents acts calls) w v sets start pending records k later.durable s p job a.request idle
+          keeps_begun g j.jobs contents acts calls (j.kept_then contents acts calls) w v next.sets self.start self.pending.items self.history.items k next.later.durable s p job a.request idle
           is a.asks (from ∙ k.fit.explains.count) seen given room
           (subst (λ (m : Moment S). Fits g contents m) (λ i. snapshot_of v (b.history_is i) (b.calls_is i)) r.fits)
           (λ h. subst (λ (m : Moment S). KeepsHistory g contents m) (λ i. snapshot_of v (b.history_is i) (b.calls_is i)) (r.goes.crash h).keeps)
@@ -126,14 +150,16 @@ module _ {S : Type 0} (g : Ghosts S) (laws : Laws g) (jobs : List Job) (stood ke
           (subst (λ (x : Answer). AnswersEvent (MaintainsStore a.upkeep) x w.slots v.slots) told (subst (λ (kd : Kind). AnswersEvent kd answer w.slots v.slots) a.kind always.answers)))
 
   -- it is refused as it begins, or is done whole
-  pub begin_keeps_done : RefusedCallsFit g → (answer ≡ Begun → ⊥) → s < length v.slots → KeepsAll g stood kept_then jobs w start pending records
-      → KeepsAll g stood kept_then jobs v start pending (records ++ record_of s p answer p.from ∷ [])
+  begin_keeps_done : RefusedCallsFit g → (answer ≡ Begun → ⊥) → s < length v.slots → KeepsWith self w self.pending.items self.history.items
+      → KeepsWith self v self.pending.items (self.history.items ++ record_of s p answer p.from ∷ [])
   begin_keeps_done law never within all honest contents acts calls so =
-      subst (λ l. KeepsFitting g jobs contents acts calls (kept_then contents acts calls) v start l (records ++ record_of s p answer p.from ∷ [])) (set_same pending s None idle) (by (asks_one s job))
+      subst (λ l. KeepsFitting g j.jobs contents acts calls (j.kept_then contents acts calls) v self.start l (self.history.items ++ record_of s p answer p.from ∷ []))
+      (set_same self.pending.items s None idle) (by (asks_one s job))
     where
-      by : AsksCall s job ⊎ AsksStore s job → KeepsFitting g jobs contents acts calls (kept_then contents acts calls) v start (slice_set pending s None) (records ++ record_of s p answer p.from ∷ [])
+      by : AsksCall s job ⊎ AsksStore s job
+          → KeepsFitting g j.jobs contents acts calls (j.kept_then contents acts calls) v self.start (slice_set self.pending.items s None) (self.history.items ++ record_of s p answer p.from ∷ [])
       by (inl a) =
-          let k = all (later.honest honest) contents acts calls so in
+          let k = all (next.later.honest honest) contents acts calls so in
           let r = goes honest contents k.history k.calls k.fit in
           let was = snapshot_of w k.history k.calls in
           let new = snapshot_of v r.then_history r.then_calls in
@@ -143,8 +169,9 @@ module _ {S : Type 0} (g : Ghosts S) (laws : Laws g) (jobs : List Job) (stood ke
           let fits = subst (λ (m : Moment S). Fits g contents m) (λ i. snapshot_of v (t.silent.history_is i) (t.silent.calls_is i)) r.fits in
           let keeps = λ (h : KeepsHistory g contents was).
           subst (λ (m : Moment S). KeepsHistory g contents m) (λ i. snapshot_of v (t.silent.history_is i) (t.silent.calls_is i)) (r.goes.crash h).keeps in
-          subst (λ (x : Answer). KeepsFitting g jobs contents acts calls (kept_then contents acts calls) v start (slice_set pending s None) (records ++ record_of s p x p.from ∷ [])) (sym f.1)
-          (keeps_refused g jobs contents acts calls (kept_then contents acts calls) w v sets start pending records k later.durable s p job a.request
+          subst (λ (x : Answer).
+          KeepsFitting g j.jobs contents acts calls (j.kept_then contents acts calls) v self.start (slice_set self.pending.items s None) (self.history.items ++ record_of s p x p.from ∷ [])) (sym f.1)
+          (keeps_refused g j.jobs contents acts calls (j.kept_then contents acts calls) w v next.sets self.start self.pending.items self.history.items k next.later.durable s p job a.request
           f.0 idle is a.asks (from ∙ k.fit.explains.count) seen given
           (begins_settled g w.store (one_vacuums w.slots) w.sets a.request (slice_get w.slots s) f.0
           (subst (λ (x : Answer). IsCaused (causes_of_begun_at g w.store (one_vacuums w.slots) w.sets a.request (slice_get w.slots s)) x) f.1
@@ -152,14 +179,14 @@ module _ {S : Type 0} (g : Ghosts S) (laws : Laws g) (jobs : List Job) (stood ke
           (law contents (snapshot_of v k.history k.calls) s (asked_by w.sets a.request) f.0 fits within t.not_exists t.not_key_exists)
           (λ h. (let kept = keeps h in record { own = kept.own; parts = kept.parts; durable = kept.durable })))
       by (inr a) =
-          let k = all (later.honest honest) contents acts calls so in
+          let k = all (next.later.honest honest) contents acts calls so in
           let r = goes honest contents k.history k.calls k.fit in
           let was = snapshot_of w k.history k.calls in
           let new = snapshot_of v r.then_history r.then_calls in
           let does = subst (λ (kd : Kind). EventDoes g contents kd answer was new) (kind ∙ a.kind) (goes_does r.goes) in
           let silent : IsSameHistory was new = keeps_silent g contents a.upkeep answer was new does in
           let since : p.from ≡ length k.history = from ∙ k.fit.explains.count in
-          keeps_upkept g jobs contents acts calls (kept_then contents acts calls) w v sets start pending records k later.durable s p job a.upkeep
+          keeps_upkept g j.jobs contents acts calls (j.kept_then contents acts calls) w v next.sets self.start self.pending.items self.history.items k next.later.durable s p job a.upkeep
           answer idle is a.asks since seen (ap (λ (l : List Entry). length l) given)
           (subst (λ (kd : Kind). AnswersEvent kd answer w.slots v.slots) a.kind always.answers)
           (λ count e. (let n = kept_of g a.upkeep answer was new does.also.happens count e in (n.0 ∙ sym since, n.1)))
@@ -167,7 +194,7 @@ module _ {S : Type 0} (g : Ghosts S) (laws : Laws g) (jobs : List Job) (stood ke
           (λ h. subst (λ (m : Moment S). KeepsHistory g contents m) (λ i. snapshot_of v (silent.history_is i) (silent.calls_is i)) (r.goes.crash h).keeps)
 
   -- what the sessions run: its own has begun a call
-  pub begin_runs : answer ≡ Begun → (has_call v.slots s ≡ true) × OthersRunOn w.slots v.slots s
+  begin_runs : answer ≡ Begun → (has_call v.slots s ≡ true) × OthersRunOn w.slots v.slots s
   begin_runs told = by (asks_one s job)
     where
       by : AsksCall s job ⊎ AsksStore s job → (has_call v.slots s ≡ true) × OthersRunOn w.slots v.slots s
@@ -178,7 +205,7 @@ module _ {S : Type 0} (g : Ghosts S) (laws : Laws g) (jobs : List Job) (stood ke
           (subst (λ (x : Answer). AnswersEvent (MaintainsStore a.upkeep) x w.slots v.slots) told (subst (λ (kd : Kind). AnswersEvent kd answer w.slots v.slots) a.kind always.answers)))
 
   -- ... or all as before
-  pub done_runs : (answer ≡ Begun → ⊥) → (t : ℕ) → has_call v.slots t ≡ has_call w.slots t
+  done_runs : (answer ≡ Begun → ⊥) → (t : ℕ) → has_call v.slots t ≡ has_call w.slots t
   done_runs never t = by (asks_one s job)
     where
       by : AsksCall s job ⊎ AsksStore s job → has_call v.slots t ≡ has_call w.slots t
@@ -191,9 +218,33 @@ module _ {S : Type 0} (g : Ghosts S) (laws : Laws g) (jobs : List Job) (stood ke
           ap slot_has_call (m.others (suc t) tt t (λ e. omega (arith, e)))
 
   -- no action is logged
-  pub begin_acts : (g.state v.store).acts ≡ (g.state w.store).acts
+  begin_acts : (g.state v.store).acts ≡ (g.state w.store).acts
   begin_acts = by (asks_one s job)
     where
       by : AsksCall s job ⊎ AsksStore s job → (g.state v.store).acts ≡ (g.state w.store).acts
       by (inl a) = (subst (λ (kd : Kind). EventAlways g kd answer w v) a.kind always).calm
       by (inr a) = (subst (λ (kd : Kind). EventAlways g kd answer w v) a.kind always).calm
+
+  -- after it the job runs
+  pub begun_leaves : answer ≡ Begun → CarriesOn self world (slice_set self.pending.items s (Some p)) self.history.items
+  begun_leaves told =
+      let runs = begin_runs told in
+      record {
+        keeps = begin_keeps_begun told;
+        acts = λ a. acts_begun g j.handed j.jobs w v self.pending.items self.history.items a s p job idle is room from seen given
+            (subst (λ (x : Event × Answer). EventEffect g (kind_of x.0) x.1 w v) (λ i. (event_is i, told i)) makes);
+        matches = matches_runs w.slots v.slots self.pending.items s p (get_within self.pending.items s None idle) runs.0 runs.1;
+        next = next;
+      }
+
+  -- ... or is recorded
+  pub done_leaves : RefusedCallsFit g → (answer ≡ Begun → ⊥) → CarriesOn self world self.pending.items (self.history.items ++ record_of s p answer p.from ∷ [])
+  done_leaves law never =
+      let inside_it = get_within self.pending.items s None idle in
+      record {
+        keeps = begin_keeps_done law never (omega (arith, inside_it, self.pending.ok.0, self.seats, next.sessions));
+        acts = λ a. acts_at_once g j.handed j.jobs w v self.pending.items self.history.items a s p job answer is from seen given never (begin_acts ∙ sym from)
+            (subst (λ (e : Event). EventEffect g (kind_of e) answer w v) event_is makes);
+        matches = matches_stays w.slots v.slots self.pending.items (done_runs never);
+        next = next;
+      }

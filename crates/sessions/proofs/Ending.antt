@@ -1,5 +1,5 @@
 -- What is known once all jobs are done.
-use Rattle.std.proofs.Common.{◌≡◌, ◌⊎◌, Bool, true, false, ℕ, zero, suc, ◌<◌, ◌≤◌, List, [], ◌∷◌, length, Option, Some, None, slice_get, refl, ap, inl, inr, ⊎_elim, arith}
+use Rattle.std.proofs.Common.{◌≡◌, ◌⊎◌, Bool, true, false, ℕ, zero, suc, ◌<◌, ◌≤◌, List, [], ◌∷◌, length, Option, Some, None, slice_get, refl, sym, ap, ◌∙◌, inl, inr, ⊎_elim, arith}
 use mathlib.Core.Logic.{∥∥₁_elim}
 use Rattle.index_model.specs.Actions.{Action}
 use Rattle.index_model.specs.Calls.{Call}
@@ -15,7 +15,8 @@ use Rattle.sessions.specs.declared.record.Pending.{Pending}
 use Rattle.sessions.specs.Finishing.{AreIdle, jobs_of_records}
 use Rattle.sessions.specs.Kept.{KeepsFitting, KeepsAll, MatchesPending}
 use Rattle.sessions.specs.Notes.{note_of, notes_of, jobs_of}
-use Rattle.sessions.proofs.Noting.{none_there}
+use Rattle.worker_seats.proofs.Rows.{get_within}
+use Rattle.sessions.proofs.Noting.{none_there, clash}
 
 -- the jobs of the notes are those of the records
 pub jobs_noted : (records : List Record) → jobs_in (notes_of records) ≡ jobs_of_records records
@@ -27,20 +28,12 @@ get_note [] place r e = absurd cc
 get_note (x ∷ records) zero r e = (let s : x ≡ r = cc in ap (λ y. Some (note_of y)) s)
 get_note (x ∷ records) (suc place) r e = get_note records place r e
 
-pub within_list : {A : Type 0} (xs : List A) (k : ℕ) (x : A) → slice_get xs k ≡ Some x → k < length xs
-within_list [] k x e = absurd cc
-within_list (y ∷ xs) zero x e = omega arith
-within_list (y ∷ xs) (suc k) x e = omega (arith, within_list xs k x e)
-
 -- where no session of the workers runs a job, none is pending
 pub none_waits : (pending : List (Option Pending)) → ((k : ℕ) → k < length pending → slice_get (jobs_of pending) k ≡ Some None)
     → (session : ℕ) (p : Pending) → slice_get pending session ≡ Some (Some p) → ⊥
 none_waits pending idle session p at =
-    let none = none_there pending session (idle session (within_list pending session (Some p) at)) in
-    clash (slice_get pending session) at none
-  where
-    clash : (o : Option (Option Pending)) → o ≡ Some (Some p) → o ≡ Some None → ⊥
-    clash o a b = absurd cc
+    let none = none_there pending session (idle session (get_within pending session (Some p) at)) in
+    absurd (let both = sym none ∙ at in cc)
 
 -- ... and no session at all has a call
 pub all_idle : (slots : List (Option Op)) (pending : List (Option Pending)) → ∥ MatchesPending slots pending ∥₁
@@ -54,9 +47,6 @@ all_idle slots pending m idle session = no (has_call slots session) (λ yes. ∥
 
     rests : MatchesPending slots pending → has_call slots session ≡ false
     rests k = ⊎_elim (λ l. k.rests session (none_there pending session (idle session l))) (λ l. k.beyond session l) (lt_or session (length pending))
-
-    clash : (b : Bool) → b ≡ true → b ≡ false → ⊥
-    clash b h k = absurd cc
 
     no : (b : Bool) → (b ≡ true → ⊥) → b ≡ false
     no true f = absurd (f refl)

@@ -19,7 +19,7 @@ use Rattle.sessions.specs.declared.record.Pending.{Pending}
 use Rattle.sessions.specs.Finishing.{HasRun, IsFinished, IsReceiptFor, handed_of, jobs_of_records, receipt_of, records_of}
 use Rattle.sessions.specs.Handed.{Handed}
 use Rattle.sessions.specs.Kept.{KeepsFitting}
-use Rattle.sessions.proofs.Ending.{within_list}
+use Rattle.worker_seats.proofs.Rows.{get_within}
 use Rattle.sessions.proofs.Receipting.{all_below, as_many, each_once, get_mapped, got_mapped, one_place, place_of}
 
 pub if_some : {A : Type 0} (o : Option A) (P : A → Type 0) → ((x : A) → o ≡ Some x → P x) → IfSome o P
@@ -79,7 +79,7 @@ module _ {S T : Type 0} (g : Ghosts S) (rows : SetGhosts T) (stood kept_then : (
 
   receipt_for : (job : ℕ) (x : Receipt) → slice_get done.receipts.items job ≡ Some x → IsReceiptFor records job x
   receipt_for job x at =
-      let inside = within_list done.receipts.items job x at in
+      let inside = get_within done.receipts.items job x at in
       let one = each_once (length jobs) (jobs_of_records records) h.all job (omega (arith, inside, long)) in
       let place = place_of (jobs_of_records records) job (omega (arith, one)) in
       let r = got_mapped (λ (y : Record). y.job) records place.0 job place.1 in
@@ -107,6 +107,6 @@ module _ {S T : Type 0} (g : Ghosts S) (rows : SetGhosts T) (stood kept_then : (
     workers_are = wide;
     calls = λ worker. if_some (slice_get done.calls.items worker) (λ n. n ≡ records_of worker records)
         (λ n at. same_there (slice_get done.calls.items worker) n (records_of worker records) at
-        (counted worker (let inside = within_list done.calls.items worker n at in omega (arith, inside, wide))));
+        (counted worker (let inside = get_within done.calls.items worker n at in omega (arith, inside, wide))));
     summed = summed;
   }

@@ -22,7 +22,8 @@ use Rattle.sessions.specs.declared.record.Record.{Record}
 use Rattle.sessions.specs.declared.record.Pending.{Pending}
 use Rattle.sessions.specs.Jobs.{request_of, upkeep_of, IsRoomOf, IsWithinRoom}
 use Rattle.sessions.specs.Kept.{RunsJob, IsBlocked, IsCut, IsSince, RecordFollows, KeepsFitting, record_of}
-use Rattle.sessions.proofs.Keeping.{some_same, follows_now, old_fits, touches_next, touches_none, touches_running, keeps_on, keeps_with}
+use Rattle.sessions.proofs.Noting.{some_same}
+use Rattle.sessions.proofs.Keeping.{follows_now, old_fits, touches_next, touches_none, touches_running, keeps_on, keeps_with}
 use Rattle.sessions.proofs.Meanings.{MovesOnTo, EndsTo}
 
 -- nothing is within any room, and so is what a room holds

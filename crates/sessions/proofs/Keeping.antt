@@ -1,5 +1,5 @@
 -- What each event under the lock leaves of what is kept: an event of one session touches one call at most.
-use Rattle.std.proofs.Common.{◌≡◌, ◌≢◌, ◌⊎◌, Bool, ℕ, zero, suc, ◌<◌, ◌≤◌, List, [], ◌∷◌, ◌++◌, length, set, Option, Some, None, slice_get, slice_set, refl, sym, ap, ◌∙◌, subst, inl, inr, ⊎_elim, arith, length-append, append_assoc}
+use Rattle.std.proofs.Common.{◌≡◌, ◌≢◌, ◌⊎◌, Bool, ℕ, zero, suc, ◌<◌, ◌≤◌, List, [], ◌∷◌, ◌++◌, length, Option, Some, None, slice_get, slice_set, refl, sym, ap, ◌∙◌, subst, inl, inr, ⊎_elim, arith, length-append, length-set, append_assoc}
 use Rattle.std.proofs.lemmas.List.{append-nil}
 use Rattle.index_model.specs.Actions.{Action}
 use Rattle.index_model.specs.Calls.{Call, Running}
@@ -10,21 +10,14 @@ use Rattle.schedule.specs.CallLists.{OneCallRuns}
 use Rattle.schedule.specs.TheoremCrashes.{KeepsHistory}
 use Rattle.schedule.specs.TheoremMoments.{StoreAndSlots, snapshot_of}
 use Rattle.schedule.specs.TheoremRuns.{Fits}
+use Rattle.worker_seats.proofs.Queueing.{nat_cases}
 use Rattle.worker_seats.proofs.Rows.{get_front, get_snoc, get_within, get_there, set_else, set_cases}
 use Rattle.sessions.specs.declared.job.Job.{Job}
 use Rattle.sessions.specs.declared.job.Job.TheVariants.{Scan}
 use Rattle.sessions.specs.declared.record.Record.{Record}
 use Rattle.sessions.specs.declared.record.Pending.{Pending}
 use Rattle.sessions.specs.Kept.{IsCut, ListsCall, ListsUpkeep, Lists, RunsJob, IsPending, IsOurs, RecordFollows, IsSince, IsInTime, KeepsFitting}
-
-pub some_same : {A : Type 0} {x y : A} → Some x ≡ Some y → x ≡ y
-some_same e = cc
-
-nat_cases : (m n : ℕ) → (m ≡ n) ⊎ (m ≢ n)
-nat_cases zero zero = inl refl
-nat_cases zero (suc n) = inr (λ e. omega (arith, e))
-nat_cases (suc m) zero = inr (λ e. omega (arith, e))
-nat_cases (suc m) (suc n) = ⊎_elim (λ e. inl (ap suc e)) (λ f. inr (λ e. f (omega (arith, e)))) (nat_cases m n)
+use Rattle.sessions.proofs.Noting.{some_same}
 
 below_snoc : {A : Type 0} (xs : List A) (x : A) (j : ℕ) → j < length (xs ++ x ∷ []) → (j < length xs) ⊎ (j ≡ length xs)
 below_snoc xs x j l = ⊎_elim (λ (e : j ≡ length xs). inr e) (λ (n : j ≢ length xs). inl (omega (arith, l, n, length-append xs (x ∷ [])))) (nat_cases j (length xs))
@@ -33,11 +26,6 @@ get_append : {A : Type 0} (xs ys : List A) (n : ℕ) (a : A) → slice_get (xs +
 get_append [] ys n a h = inr (n, h)
 get_append (x ∷ xs) ys zero a h = inl h
 get_append (x ∷ xs) ys (suc n) a h = get_append xs ys n a h
-
-length_set : {A : Type 0} (xs : List A) (i : ℕ) (v : A) → length (set xs i v) ≡ length xs
-length_set [] i v = refl
-length_set (x ∷ xs) zero v = refl
-length_set (x ∷ xs) (suc i) v = ap suc (length_set xs i v)
 
 -- a scan that was given up rightly was so by a longer history too
 cut_later : (start : Entry → Bool) (l m : List Action) (job : Job) (r : Record) → r.to ≤ length l → IsCut start l job r → IsCut start (l ++ m) job r
@@ -142,7 +130,7 @@ module _ {S : Type 0} (g : Ghosts S) (jobs : List Job) (contents : Entry → Boo
       → (g.backing w.store).durable ≤ (g.backing v.store).durable → Touches k s y.number more (slice_set k.calls y.number after)
   touches_running one k s p y more after own fit safe less =
       let i = y.number in
-      let long = length_set k.calls i after in
+      let long = length-set k.calls i after in
       record {
         own = own;
         fit = fit;

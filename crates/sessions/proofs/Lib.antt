@@ -1,5 +1,6 @@
 pub mod Noting
 pub mod Handing
+pub mod Sharing
 pub mod Keeping
 pub mod Meanings
 pub mod Happening
@@ -8,7 +9,6 @@ pub mod Asking
 pub mod Owning
 pub mod Acting
 pub mod Transiting
-pub mod Turning
 pub mod Beginning
 pub mod Ending
 pub mod Hiring

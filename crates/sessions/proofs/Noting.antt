@@ -18,6 +18,14 @@ use Rattle.sessions.specs.Notes.{note_of, notes_of, job_of, jobs_of}
 use Rattle.worker_seats.proofs.Queueing.{nat_cases}
 use Rattle.worker_seats.proofs.Rows.{get_within, set_cases}
 
+-- what is in equal options is equal
+pub some_same : {A : Type 0} {x y : A} → Some x ≡ Some y → x ≡ y
+some_same e = cc
+
+-- nothing is both true and false
+pub clash : (b : Bool) → b ≡ true → b ≡ false → ⊥
+clash b h k = absurd cc
+
 pub none_there : (pending : List (Option Pending)) (s : ℕ) → slice_get (jobs_of pending) s ≡ Some None → slice_get pending s ≡ Some None
 none_there [] s e = absurd cc
 none_there (None ∷ ps) zero e = refl
@@ -58,14 +66,6 @@ set_twice [] i u v = refl
 set_twice (x ∷ xs) zero u v = refl
 set_twice (x ∷ xs) (suc i) u v = ap (λ l. x ∷ l) (set_twice xs i u v)
 
-pub same_there : (xs : List (Option Pending)) (i : ℕ) (p q : Pending) → slice_get xs i ≡ Some (Some p) → slice_get xs i ≡ Some (Some q) → p ≡ q
-same_there xs i p q e f = cc
-
-pub jobs_same : (xs : List (Option ℕ)) (i : ℕ) (o : Option ℕ) → slice_get xs i ≡ Some o → slice_set xs i o ≡ xs
-jobs_same [] i o e = refl
-jobs_same (x ∷ xs) zero o e = cc
-jobs_same (x ∷ xs) (suc i) o e = ap (λ l. x ∷ l) (jobs_same xs i o e)
-
 pub busy_is : (slots : List (Option Op)) (s : ℕ) → is_busy (slot_of slots s) ≡ has_call slots s
 busy_is slots s = of (slice_get slots s)
   where
@@ -98,16 +98,9 @@ others_run_on old new s others t n = ap slot_has_call (others t n)
 pub runs_there : (slots : List (Option Op)) (pending : List (Option Pending)) (s : ℕ) (p : Pending) → ∥ MatchesPending slots pending ∥₁ → slice_get pending s ≡ Some (Some p) → has_call slots s ≡ true
 runs_there slots pending s p m e = yes (has_call slots s) (λ no. ∥∥₁_elim m (λ x y. absurd x) (λ k. clash (has_call slots s) (k.runs s p e) no))
   where
-    clash : (b : Bool) → b ≡ true → b ≡ false → ⊥
-    clash b h k = absurd cc
-
     yes : (b : Bool) → (b ≡ false → ⊥) → b ≡ true
     yes true f = refl
     yes false f = absurd (f refl)
-
-    no : (b : Bool) → (b ≡ true → ⊥) → b ≡ false
-    no true f = absurd (f refl)
-    no false f = refl
 
 pub matches_runs : (old new : List (Option Op)) (pending : List (Option Pending)) (s : ℕ) (p : Pending) → s < length pending → has_call new s ≡ true
     → OthersRunOn old new s → MatchesPending old pending → MatchesPending new (slice_set pending s (Some p))
@@ -149,10 +142,7 @@ begun_is Begun h = refl
 begun_is a h = absurd cc
 
 pub not_begun : (a : Answer) → is_begun a ≡ false → a ≡ Begun → ⊥
-not_begun a h e = clash (is_begun a) h (ap is_begun e)
-  where
-    clash : (b : Bool) → b ≡ false → b ≡ true → ⊥
-    clash b x y = absurd cc
+not_begun a h e = clash (is_begun a) (ap is_begun e) h
 
 pub matches_stays : (old new : List (Option Op)) (pending : List (Option Pending)) → ((t : ℕ) → has_call new t ≡ has_call old t) → MatchesPending old pending → MatchesPending new pending
 matches_stays old new pending same m = record { runs = λ t q h. same t ∙ m.runs t q h; rests = λ t h. same t ∙ m.rests t h; beyond = λ t l. same t ∙ m.beyond t l }

@@ -1,9 +1,9 @@
 -- Whose transitions are, after some more of them, and where a job that ran has become a record.
-use Rattle.std.proofs.Common.{◌≡◌, ◌≢◌, ◌==◌, if◌then◌else◌, Bool, true, false, ℕ, suc, List, [], ◌∷◌, ◌++◌, length, map, refl, sym, ap, ◌∙◌, arith}
+use Rattle.std.proofs.Common.{◌≡◌, ◌≢◌, ◌==◌, if◌then◌else◌, Bool, true, false, ℕ, suc, List, [], ◌∷◌, ◌++◌, length, map, refl, sym, ap, ◌∙◌, arith, append_assoc}
+use Rattle.std.proofs.lemmas.List.{append-nil}
 use Rattle.std.proofs.lemmas.Bool.Decides.{nat_tests}
 use Rattle.std.specs.List.{AllByRecursion}
 use Rattle.sessions.specs.Transitions.{Transition, Owner, OfRecord, OfSession, is_owner, owned_by, gift_of, gifts_of}
-use Rattle.std.proofs.Common.{append_assoc}
 
 pub same_test : (a b : ℕ) → a ≡ b → (a == b) ≡ true
 same_test a b e = grind (arith, nat_tests, e)
@@ -30,10 +30,6 @@ all_so P Q (x ∷ xs) f all = (f x all.0, all_so P Q xs f all.1)
 pub all_mapped : {A : Type 0} (P Q : A → Type 0) (m : A → A) (xs : List A) → ((x : A) → P x → Q (m x)) → AllByRecursion P xs → AllByRecursion Q (map m xs)
 all_mapped P Q m [] f all = tt
 all_mapped P Q m (x ∷ xs) f all = (f x all.0, all_mapped P Q m xs f all.1)
-
-pub length_map : {A B : Type 0} (m : A → B) (xs : List A) → length (map m xs) ≡ length xs
-length_map m [] = refl
-length_map m (x ∷ xs) = ap suc (length_map m xs)
 
 module _ {S : Type 0} where
   -- the same owner for each of these
@@ -85,11 +81,7 @@ module _ {S : Type 0} where
   owned_else owner other owners ts us e apart =
       owned_append owner owners (owners_for other us) ts us e
       ∙ ap (λ (l : List (Transition S)). owned_by owner owners ts ++ l) (owned_nobody owner (owners_for other us) us (all_for (λ x. is_owner owner x ≡ false) other us apart))
-      ∙ append_nil (owned_by owner owners ts)
-    where
-      append_nil : (l : List (Transition S)) → l ++ [] ≡ l
-      append_nil [] = refl
-      append_nil (t ∷ l) = ap (λ (k : List (Transition S)). t ∷ k) (append_nil l)
+      ∙ append-nil (owned_by owner owners ts)
 
   -- owners under other names
   owned_mapped : (m : Owner → Owner) (owner was : Owner) (owners : List Owner) (ts : List (Transition S))

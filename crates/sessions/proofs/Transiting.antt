@@ -1,5 +1,5 @@
 -- The transitions of each event under the lock.
-use Rattle.std.proofs.Common.{◌≡◌, true, false, Bool, ℕ, suc, ◌<◌, ◌≤◌, List, [], ◌∷◌, ◌++◌, length, Option, Some, None, slice_get, slice_set, vec_len, vec_capacity, refl, sym, ap, ◌∙◌, subst, inl, inr, arith, length-append}
+use Rattle.std.proofs.Common.{◌≡◌, true, false, ℕ, suc, ◌<◌, ◌≤◌, List, [], ◌∷◌, ◌++◌, length, Option, Some, None, slice_get, slice_set, vec_len, vec_capacity, refl, sym, ap, ◌∙◌, subst, inl, inr, arith, length-append}
 use Rattle.std.proofs.lemmas.List.{append-nil}
 use Rattle.index_model.specs.declared.entry.Entry.{Entry}
 use Rattle.page_action.specs.declared.page_store.PageStore.{Ghosts}
@@ -27,7 +27,7 @@ use Rattle.sessions.specs.declared.job.Job.TheVariants.{Scan}
 use Rattle.sessions.specs.declared.record.Record.{Record}
 use Rattle.sessions.specs.declared.record.Pending.{Pending}
 use Rattle.sessions.proofs.Acting.{moment_of, acts_on, acts_ended}
-use Rattle.sessions.proofs.Noting.{set_same, busy_is}
+use Rattle.sessions.proofs.Noting.{some_same, clash, set_same, busy_is}
 use Rattle.sessions.proofs.Meanings.{IsOfStep}
 
 -- an event of the world, as it promises it
@@ -40,9 +40,6 @@ makes_of g event answer w v sessions goes always = record {
   does = λ honest start history calls fits.
       (let f = goes honest start history calls fits in record { then_history = f.then_history; then_calls = f.then_calls; does = record { means = f.goes.means; also = f.goes.also } });
 }
-
-clash : (b : Bool) → b ≡ true → b ≡ false → ⊥
-clash b x y = absurd cc
 
 -- a step gives no entry
 no_gift : (answer : Answer) → IsOfStep answer → gift_of answer ≡ []
@@ -134,13 +131,10 @@ module _ {S : Type 0} (g : Ghosts S) (handed : Handed) (jobs : List Job) (w v : 
       let was = a.running s p at in
       let m = length (records ++ record_of s p answer to ∷ []) in
       let longer : m ≡ suc n = (let x = length-append records (record_of s p answer to ∷ []) in omega (arith, x)) in
-      let cut = cut_of was.job was.room (subst (λ (j : Job). IsFullScan j (Some p) (ready_count (slot_of w.slots s))) (same_job (sym is ∙ was.job_is)) full) in
+      let cut = cut_of was.job was.room (subst (λ (j : Job). IsFullScan j (Some p) (ready_count (slot_of w.slots s))) (some_same (sym is ∙ was.job_is)) full) in
       acts_ended g handed jobs w v pending records a s p at answer to [] (one_of (End s) answer w v m ∷ []) tt refl (refl, makes, refl)
       (inr (record { event_is = refl; answer_is = ended; told = ended; full = cut.0; more = cut.1; makes = record { place_is = refl; next_is = longer; to_is = sym to_is } }))
     where
-      same_job : {x y : Job} → Some x ≡ Some y → x ≡ y
-      same_job e = cc
-
       cut_of : (j : Job) → IsRoomOf j (vec_capacity p.given) → IsFullScan j (Some p) (ready_count (slot_of w.slots s)) → ScanIsFull j p.given.items × (0 < ready_count (slot_of w.slots s))
       cut_of (Scan range room) room_is h = (
         let cap : vec_capacity p.given ≡ room = room_is in let over : vec_capacity p.given ≤ vec_len p.given = h.0 in let long = p.given.ok.0 in

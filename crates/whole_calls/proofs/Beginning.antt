@@ -15,7 +15,7 @@ use Rattle.schedule.specs.declared.event.Event.{Event}
 use Rattle.schedule.specs.declared.event.Event.TheVariants.{Insert as InsertEvent, Scan as ScanEvent, Bulk as BulkEvent, Cleanup as CleanupEvent}
 use Rattle.schedule.proofs.Fitting.{fits_after, running_of}
 use Rattle.schedule.proofs.Standing.{slot_found}
-use Rattle.whole_calls.proofs.Words.{Entry, State, Ghosts, Page, op_before, set_at, Answer, Begun, Refused, Op, Request, StoreAndSlots, Moment, snapshot_of, Kind, BeginsCall, kind_of, EventDoes, IsOfSession, AnswersBeginning, MayBegin, slot_of, SlotRuns, ForEachHistory, Runs, Laws}
+use Rattle.whole_calls.proofs.Words.{Entry, State, Ghosts, Page, op_before, set_at, Answer, Begun, Refused, Op, Request, StoreAndSlots, Moment, snapshot_of, Kind, BeginsCall, kind_of, EventDoes, EventEffect, IsOfSession, AnswersBeginning, MayBegin, slot_of, SlotRuns, Laws}
 use Rattle.whole_calls.specs.Going.{IsOutcomeOf, CallIsRun}
 use Rattle.whole_calls.specs.Stepping.{BeginIsRun}
 use Rattle.whole_calls.specs.Vacuuming.{Followed, of_bulk_delete, of_cleanup, of_deleted, of_leaves, FollowsFrom, IsCountedAs, BeginsToCount}
@@ -114,16 +114,17 @@ number_of g start session request answer x y does fresh ok =
     ap (λ (l : List (Option ℕ)). unwrap_or (slice_get l session) None) is in
     here ∙ start_set (g.state x.store).running session (g.state x.store).begun runs.runs.started.number (sym here ∙ some)
 
-pub goes_begun : {S : Type 0} (g : Ghosts S) (laws : Laws g) (session : ℕ) (request : Request) (event : Event) (answer : Answer) (a b : StoreAndSlots S) → NothingIsCounted
-    → kind_of event ≡ BeginsCall session request → AnswersBeginning answer
-    → (answer ≡ Begun → slot_of b.slots session ≡ Some (op_before session request)) → ForEachHistory g a b (Runs g a b (event ∷ []) (answer ∷ []))
-    → CallIsRun g session (BeginIsRun g session request (begun_of answer)) (begin_outcome (begun_of answer)) a b
-goes_begun {S} g laws session request event answer a b nothing kind answers fresh runs =
-    goes_told g session (λ s. BeginIsRun g session request (begun_of answer)) (λ s. BeginIsRun g session request (begun_of answer)) (Some answer) (begin_outcome (begun_of answer)) a b
-    (λ start h hc k kc given fits came told. (begun_by answer given answers came, told))
-    (goes_once g laws session (BeginIsRun g session request (begun_of answer)) event answer a b (subst (λ (x : Kind). IsOfSession session x) (sym kind) refl) runs
+-- the event that begins what is asked for, and what it came to
+pub goes_begun : {S : Type 0} {g : Ghosts S} (laws : Laws g) (session : ℕ) (request : Request) {answer : Answer} {a b : StoreAndSlots S} → NothingIsCounted
+    → EventEffect g (BeginsCall session request) answer a b → CallIsRun g session (BeginIsRun g session request (begun_of answer)) (begin_outcome (begun_of answer)) a b
+goes_begun {S} {g} laws session request {answer} {a} {b} nothing makes =
+    let is = beginning_is session request in
+    goes_told _
+    (goes_once laws {Tells = BeginIsRun g session request (begun_of answer)} (beginning session request) (subst (λ (x : Kind). IsOfSession session x) (sym is) refl)
+    (subst (λ (x : Kind). EventEffect g x answer a b) (sym is) makes)
     (λ start h hc k kc honest fits does.
-    by start (snapshot_of a h hc) (snapshot_of b k kc) fresh (subst (λ (x : Kind). EventDoes g start x answer (snapshot_of a h hc) (snapshot_of b k kc)) kind does)))
+    by start (snapshot_of a h hc) (snapshot_of b k kc) makes.always.fresh (subst (λ (x : Kind). EventDoes g start x answer (snapshot_of a h hc) (snapshot_of b k kc)) is does)))
+    (λ start h hc k kc given fits came told. (begun_by answer given makes.always.answers came, told))
   where
     by : (start : Entry → Bool) (x y : Moment S) → (answer ≡ Begun → slot_of y.slots session ≡ Some (op_before session request))
         → EventDoes g start (BeginsCall session request) answer x y → BeginIsRun g session request (begun_of answer) x y

@@ -1,13 +1,13 @@
 -- Which blocks are free: as told of another moment, at which the same pages are in use and the same calls run.
 use Rattle.std.specs.Prelude.{slice_index}
-use Rattle.std.proofs.Common.{◌≡◌, ◌⊎◌, ℕ, zero, suc, Bool, not, ◌&&◌, ◌||◌, nat_le, Option, Some, None, List, [], ◌∷◌, length, slice_get, slice_set, refl, ap, inl, inr, ◌∙◌, unwrap_or}
+use Rattle.std.proofs.Common.{◌≡◌, ◌⊎◌, ℕ, zero, suc, Bool, true, false, not, ◌&&◌, ◌||◌, nat_le, Option, Some, None, List, [], ◌∷◌, length, slice_get, slice_set, refl, sym, ap, subst, inl, inr, ◌∙◌, unwrap_or}
 use Rattle.page_action.specs.Reuse.{is_deleted, others_began_after, is_reusable}
 use Rattle.tree_acts.specs.StepEffects.{any_is_reusable, is_out_of_blocks}
 use Rattle.insert_split.specs.declared.insert.InsertOp.{InsertOp}
 use Rattle.session_calls.specs.Ops.{is_bulk_delete}
-use Rattle.session_calls.specs.Sessions.{start_number, op_after_call, after_slot}
+use Rattle.session_calls.specs.Sessions.{start_number, op_after_call, after_slot, let_go}
 use Rattle.session_calls.specs.declared.op.Op.TheVariants.{Insert}
-use Rattle.session_calls.proofs.Freeing.{go_running, go_counted}
+use Rattle.session_calls.proofs.Freeing.{go_running}
 use Rattle.schedule.proofs.Fitting.{running_of}
 use Rattle.whole_calls.proofs.Words.{Entry, Format, State, Ghosts, Page, session_of, Op, Moment, Fits, slot_of, SlotRuns}
 use Rattle.whole_calls.specs.Refusing.{with_number, has_no_block}
@@ -40,12 +40,28 @@ set_own [] i = refl
 set_own (z ∷ zs) zero = refl
 set_own (z ∷ zs) (suc i) = ap (λ (l : List (Option ℕ)). z ∷ l) (set_own zs i)
 
-pub given_up_counted : (slot : Option Op) (st new : State) → new ≡ after_slot slot st → new.counted ≡ st.counted
-given_up_counted None st new is = ap (λ (x : State). x.counted) is
-given_up_counted (Some op) st new is = ap (λ (x : State). x.counted) is ∙ go_counted (is_bulk_delete op) (session_of op) st
+-- the pages, their counts, the limits, the frames and the number of actions are as they were
+pub record LeavesState (old new : State) : Type 0 where
+  pub acts : new.acts ≡ old.acts
+  pub frames : new.frames ≡ old.frames
+  pub limits : new.limits ≡ old.limits
+  pub pages : new.pages ≡ old.pages
+  pub counted : new.counted ≡ old.counted
 
--- except for its own
-pub given_up_numbers : {S : Type 0} (g : Ghosts S) (start : Entry → Bool) (session : ℕ) (now : Moment S) (new : State) → Fits g start now
+-- at the end of what a session runs, if anything, they are
+pub leaves_state : (slot : Option Op) (st new : State) → new ≡ after_slot slot st → LeavesState st new
+leaves_state slot st new is = subst (λ (x : State). LeavesState st x) (sym is) (of slot)
+  where
+    let_go_leaves : (bulk : Bool) (session : ℕ) → LeavesState st (let_go bulk session st)
+    let_go_leaves true session = record { acts = refl; frames = refl; limits = refl; pages = refl; counted = refl }
+    let_go_leaves false session = record { acts = refl; frames = refl; limits = refl; pages = refl; counted = refl }
+
+    of : (o : Option Op) → LeavesState st (after_slot o st)
+    of None = record { acts = refl; frames = refl; limits = refl; pages = refl; counted = refl }
+    of (Some op) = let_go_leaves (is_bulk_delete op) (session_of op)
+
+-- the start numbers of calls stay at a call's end, except for its own
+given_up_numbers : {S : Type 0} (g : Ghosts S) (start : Entry → Bool) (session : ℕ) (now : Moment S) (new : State) → Fits g start now
     → new ≡ after_slot (slot_of now.slots session) (g.state now.store)
     → (number : Option ℕ) → slice_set new.running session number ≡ slice_set (g.state now.store).running session number
 given_up_numbers {S} g start session now new fits is number = of (slice_get now.slots session) refl
@@ -65,6 +81,21 @@ given_up_numbers {S} g start session now new fits is number = of (slice_get now.
         ∙ ap (λ (l : List (Option ℕ)). slice_set l session number) (go_running (is_bulk_delete op) (session_of op) (g.state now.store))
         ∙ ap (λ (s : ℕ). slice_set (slice_set (g.state now.store).running s None) session number) (runs.runs.session ∙ runs.is.session_is)
         ∙ set_twice (g.state now.store).running session None number
+
+-- the one store's pages and log are the other's, and so are the start numbers of its calls, except for the session's
+pub record LeavesAll {S : Type 0} (g : Ghosts S) (session : ℕ) (old new : S) : Type 0 where
+  pub backing : g.backing new ≡ g.backing old
+  pub state : LeavesState (g.state old) (g.state new)
+  pub numbers : (number : Option ℕ) → slice_set (g.state new).running session number ≡ slice_set (g.state old).running session number
+
+-- a call's end leaves all this as it was
+pub leaves_all : {S : Type 0} {g : Ghosts S} {start : Entry → Bool} {session : ℕ} {now : Moment S} {new : S} → Fits g start now → g.backing new ≡ g.backing now.store
+    → g.state new ≡ after_slot (slot_of now.slots session) (g.state now.store) → LeavesAll g session now.store new
+leaves_all {g = g} {start} {session} {now} {new} fits backing is = record {
+  backing = backing;
+  state = leaves_state (slot_of now.slots session) (g.state now.store) (g.state new) is;
+  numbers = given_up_numbers g start session now (g.state new) fits is;
+}
 
 -- an insert that ends, or goes on as it was, leaves each block as free as it was while it ran
 pub blocks_after : (session : ℕ) (op : InsertOp) (st new : State) → op.session ≡ session → (new ≡ op_after_call (Insert op) st) ⊎ (new ≡ st)

@@ -1,16 +1,17 @@
 -- What a scan gives tells.
-use Rattle.std.proofs.Common.{◌≡◌, ◌⊎◌, ℕ, ◌<◌, ◌≤◌, arith, Bool, Option, Some, None, Ok, List, [], ◌∷◌, ◌++◌, length, slice_get, slice_set, refl, sym, ap, subst, inl, inr, ◌∙◌, IfErr}
+use Rattle.std.proofs.Common.{◌≡◌, ◌⊎◌, ℕ, ◌<◌, ◌≤◌, arith, Bool, Option, Some, None, Result, Ok, List, [], ◌∷◌, ◌++◌, length, slice_get, slice_set, refl, sym, ap, subst, inl, inr, ◌∙◌, IfErr}
 use Rattle.std.proofs.lemmas.List.{append-nil}
 use Rattle.std.proofs.lemmas.Bool.{cases_eq}
 use Rattle.index_model.specs.Calls.{Finished as EndsFinished}
 use Rattle.index_model.specs.declared.range.Range.{Range}
 use Rattle.session_calls.specs.declared.op.Op.TheVariants.{Bulk as Bulks, Cleanup as Cleanups}
 use Rattle.schedule.proofs.Lists.{get_set_same, get_set_other, get_within}
-use Rattle.whole_calls.proofs.Words.{Effect, Add, Remove, Shape, Action, AskScan, Running, Call, Circumstances, HasCause, Entry, State, Ghosts, IsCaused, OwesLess, work_in, noted, given_one, ended, Answer, Going, Ready, Done, Gave, Refused, Op, Moment, IsRunningCall, Fits}
+use Rattle.whole_calls.proofs.Words.{Effect, Add, Remove, Shape, Action, AskScan, Running, Call, Circumstances, HasCause, Entry, Fault, State, Ghosts, IsCaused, OwesLess, work_in, noted, given_one, ended, Answer, Going, Ready, Done, Gave, Refused, Op, StoreAndSlots, Moment, IsRunningCall, Fits}
 use Rattle.whole_calls.specs.Going.{IsOutcomeOf}
-use Rattle.whole_calls.specs.Made.{Answered, ComesTo}
+use Rattle.whole_calls.specs.Made.{IsMadeOf, Answered, ComesTo}
 use Rattle.whole_calls.specs.Giving.{LessIsLeft, AnswersSeek, given_of, given_outcome, Becomes, GivenMeans, SessionScanMeans, ScanIsUnanswered, SessionGivenMeans}
 use Rattle.whole_calls.specs.Meanings.{IsSameHistory, acts_by, noted_after, AreOwnEffects, IsOwnEffect, CallAnswers, StepMeans, SessionStepMeans, HasNone, EndMeans}
+use Rattle.whole_calls.proofs.Made.{made_told}
 use Rattle.whole_calls.proofs.Gone.{set_same, same_ask, gone_nowhere, gone_runs, gone_then, whole_told}
 use Rattle.whole_calls.proofs.Tellings.{one_runs, was_told}
 
@@ -28,11 +29,16 @@ give_comes (Refused f) answers kind h = h
 give_comes came answers kind h = absurd kind
 
 -- ... by what was answered
-pub give_answered : (came : Answer) (answers : List Answer) → AnswersSeek came → Answered came answers → ComesTo (given_outcome (given_of came)) answers
+give_answered : (came : Answer) (answers : List Answer) → AnswersSeek came → Answered came answers → ComesTo (given_outcome (given_of came)) answers
 give_answered (Gave (Some e)) answers kind h = h
 give_answered Done answers kind h = h
 give_answered (Refused f) answers kind h = h
 give_answered came answers kind h = absurd kind
+
+-- ... told of its events
+pub give_made : {S : Type 0} {g : Ghosts S} {session least_room : ℕ} (came : Answer) (given : Result (Option Entry) Fault) {a b : StoreAndSlots S} → AnswersSeek came → given_of came ≡ given
+    → IsMadeOf g session least_room (Answered came) a b → IsMadeOf g session least_room (ComesTo (given_outcome given)) a b
+give_made came given kind is made = made_told made (λ xs so. rw is at (give_answered came xs kind so))
 
 -- why it gives nothing
 pub given_caused : (at : Circumstances) (came : Answer) → AnswersSeek came → IsCaused at came → IfErr (given_of came) (HasCause at)

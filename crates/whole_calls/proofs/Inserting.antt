@@ -374,34 +374,35 @@ module _ {S : Type 0} (g : Ghosts S) (session least_room : ℕ) (entry : Entry) 
       left_cause g session least_room old new (λ r. (g.state new).limits.unique) (no_block old new) (is_tall (g.state new)) fault (λ of. apart action refl fault of refl) c
   caused old new answer added may apart c = absurd may
 
-  may_run : (start : Entry → Bool) (x z : Moment S) (answer : Answer) (added : Option ℕ) → answer ≢ Going → RequestIsRun g session least_room (ToInsert entry) answer added start x z → IsInsertAnswer answer
+  may_run : (start : Entry → Bool) (x z : Moment S) (answer : Answer) (added : Option ℕ) → answer ≢ Going
+      → RequestIsRun g session least_room (ToInsert entry) answer added start x z → IsInsertAnswer answer
   may_run start x z answer added over (inl n) = subst IsInsertAnswer (sym n.refused) tt
   may_run start x z answer added over (inr r) =
       insert_may entry answer over (came_may (length x.calls) (first_call session (ToInsert entry) x) answer (with_one_call x (first_call session (ToInsert entry) x)) r.here r.told)
 
-  pub insert_caused : (start : Entry → Bool) (x z : Moment S) (answer : Answer) (added : Option ℕ) → answer ≢ Going → RequestIsRun g session least_room (ToInsert entry) answer added start x z
+  pub insert_caused : {start : Entry → Bool} {x z : Moment S} (answer : Answer) (added : Option ℕ) → answer ≢ Going
+      → RequestIsRun g session least_room (ToInsert entry) answer added start x z
       → InsertCallIsCaused g session least_room entry (here_at x) z.store (outcome_of answer added)
-  insert_caused start x z answer added over (inl n) =
+  insert_caused {x = x} {z} answer added over (inl n) =
       rw (n.refused, n.none)
       (begun_called g session (ToInsert entry) (here_at x)
       (causes_of_inserted g session least_room true (λ r. (g.state z.store).limits.unique) (no_block (here_at x) z.store)
       (is_tall (g.state z.store)) (here_at x) z.store) (λ h. stopped_before g session least_room false (here_at x) z.store h) n.fault n.cause)
-  insert_caused start x z answer added over (inr r) =
+  insert_caused {start} {x} {z} answer added over (inr r) =
       caused (here_at x) z.store answer added (may_run start x z answer added over (inr r))
       (λ action some fault of e.
       not_there g start session entry x r.here z r.free r.fits r.end action (r.add_is ∙ some) fault of (subst (λ (a : Answer). NextMeans session (ToInsert entry) a x r.here) e r.told)) r.caused
 
-  as_told : (a c : StoreAndSlots S) (answer : Answer) (added : Option ℕ) → answer ≢ Going → CallIsRunFrom g session (RequestIsRun g session least_room (ToInsert entry) answer added) (Some answer) a c
+  as_told : {a c : StoreAndSlots S} (answer : Answer) (added : Option ℕ) → answer ≢ Going → CallIsRunFrom g session (RequestIsRun g session least_room (ToInsert entry) answer added) (Some answer) a c
       → CallIsRun g session (InsertMeans session entry (outcome_of answer added)) (Some answer) a c
-  as_told a c answer added over =
-      goes_told g session (RequestIsRun g session least_room (ToInsert entry) answer added) (λ s. InsertMeans session entry (outcome_of answer added)) (Some answer) (Some answer) a c
-      (λ start h hc k kc answers fits by t. (by, run_told start (snapshot_of a h hc) (snapshot_of c k kc) answer added over t))
+  as_told {a} {c} answer added over goes =
+      goes_told _ goes (λ start h hc k kc answers fits by t. (by, run_told start (snapshot_of a h hc) (snapshot_of c k kc) answer added over t))
 
-  pub insert_goes : (a c : StoreAndSlots S) (answer : Answer) (added : Option ℕ) → answer ≢ Going
+  pub insert_goes : {a c : StoreAndSlots S} (answer : Answer) (added : Option ℕ) → answer ≢ Going
       → CallIsRunFrom g session (RequestIsRun g session least_room (ToInsert entry) answer added) (Some answer) a c → InsertIsRun g session entry (outcome_of answer added) a c
-  insert_goes a c (Added action unfinished) added over goes = inl (as_told a c (Added action unfinished) added over goes)
-  insert_goes a c (Refused fault) None over goes = as_told a c (Refused fault) None over goes
-  insert_goes a c (Refused fault) (Some action) over goes = inr (record { fault = fault; left = refl; goes = as_told a c (Refused fault) (Some action) over goes })
-  insert_goes a c answer added over goes = λ honest start history calls fits. absurd (
+  insert_goes (Added action unfinished) added over goes = inl (as_told (Added action unfinished) added over goes)
+  insert_goes (Refused fault) None over goes = as_told (Refused fault) None over goes
+  insert_goes (Refused fault) (Some action) over goes = inr (record { fault = fault; left = refl; goes = as_told (Refused fault) (Some action) over goes })
+  insert_goes {a} {c} answer added over goes = λ honest start history calls fits. absurd (
       let r = goes honest start history calls fits in
       may_run start (snapshot_of a history calls) (snapshot_of c r.then_history r.then_calls) answer added over r.tells)

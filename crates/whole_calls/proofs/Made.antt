@@ -1,5 +1,5 @@
 -- Calls as events, one after the other.
-use Rattle.std.proofs.Common.{◌≡◌, ℕ, ◌≤◌, arith, Option, Some, None, List, [], ◌∷◌, ◌++◌, length, refl, sym, subst, inl, inr, length-append}
+use Rattle.std.proofs.Common.{◌≡◌, ℕ, ◌+◌, ◌-◌, ◌≤◌, arith, Option, Some, None, List, [], ◌∷◌, ◌++◌, length, refl, sym, subst, inl, inr, length-append}
 use Rattle.schedule.specs.declared.event.Event.{Event}
 use Rattle.schedule.proofs.Joining.{are_of_both}
 use Rattle.whole_calls.proofs.Words.{Ghosts, Answer, StoreAndSlots, Kind, kind_of, IsOfSession, EventEffect}
@@ -8,11 +8,11 @@ use Rattle.whole_calls.specs.Made.{HasItsRoom, AreMade, IsMadeOf, Answered, Come
 use Rattle.whole_calls.proofs.Composing.{among_left, among_right}
 
 -- an answer that is among these is one of them
-pub among_some : (xs : List Answer) (answer : Answer) → IsAmong xs answer → 1 ≤ length xs
+among_some : (xs : List Answer) (answer : Answer) → IsAmong xs answer → 1 ≤ length xs
 among_some [] answer h = absurd h
 among_some (x ∷ xs) answer h = omega arith
 
-pub answered_left : (xs ys : List Answer) (answer : Answer) → Answered answer xs → Answered answer (xs ++ ys)
+answered_left : (xs ys : List Answer) (answer : Answer) → Answered answer xs → Answered answer (xs ++ ys)
 answered_left xs ys answer (inl h) = inl (among_left xs ys answer h)
 answered_left xs ys answer (inr h) = (let a = length-append xs ys in let b = h.1 in inr (h.0, omega (arith, a, b)))
 
@@ -32,11 +32,11 @@ made_both g least_room (x ∷ xs) ys (p ∷ ps) qs a b c one two = (one.0, (one.
 made_both g least_room [] ys (p ∷ ps) qs a b c one two = absurd one
 made_both g least_room (x ∷ xs) ys [] qs a b c one two = absurd one
 
-module _ {S : Type 0} (g : Ghosts S) (session least_room : ℕ) where
+module _ {S : Type 0} {g : Ghosts S} {session least_room : ℕ} where
   -- one call after the other
-  pub made_then : (One Two Both : List Answer → Type 0) (a b c : StoreAndSlots S) → ((xs ys : List Answer) → One xs → Two ys → Both (xs ++ ys))
-      → IsMadeOf g session least_room One a b → IsMadeOf g session least_room Two b c → IsMadeOf g session least_room Both a c
-  made_then One Two Both a b c comes one two = record {
+  pub made_then : {One Two Both : List Answer → Type 0} {a b c : StoreAndSlots S} → IsMadeOf g session least_room One a b → IsMadeOf g session least_room Two b c
+      → ((xs ys : List Answer) → One xs → Two ys → Both (xs ++ ys)) → IsMadeOf g session least_room Both a c
+  made_then {a = a} {b = b} {c = c} one two comes = record {
     events = one.events ++ two.events;
     answers = one.answers ++ two.answers;
     own = are_of_both session one.events two.events one.own two.own;
@@ -44,18 +44,38 @@ module _ {S : Type 0} (g : Ghosts S) (session least_room : ℕ) where
     outcome_by = comes one.answers two.answers one.outcome_by two.outcome_by;
   }
 
+  -- ... which comes to what the first came to
+  pub made_first : (came : Option Answer) {Two : List Answer → Type 0} {a b c : StoreAndSlots S} → IsMadeOf g session least_room (ComesTo came) a b → IsMadeOf g session least_room Two b c
+      → IsMadeOf g session least_room (ComesTo came) a c
+  made_first came one two = made_then one two (λ xs ys so also. of came xs ys so)
+    where
+      of : (o : Option Answer) (xs ys : List Answer) → ComesTo o xs → ComesTo o (xs ++ ys)
+      of None xs ys so = tt
+      of (Some answer) xs ys so = answered_left xs ys answer so
+
+  -- ... and whose last answer is this
+  pub made_last : {One : List Answer → Type 0} {answer : Answer} {a b c : StoreAndSlots S} → IsMadeOf g session least_room One a b
+      → IsMadeOf g session least_room (λ answers. IsAmong answers answer) b c → IsMadeOf g session least_room (λ answers. IsAmong answers answer) a c
+  made_last {answer = answer} one two = made_then one two (λ xs ys h so. among_right xs ys answer so)
+
+  -- ... in a loop that may go round so often still
+  pub made_more : (most left : ℕ) {answer : Answer} {a b c : StoreAndSlots S} → IsMadeOf g session least_room (λ answers. most ≤ left + length answers) a b
+      → IsMadeOf g session least_room (λ answers. IsAmong answers answer) b c → IsMadeOf g session least_room (λ answers. most ≤ left - 1 + length answers) a c
+  made_more most left {answer} one two =
+      made_then one two (λ xs ys many so. (let some = among_some ys answer so in let both = length-append xs ys in omega (arith, many, some, both)))
+
   -- the same events, told otherwise
-  pub made_told : (One Two : List Answer → Type 0) (a b : StoreAndSlots S) → ((xs : List Answer) → One xs → Two xs) → IsMadeOf g session least_room One a b → IsMadeOf g session least_room Two a b
-  made_told One Two a b tells one = record { events = one.events; answers = one.answers; own = one.own; made = one.made; outcome_by = tells one.answers one.outcome_by }
+  pub made_told : {One Two : List Answer → Type 0} {a b : StoreAndSlots S} → IsMadeOf g session least_room One a b → ((xs : List Answer) → One xs → Two xs) → IsMadeOf g session least_room Two a b
+  made_told one tells = record { events = one.events; answers = one.answers; own = one.own; made = one.made; outcome_by = tells one.answers one.outcome_by }
 
   -- no event
-  pub made_nowhere : (CallOutcome : List Answer → Type 0) (a : StoreAndSlots S) → CallOutcome [] → IsMadeOf g session least_room CallOutcome a a
-  made_nowhere CallOutcome a came = record { events = []; answers = []; own = tt; made = refl; outcome_by = came }
+  pub made_nowhere : {CallOutcome : List Answer → Type 0} {a : StoreAndSlots S} → CallOutcome [] → IsMadeOf g session least_room CallOutcome a a
+  made_nowhere came = record { events = []; answers = []; own = tt; made = refl; outcome_by = came }
 
   -- one event, of this kind
-  pub made_once : (CallOutcome : List Answer → Type 0) (event : Event) (kind : Kind) (answer : Answer) (a b : StoreAndSlots S) → kind_of event ≡ kind → IsOfSession session kind
-      → HasItsRoom least_room kind (g.state a.store).limits (g.backing a.store) → EventEffect g kind answer a b → CallOutcome (answer ∷ []) → IsMadeOf g session least_room CallOutcome a b
-  made_once CallOutcome event kind answer a b is of room makes came = record {
+  pub made_once : (event : Event) (kind : Kind) {answer : Answer} {a b : StoreAndSlots S} → kind_of event ≡ kind → IsOfSession session kind
+      → HasItsRoom least_room kind (g.state a.store).limits (g.backing a.store) → EventEffect g kind answer a b → IsMadeOf g session least_room (λ answers. IsAmong answers answer) a b
+  made_once event kind {answer} {a} {b} is of room makes = record {
     events = event ∷ [];
     answers = answer ∷ [];
     own = (subst (λ (k : Kind). IsOfSession session k) (sym is) of, tt);
@@ -63,5 +83,5 @@ module _ {S : Type 0} (g : Ghosts S) (session least_room : ℕ) where
       subst (λ (k : Kind). HasItsRoom least_room k (g.state a.store).limits (g.backing a.store)) (sym is) room,
       (b, subst (λ (k : Kind). EventEffect g k answer a b) (sym is) makes, refl),
     );
-    outcome_by = came;
+    outcome_by = inl refl;
   }

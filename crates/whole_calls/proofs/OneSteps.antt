@@ -4,21 +4,25 @@ use Rattle.index_model.specs.declared.fault.Fault.TheVariants.{Blocked, NoSessio
 use Rattle.index_model.specs.declared.stats.VacuumStats.{VacuumStats}
 use Rattle.page_action.specs.Causes.{causes_of_forced}
 use Rattle.session_calls.specs.Ops.{ends_call, is_last}
-use Rattle.session_calls.specs.Sessions.{start_number, RefusalChangesNothing, RunsUntilLast}
+use Rattle.session_calls.specs.Sessions.{start_number, after_slot, RefusalChangesNothing, RunsUntilLast}
 use Rattle.session_calls.specs.declared.op.Op.TheVariants.{Insert as Inserts, Scan as Scans, Bulk as Bulks, Cleanup as Cleanups}
 use Rattle.session_calls.proofs.RunningOn.{runs_over}
 use Rattle.schedule.specs.Events.{DoesOneAct}
 use Rattle.schedule.proofs.Lists.{same_some}
-use Rattle.whole_calls.proofs.Words.{Effect, contents_after, Ask, Call, Entry, Fault, HasCause, State, Backing, IsLater, Ghosts, DeadSets, acts_of, IsCaused, IsAsked, AnswerMeans, slot_add, AnswersStep, Answer, Going, Finished, Checkpointed, Refused, Op, StoreAndSlots, Moment, IsRunningCall, Fits, EventDoes, EventEffect, here_at, here_with, slot_of, has_call, MovesCall, Steps, CallMoves, MovesOn, OthersStay}
-use Rattle.whole_calls.specs.Going.{IsAmong}
+use Rattle.schedule.specs.declared.event.Event.TheVariants.{Step}
+use Rattle.whole_calls.specs.Made.{IsMadeOf}
+use Rattle.whole_calls.proofs.Composing.{is_later, joined_second, goes_once}
+use Rattle.whole_calls.proofs.Made.{made_last, made_once}
+use Rattle.whole_calls.proofs.Words.{snapshot_of, Continues, Laws, Effect, contents_after, Ask, Call, Entry, Fault, HasCause, State, Backing, IsLater, Ghosts, DeadSets, acts_of, IsCaused, IsAsked, AnswerMeans, slot_add, AnswersStep, Answer, Going, Finished, Checkpointed, Refused, Op, StoreAndSlots, Moment, IsRunningCall, Fits, EventDoes, EventEffect, here_at, here_with, slot_of, has_call, MovesCall, Steps, CallMoves, MovesOn, OthersStay}
+use Rattle.whole_calls.specs.Going.{IsAmong, CallIsRun}
 use Rattle.whole_calls.specs.OneStep.{cut_short, HasStepped, IsGivenUpFor, OneStepIsRun, OneStepAlways, OneStepComesTo, IsStepMade, IsRoomTried, IsMadeAsStep}
 use Rattle.whole_calls.specs.Refusing.{is_full_vacuum, causes_of_asked}
 use Rattle.whole_calls.specs.Stepping.{RoomMeans, StepIsRun}
-use Rattle.whole_calls.specs.Meanings.{IsOwnEffect, IsSameHistory, HasNone, EndMeans}
+use Rattle.whole_calls.specs.Meanings.{RoomIsMade, IsOwnEffect, IsSameHistory, HasNone, EndMeans}
 use Rattle.whole_calls.proofs.Lasting.{step_goes, room_then}
 use Rattle.whole_calls.proofs.Refusing.{cause_wider, forced_cause, asked_after}
 use Rattle.whole_calls.proofs.Tellings.{moves_tells, one_runs, runs_has_call, runs_in_slot, true_false}
-use Rattle.whole_calls.proofs.Whole.{LeavesAll}
+use Rattle.whole_calls.proofs.Blocks.{LeavesAll, leaves_state}
 
 -- what a step tells, by its event
 pub record StepsOnce {S : Type 0} (g : Ghosts S) (session least_room : ℕ) (answer : Answer) (old new : Moment S) : Type 0 where
@@ -30,7 +34,7 @@ own_of : (was_there : Entry → Bool) (call : Call) (effect : Option Effect) →
 own_of was_there call None h = tt
 own_of was_there call (Some e) h = h.0
 
-module _ {S : Type 0} (g : Ghosts S) (start : Entry → Bool) (session least_room : ℕ) (answer : Answer) (x y : Moment S) (fits : Fits g start x)
+module _ {S : Type 0} {g : Ghosts S} {start : Entry → Bool} {session : ℕ} (least_room : ℕ) {answer : Answer} {x y : Moment S} (fits : Fits g start x)
     (does : EventDoes g start (MovesCall session Steps) answer x y) where
   has_stepped : (number : ℕ) (call : Call) → IsRunningCall x.calls session number call → HasStepped number call answer x y
   has_stepped number call is =
@@ -51,15 +55,15 @@ module _ {S : Type 0} (g : Ghosts S) (start : Entry → Bool) (session least_roo
   has_waited none true goes = absurd (none goes.number goes.call goes.is)
   has_waited none false stays = record { history_is = stays.still.history_is; calls_is = stays.still.calls_is }
 
-  pub steps_once : (g.backing y.store).honest ≡ true → (5 ≤ least_room → 5 ≤ (g.backing x.store).promised) → StepsOnce g session least_room answer x y
+  steps_once : (g.backing y.store).honest ≡ true → (5 ≤ least_room → 5 ≤ (g.backing x.store).promised) → StepsOnce g session least_room answer x y
   steps_once honest room = record {
     once = has_stepped;
     idle = λ none. has_waited none (has_call x.slots session) does.also.happens;
-    goes = step_goes g start session least_room answer x y honest fits room does;
+    goes = step_goes start honest fits room does;
   }
 
 -- after the making of room
-module _ {S : Type 0} (g : Ghosts S) (session least_room : ℕ) (x y : Moment S) (room : RoomMeans g x y) where
+module _ {S : Type 0} {g : Ghosts S} (session least_room : ℕ) {x y : Moment S} (room : RoomMeans g x y) where
   runs_then : (number : ℕ) (call : Call) → IsRunningCall x.calls session number call → IsRunningCall y.calls session number call
   runs_then number call is = subst (λ (cs : List Call). IsRunningCall cs session number call) (sym room.silent.calls_is) is
 
@@ -67,10 +71,10 @@ module _ {S : Type 0} (g : Ghosts S) (session least_room : ℕ) (x y : Moment S)
   none_then none number call is = none number call (subst (λ (cs : List Call). IsRunningCall cs session number call) room.silent.calls_is is)
 
   -- a step
-  pub steps_after : (answer : Answer) (z : Moment S) → IsLater (g.backing x.store) (g.backing y.store)
+  pub steps_after : {answer : Answer} {z : Moment S} → IsLater (g.backing x.store) (g.backing y.store)
       → IsLater (g.backing y.store) (g.backing z.store) → StepsOnce g session least_room answer y z → OneStepIsRun g session least_room answer x z
-  steps_after answer z first later step =
-      let goes = room_then g session least_room answer x y z first later room step.goes in
+  steps_after {answer} {z} first later step =
+      let goes = room_then first later room step.goes in
       record {
         told = λ number call is. inl (stepped number call (step.once number call (runs_then number call is)));
         idle = λ none. (
@@ -93,10 +97,10 @@ module _ {S : Type 0} (g : Ghosts S) (session least_room : ℕ) (x y : Moment S)
       }
 
   -- a call that is given up, since the room couldn't be made
-  pub given_up_goes : (start : Entry → Bool) (fault : Fault) (added : Option ℕ) (z : Moment S) → Fits g start y
+  pub given_up_goes : {start : Entry → Bool} (fault : Fault) (added : Option ℕ) {z : Moment S} → Fits g start y
       → HasCause (causes_of_forced (g.backing x.store) (g.backing y.store)) fault → added ≡ slot_add (slot_of y.slots session)
       → LeavesAll g session y.store z.store → EndMeans session y z → OneStepIsRun g session least_room (cut_short added fault) x z
-  given_up_goes start fault added z fits cause is leaves end = record {
+  given_up_goes {start} fault added {z} fits cause is leaves end = record {
     told = λ number call runs. inr (given_up number call (runs_then number call runs));
     idle = λ none. record { history_is = end.history_is ∙ room.silent.history_is; calls_is = end.calls_is (none_then none) ∙ room.silent.calls_is };
     caused = λ number call runs. caused call.ask;
@@ -130,7 +134,7 @@ module _ {S : Type 0} (g : Ghosts S) (session least_room : ℕ) (x y : Moment S)
       caused ask =
           let full = is_full_vacuum (slot_of x.slots session) in
           let number = start_number (g.state x.store) session in
-          rw (asked_after g session least_room number full ask (here_at x) y.store z.store leaves.backing leaves.acts leaves.frames leaves.limits leaves.pages leaves.counted (leaves.numbers number))
+          rw (asked_after g session least_room number full ask (here_at x) y.store z.store leaves)
           (cause_wider _ _ (forced_cause g session least_room number full ask (here_at x) y.store) (cut_short added fault) (forced added fault cause))
 
       not_going : (a : Option ℕ) → cut_short a fault ≡ Going → ⊥
@@ -140,6 +144,29 @@ module _ {S : Type 0} (g : Ghosts S) (session least_room : ℕ) (x y : Moment S)
       not_finished : {stats : VacuumStats} (a : Option ℕ) → cut_short a fault ≡ Finished stats → ⊥
       not_finished None e = cc
       not_finished (Some action) e = cc
+
+-- a step after the making of room for it
+pub room_goes : {S : Type 0} {g : Ghosts S} (laws : Laws g) {session least_room : ℕ} {answer : Answer} {Both : Moment S → Moment S → Type 0} {first : Option Answer} {a b c : StoreAndSlots S}
+    → Continues g.follows a.store b.store → Continues g.follows b.store c.store → CallIsRun g session (RoomMeans g) first a b
+    → (5 ≤ least_room → 5 ≤ (g.backing b.store).promised) → EventEffect g (MovesCall session Steps) answer b c
+    → ((x y z : Moment S) → IsLater (g.backing x.store) (g.backing y.store) → IsLater (g.backing y.store) (g.backing z.store)
+    → RoomMeans g x y → StepsOnce g session least_room answer y z → Both x z)
+    → CallIsRun g session Both (Some answer) a c
+room_goes {g = g} laws {session} {least_room} {answer} {Both} {a = a} {b} {c} steps then_steps goes promise makes joins =
+    joined_second laws (λ s. Both) steps then_steps goes
+    (goes_once laws {Tells = StepsOnce g session least_room answer} (Step session) refl makes (λ start h hc k kc honest fits does. steps_once least_room fits does honest promise))
+    (λ start h hc k kc l lc fx fy fz. joins (snapshot_of a h hc) (snapshot_of b k kc) (snapshot_of c l lc) (is_later g laws steps) (is_later g laws then_steps))
+
+-- the step itself, where room is made for it
+pub is_step_made : {S : Type 0} {g : Ghosts S} {session least_room : ℕ} {answer : Answer} {st : State} {mid new : StoreAndSlots S} → g.state mid.store ≡ st
+    → RoomIsMade least_room st.limits (g.backing mid.store) → EventEffect g (MovesCall session Steps) answer mid new → IsStepMade g session least_room answer mid new
+is_step_made {g = g} {least_room = least_room} {mid = mid} is room makes =
+    record { room = subst (λ (s : State). RoomIsMade least_room s.limits (g.backing mid.store)) (sym is) room; makes = makes }
+
+-- what makes room, and then the step
+pub room_made : {S : Type 0} {g : Ghosts S} {session least_room : ℕ} {answer : Answer} {One : List Answer → Type 0} {a b c : StoreAndSlots S} → IsMadeOf g session least_room One a b
+    → IsStepMade g session least_room answer b c → IsMadeOf g session least_room (λ answers. IsAmong answers answer) a c
+room_made {session = session} one step = made_last one (made_once (Step session) (MovesCall session Steps) refl refl step.room step.makes)
 
 -- a fault of a checkpoint ends a call
 forced_ends : (old new : Backing) (fault : Fault) → HasCause (causes_of_forced old new) fault → ends_call fault ≡ true
@@ -199,11 +226,11 @@ same_slots (x ∷ xs) (y ∷ ys) (suc session) long others own =
     ap (λ (o : Option Op). o ∷ xs) (same_some (Some x) x y refl (others 0 (λ e. omega (arith, e))))
     ∙ ap (λ (l : List (Option Op)). y ∷ l) (same_slots xs ys session (omega (arith, long)) (λ i ne. others (suc i) (λ e. ne (omega (arith, e)))) own)
 
-module _ {S : Type 0} (g : Ghosts S) (session : ℕ) (store mid : S) (slots : List (Option Op)) (sets : DeadSets) (same : g.state mid ≡ g.state store) where
+module _ {S : Type 0} (g : Ghosts S) (session : ℕ) {store mid : S} {slots : List (Option Op)} {sets : DeadSets} (same : g.state mid ≡ g.state store) where
   -- what always holds of a step after the making of room
-  pub always_steps : (answer : Answer) (new : S) (then_slots : List (Option Op)) → EventEffect g (MovesCall session Steps) answer (here_with mid slots sets) (here_with new then_slots sets)
+  pub always_steps : {answer : Answer} {new : S} {then_slots : List (Option Op)} → EventEffect g (MovesCall session Steps) answer (here_with mid slots sets) (here_with new then_slots sets)
       → OneStepAlways g session answer (here_with store slots sets) (here_with new then_slots sets)
-  always_steps answer new then_slots makes = record {
+  always_steps {answer} {new} {then_slots} makes = record {
     answers = makes.always.answers;
     until_last = makes.always.until_last;
     runs_on = makes.always.runs_on;
@@ -216,11 +243,12 @@ module _ {S : Type 0} (g : Ghosts S) (session : ℕ) (store mid : S) (slots : Li
   }
 
   -- ... and of a call that is given up for a fault
-  pub always_given_up : (fault : Fault) (added : Option ℕ) (new : S) (then_slots : List (Option Op))
+  pub always_given_up : (fault : Fault) (added : Option ℕ) {new : S} {then_slots : List (Option Op)}
       → HasCause (causes_of_forced (g.backing store) (g.backing mid)) fault → added ≡ slot_add (slot_of slots session)
-      → (g.state new).acts ≡ (g.state mid).acts → (g.state new).pages ≡ (g.state mid).pages → (g.state new).limits ≡ (g.state mid).limits → (g.state new).frames ≡ (g.state mid).frames
-      → OthersStay session slots then_slots → slot_of then_slots session ≡ None → OneStepAlways g session (cut_short added fault) (here_with store slots sets) (here_with new then_slots sets)
-  always_given_up fault added new then_slots cause is acts pages limits frames others over =
+      → g.state new ≡ after_slot (slot_of slots session) (g.state mid) → OthersStay session slots then_slots
+      → slot_of then_slots session ≡ None → OneStepAlways g session (cut_short added fault) (here_with store slots sets) (here_with new then_slots sets)
+  always_given_up fault added {new} {then_slots} cause is ended others over =
+      let left = leaves_state (slot_of slots session) (g.state mid) (g.state new) ended in
       let last = short_ends (g.backing store) (g.backing mid) added fault cause in
       record {
         answers = short_answers (slot_of slots session) (slot_of then_slots session) fault added is;
@@ -228,10 +256,10 @@ module _ {S : Type 0} (g : Ghosts S) (session : ℕ) (store mid : S) (slots : Li
         runs_on = runs_over (slot_of slots session) (slot_of then_slots session) over;
         others = others;
         kept = record {
-          acts = inl (acts ∙ ap (λ (st : State). st.acts) same);
-          quiet = λ e. pages ∙ ap (λ (st : State). st.pages) same;
-          limits = limits ∙ ap (λ (st : State). st.limits) same;
-          frames = frames ∙ ap (λ (st : State). st.frames) same;
+          acts = inl (left.acts ∙ ap (λ (st : State). st.acts) same);
+          quiet = λ e. left.pages ∙ ap (λ (st : State). st.pages) same;
+          limits = left.limits ∙ ap (λ (st : State). st.limits) same;
+          frames = left.frames ∙ ap (λ (st : State). st.frames) same;
         };
         blocked = λ block e. absurd (true_false (sym last ∙ ap is_last e));
       }
@@ -242,8 +270,8 @@ short_comes None fault answers h = inl h
 short_comes (Some action) fault answers h = inr (action, fault, refl, h)
 
 -- the step after the making of room
-pub after_room : {S : Type 0} (g : Ghosts S) (session least_room : ℕ) (answer : Answer) (old here there : StoreAndSlots S) → (here ≡ old)
+pub after_room : {S : Type 0} {g : Ghosts S} {session least_room : ℕ} {answer : Answer} {old here there : StoreAndSlots S} → (here ≡ old)
     ⊎ ((count : ℕ) × IsRoomTried g least_room (Checkpointed count) old here) → IsStepMade g session least_room answer here there
     → IsMadeAsStep g session least_room answer old there
-after_room {S} g session least_room answer old here there (inl same) step = inl (subst (λ (x : StoreAndSlots S). IsStepMade g session least_room answer x there) same step)
-after_room {S} g session least_room answer old here there (inr tried) step = inr (inl (record { count = tried.0; between = here; checkpoint = tried.1; step = step }))
+after_room {S} {g} {session} {least_room} {answer} {there = there} (inl same) step = inl (subst (λ (x : StoreAndSlots S). IsStepMade g session least_room answer x there) same step)
+after_room {here = here} (inr tried) step = inr (inl (record { count = tried.0; between = here; checkpoint = tried.1; step = step }))

@@ -1,5 +1,5 @@
 -- Why a running call is refused: the causes of its events, told from the moment before the call to the moment after it.
-use Rattle.std.proofs.Common.{◌≡◌, ◌≢◌, ◌⊎◌, ℕ, zero, suc, ◌+◌, ◌<◌, ◌≤◌, Bool, true, false, not, ◌&&◌, ◌||◌, ◌==◌, nat_lt, nat_le, Option, Some, None, List, [], ◌∷◌, ◌++◌, length, slice_get, slice_set, refl, sym, ap, subst, arith, inl, inr, ◌∙◌, if◌then◌else◌, unwrap_or, is_none}
+use Rattle.std.proofs.Common.{◌≡◌, ◌≢◌, ◌⊎◌, ℕ, zero, suc, ◌+◌, ◌<◌, ◌≤◌, Bool, true, false, not, ◌&&◌, ◌||◌, ◌==◌, nat_lt, nat_le, Option, Some, None, List, [], ◌∷◌, ◌++◌, length, slice_get, refl, sym, ap, subst, arith, inl, inr, ◌∙◌, if◌then◌else◌, unwrap_or, is_none}
 use Rattle.std.proofs.lemmas.Bool.{or_cases, and_parts, ne_eqb, ltb-true, lt-ltb, ltb-false, leb-true, le-leb, eqb-true, eq-eqb}
 use Rattle.std.proofs.lemmas.List.{append-nil}
 use Rattle.index_model.specs.declared.fault.Fault.TheVariants.{Io, Stopped, Blocked, Exists, KeyTooLong, BadRow, IndexFull, LogFull, NoFrame, VacuumRunning, NoSession, SessionBusy, BadSuper, BadVersion, LogDamaged, BadLimits, TooTall, DeviceTooSmall, KeyExists}
@@ -34,7 +34,7 @@ use Rattle.session_calls.specs.declared.op.Op.TheVariants.{Insert, Scan, Bulk, C
 use Rattle.session_calls.proofs.Meeting.{other_row_is}
 use Rattle.whole_calls.proofs.Words.{Effect, Ask, AskInsert, AskScan, AskBulkDelete, AskCleanup, Call, Circumstances, HasCause, Entry, Fault, State, Backing, IsLater, Ghosts, Page, DeadSets, acts_of, OpInvariant, IsCaused, once_added, causes_of_stepped, set_at, asked_of, session_of, AnswerMeans, is_busy, AnswersNext, Answer, Added, Gave, Refused, Op, Request, StoreAndSlots, Moment, IsRunningCall, EventDoes, Fits, here_at, slot_of, one_vacuums, MovesCall, Steps, CallMoves, MovesOn, causes_of_moving, causes_of_begun_at, is_of_sets, OthersStay, ends_call}
 use Rattle.whole_calls.specs.Refusing.{others_run, another_runs, is_full_vacuum, causes_of_gone, causes_of_inserted, is_tall, causes_of_asked, causes_of_called, has_no_block}
-use Rattle.whole_calls.proofs.Blocks.{blocks_after, blocks_same}
+use Rattle.whole_calls.proofs.Blocks.{LeavesAll, blocks_after, blocks_same}
 use Rattle.whole_calls.proofs.Tellings.{runs_in_slot, runs_has_call, one_runs, true_false}
 use Rattle.schedule.proofs.Causes.{insert_images_few, put_few, frames_few, written_few, frames_for_few, block_few}
 use Rattle.schedule.proofs.Fitting.{beyond_of, running_of}
@@ -527,21 +527,18 @@ pub gone_behind : {S : Type 0} (g : Ghosts S) (session least_room : ℕ) (full :
     → causes_of_gone g session least_room full old new ≡ causes_of_gone g session least_room full old mid
 gone_behind g session least_room full old mid new backing acts frames = rw (backing, acts, frames) refl
 
-pub asked_after : {S : Type 0} (g : Ghosts S) (session least_room : ℕ) (number : Option ℕ) (full : Bool) (ask : Ask) (old : StoreAndSlots S)
-    (mid new : S) → g.backing new ≡ g.backing mid → (g.state new).acts ≡ (g.state mid).acts
-    → (g.state new).frames ≡ (g.state mid).frames → (g.state new).limits ≡ (g.state mid).limits → (g.state new).pages ≡ (g.state mid).pages → (g.state new).counted ≡ (g.state mid).counted
-    → slice_set (g.state new).running session number ≡ slice_set (g.state mid).running session number
+pub asked_after : {S : Type 0} (g : Ghosts S) (session least_room : ℕ) (number : Option ℕ) (full : Bool) (ask : Ask) (old : StoreAndSlots S) (mid new : S) → LeavesAll g session mid new
     → causes_of_asked g session least_room number full ask old new ≡ causes_of_asked g session least_room number full ask old mid
-asked_after g session least_room number full (AskInsert e) old mid new backing acts frames limits pages counted numbers =
+asked_after g session least_room number full (AskInsert e) old mid new leaves =
     ap (λ (no_block : Bool). causes_of_inserted g session least_room true (λ r. (g.state new).limits.unique) no_block (is_tall (g.state new)) old new)
-    (blocks_same session number (g.state mid) (g.state new) limits pages counted numbers)
+    (blocks_same session number (g.state mid) (g.state new) leaves.state.limits leaves.state.pages leaves.state.counted (leaves.numbers number))
     ∙ behind (has_no_block session number (g.state mid))
   where
     behind : (no_block : Bool) → causes_of_inserted g session least_room true (λ r. (g.state new).limits.unique) no_block (is_tall (g.state new)) old new
         ≡ causes_of_inserted g session least_room true (λ r. (g.state mid).limits.unique) no_block (is_tall (g.state mid)) old mid
-    behind no_block = rw (backing, acts, frames, limits, pages) refl
-asked_after g session least_room number full (AskScan range) old mid new backing acts frames limits pages counted numbers = gone_behind g session least_room false old mid new backing acts frames
-asked_after g session least_room number full ask old mid new backing acts frames limits pages counted numbers = gone_behind g session least_room full old mid new backing acts frames
+    behind no_block = rw (leaves.backing, leaves.state.acts, leaves.state.frames, leaves.state.limits, leaves.state.pages) refl
+asked_after g session least_room number full (AskScan range) old mid new leaves = gone_behind g session least_room false old mid new leaves.backing leaves.state.acts leaves.state.frames
+asked_after g session least_room number full ask old mid new leaves = gone_behind g session least_room full old mid new leaves.backing leaves.state.acts leaves.state.frames
 
 -- asking a scan for its next entry alone isn't refused
 pub next_caused : (at : Circumstances) (sets : DeadSets) (op : Op) (range : Range) (answer : Answer) → asked_of sets op ≡ AskScan range → AnswersNext (Some op) answer → IsCaused at answer

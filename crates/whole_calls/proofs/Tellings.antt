@@ -227,9 +227,9 @@ keeps_silent g start upkeep answer x y does = elim does.also.happens [
 ]
 
 -- an end
-pub ends_tells : {S : Type 0} (g : Ghosts S) (start : Entry → Bool) (x y : Moment S) (session : ℕ) (answer : Answer) → Fits g start x
+pub ends_tells : {S : Type 0} {g : Ghosts S} {start : Entry → Bool} {x y : Moment S} (session : ℕ) (answer : Answer) → Fits g start x
     → EventDoes g start (MovesCall session GivesUp) answer x y → EndMeans session x y
-ends_tells {S} g start x y session answer fits does = of (has_call x.slots session) refl does.also.happens
+ends_tells {g = g} {start} {x} {y} session answer fits does = of (has_call x.slots session) refl does.also.happens
   where
     given_up : (number : ℕ) (call : Call) → IsRunningCall x.calls session number call → answer ≡ Ended
     given_up number call is =

@@ -3,9 +3,9 @@ use Rattle.std.proofs.Common.{◌≡◌, ◌≢◌, ℕ, suc, Bool, true, false,
 use Rattle.std.proofs.lemmas.List.{append-nil}
 use Rattle.index_model.specs.declared.stats.VacuumStats.{VacuumStats}
 use Rattle.session_calls.specs.declared.request.Request.TheVariants.{Insert as ToInsert, Scan as ToScan}
-use Rattle.whole_calls.proofs.Words.{Circumstances, HasCause, Effect, Add, Action, Vacuumed, Call, Fault, Entry, State, Ghosts, DeadSets, asked_by, asks_vacuum, IsCaused, MayDo, ended, Answer, Going, Finished, Refused, Request, StoreAndSlots, Moment, snapshot_of, here_at}
+use Rattle.whole_calls.proofs.Words.{Circumstances, HasCause, Effect, Add, Action, Vacuumed, Call, Fault, Entry, State, Ghosts, DeadSets, asked_by, asks_vacuum, IsCaused, MayDo, ended, Answer, Going, Finished, Refused, Request, StoreAndSlots, Moment, here_at}
 use Rattle.whole_calls.specs.Going.{IsOutcomeOf, CallIsRun, CallIsRunFrom}
-use Rattle.whole_calls.specs.Made.{Answered, ComesTo}
+use Rattle.whole_calls.specs.Made.{IsMadeOf, Answered, ComesTo}
 use Rattle.whole_calls.specs.Refusing.{causes_of_gone, causes_of_asked, causes_of_called}
 use Rattle.whole_calls.specs.Stepping.{RequestIsRun}
 use Rattle.whole_calls.specs.Vacuuming.{StatsCountFor, Followed, of_bulk_delete, FollowsFrom, StatsCountAs, vacuum_result, vacuum_outcome, IsVacuumed, IsVacuumedSoFar, VacuumMeans}
@@ -13,6 +13,7 @@ use Rattle.whole_calls.specs.Meanings.{MayAnswer, acts_by, noted_after, AreOwnEf
 use Rattle.whole_calls.proofs.Composing.{goes_told}
 use Rattle.whole_calls.proofs.Gone.{whole_told}
 use Rattle.whole_calls.proofs.Inserting.{ended_none}
+use Rattle.whole_calls.proofs.Made.{made_told}
 use Rattle.whole_calls.proofs.Refusing.{cause_wider, begun_called, called_wider, stopped_before}
 use Rattle.whole_calls.proofs.Tellings.{true_false, set_new, came_may}
 
@@ -43,15 +44,15 @@ vacuum_may sets request vacuums Going over h = absurd (over refl)
 vacuum_may sets request vacuums answer over h = absurd h
 
 -- what it answers was answered
-pub sweep_comes : (sets : DeadSets) (request : Request) → asks_vacuum request ≡ true → (answer : Answer) (answers : List Answer) → answer ≢ Going
-    → MayAnswer (asked_by sets request) answer → Answered answer answers
-    → ComesTo (vacuum_outcome (vacuum_result answer)) answers
-sweep_comes sets request vacuums answer answers over may = of answer (vacuum_may sets request vacuums answer over may)
+pub sweep_made : (sets : DeadSets) (request : Request) → asks_vacuum request ≡ true → {answer : Answer} → answer ≢ Going → MayAnswer (asked_by sets request) answer
+    → {S : Type 0} {g : Ghosts S} {session least_room : ℕ} {a b : StoreAndSlots S} → IsMadeOf g session least_room (Answered answer) a b
+    → IsMadeOf g session least_room (ComesTo (vacuum_outcome (vacuum_result answer))) a b
+sweep_made sets request vacuums {answer} over may made = made_told made (of answer (vacuum_may sets request vacuums answer over may))
   where
-    of : (a : Answer) → IsVacuumAnswer a → Answered a answers → ComesTo (vacuum_outcome (vacuum_result a)) answers
-    of (Finished stats) may so = so
-    of (Refused fault) may so = so
-    of a may so = absurd may
+    of : (a : Answer) → IsVacuumAnswer a → (answers : List Answer) → Answered a answers → ComesTo (vacuum_outcome (vacuum_result a)) answers
+    of (Finished stats) may answers so = so
+    of (Refused fault) may answers so = so
+    of a may answers so = absurd may
 
 -- what it tells at its end it tells
 swept_tells : (Tells : VacuumStats → Type 0) (answer : Answer) → ((stats : VacuumStats) → answer ≡ Finished stats → Tells stats) → IfOk (vacuum_result answer) Tells
@@ -122,40 +123,38 @@ swept_counts of_bulk_delete st answer h = tt
 swept_counts what st answer h = tt
 
 -- a bulk delete or a cleanup that is run to its end
-module _ {S : Type 0} (g : Ghosts S) (session least_room : ℕ) (request : Request) (vacuums : asks_vacuum request ≡ true) (answer : Answer) (added : Option ℕ) (over : answer ≢ Going) where
-  abbrev Runs : (Entry → Bool) → Moment S → Moment S → Type 0
-  Runs = RequestIsRun g session least_room request answer added
-
-  may_run : (start : Entry → Bool) (x z : Moment S) → Runs start x z → IsVacuumAnswer answer
-  may_run start x z (inl n) = subst IsVacuumAnswer (sym n.refused) tt
-  may_run start x z (inr r) =
+module _ {S : Type 0} {g : Ghosts S} {session least_room : ℕ} (request : Request) (vacuums : asks_vacuum request ≡ true) {answer : Answer} {added : Option ℕ} (over : answer ≢ Going) where
+  may_run : {start : Entry → Bool} {x z : Moment S} → RequestIsRun g session least_room request answer added start x z → IsVacuumAnswer answer
+  may_run (inl n) = subst IsVacuumAnswer (sym n.refused) tt
+  may_run {x = x} (inr r) =
       vacuum_may x.sets request vacuums answer over (came_may (length x.calls) (first_call session request x) answer (with_one_call x (first_call session request x)) r.here r.told)
 
-  run_told : (start : Entry → Bool) (x z : Moment S) → Runs start x z → VacuumMeans session request (vacuum_result answer) x z
-  run_told start x z (inl n) = subst (λ (a : Answer). VacuumMeans session request (vacuum_result a) x z) (sym n.refused) (not_swept session request n.fault x z n.told)
-  run_told start x z (inr r) = vacuum_told session request vacuums x r.here z r.free r.end answer (may_run start x z (inr r)) r.told
+  run_told : {start : Entry → Bool} {x z : Moment S} → RequestIsRun g session least_room request answer added start x z → VacuumMeans session request (vacuum_result answer) x z
+  run_told {x = x} {z} (inl n) = subst (λ (a : Answer). VacuumMeans session request (vacuum_result a) x z) (sym n.refused) (not_swept session request n.fault x z n.told)
+  run_told {x = x} {z} (inr r) = vacuum_told session request vacuums x r.here z r.free r.end answer (may_run (inr r)) r.told
 
-  pub vacuum_goes : (a c : StoreAndSlots S) → CallIsRunFrom g session Runs (Some answer) a c → CallIsRun g session (VacuumMeans session request (vacuum_result answer)) (vacuum_outcome (vacuum_result answer)) a c
-  vacuum_goes a c =
-      goes_told g session Runs (λ s. VacuumMeans session request (vacuum_result answer)) (Some answer) (vacuum_outcome (vacuum_result answer)) a c
-      (λ start h hc k kc answers fits by t. (vacuum_came answers answer (may_run start (snapshot_of a h hc) (snapshot_of c k kc) t) by, run_told start (snapshot_of a h hc) (snapshot_of c k kc) t))
+  pub vacuum_goes : {a c : StoreAndSlots S} → CallIsRunFrom g session (RequestIsRun g session least_room request answer added) (Some answer) a c
+      → CallIsRun g session (VacuumMeans session request (vacuum_result answer)) (vacuum_outcome (vacuum_result answer)) a c
+  vacuum_goes goes = goes_told _ goes (λ start h hc k kc answers fits by t. (vacuum_came answers answer (may_run t) by, run_told t))
 
   -- what it counts from its beginning on
-  pub sweep_counts : (what : Followed) (start : Entry → Bool) (x z : Moment S) → FollowsFrom what request (g.state x.store) session → Runs start x z → StatsCountAs what (g.state z.store) (vacuum_result answer)
-  sweep_counts what start x z follows (inl n) = swept_counts what (g.state z.store) answer (λ stats is. absurd (let e = n.refused in cc))
-  sweep_counts what start x z follows (inr r) = swept_counts what (g.state z.store) answer (λ stats is. r.counts what stats follows is)
+  pub sweep_counts : (what : Followed) {start : Entry → Bool} {x z : Moment S} → RequestIsRun g session least_room request answer added start x z
+      → FollowsFrom what request (g.state x.store) session → StatsCountAs what (g.state z.store) (vacuum_result answer)
+  sweep_counts what {z = z} (inl n) follows = swept_counts what (g.state z.store) answer (λ stats is. absurd (let e = n.refused in cc))
+  sweep_counts what {z = z} (inr r) follows = swept_counts what (g.state z.store) answer (λ stats is. r.counts what stats follows is)
 
-  pub vacuum_tells : (start : Entry → Bool) (x z : Moment S) → Runs start x z → IfOk (vacuum_result answer) (StatsCountFor (asked_by x.sets request) (g.state z.store))
-  vacuum_tells start x z (inl n) = swept_tells (StatsCountFor (asked_by x.sets request) (g.state z.store)) answer (λ stats is. absurd (let e = n.refused in cc))
-  vacuum_tells start x z (inr r) = swept_tells (StatsCountFor (asked_by x.sets request) (g.state z.store)) answer r.stats
+  pub vacuum_tells : {start : Entry → Bool} {x z : Moment S} → RequestIsRun g session least_room request answer added start x z
+      → IfOk (vacuum_result answer) (StatsCountFor (asked_by x.sets request) (g.state z.store))
+  vacuum_tells {x = x} {z} (inl n) = swept_tells (StatsCountFor (asked_by x.sets request) (g.state z.store)) answer (λ stats is. absurd (let e = n.refused in cc))
+  vacuum_tells {x = x} {z} (inr r) = swept_tells (StatsCountFor (asked_by x.sets request) (g.state z.store)) answer r.stats
 
-  pub sweep_caused : (start : Entry → Bool) (x z : Moment S) → Runs start x z
+  pub sweep_caused : {start : Entry → Bool} {x z : Moment S} → RequestIsRun g session least_room request answer added start x z
       → IfErr (vacuum_result answer) (HasCause (causes_of_called g session request (here_at x) (causes_of_gone g session least_room false (here_at x) z.store)))
-  sweep_caused start x z (inl n) =
+  sweep_caused {x = x} {z} (inl n) =
       subst (λ (a : Answer). IfErr (vacuum_result a) (HasCause (causes_of_called g session request (here_at x) (causes_of_gone g session least_room false (here_at x) z.store)))) (sym n.refused)
       (begun_called g session request (here_at x) (causes_of_gone g session least_room false (here_at x) z.store) (stopped_before g session least_room false (here_at x) z.store) n.fault n.cause)
-  sweep_caused start x z (inr r) =
-      swept_caused _ answer (may_run start x z (inr r))
+  sweep_caused {x = x} {z} (inr r) =
+      swept_caused _ answer (may_run (inr r))
       (cause_wider (causes_of_gone g session least_room false (here_at x) z.store) _
       (called_wider g session request (here_at x) (causes_of_gone g session least_room false (here_at x) z.store) refl refl refl) answer (gone_of request vacuums r.caused))
     where

@@ -1,5 +1,5 @@
 -- A call that is begun, run to its last answer and given up.
-use Rattle.std.proofs.Common.{◌≡◌, ℕ, Bool, true, false, Option, Some, None, Ok, List, length, slice_get, slice_set, refl, sym, ap, subst, ◌∙◌, unwrap_or}
+use Rattle.std.proofs.Common.{◌≡◌, ℕ, Bool, true, false, Option, Some, None, Ok, List, length, slice_get, refl, sym, ap, subst, ◌∙◌, unwrap_or}
 use Rattle.index_model.specs.Limits.{AreLimits}
 use Rattle.index_model.specs.declared.stats.VacuumStats.{VacuumStats}
 use Rattle.session_calls.specs.Sessions.{start_number, after_slot}
@@ -9,22 +9,13 @@ use Rattle.whole_calls.specs.Refusing.{causes_of_asked, is_full_vacuum}
 use Rattle.whole_calls.specs.Stepping.{Lasts, FinishIsRun, BeginIsRun, HasCompleted}
 use Rattle.whole_calls.specs.Vacuuming.{Followed, of_bulk_delete, of_cleanup, FollowsFrom, IsCountedAs, CountsThrough, StatsCountFor}
 use Rattle.whole_calls.specs.Meanings.{noted_after, first_call, EndMeans}
+use Rattle.whole_calls.proofs.Blocks.{LeavesAll}
 use Rattle.whole_calls.proofs.Counting.{tells_on}
 use Rattle.whole_calls.proofs.Filling.{bulk_fills, cleanup_fills}
 use Rattle.whole_calls.proofs.Gone.{gone_runs, same_ask, far_last}
 use Rattle.whole_calls.proofs.Lasting.{lasts_then, later_of, busier_of}
 use Rattle.whole_calls.proofs.Refusing.{AsksToCount, cause_wider, asked_wider, asked_after}
 use Rattle.whole_calls.proofs.Tellings.{begun_next, begun_free, begun_runs}
-
--- the one store's pages and log are the other's, and so are the start numbers of its calls, except for the session's
-pub record LeavesAll {S : Type 0} (g : Ghosts S) (session : ℕ) (old new : S) : Type 0 where
-  pub backing : g.backing new ≡ g.backing old
-  pub acts : (g.state new).acts ≡ (g.state old).acts
-  pub frames : (g.state new).frames ≡ (g.state old).frames
-  pub limits : (g.state new).limits ≡ (g.state old).limits
-  pub pages : (g.state new).pages ≡ (g.state old).pages
-  pub counted : (g.state new).counted ≡ (g.state old).counted
-  pub numbers : (number : Option ℕ) → slice_set (g.state new).running session number ≡ slice_set (g.state old).running session number
 
 -- a call that has begun is run to its last answer, and given up
 pub record RunsOut {S : Type 0} (g : Ghosts S) (session least_room : ℕ) (answer : Answer) (added : Option ℕ) (start : Entry → Bool) (old new : Moment S) : Type 0 where
@@ -37,7 +28,7 @@ pub record RunsOut {S : Type 0} (g : Ghosts S) (session least_room : ℕ) (answe
   pub state : g.state new.store ≡ after_slot (slot_of here.slots session) (g.state here.store)
 
 -- the moments before the call, after its beginning, after its last step, and after its end
-module _ {S : Type 0} (g : Ghosts S) (laws : Laws g) (start : Entry → Bool) (session least_room : ℕ) (request : Request) (answer : Answer) (added : Option ℕ) (x y w : Moment S)
+module _ {S : Type 0} {g : Ghosts S} (laws : Laws g) {start : Entry → Bool} {session least_room : ℕ} {request : Request} {answer : Answer} {added : Option ℕ} {x y w : Moment S}
     (begun : BeginIsRun g session request (Ok tt) x y) (fits_y : Fits g start y) (first : Lasts g session x y) (out : RunsOut g session least_room answer added start y w) where
   abbrev z : Moment S
   z = out.here
@@ -80,8 +71,8 @@ module _ {S : Type 0} (g : Ghosts S) (laws : Laws g) (start : Entry → Bool) (s
       let far = finish.gone.far number call runs in
       let then_call = noted_after call (length y.history) far.0 in
       let then_runs = gone_runs number call far.0 y last last far.1 session runs in
-      let up_to = lasts_then g session x y last first finish.gone.lasts in
-      let behind = later_of g session laws last z finish.lasts in
+      let up_to = lasts_then first finish.gone.lasts in
+      let behind = later_of laws finish.lasts in
       let full = is_full_vacuum (slot_of last.slots session) in
       let asked : then_call.ask ≡ call.ask = same_ask call (length y.history) far.0 in
       let number_is : start_number (g.state last.store) session ≡ Some (g.state x.store).begun =
@@ -89,8 +80,8 @@ module _ {S : Type 0} (g : Ghosts S) (laws : Laws g) (start : Entry → Bool) (s
       let came = subst (λ (a : Ask).
       IsCaused (causes_of_asked g session least_room (start_number (g.state last.store) session) full a (here_at last) z.store) answer) asked (finish.step.caused number then_call then_runs) in
       let came_so = subst (λ (n : Option ℕ). IsCaused (causes_of_asked g session least_room n full call.ask (here_at last) z.store) answer) number_is came in
-      cause_wider _ _ (asked_wider g session least_room (here_at x) (here_at last) z.store (later_of g session laws x last up_to) behind.failures
-      (busier_of g session x last up_to) (Some (g.state x.store).begun) full false call.ask (has_room are)) answer came_so
+      cause_wider _ _ (asked_wider g session least_room (here_at x) (here_at last) z.store (later_of laws up_to) behind.failures
+      (busier_of up_to) (Some (g.state x.store).begun) full false call.ask (has_room are)) answer came_so
 
   -- what it tells at its end
   told_stats : (stats : VacuumStats) → answer ≡ Finished stats → StatsCountFor (asked_by x.sets request) (g.state w.store) stats
@@ -111,13 +102,11 @@ module _ {S : Type 0} (g : Ghosts S) (laws : Laws g) (start : Entry → Bool) (s
     told = begun_next session request x y z begun.told answer (far_last session answer y last z finish.gone.far finish.step.told);
     add_is = sym out.add;
     end = out.end;
-    caused = rw (asked_after g session least_room (Some (g.state x.store).begun) false (asked_by x.sets request) (here_at x) z.store w.store
-        out.leaves.backing out.leaves.acts out.leaves.frames out.leaves.limits out.leaves.pages out.leaves.counted
-        (out.leaves.numbers (Some (g.state x.store).begun))) (caused are);
+    caused = rw (asked_after g session least_room (Some (g.state x.store).begun) false (asked_by x.sets request) (here_at x) z.store w.store out.leaves) (caused are);
     stats = told_stats;
     counts = λ what stats follows is. (
         let counts : CountsThrough what last.sets (g.state last.store) (g.state z.store) (slot_of last.slots session) (slot_of z.slots session) (Finished stats) =
         subst (λ (a : Answer). CountsThrough what last.sets (g.state last.store) (g.state z.store) (slot_of last.slots session) (slot_of z.slots session) a) is (finish.step.counts what) in
-        tells_on what (g.state z.store) (g.state w.store) stats out.leaves.pages
+        tells_on what (g.state z.store) (g.state w.store) stats out.leaves.state.pages
         (counts (subst (λ (sets : DeadSets). IsCountedAs what sets (g.state last.store) (slot_of last.slots session)) (sym finish.gone.sets_are) (counted what follows))));
   }

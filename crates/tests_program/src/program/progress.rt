@@ -1,8 +1,12 @@
 //! Lines that tell how far long work is.
 
 use super::runs;
-use std::fs;
+use std::fs::{self, File};
+use std::process::Abort;
+use std::rt::Files;
+use std::sync::Wait;
 use std::test::*;
+use std::thread::Threads;
 
 /// Each command prints what it prints without the flag, and tells on standard error how far it is.
 #[test]
@@ -39,8 +43,22 @@ history 3
 checkpointed 2
 ";
     runs(&rt, run.as_slice(), "", printed, "\r3 of 3 jobs\n", 0)?;
+    check_tells_progress(&rt, path)?;
     fs::remove_file(&rt, path)?;
     fs::remove_file(&rt, jobs)?;
+    Ok(())
+}
+
+/// A check of the index, which has a metapage and a leaf of two entries, in many threads and in one.
+fn check_tells_progress(
+    rt: &(impl Abort + AllocGlobal + Print + Eprint + Files<File = File> + Threads + Wait + Sync),
+    path: &str,
+) -> Result<(), Fail> {
+    let words = ["btidx", "check", path, "--progress", "--one-thread"];
+    let printed = "ok levels=1 pages=2 entries=2 halfdead=0 deleted=0 unfinished=0\n";
+    for count in [4, 5] {
+        runs(rt, &words[..count], "", printed, "\r2 of 2 pages\n", 0)?;
+    }
     Ok(())
 }
 

@@ -5,7 +5,7 @@ use Rattle.std.proofs.lemmas.List.Sums.{count_by-le-length}
 use Rattle.std.proofs.lemmas.Option.{slice_get_read}
 use Rattle.sessions.specs.Finishing.{records_of}
 use Rattle.sessions.specs.declared.record.Record.{Record}
-use Rattle.sessions.proofs.Ending.{within_list}
+use Rattle.worker_seats.proofs.Rows.{get_within}
 use Rattle.sessions.proofs.Receipting.{get_zero, sum_zero, sum_one_more, written_next, counted_next}
 use Rattle.sessions.proofs.receipts.write_receipts.Goals as goal
 
@@ -76,4 +76,4 @@ loop-place-preserved c =
 pub returns-clause-written : goal.returns-clause-written
 returns-clause-written c place r at =
     let i = c.loop-place.invariant in
-    i.2 place r (let inside = within_list c.args.history.now place r at in omega (arith, inside, c.loop-place-test.false)) at
+    i.2 place r (let inside = get_within c.args.history.now place r at in omega (arith, inside, c.loop-place-test.false)) at
