@@ -202,15 +202,14 @@ module _ {S : Type 0} (g : Ghosts S) (start : Entry → Bool) (old : Moment S) (
   follows_on (BeginsCall session request) before idle = λ begun. absurd cc
   follows_on (MovesCall session Steps) before idle =
       subst (λ (o : Option Op). CallIsFollowed (MovesCall session Steps) old.sets (Refused fault) (g.state old.store) (g.state store) o o) (sym (idle session refl)) (record {
-        due = λ left due. absurd due;
+        fitted = record {
+          due = λ left due. absurd due;
+          incomplete = λ only. subst (λ (st : State). OnlyOwnAreIncomplete st None) (sym same) only;
+          stands = tt;
+          frees = tt;
+        };
+        each = record { waits = tt; entries = tt; deletes = tt; spares = tt };
         no_more = λ acts. omega arith;
-        incomplete = λ only. subst (λ (st : State). OnlyOwnAreIncomplete st None) (sym same) only;
-        stands = tt;
-        waits = tt;
-        entries = tt;
-        deletes = tt;
-        frees = tt;
-        spares = tt;
       })
   follows_on (MovesCall session Takes) before idle = λ steps due.
       due_still (g.state old.store) (g.state store) before steps (ap (λ (st : State). st.limits) same) (ap (λ (st : State). st.pages) same) due

@@ -139,7 +139,7 @@ module _ {S : Type 0} (g : Ghosts S) (start : Entry → Bool) (session : ℕ) (o
     | inl e ↦ (
         let its : EventDoes g start (MovesCall session Steps) answer old new = subst (λ (s : ℕ). EventDoes g start (MovesCall s Steps) answer old new) e does in
         step_flags (g.state old.store) (g.state new.store) (slot_of old.slots session) (slot_of new.slots session) answer
-        (its.also.followed.incomplete own) its.also.always.until_last its.also.always.refused (clean e))
+        (its.also.followed.fitted.incomplete own) its.also.always.until_last its.also.always.refused (clean e))
     | inr n ↦ elsewhere (MovesCall of Steps) answer does of refl (λ e. n (sym e)) (does.also.quiet.pages (quiet n))
   ]
 

@@ -93,19 +93,7 @@ module _ {S : Type 0} (g : Ghosts S) (laws : Laws g) (old new : S) (follows_stor
     where
       followed : (g.backing new).honest ≡ true → IsFitted (g.state old) sets before → CallIsFollowed (MovesCall session Steps) sets answer (g.state old) (g.state new) before slot
       followed honest fitted =
-          let told = follows honest in
-          record {
-            due = told.due fitted;
-            no_more = made.no_more honest;
-            incomplete = told.incomplete fitted;
-            stands = told.stands fitted;
-            waits =
-                told.waits;
-            entries = told.entries;
-            deletes = told.deletes;
-            frees = told.frees fitted;
-            spares = told.spares;
-          }
+          record { fitted = (follows honest).fitted fitted; each = (follows honest).each; no_more = made.no_more honest }
 
       always : EventAlways g (MovesCall session Steps) answer (here_with old slots sets) (here_with new (slice_set slots session slot) sets)
       always = record {

@@ -159,7 +159,7 @@ module _ {S : Type 0} (g : Ghosts S) (start : Entry → Bool) (session : ℕ) (o
   event_due (MovesCall of Steps) answer does waits = elim (cases_eq of session) [
     | inl e ↦ (
         let followed = subst (λ (s : ℕ). StepIsFollowed old.sets (g.state old.store) (g.state new.store) (slot_of old.slots s) (slot_of new.slots s) answer) e does.also.followed in
-        own_step of answer e (followed.due steps due) (waits e))
+        own_step of answer e (followed.fitted.due steps due) (waits e))
     | inr n ↦ (steps, (let none : goes_on session (MovesCall of Steps) answer ≡ 0 = none_gone session of answer n in omega arith), elsewhere (MovesCall of Steps) answer does of refl (λ e. n (sym e)))
   ]
 

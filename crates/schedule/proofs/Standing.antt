@@ -214,7 +214,7 @@ module _ {S : Type 0} (g : Ghosts S) (start : Entry → Bool) where
         let session_is : op.session ≡ session = runs.runs.session ∙ runs.is.session_is in
         let apart : stander ≢ op.session = λ e. (let both : Some (Scan stands.op) ≡ Some (Bulk set op) = sym stands.runs ∙ ap (λ (s : ℕ). slot_of old.slots s) (e ∙ session_is) ∙ is in cc) in
         let waits : KeepsBeforePins (g.state old.store) (Some (Bulk set op)) (slot_of new.slots session) answer =
-        subst (λ (o : Option Op). KeepsBeforePins (g.state old.store) o (slot_of new.slots session) answer) is does.also.followed.waits in
+        subst (λ (o : Option Op). KeepsBeforePins (g.state old.store) o (slot_of new.slots session) answer) is does.also.followed.each.waits in
         let before : op.cursor ≤ block = subst (λ (o : Option Op). HasNotCome block o) is (none session) in
         waits stander block leaf.page apart leaf.was (stands_pinned stander block old fits stands) before
 

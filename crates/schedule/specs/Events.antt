@@ -16,11 +16,11 @@ use Rattle.page_codec.specs.declared.page.Page.{Page}
 use Rattle.tree_acts.specs.Leaves.{IsLeafAt, WasLeaf}
 use Rattle.tree_acts.specs.Lows.{NoLowRises}
 use Rattle.tree_acts.specs.StepEffects.{OthersRely}
-use Rattle.session_calls.specs.Due.{IsDueIn, DueCountsDown, HasSteps}
-use Rattle.session_calls.specs.Following.{StepAnswerMeans}
+use Rattle.session_calls.specs.Due.{IsDueIn, HasSteps}
+use Rattle.session_calls.specs.Following.{StepAnswerMeans, FittedStepFollows, EachStepFollows}
 use Rattle.session_calls.specs.TheoremCalls.{DeadSets, asked_by, acts_of, begun_call}
 use Rattle.session_calls.specs.Ops.{op_before, asks_vacuum, asked_of, causes_of_stepped, causes_of_asked_next, causes_of_beginning, RunsOn, IsCaused, StoppedAnswersFirst, asks_bulk_delete, no_call_begins}
-use Rattle.session_calls.specs.Sessions.{AnswerMeans, IsAsked, MovesShape, is_busy, slot_add, StepHasLessLeft, NoMoreIsLeft, GivesLess, AnswersStep, AnswersNext, AnswersEnd, RefusalChangesNothing, RunsUntilLast, leaf_of, StandsByAnswer, OnlyWritersAct, OnlyOwnAreIncomplete, LeavesOwnIncomplete, KeepsBeforePins, CountsEntries, CountsPages, CountsFree, SparesLeaves, after_slot, after_request}
+use Rattle.session_calls.specs.Sessions.{AnswerMeans, IsAsked, MovesShape, is_busy, slot_add, StepHasLessLeft, NoMoreIsLeft, GivesLess, AnswersStep, AnswersNext, AnswersEnd, RefusalChangesNothing, RunsUntilLast, leaf_of, OnlyWritersAct, after_slot, after_request}
 use Rattle.session_calls.specs.declared.answer.Answer.{Answer}
 use Rattle.session_calls.specs.declared.answer.Answer.TheVariants.{Begun, Forced, Flushed, Checkpointed, Refused}
 use Rattle.session_calls.specs.declared.op.Op.{Op}
@@ -390,27 +390,12 @@ pub record EventAlways {S : Type 0} (g : Ghosts S) (kind : Kind) (answer : Answe
 abbrev pub StaysAsDue : State → State → Option Op → Option Op → Type 0
 StaysAsDue old new before after = (steps : ℕ) → IsDueIn old before steps → IsDueIn new after steps
 
--- what is followed of a running call, from one step to the next
+-- what is followed of a running call, from one step to the next: it fits a history; and while no action is logged, no more is left to do
+-- than before, whether it was due or not
 pub record StepIsFollowed (sets : DeadSets) (old new : State) (before after : Option Op) (answer : Answer) : Type 0 where
-  -- a call that was due comes to what is awaited at its last step, and each step before leaves one fewer
-  pub due : (left : ℕ) → IsDueIn old before (suc left) → DueCountsDown old new before after left answer
-  -- while no action is logged, no more is left to do than before, whether it was due or not
+  pub fitted : FittedStepFollows old new before after answer
+  pub each : EachStepFollows sets old new before after answer
   pub no_more : NoMoreIsLeft old new before after
-  -- where only pages had incomplete splits that its insert is to finish, only such are; and none after its end, unless it tells of a fault
-  pub incomplete : OnlyOwnAreIncomplete old before → LeavesOwnIncomplete new before after answer
-  -- a scan that has read a leaf stands on it, and on none where it goes on to another page
-  pub stands : StandsByAnswer new before after answer
-  -- a bulk delete doesn't come past a leaf that another session has pinned, nor to its end
-  pub waits : KeepsBeforePins old before after answer
-  -- where nobody else acts, what a bulk delete or a cleanup has counted are the entries that it has left; at its end it tells how many
-  -- there are, and a cleanup leaves no half-dead page
-  pub entries : CountsEntries sets old new before after answer
-  -- a cleanup counts the pages that it deletes, and tells how many they were
-  pub deletes : CountsPages old new before after answer
-  -- a bulk delete or a cleanup that has finished tells how many deleted pages may be used again now
-  pub frees : CountsFree new before answer
-  -- where nobody else holds a page, a cleanup leaves no empty leaf after it that might leave the tree
-  pub spares : SparesLeaves old new before after answer
 
 -- what is followed of a session's call, by its event: a beginning says after how many steps it is due, each step follows on, and asking
 -- for the next entry costs no step

@@ -12,13 +12,13 @@ use Rattle.insert_split.specs.Turns.{IsRefusedRightly}
 use Rattle.scan.specs.Scans.{waiting, ScanWaits}
 use Rattle.scan.specs.declared.steps.ScanOp.{ScanOp}
 use Rattle.session_calls.specs.Ops.{ends_call}
-use Rattle.session_calls.specs.Ops.{OpAnswers, session_of, is_bulk_delete, call_kind, add_of, causes_of_stepped_any, StoppedAnswersFirst, AnswersLogged}
-use Rattle.session_calls.specs.Sessions.{OpSteps, OnlyWritersAct, CountsStats, WaitsToGive, work_in}
+use Rattle.session_calls.specs.Ops.{session_of, is_bulk_delete, call_kind, add_of, causes_of_stepped_any, StoppedAnswersFirst, AnswersLogged}
+use Rattle.session_calls.specs.Sessions.{OpSteps, AnswersStep, OnlyWritersAct, CountsStats, WaitsToGive, work_in}
 use Rattle.session_calls.specs.declared.answer.Answer.TheVariants.{Refused}
 use Rattle.session_calls.specs.declared.op.Op.{Op}
 use Rattle.session_calls.specs.declared.op.Op.TheVariants.{Insert, Scan, Bulk, Cleanup}
 
-answers : (before after : Op) (fault : Fault) → OpAnswers before after (Refused fault)
+answers : (before after : Op) (fault : Fault) → AnswersStep (Some before) (Some after) (Refused fault)
 answers (Insert op) after fault = tt
 answers (Scan op) after fault = tt
 answers (Bulk set op) after fault = tt

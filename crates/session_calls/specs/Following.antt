@@ -57,21 +57,30 @@ pub record IsFitted (st : State) (sets : DeadSets) (slot : Option Op) : Type 0 w
   pub call : Call
   pub fits : SlotFits st sets start history number call slot
 
--- what is followed of a call, from one step to the next
-pub record StepFollows (sets : DeadSets) (old new : State) (before after : Option Op) (answer : Answer) : Type 0 where
-  -- the steps that it is due after: each counts down
-  pub due : IsFitted old sets before → (left : ℕ) → IsDueIn old before (suc left) → DueCountsDown old new before after left answer
-  -- the pages that it leaves with incomplete splits: those whose splits it is to finish
-  pub incomplete : IsFitted old sets before → OnlyOwnAreIncomplete old before → LeavesOwnIncomplete new before after answer
-  -- the leaf that a scan stands on
-  pub stands : IsFitted old sets before → StandsByAnswer new before after answer
-  -- the leaves that others have pinned, before which a bulk delete waits
+-- what is followed, from one step to the next, of a call that some history fits
+pub record FittedStepFollows (old new : State) (before after : Option Op) (answer : Answer) : Type 0 where
+  -- a call that was due comes to what is awaited at its last step, and each step before leaves one fewer
+  pub due : (left : ℕ) → IsDueIn old before (suc left) → DueCountsDown old new before after left answer
+  -- where only pages had incomplete splits that its insert is to finish, only such are; and none after its end, unless it tells of a fault
+  pub incomplete : OnlyOwnAreIncomplete old before → LeavesOwnIncomplete new before after answer
+  -- a scan that has read a leaf stands on it, and on none where it goes on to another page
+  pub stands : StandsByAnswer new before after answer
+  -- a bulk delete or a cleanup that has finished tells how many deleted pages may be used again now
+  pub frees : CountsFree new before answer
+
+-- what is followed of any call
+pub record EachStepFollows (sets : DeadSets) (old new : State) (before after : Option Op) (answer : Answer) : Type 0 where
+  -- a bulk delete doesn't come past a leaf that another session has pinned, nor to its end
   pub waits : KeepsBeforePins old before after answer
-  -- the entries that it has counted, where nobody else acts
+  -- where nobody else acts, what a bulk delete or a cleanup has counted are the entries that it has left; at its end it tells how many
+  -- there are, and a cleanup leaves no half-dead page
   pub entries : CountsEntries sets old new before after answer
-  -- the pages that a cleanup deletes
+  -- a cleanup counts the pages that it deletes, and tells how many they were
   pub deletes : CountsPages old new before after answer
-  -- how many deleted pages may be used again after a bulk delete or a cleanup
-  pub frees : IsFitted old sets before → CountsFree new before answer
-  -- the empty leaves that a cleanup leaves, where nobody else holds a page
+  -- where nobody else holds a page, a cleanup leaves no empty leaf after it that might leave the tree
   pub spares : SparesLeaves old new before after answer
+
+-- what is followed of a call by its step
+pub record StepFollows (sets : DeadSets) (old new : State) (before after : Option Op) (answer : Answer) : Type 0 where
+  pub fitted : IsFitted old sets before → FittedStepFollows old new before after answer
+  pub each : EachStepFollows sets old new before after answer

@@ -240,21 +240,6 @@ is_last (Flushed block) = false
 is_last (Checkpointed count) = false
 is_last (Refused fault) = ends_call fault
 
--- What a step may answer: of an insert, that it goes on or that its entry is added; of a scan, that it goes on, how many
--- entries are ready, or that it has given all; of a bulk delete and of a cleanup, that it goes on or has finished; and a refusal.
-abbrev pub OpAnswers : Op → Op → Answer → Type 0
-OpAnswers (Insert op) after Going = Unit {0}
-OpAnswers (Insert op) after (Added action unfinished) = Unit {0}
-OpAnswers (Scan op) after Going = Unit {0}
-OpAnswers (Scan op) after (Ready count) = count ≡ length (ready_of after)
-OpAnswers (Scan op) after Done = Unit {0}
-OpAnswers (Bulk set op) after Going = Unit {0}
-OpAnswers (Bulk set op) after (Finished stats) = Unit {0}
-OpAnswers (Cleanup op) after Going = Unit {0}
-OpAnswers (Cleanup op) after (Finished stats) = Unit {0}
-OpAnswers before after (Refused fault) = Unit {0}
-OpAnswers before after answer = ⊥
-
 -- on a stopped log a step is refused with `Stopped`; an insert whose entry is logged ends as added, with that fault
 abbrev pub StoppedAnswersFirst : Option ℕ → Answer → Type 0
 StoppedAnswersFirst None answer = answer ≡ Refused Stopped

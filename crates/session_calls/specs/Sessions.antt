@@ -28,7 +28,7 @@ use Rattle.scan.specs.Scans.{waiting}
 use Rattle.vacuum.specs.Counts.{IsCounted, entries_below, stats_of}
 use Rattle.session_calls.specs.Ops.{set_at, ends_call}
 use Rattle.session_calls.specs.TheoremCalls.{DeadSets, asked_by, begun_call, acts_of}
-use Rattle.session_calls.specs.Ops.{op_before, session_of, asked_of, add_of, ready_of, OpInvariant, OpKnows, causes_of_requesting, causes_of_stepped_any, asks_bulk_delete, is_bulk_delete, IsOfSets, call_kind, IsCaused, is_last, OpAnswers, StoppedAnswersFirst, AnswersLogged, op_work, op_targets}
+use Rattle.session_calls.specs.Ops.{op_before, session_of, asked_of, add_of, ready_of, OpInvariant, OpKnows, causes_of_requesting, causes_of_stepped_any, asks_bulk_delete, is_bulk_delete, IsOfSets, call_kind, IsCaused, is_last, StoppedAnswersFirst, AnswersLogged, op_work, op_targets}
 use Rattle.tree_acts.specs.Leaves.{LeafPagesStay, IsLeafAt}
 use Rattle.session_calls.specs.BulkDeletions.{OpDeletions, SlotDeletions}
 use Rattle.session_calls.specs.declared.answer.Answer.{Answer}
@@ -214,7 +214,9 @@ pub record StepWaits (old new : State) (before after : Option Op) (answer : Answ
 abbrev pub WaitsToGive : Bool → State → State → Option Op → Option Op → Answer → Type 0
 WaitsToGive is_stopped old new before after answer = is_stopped ≡ false → (NothingIsReady before → ⊥) → StepWaits old new before after answer
 
--- what a step may answer, by what the session runs before and after
+-- What a step may answer, by what the session runs before and after: of an insert, that it goes on or that its entry is added; of a
+-- scan, that it goes on, how many entries are ready, or that it has given all; of a bulk delete and of a cleanup, that it goes on or has
+-- finished; and a refusal.
 abbrev pub AnswersStep : Option Op → Option Op → Answer → Type 0
 AnswersStep (Some (Insert op)) after Going = Unit {0}
 AnswersStep (Some (Insert op)) after (Added action unfinished) = Unit {0}
@@ -540,7 +542,7 @@ pub record OpSteps {S : Type 0} (g : Ghosts S) (before after : Op) (old new : S)
   pub session : session_of after ≡ session_of before
   pub same_bulk : is_bulk_delete after ≡ is_bulk_delete before
   pub one_kind : call_kind after ≡ call_kind before
-  pub kind : OpAnswers before after answer
+  pub kind : AnswersStep (Some before) (Some after) answer
   pub refused : (fault : Fault) → answer ≡ Refused fault → (g.state new ≡ g.state old) × (after ≡ before)
   pub stopped : (g.backing old).stopped ≡ true → StoppedAnswersFirst (add_of before) answer
   pub unfinished : (action : ℕ) (fault : Fault) → answer ≡ Added action (Some fault) → g.state new ≡ g.state old

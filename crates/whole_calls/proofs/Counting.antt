@@ -76,9 +76,9 @@ module _ {S : Type 0} (g : Ghosts S) (start : Entry → Bool) (session : ℕ) (x
     order = fits.invariant.order;
     starts = fits.invariant.starts;
     fits = runs_fits op is;
-    entries = subst (λ (o : Option Op). CountsEntries x.sets old now o (slot_of y.slots session) answer) is does.also.followed.entries;
-    deletes = subst (λ (o : Option Op). CountsPages old now o (slot_of y.slots session) answer) is does.also.followed.deletes;
-    spares = subst (λ (o : Option Op). SparesLeaves old now o (slot_of y.slots session) answer) is does.also.followed.spares;
+    entries = subst (λ (o : Option Op). CountsEntries x.sets old now o (slot_of y.slots session) answer) is does.also.followed.each.entries;
+    deletes = subst (λ (o : Option Op). CountsPages old now o (slot_of y.slots session) answer) is does.also.followed.each.deletes;
+    spares = subst (λ (o : Option Op). SparesLeaves old now o (slot_of y.slots session) answer) is does.also.followed.each.spares;
   }
 
   -- ... that goes on

@@ -53,7 +53,7 @@ finish_tells g start session answer x y fits does number call is stats finished 
     let kind = subst (λ (a : Answer). AnswersStep (Some r.0) (slot_of y.slots session) a) finished
     (subst (λ (o : Option Op). AnswersStep o (slot_of y.slots session) answer) slot does.also.always.answers) in
     let told = subst (λ (a : Answer). CountsStats (g.state x.store) (Some r.0) a) finished (subst (λ (o : Option Op). CountsStats (g.state x.store) o answer) slot does.also.always.tells.stats) in
-    let free = subst (λ (a : Answer). CountsFree (g.state y.store) (Some r.0) a) finished (subst (λ (o : Option Op). CountsFree (g.state y.store) o answer) slot does.also.followed.frees) in
+    let free = subst (λ (a : Answer). CountsFree (g.state y.store) (Some r.0) a) finished (subst (λ (o : Option Op). CountsFree (g.state y.store) o answer) slot does.also.followed.fitted.frees) in
     subst (λ (a : Ask). StatsCountFor a (g.state y.store) stats) ask
     (told_by x.sets (g.state x.store) (g.state y.store) r.0 (slot_of y.slots session) stats (quiet_pages g start session answer x y does goes none) kind told free)
 

@@ -61,22 +61,26 @@ returns-then-is_last-clause-follows g c honest =
     let last = sym c.is_last.ensures ∙ c.if-is_last.true in
     let pages = ap (λ (st : State). st.pages) c.let_go.ensures.state ∙ go_pages (is_bulk_delete after) (session_of after) mid in
     rw is (record {
-      due = λ fitted left due. counts_over old mid new (Some c.in-Some.op) left c.step-answer.result
-          (subst (λ (b : Bool). DueCountsDown old mid (Some c.in-Some.op) (if b then None else Some after) left c.step-answer.result) last
-          (c.step-answer.ensures.due model fitted.fits.world.order fitted.fits.runs.fits left due));
-      incomplete = λ fitted own. incomplete_on mid new (Some c.in-Some.op) None c.step-answer.result pages
-          (subst (λ (b : Bool). LeavesOwnIncomplete mid (Some c.in-Some.op) (if b then None else Some after) c.step-answer.result) last
-          (c.step-answer.ensures.incomplete model fitted.fits.world.order fitted.fits.world.starts fitted.fits.runs.fits own));
-      stands = λ fitted. stands_over new (Some c.in-Some.op) c.step-answer.result last;
-      waits = subst (λ (b : Bool). KeepsBeforePins old (Some c.in-Some.op) (if b then None else Some after) c.step-answer.result) last (c.step-answer.ensures.pins model);
-      entries = subst (λ (st : State). CountsEntries sets old st (Some c.in-Some.op) None c.step-answer.result) (sym c.let_go.ensures.state)
-          (tells_over sets (is_bulk_delete after) (session_of after) old mid (Some c.in-Some.op) _ c.step-answer.result (c.step-answer.ensures.entries model));
-      deletes = subst (λ (st : State). CountsPages old st (Some c.in-Some.op) None c.step-answer.result) (sym c.let_go.ensures.state)
-          (deletes_over (is_bulk_delete after) (session_of after) old mid (Some c.in-Some.op) _ c.step-answer.result (c.step-answer.ensures.deletes model));
-      frees = λ fitted. frees_over (is_bulk_delete after) (session_of after) old mid new after c.let_go.ensures.state c.in-Some.op c.step-answer.result c.step-answer.ensures.all.session
-          c.step-answer.ensures.all.stats (c.step-answer.ensures.goes model fitted.start fitted.history fitted.number fitted.call fitted.fits);
-      spares = subst (λ (st : State). SparesLeaves old st (Some c.in-Some.op) None c.step-answer.result) (sym c.let_go.ensures.state)
-          (spares_over (is_bulk_delete after) (session_of after) old mid (Some c.in-Some.op) _ c.step-answer.result (c.step-answer.ensures.spares model));
+      fitted = λ fitted. record {
+        due = λ left due. counts_over old mid new (Some c.in-Some.op) left c.step-answer.result
+            (subst (λ (b : Bool). DueCountsDown old mid (Some c.in-Some.op) (if b then None else Some after) left c.step-answer.result) last
+            (c.step-answer.ensures.due model fitted.fits.world.order fitted.fits.runs.fits left due));
+        incomplete = λ own. incomplete_on mid new (Some c.in-Some.op) None c.step-answer.result pages
+            (subst (λ (b : Bool). LeavesOwnIncomplete mid (Some c.in-Some.op) (if b then None else Some after) c.step-answer.result) last
+            (c.step-answer.ensures.incomplete model fitted.fits.world.order fitted.fits.world.starts fitted.fits.runs.fits own));
+        stands = stands_over new (Some c.in-Some.op) c.step-answer.result last;
+        frees = frees_over (is_bulk_delete after) (session_of after) old mid new after c.let_go.ensures.state c.in-Some.op c.step-answer.result c.step-answer.ensures.all.session
+            c.step-answer.ensures.all.stats (c.step-answer.ensures.goes model fitted.start fitted.history fitted.number fitted.call fitted.fits);
+      };
+      each = record {
+        waits = subst (λ (b : Bool). KeepsBeforePins old (Some c.in-Some.op) (if b then None else Some after) c.step-answer.result) last (c.step-answer.ensures.pins model);
+        entries = subst (λ (st : State). CountsEntries sets old st (Some c.in-Some.op) None c.step-answer.result) (sym c.let_go.ensures.state)
+            (tells_over sets (is_bulk_delete after) (session_of after) old mid (Some c.in-Some.op) _ c.step-answer.result (c.step-answer.ensures.entries model));
+        deletes = subst (λ (st : State). CountsPages old st (Some c.in-Some.op) None c.step-answer.result) (sym c.let_go.ensures.state)
+            (deletes_over (is_bulk_delete after) (session_of after) old mid (Some c.in-Some.op) _ c.step-answer.result (c.step-answer.ensures.deletes model));
+        spares = subst (λ (st : State). SparesLeaves old st (Some c.in-Some.op) None c.step-answer.result) (sym c.let_go.ensures.state)
+            (spares_over (is_bulk_delete after) (session_of after) old mid (Some c.in-Some.op) _ c.step-answer.result (c.step-answer.ensures.spares model));
+      };
     })
 
 -- ... that goes on
@@ -89,15 +93,19 @@ returns-else-is_last-clause-follows g c honest =
     let sets = map g.T.DeadRows.is_in c.args.sets.now in
     let on = sym c.is_last.ensures ∙ c.if-is_last.false in
     rw (is, c.if-not-slot.false) (record {
-      due = λ fitted left due. subst (λ (b : Bool). DueCountsDown old new (Some c.in-Some.op) (if b then None else Some after) left c.step-answer.result) on
-          (c.step-answer.ensures.due honest fitted.fits.world.order fitted.fits.runs.fits left due);
-      incomplete = λ fitted own. subst (λ (b : Bool). LeavesOwnIncomplete new (Some c.in-Some.op) (if b then None else Some after) c.step-answer.result) on
-          (c.step-answer.ensures.incomplete honest fitted.fits.world.order fitted.fits.world.starts fitted.fits.runs.fits own);
-      stands = λ fitted. subst (λ (b : Bool). StandsByAnswer new (Some c.in-Some.op) (if b then None else Some after) c.step-answer.result) on
-          (c.step-answer.ensures.stands honest fitted.fits.world.order fitted.fits.runs.fits);
-      waits = subst (λ (b : Bool). KeepsBeforePins old (Some c.in-Some.op) (if b then None else Some after) c.step-answer.result) on (c.step-answer.ensures.pins honest);
-      entries = subst (λ (b : Bool). CountsEntries sets old new (Some c.in-Some.op) (if b then None else Some after) c.step-answer.result) on (c.step-answer.ensures.entries honest);
-      deletes = subst (λ (b : Bool). CountsPages old new (Some c.in-Some.op) (if b then None else Some after) c.step-answer.result) on (c.step-answer.ensures.deletes honest);
-      frees = λ fitted. tells_no_more new (Some c.in-Some.op) c.step-answer.result on;
-      spares = subst (λ (b : Bool). SparesLeaves old new (Some c.in-Some.op) (if b then None else Some after) c.step-answer.result) on (c.step-answer.ensures.spares honest);
+      fitted = λ fitted. record {
+        due = λ left due. subst (λ (b : Bool). DueCountsDown old new (Some c.in-Some.op) (if b then None else Some after) left c.step-answer.result) on
+            (c.step-answer.ensures.due honest fitted.fits.world.order fitted.fits.runs.fits left due);
+        incomplete = λ own. subst (λ (b : Bool). LeavesOwnIncomplete new (Some c.in-Some.op) (if b then None else Some after) c.step-answer.result) on
+            (c.step-answer.ensures.incomplete honest fitted.fits.world.order fitted.fits.world.starts fitted.fits.runs.fits own);
+        stands = subst (λ (b : Bool). StandsByAnswer new (Some c.in-Some.op) (if b then None else Some after) c.step-answer.result) on
+            (c.step-answer.ensures.stands honest fitted.fits.world.order fitted.fits.runs.fits);
+        frees = tells_no_more new (Some c.in-Some.op) c.step-answer.result on;
+      };
+      each = record {
+        waits = subst (λ (b : Bool). KeepsBeforePins old (Some c.in-Some.op) (if b then None else Some after) c.step-answer.result) on (c.step-answer.ensures.pins honest);
+        entries = subst (λ (b : Bool). CountsEntries sets old new (Some c.in-Some.op) (if b then None else Some after) c.step-answer.result) on (c.step-answer.ensures.entries honest);
+        deletes = subst (λ (b : Bool). CountsPages old new (Some c.in-Some.op) (if b then None else Some after) c.step-answer.result) on (c.step-answer.ensures.deletes honest);
+        spares = subst (λ (b : Bool). SparesLeaves old new (Some c.in-Some.op) (if b then None else Some after) c.step-answer.result) on (c.step-answer.ensures.spares honest);
+      };
     })
