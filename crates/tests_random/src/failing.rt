@@ -53,22 +53,35 @@ fn play_line<S: PageStore>(
     Ok(())
 }
 
-/// Runs a script over a new index, in which no call fails. A force, a flush and a checkpoint stand after it.
-pub fn play(run: Run, script: &Script) -> Result<Played, Fail> {
-    let fresh = calls_of(looked_at(run)?);
-    let mut world = looked_at(run)?;
+/// Runs a script over a new index, in which no call fails. A force, a flush and a checkpoint stand after it. Their calls aren't
+/// counted yet.
+fn play_lines<S: PageStore>(
+    run: Run,
+    world: &mut World<S, Blocks>,
+    script: &Script,
+) -> Result<Played, AllocError> {
     let mut played = Played {
         lines: Vec::new(run.alloc),
         answers: Vec::new(run.alloc),
         calls: 0,
     };
     for line in script.lines.as_slice() {
-        play_line(&mut world, *line, &mut played)?;
+        play_line(world, *line, &mut played)?;
     }
     for line in [Line::Force, Line::Flush, Line::Checkpoint] {
-        play_line(&mut world, line, &mut played)?;
+        play_line(world, line, &mut played)?;
     }
-    played.calls = calls_of(world).saturating_sub(fresh);
+    Ok(played)
+}
+
+/// So, and counts the calls of the device.
+pub fn play(run: Run, script: &Script) -> Result<Played, Fail> {
+    let fresh = calls_of(looked_at(run)?);
+    let mut world = looked_at(run)?;
+    let played = play_lines(run, &mut world, script);
+    let calls = calls_of(world).saturating_sub(fresh);
+    let mut played = played?;
+    played.calls = calls;
     Ok(played)
 }
 

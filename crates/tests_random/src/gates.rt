@@ -7,10 +7,14 @@ use crate::pages::{contents, copies};
 use crate::runs::Run;
 use device::MemDevice;
 use index_model::{Entry, Fault, Key, RowAddr};
+use page_action::PageStore;
 use schedule::Event;
 use session_calls::Answer;
+use std::alloc::AllocError;
 use std::test::Fail;
+use tests_support::dead::Blocks;
 use tests_support::plain::{fail_at, left, one as did, put};
+use world::World;
 
 /// The entries 61 (0,1) to 65 (0,5), from 0 on.
 fn entry(place: u8) -> Entry {
@@ -53,13 +57,22 @@ fn are_four_or_five(entries: &[Entry]) -> bool {
     entries.iter().all(|entry| firsts[..count].contains(entry))
 }
 
-/// Whether what a crash has left has the first four entries or all five, and the verifier finds no damage.
+/// Whether a world has the first four entries or all five.
+fn has_four_or_five<S: PageStore>(
+    run: Run,
+    world: &mut World<S, Blocks>,
+) -> Result<bool, AllocError> {
+    let pages = copies(run.alloc, world)?;
+    Ok(are_four_or_five(&contents(run.alloc, &pages)?))
+}
+
+/// Whether what a crash has left has the first four entries or all five, and the verifier finds no damage. Without memory for the
+/// pages it isn't right.
 fn is_right(run: Run, found: MemDevice) -> Result<bool, Fail> {
     let mut world = opened(run, FOR_ALL, found)?;
-    let pages = copies(run.alloc, &mut world)?;
-    let entries = contents(run.alloc, &pages)?;
+    let has_entries = has_four_or_five(run, &mut world).unwrap_or(false);
     let mut store = store_of(world);
-    Ok(are_four_or_five(&entries) && is_sound(run.alloc, &mut store))
+    Ok(has_entries && is_sound(run.alloc, &mut store))
 }
 
 /// Whether each image of a crash of this device is right.

@@ -12,6 +12,7 @@ use crate::tally::Tally;
 use device::{CrashImage, MemDevice};
 use index_model::{Entry, Fault};
 use page_action::PageStore;
+use page_store::Store;
 use schedule::Event;
 use session_calls::Answer;
 use std::alloc::AllocError;
@@ -26,9 +27,9 @@ const FEW: u32 = 16;
 /// A world with few frames, whose device calls fail, and one with frames for all, whose don't. Each does the same events, so
 /// their pages are the same; whoever looks at those of the second moves none of the first to or from memory.
 #[derive(Drop)]
-struct Pair {
-    few: OverDevice,
-    all: OverDevice,
+struct Pair<S: PageStore> {
+    few: World<S, Blocks>,
+    all: World<S, Blocks>,
     past: Past,
     judge: Judge,
 }
@@ -61,12 +62,23 @@ fn puts<S: PageStore>(few: &mut World<S, Blocks>, entry: Entry) -> Result<(), Fa
     }
 }
 
-/// Puts some entries and makes a checkpoint: what a crash leaves then.
-fn fill(run: Run, few: &mut OverDevice, dice: &mut Dice, entries: u32) -> Result<MemDevice, Fault> {
+/// Puts some entries.
+fn puts_all<S: PageStore>(
+    run: Run,
+    few: &mut World<S, Blocks>,
+    dice: &mut Dice,
+    entries: u32,
+) -> Result<(), Fault> {
     for _ in 0..entries {
         let entry = dice.entry(run.space);
         puts(few, entry)?;
     }
+    Ok(())
+}
+
+/// Puts some entries and makes a checkpoint: what a crash leaves then.
+fn fill(run: Run, few: &mut OverDevice, dice: &mut Dice, entries: u32) -> Result<MemDevice, Fault> {
+    puts_all(run, few, dice, entries)?;
     one(few, Event::Checkpoint);
     left_by(run.alloc, few, CrashImage::Drop)
 }
@@ -88,11 +100,10 @@ fn watched<S: PageStore>(
     Ok((past, judge))
 }
 
-impl Pair {
-    /// Over what the device of this world holds, which has no calls.
-    fn new(run: Run, few: OverDevice) -> Result<Pair, Fail> {
+impl<S: PageStore> Pair<S> {
+    /// Of two worlds whose pages are the same, and which have no calls.
+    fn new(run: Run, few: World<S, Blocks>, all: World<S, Blocks>) -> Result<Pair<S>, AllocError> {
         let mut few = few;
-        let all = beside(run, &few)?;
         let (past, judge) = watched(run, &mut few)?;
         Ok(Pair {
             few,
@@ -144,7 +155,9 @@ impl Pair {
             && are_running(&self.few, &self.judge, run.space.sessions)
             && are_running(&self.all, &self.judge, run.space.sessions)
     }
+}
 
+impl Pair<Store<MemDevice>> {
     /// A force, which tells whether the log has failed: whether it is right, and whether all pages of the first are as they
     /// should be, if its log has not failed.
     fn looks(&mut self, run: Run) -> Result<bool, AllocError> {
@@ -223,7 +236,8 @@ fn crashed(
     tally: &mut Tally,
     events: u32,
 ) -> Result<Option<OverDevice>, Fail> {
-    let mut pair = Pair::new(run, few)?;
+    let all = beside(run, &few)?;
+    let mut pair = Pair::new(run, few, all)?;
     match pair.crashes(run, dice, tally, events)? {
         Some(left) => Ok(Some(filled(run, left, dice, 60)?)),
         None => Ok(None),

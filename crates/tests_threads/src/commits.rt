@@ -3,9 +3,10 @@
 use crate::indexes::made;
 use crate::judged::ran;
 use crate::lists::{entry, range};
+use crate::plain::run;
 use index_model::Limits;
 use session_calls::Answer;
-use sessions::{Gate, Job, run_jobs};
+use sessions::{Gate, Job};
 use std::alloc::{AllocError, Global};
 use std::process::Abort;
 use std::sync::Wait;
@@ -122,7 +123,7 @@ fn commit_waits_for_no_gate(rt: HostRuntime) -> Result<(), Fail> {
         was_seen: AtomicBool::new(false),
     };
     let world = made(rt.alloc(), &LIMITS, 2)?;
-    let done = match run_jobs(&rt, rt.alloc(), world, &jobs, 2, &gate) {
+    let done = match run(&rt, rt.alloc(), world, &jobs, 2, &gate) {
         Ok(done) => done,
         Err(not_run) => return Err(Fail::from(not_run.fault)),
     };

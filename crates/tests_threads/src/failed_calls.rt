@@ -4,9 +4,9 @@ use crate::indexes::{InMemory, all_entries, made, opened};
 use crate::judge::{Addition, are_those_by, count, tells_of_failure};
 use crate::judged::ran;
 use crate::lists::{entry, range};
-use amcheck::check_parents;
+use crate::plain::is_sound_to_all;
 use device::{CrashImage, MemDevice};
-use index_model::{Limits, NoProgress};
+use index_model::Limits;
 use session_calls::Answer;
 use sessions::{Job, Record};
 use std::alloc::{AllocError, Global};
@@ -99,7 +99,7 @@ fn opens_right(
     let entries = entries.as_slice();
     assert!(rt; (durable..last.saturating_add(1)).any(|k| are_those_by(entries, added, k)));
     let mut store = world.into_store();
-    assert!(rt; check_parents(rt, rt.alloc(), &mut store, &NoProgress).is_ok());
+    assert!(rt; is_sound_to_all(rt, rt.alloc(), &mut store));
     counted.opened = counted.opened.saturating_add(1);
     if entries.len() < count(added) {
         counted.losing = counted.losing.saturating_add(1);

@@ -6,12 +6,12 @@ use index_model::{Entry, Fault, Limits};
 use page_action::PageStore;
 use page_codec::needed_len;
 use page_store::Store;
-use recovery::create;
 use schedule::Event;
 use session_calls::Answer;
 use std::alloc::Global;
 use std::test::Fail;
 use tests_support::dead::Blocks;
+use tests_support::plain::{create, device, open_world};
 use world::World;
 
 /// An index on a device in memory.
@@ -29,7 +29,7 @@ pub fn opened(alloc: Global, device: MemDevice, sessions: u32) -> Result<InMemor
             to: block,
         })?;
     }
-    match World::open(alloc, device, 64, sessions, sets) {
+    match open_world(alloc, device, 64, sessions, sets) {
         Ok(world) => Ok(world),
         Err(not_opened) => Err(Fail::from(not_opened.fault)),
     }
@@ -37,9 +37,9 @@ pub fn opened(alloc: Global, device: MemDevice, sessions: u32) -> Result<InMemor
 
 /// A new one.
 pub fn made(alloc: Global, limits: &Limits, sessions: u32) -> Result<InMemory, Fail> {
-    let mut device = MemDevice::new(alloc, needed_len(limits))?;
-    create(&mut device, limits)?;
-    opened(alloc, device, sessions)
+    let mut zeros = device(alloc, needed_len(limits))?;
+    create(&mut zeros, limits)?;
+    opened(alloc, zeros, sessions)
 }
 
 /// All entries, by a scan of session 0.

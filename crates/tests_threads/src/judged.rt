@@ -1,20 +1,22 @@
 //! Runs over devices in memory, of which a plain judge hears all.
 
-use crate::indexes::{InMemory, all_entries, made};
+use crate::indexes::{all_entries, made};
 use crate::judge::{Addition, Run, additions, are_those_left, count, first_wrong, has_each_once};
 use crate::lists::{Dice, entry, mixed, range, shuffled};
-use amcheck::check_parents_one;
+use crate::plain::{is_sound, run};
 use device::MemDevice;
-use index_model::{Fault, Limits, NoProgress};
+use index_model::{DeadRows, Fault, Limits};
+use page_action::PageStore;
 use page_store::Store;
 use schedule::Event;
 use session_calls::Answer;
-use sessions::{Finished, Job, NoGate, run_jobs};
+use sessions::{Finished, Job, NoGate};
 use std::process::Abort;
 use std::sync::Wait;
 use std::test::{Fail, *};
 use std::thread::Threads;
 use tests_support::dead::Blocks;
+use world::World;
 
 /// The keys of all jobs here have numbers below this.
 const KEYS: usize = 4_096;
@@ -22,36 +24,25 @@ const KEYS: usize = 4_096;
 /// What a run leaves of an index in memory.
 pub type Done = Finished<Store<MemDevice>, Blocks>;
 
-/// Runs these jobs on an index of so many pages at most, and looks at all that they told. Answers what was added, too.
-pub fn ran(
-    rt: &(impl Abort + AllocGlobal + Print + Eprint + Threads + Wait + Sync),
-    world: InMemory,
+/// What a plain judge says of a run of these jobs, and what was added. Pages of the index are full where so many are used.
+fn judged<S: PageStore, T: DeadRows + Drop>(
+    rt: &(impl Abort + AllocGlobal + Print + Eprint),
+    done: &Finished<S, T>,
     jobs: &[Job],
     workers: u32,
     pages: u32,
     may_fail: bool,
-) -> Result<(Done, Vec<Option<Addition>>), Fail> {
-    let start = world.actions();
-    let done = match run_jobs(rt, rt.alloc(), world, jobs, workers, &NoGate) {
-        Ok(done) => done,
-        Err(not_run) => return Err(Fail::from(not_run.fault)),
-    };
-    assert_eq!(rt; done.start, start);
-    let once = has_each_once(
-        rt.alloc(),
-        jobs.len(),
-        done.history.as_slice(),
-        done.receipts.as_slice(),
-        done.calls.as_slice(),
-    )?;
-    assert!(rt; once);
-    assert_eq!(rt; done.calls.len(), workers as usize);
-    let added = additions(rt.alloc(), jobs, done.history.as_slice(), KEYS)?;
+) -> Result<Vec<Option<Addition>>, Fail> {
+    let (history, receipts) = (done.history.as_slice(), done.receipts.as_slice());
+    let calls = done.calls.as_slice();
+    assert!(rt; has_each_once(rt.alloc(), jobs.len(), history, receipts, calls)?);
+    assert_eq!(rt; calls.len(), workers as usize);
+    let added = additions(rt.alloc(), jobs, history, KEYS)?;
     let run = Run {
         jobs,
-        history: done.history.as_slice(),
+        history,
         added: added.as_slice(),
-        start,
+        start: done.start,
         may_fail,
         is_full: done.world.used() >= pages,
     };
@@ -59,6 +50,31 @@ pub fn ran(
     for session in 0..workers {
         assert!(rt; !done.world.is_running(session));
     }
+    Ok(added)
+}
+
+/// Runs these jobs on an index of so many pages at most, and looks at all that they told. Answers what was added, too.
+pub fn ran<
+    R: Abort + AllocGlobal + Print + Eprint + Threads + Wait + Sync,
+    S: PageStore + Drop + Send,
+    T: DeadRows + Drop + Send,
+>(
+    rt: &R,
+    world: World<S, T>,
+    jobs: &[Job],
+    workers: u32,
+    pages: u32,
+    may_fail: bool,
+) -> Result<(Finished<S, T>, Vec<Option<Addition>>), Fail> {
+    let start = world.actions();
+    let done = match run(rt, rt.alloc(), world, jobs, workers, &NoGate) {
+        Ok(done) => done,
+        Err(not_run) => return Err(Fail::from(not_run.fault)),
+    };
+    if done.start != start {
+        return Err(Fail::from(Fault::PageDamaged(0)));
+    }
+    let added = judged(rt, &done, jobs, workers, pages, may_fail)?;
     Ok((done, added))
 }
 
@@ -82,7 +98,7 @@ fn four_thousand_jobs(rt: HostRuntime) -> Result<(), Fail> {
     let (entries, history) = (entries.as_slice(), done.history.as_slice());
     assert!(rt; are_those_left(entries, jobs.as_slice(), history, added.as_slice()));
     let mut store = done.world.into_store();
-    assert!(rt; check_parents_one(rt.alloc(), &mut store, &NoProgress).is_ok());
+    assert!(rt; is_sound(rt.alloc(), &mut store));
     Ok(())
 }
 
@@ -141,7 +157,7 @@ fn one_entry_a_key(rt: HostRuntime) -> Result<(), Fail> {
     assert_eq!(rt; count(added.as_slice()), 500);
     assert_eq!(rt; refused_keys(&done), 1_500);
     let mut store = done.world.into_store();
-    assert!(rt; check_parents_one(rt.alloc(), &mut store, &NoProgress).is_ok());
+    assert!(rt; is_sound(rt.alloc(), &mut store));
     Ok(())
 }
 
@@ -163,7 +179,7 @@ fn full_index(rt: HostRuntime) -> Result<(), Fail> {
     // Seven pages beside the metapage, one of them the root, hold 24 entries at most.
     assert!(rt; count(added.as_slice()) <= 24);
     let mut store = done.world.into_store();
-    assert!(rt; check_parents_one(rt.alloc(), &mut store, &NoProgress).is_ok());
+    assert!(rt; is_sound(rt.alloc(), &mut store));
     Ok(())
 }
 
@@ -207,7 +223,7 @@ fn not_run(rt: HostRuntime) -> Result<(), Fail> {
     }];
     let mut world = made(rt.alloc(), &LIMITS, 4)?;
     for workers in [0, 5, 65] {
-        match run_jobs(&rt, rt.alloc(), world, &jobs, workers, &NoGate) {
+        match run(&rt, rt.alloc(), world, &jobs, workers, &NoGate) {
             Ok(_) => return Err(Fail::from(Fault::Exists)),
             Err(not_run) => {
                 assert!(rt; not_run.fault == Fault::BadLimits);
@@ -221,7 +237,7 @@ fn not_run(rt: HostRuntime) -> Result<(), Fail> {
         (&wide, 1, Fault::BadLimits),
         (&jobs, 1, Fault::SessionBusy),
     ] {
-        match run_jobs(&rt, rt.alloc(), world, jobs, workers, &NoGate) {
+        match run(&rt, rt.alloc(), world, jobs, workers, &NoGate) {
             Ok(_) => return Err(Fail::from(Fault::Exists)),
             Err(not_run) => {
                 assert!(rt; not_run.fault == fault);

@@ -1,9 +1,14 @@
 //! Calls without their contracts: a test looks at the answers alone.
 
-use index_model::{Entry, Fault, Key, Layout, Limits, Range, RowAddr};
-use page_action::MapStore;
+use amcheck::{check_parents, check_parents_one};
+use index_model::{DeadRows, Entry, Fault, Key, Layout, Limits, NoProgress, Range, RowAddr};
+use page_action::{MapStore, PageStore};
 use page_codec::{Items, Page, PageState};
+use sessions::{Finished, Gate, Job, NotRun, run_jobs};
 use std::alloc::Global;
+use std::sync::Wait;
+use std::thread::Threads;
+use world::World;
 
 /// Each entry.
 pub const ALL: Range = Range {
@@ -18,6 +23,37 @@ pub fn entry(number: u16) -> Entry {
         key: Key::new(&[high, low]).unwrap_or(Key::EMPTY),
         row: RowAddr::new(0, number.max(1)).unwrap_or_default(),
     }
+}
+
+/// Runs these jobs with so many workers.
+pub fn run<
+    S: PageStore + Drop + Send,
+    T: DeadRows + Drop + Send,
+    G: Gate + Sync,
+    R: Threads + Wait + Sync,
+>(
+    rt: &R,
+    alloc: Global,
+    world: World<S, T>,
+    jobs: &[Job],
+    workers: u32,
+    gate: &G,
+) -> Result<Finished<S, T>, NotRun<S, T>> {
+    run_jobs(rt, alloc, world, jobs, workers, gate)
+}
+
+/// Whether the verifier finds no damage, in this thread alone.
+pub fn is_sound<S: PageStore>(alloc: Global, store: &mut S) -> bool {
+    check_parents_one(alloc, store, &NoProgress).is_ok()
+}
+
+/// Whether it finds none in many threads.
+pub fn is_sound_to_all<S: PageStore, R: Threads + Sync>(
+    rt: &R,
+    alloc: Global,
+    store: &mut S,
+) -> bool {
+    check_parents(rt, alloc, store, &NoProgress).is_ok()
 }
 
 // A live page on level 0, without links.

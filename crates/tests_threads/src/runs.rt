@@ -2,9 +2,9 @@
 
 use crate::indexes::made;
 use crate::judged::LIMITS;
-use crate::plain::entry;
+use crate::plain::{entry, run};
 use session_calls::Answer;
-use sessions::{Gate, Job, run_jobs};
+use sessions::{Gate, Job};
 use std::sync::atomic::{AtomicBool, Ordering};
 use std::test::{Fail, *};
 
@@ -48,7 +48,7 @@ fn two_workers_are_seen_beside_each_other(rt: HostRuntime) -> Result<(), Fail> {
         met_there: AtomicBool::new(false),
     };
     let world = made(rt.alloc(), &LIMITS, 2)?;
-    let done = match run_jobs(&rt, rt.alloc(), world, &jobs, 2, &gate) {
+    let done = match run(&rt, rt.alloc(), world, &jobs, 2, &gate) {
         Ok(done) => done,
         Err(not_run) => return Err(Fail::from(not_run.fault)),
     };
