@@ -117,8 +117,8 @@ fn fail_at(store: &mut Store<MemDevice>, n: u64) -> Result<u64, Fault> {
     Ok(0)
 }
 
-/// What the call answers; 0 where it answers nothing.
-fn answer(store: &mut Store<MemDevice>, call: Call) -> Result<u64, Fault> {
+/// What the call answers; 0 where it answers nothing, and for one of the device.
+fn answer_of<S: PageStore>(store: &mut S, call: Call) -> Result<u64, Fault> {
     match call {
         Call::Act(block, cycle) => act(store, &[marked(block, cycle)]),
         Call::Force => force(store),
@@ -128,12 +128,19 @@ fn answer(store: &mut Store<MemDevice>, call: Call) -> Result<u64, Fault> {
         Call::Begin => begin(store, 0),
         Call::Pin(session, block) => pin(store, session, block),
         Call::Unpin(session, block) => unpin(store, session, block),
-        Call::FailAt(n) => fail_at(store, n),
+        Call::FailAt(_) => Ok(0),
         Call::Room => Ok(u64::from(store.room())),
         Call::Used => Ok(u64::from(store.used())),
         Call::Acts => Ok(store.acts()),
         Call::Durable => Ok(store.durable()),
         Call::IsStopped => Ok(u64::from(store.is_stopped())),
+    }
+}
+
+fn answer(store: &mut Store<MemDevice>, call: Call) -> Result<u64, Fault> {
+    match call {
+        Call::FailAt(n) => fail_at(store, n),
+        call => answer_of(store, call),
     }
 }
 
