@@ -2,32 +2,12 @@
 use Rattle.whole_calls.proofs.Removing.{remove_there, all_once, all_were, all_counted, left_by_all}
 use Rattle.std.proofs.Common.{◌≡◌, ℕ, suc, Bool, true, false, Option, Some, None, unwrap_or, Result, Ok, Err, List, [], ◌∷◌, ◌++◌, length, drop, slice_get, refl, sym, ap, subst, arith, inl, inr, ◌∙◌}
 use Rattle.std.specs.Prelude.{◌&&◌, not, if◌then◌else◌, IfOk}
-use Rattle.std.proofs.lemmas.Bool.{cases_eq}
-use Rattle.std.proofs.lemmas.List.{take_all}
-use Rattle.index_model.specs.Actions.{Effect, Add, Remove, Shape, Action, said_of, later_or, last_said, contents_after, is_there_after}
-use Rattle.index_model.specs.Calls.{AskBulkDelete, Vacuumed, Call, IsAddedIn, actions_between, IsBulkDeleteAnswer, Meets, removed_by}
-use Rattle.index_model.specs.Order.{is_among}
-use Rattle.index_model.specs.Row.{Row}
-use Rattle.index_model.specs.declared.entry.Entry.{Entry}
-use Rattle.index_model.specs.declared.fault.Fault.{Fault}
-use Rattle.index_model.specs.declared.stats.VacuumStats.{VacuumStats}
-use Rattle.index_model.proofs.Histories.{contents_after-append, there_before, there_now}
-use Rattle.page_action.specs.declared.page_store.PageStore.{Ghosts}
 use Rattle.vacuum.specs.declared.steps.BulkDeleteOp.{BulkDeleteOp}
-use Rattle.session_calls.specs.Sessions.{ended}
-use Rattle.session_calls.specs.declared.op.Op.{Op}
-use Rattle.session_calls.specs.declared.op.Op.TheVariants.{Bulk}
-use Rattle.session_calls.specs.declared.request.Request.TheVariants.{Bulk as ToBulk}
 use Rattle.schedule.specs.TheoremCrashes.{KeepsHistory, IsCrashSafe}
-use Rattle.schedule.specs.Events.{OthersStay}
-use Rattle.schedule.specs.TheoremMoments.{StoreAndSlots, Moment, snapshot_of}
-use Rattle.schedule.specs.TheoremRuns.{Fits}
-use Rattle.session_calls.specs.Slots.{slot_of}
-use Rattle.schedule.proofs.Lists.{get_append_new}
-use Rattle.whole_calls.specs.Going.{CallRuns}
-use Rattle.whole_calls.specs.Vacuuming.{VacuumMeans, vacuum_outcome, StatsCountEntries, StatsCountPages, removed_of}
-use Rattle.whole_calls.specs.Meanings.{acts_by, AreOwnEffects, first_call}
-use Rattle.access_method.specs.Indexes.{IsBulkDeletedOrLess}
+use Rattle.access_method.proofs.Imports.{cases_eq, take_all, Effect, Add, Remove, Shape, Action, said_of, later_or, last_said, contents_after, is_there_after, AskBulkDelete, Vacuumed, Call}
+use Rattle.access_method.proofs.Imports.{IsAddedIn, actions_between, IsBulkDeleteAnswer, Meets, removed_by, is_among, Row, Entry, Fault, VacuumStats, contents_after-append, there_before}
+use Rattle.access_method.proofs.Imports.{there_now, Ghosts, ended, Op, Bulk, ToBulk, OthersStay, StoreAndSlots, Moment, snapshot_of, Fits, slot_of, get_append_new, CallRuns, VacuumMeans}
+use Rattle.access_method.proofs.Imports.{vacuum_outcome, StatsCountEntries, StatsCountPages, removed_of, acts_by, AreOwnEffects, first_call, IsBulkDeletedOrLess}
 
 -- what a bulk delete does says of no entry that it is there,
 says_none : (dead : Row → Bool) (number : ℕ) (call : Call) (count : ℕ) (effects : List Effect) (e : Entry) → call.ask ≡ AskBulkDelete dead

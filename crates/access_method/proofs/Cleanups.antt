@@ -1,20 +1,9 @@
 -- What a cleanup of an index does, read off the run.
 use Rattle.std.proofs.Common.{◌≡◌, ℕ, suc, Bool, Option, None, unwrap_or, Result, Ok, Err, List, [], ◌∷◌, ◌++◌, length, refl, sym, ap, ◌∙◌, IfOk}
-use Rattle.index_model.specs.Actions.{Effect, Add, Remove, Shape, Action, later_or, last_said, contents_after}
-use Rattle.index_model.specs.Calls.{AskCleanup, Call}
-use Rattle.index_model.specs.declared.entry.Entry.{Entry}
-use Rattle.index_model.specs.declared.fault.Fault.{Fault}
-use Rattle.index_model.specs.declared.stats.VacuumStats.{VacuumStats}
-use Rattle.index_model.proofs.Histories.{contents_after-append}
-use Rattle.page_action.specs.declared.page_store.PageStore.{Ghosts}
 use Rattle.page_delete.specs.Counts.{deleted_in}
-use Rattle.session_calls.specs.declared.request.Request.TheVariants.{Cleanup as ToCleanup}
-use Rattle.schedule.specs.TheoremMoments.{StoreAndSlots, snapshot_of}
-use Rattle.schedule.specs.TheoremRuns.{Fits}
-use Rattle.whole_calls.specs.Going.{CallRuns}
-use Rattle.whole_calls.specs.Vacuuming.{VacuumMeans, vacuum_outcome, StatsCountCleaned, StatsCountDeleted, StatsCountPages}
-use Rattle.whole_calls.specs.Meanings.{acts_by, AreOwnEffects, first_call}
-use Rattle.access_method.specs.Indexes.{IsCleanedUp}
+use Rattle.access_method.proofs.Imports.{Effect, Add, Remove, Shape, Action, later_or, last_said, contents_after, AskCleanup, Call, Entry, Fault, VacuumStats, contents_after-append, Ghosts}
+use Rattle.access_method.proofs.Imports.{ToCleanup, StoreAndSlots, snapshot_of, Fits, CallRuns, VacuumMeans, vacuum_outcome, StatsCountCleaned, StatsCountDeleted, StatsCountPages, acts_by}
+use Rattle.access_method.proofs.Imports.{AreOwnEffects, first_call, IsCleanedUp}
 
 -- what a cleanup does says nothing of any entry
 says_nothing : (number : ℕ) (call : Call) (count : ℕ) (effects : List Effect) (e : Entry) → call.ask ≡ AskCleanup → AreOwnEffects call count effects

@@ -1,3 +1,4 @@
+pub mod Imports
 pub mod Seats
 pub mod Results
 pub mod BulkDeletions

@@ -1,8 +1,6 @@
 -- Why an open is refused.
-use Rattle.std.specs.Prelude.{ℕ, Bool, List}
 use Rattle.std.proofs.Common.{inl, inr, sym, subst}
-use Rattle.device.specs.Disk.{Trace}
-use Rattle.index_model.specs.declared.fault.Fault.{Fault}
+use Rattle.access_method.proofs.Imports.{ℕ, Bool, List, Trace, Fault}
 use Rattle.recovery.specs.Calls.{IsIoOr}
 use Rattle.recovery.specs.Opening.{IsFrontFault, IsFrontRefusal, IsRefusal}
 use Rattle.access_method.specs.Files.{IsOpenFault}

@@ -1,42 +1,15 @@
 -- The causes of refusals of an index's calls, and what is left of them where nothing hinders a call.
-use Rattle.whole_calls.specs.Inserting.{InsertIsRun}
-use Rattle.whole_calls.specs.Going.{CallRuns}
-use Rattle.schedule.specs.declared.event.Event.{Event}
-use Rattle.schedule.specs.TheoremRuns.{IsRun, ForEachHistory, Fits}
-use Rattle.session_calls.specs.declared.answer.Answer.{Answer}
-use Rattle.index_model.specs.Calls.{Call}
-use Rattle.index_model.specs.Actions.{Action}
-use Rattle.session_calls.specs.declared.op.Op.{Op}
-use Rattle.session_calls.specs.declared.op.Op.TheVariants.{Insert, Scan, Bulk, Cleanup}
 use Rattle.latch_table.specs.Holdings.{holding_of, nothing_held}
 use Rattle.page_delete.specs.Spares.{IsAlone}
-use Rattle.whole_calls.proofs.Refusing.{others_idle}
-use Rattle.index_model.specs.declared.stats.VacuumStats.{VacuumStats}
-use Rattle.index_model.specs.Row.{Row}
 use Rattle.std.proofs.Common.{◌≡◌, ℕ, Bool, true, false, ◌||◌, nat_lt, nat_le, Option, Some, None, Result, Ok, Err, length, slice_get, refl, sym, ap, arith, inl, inr, ◌∙◌, suc, [], ◌∷◌, List, not, ◌++◌}
-use Rattle.std.specs.Prelude.{is_none, IfErr, IsOk, unwrap_or}
-use Rattle.std.proofs.lemmas.Bool.{cases_lt, or_cases, ltb-true, leb-true, eqb-true, lt-ltb}
-use Rattle.index_model.specs.Faults.{HasCause}
-use Rattle.index_model.specs.declared.entry.Entry.{Entry}
-use Rattle.index_model.specs.declared.fault.Fault.{Fault}
-use Rattle.index_model.specs.declared.format.Format.{Format}
-use Rattle.index_model.specs.declared.fault.Fault.TheVariants.{NoMemory, Io, Stopped, Blocked, Exists, KeyTooLong, BadRow, IndexFull, LogFull, NoFrame, VacuumRunning, NoSession, SessionBusy, BadSuper, BadVersion, LogDamaged, PageDamaged, BadLimits, TooTall, DeviceTooSmall, KeyExists}
-use Rattle.page_action.specs.Causes.{has_failed, is_at_end, other_row_is_there}
-use Rattle.page_action.specs.declared.page_store.PageStore.{Ghosts}
-use Rattle.session_calls.specs.Ops.{IsFaultCaused, is_vacuum}
-use Rattle.session_calls.specs.Sessions.{is_busy}
-use Rattle.session_calls.specs.declared.request.Request.TheVariants.{Insert as ToInsert, Bulk as ToBulk, Cleanup as ToCleanup}
 use Rattle.session_calls.proofs.Meeting.{other_row_so}
-use Rattle.schedule.specs.TheoremMoments.{StoreAndSlots, Moment, snapshot_of}
-use Rattle.session_calls.specs.Slots.{slot_of, slot_vacuums, one_vacuums}
-use Rattle.schedule.specs.MomentInvariants.{IsFreeSession}
-use Rattle.schedule.proofs.Lists.{get_some}
-use Rattle.whole_calls.specs.Refusing.{another_runs, causes_of_inserted, causes_of_called, is_tall, InsertCallIsCaused, causes_of_gone}
-use Rattle.whole_calls.specs.declared.inserted.Inserted.{Inserted}
-use Rattle.access_method.specs.Indexes.{slots_within, has_entry, InsertsOrKeeps, slots_with}
-use Rattle.access_method.specs.Refusals.{causes_of_run, causes_of_aminsert, none_is_left, InsertHasCause, NothingHinders, IsForWantOfSpace, IsOfSpace, InsertsUnhindered}
-use Rattle.access_method.specs.Tokens.{NoneVacuums}
-use Rattle.access_method.specs.declared.index.Index.{Index}
+use Rattle.access_method.proofs.Imports.{InsertIsRun, CallRuns, Event, IsRun, ForEachHistory, Fits, Answer, Call, Action, Op, Insert, Scan, Bulk, Cleanup, others_idle, VacuumStats, Row, is_none}
+use Rattle.access_method.proofs.Imports.{IfErr, IsOk, unwrap_or, cases_lt, or_cases, ltb-true, leb-true, eqb-true, lt-ltb, HasCause, Entry, Fault, Format, NoMemory, Io, Stopped, Blocked, Exists}
+use Rattle.access_method.proofs.Imports.{KeyTooLong, BadRow, IndexFull, LogFull, NoFrame, VacuumRunning, NoSession, SessionBusy, BadSuper, BadVersion, LogDamaged, PageDamaged, BadLimits, TooTall}
+use Rattle.access_method.proofs.Imports.{DeviceTooSmall, KeyExists, has_failed, is_at_end, other_row_is_there, Ghosts, IsFaultCaused, is_vacuum, is_busy, ToInsert, ToBulk, ToCleanup}
+use Rattle.access_method.proofs.Imports.{StoreAndSlots, Moment, snapshot_of, slot_of, slot_vacuums, one_vacuums, IsFreeSession, get_some, another_runs, causes_of_inserted, causes_of_called}
+use Rattle.access_method.proofs.Imports.{is_tall, InsertCallIsCaused, causes_of_gone, Inserted, slots_within, has_entry, InsertsOrKeeps, slots_with, causes_of_run, causes_of_aminsert}
+use Rattle.access_method.proofs.Imports.{none_is_left, InsertHasCause, NothingHinders, IsForWantOfSpace, IsOfSpace, InsertsUnhindered, NoneVacuums, Index}
 use Rattle.schedule.proofs.Fitting.{beyond_of, running_of}
 
 true_false : true ≡ false → ⊥

@@ -1,47 +1,19 @@
 -- What the answers of an insert and of a scan say, read off the run.
-use Rattle.std.specs.Prelude.{IfOk, IfErr, OnOk, unwrap_or}
-use Rattle.index_model.specs.Faults.{HasCause}
-use Rattle.page_action.specs.Causes.{causes_of_forced, with_row}
-use Rattle.session_calls.specs.declared.answer.Answer.{Answer}
-use Rattle.session_calls.specs.declared.answer.Answer.TheVariants.{Begun, Going, Added, Ready, Done, Finished, Gave, Ended, Forced, Flushed, Checkpointed, Refused}
-use Rattle.schedule.specs.TheoremKinds.{Kind, MaintainsStore, Upkeep, Forces, Flushes, Checkpoints, kind_of}
 use Rattle.schedule.specs.Making.{EventDoes}
-use Rattle.schedule.specs.Events.{kept_answer, IsOfSession, AnswersUpkeep, StoreIsKept}
-use Rattle.schedule.specs.TheoremRuns.{ForEachHistory, Runs, Fits}
-use Rattle.schedule.specs.declared.event.Event.{Event}
 use Rattle.schedule.proofs.Keeping.{Laws}
-use Rattle.whole_calls.specs.Meanings.{IsSameHistory}
-use Rattle.whole_calls.specs.Going.{CallIsRun}
-use Rattle.whole_calls.proofs.Composing.{goes_by}
-use Rattle.whole_calls.proofs.Tellings.{keeps_silent}
 use Rattle.access_method.specs.Counted.{counted, upkeep_outcome}
 use Rattle.std.proofs.Common.{◌≡◌, ◌||◌, ℕ, zero, suc, ◌+◌, ◌-◌, Bool, true, false, Option, Some, None, Result, Ok, Err, List, [], ◌∷◌, ◌++◌, length, take, slice_get, refl, sym, ap, subst, inl, inr, ◌∙◌, arith, length-append, append_assoc}
-use Rattle.std.proofs.lemmas.List.{take_at, length-replicate}
 use Rattle.std.proofs.Math.Seq.{take-append-add}
-use Rattle.index_model.specs.Actions.{Add, ThereAtSomeMoment, Action, KeysDiffer, later_or, last_said, contents_after}
-use Rattle.index_model.specs.Calls.{Failed, Ask, AskInsert, AskScan, Call, Ending, Running, Finished as EndsFinished, Meets, AnswersRight, InsertMayFail, IsScanAnswer, IsScanAnswerSoFar, end_of}
-use Rattle.index_model.specs.Order.{same_entry}
-use Rattle.index_model.specs.Row.{Row}
-use Rattle.index_model.specs.declared.entry.Entry.{Entry}
-use Rattle.index_model.specs.declared.fault.Fault.{Fault}
-use Rattle.index_model.specs.declared.fault.Fault.TheVariants.{Exists, KeyExists}
-use Rattle.index_model.specs.declared.format.Format.{Format}
-use Rattle.index_model.specs.declared.range.Range.{Range}
 use Rattle.index_model.proofs.Ascending.{same_entry-self}
-use Rattle.index_model.proofs.Histories.{contents_after-append, contents_after-add}
-use Rattle.page_action.specs.declared.page_store.PageStore.{Ghosts}
-use Rattle.session_calls.specs.TheoremCalls.{begun_call}
-use Rattle.session_calls.specs.Sessions.{given_one, ended}
-use Rattle.schedule.specs.TheoremMoments.{StoreAndSlots, snapshot_of}
-use Rattle.schedule.proofs.Lists.{get_append_new, get_set_same, get_within, same_some}
-use Rattle.whole_calls.specs.Meanings.{InsertMeans, inserted_call, shapes}
-use Rattle.whole_calls.specs.Inserting.{InsertIsRun}
 use Rattle.whole_calls.specs.Giving.{Becomes, SessionGivenMeans, given_outcome}
-use Rattle.whole_calls.specs.Going.{CallRuns}
-use Rattle.whole_calls.proofs.Refusing.{or_left, or_right}
-use Rattle.access_method.specs.Indexes.{has_entry, InsertsOrKeeps, AnswersScan}
 use Rattle.access_method.proofs.Refusals.{limits_stay}
-use Rattle.whole_calls.specs.declared.inserted.Inserted.{Inserted}
+use Rattle.access_method.proofs.Imports.{IfOk, IfErr, OnOk, unwrap_or, HasCause, causes_of_forced, with_row, Answer, Begun, Going, Added, Ready, Done, Finished, Gave, Ended, Forced, Flushed}
+use Rattle.access_method.proofs.Imports.{Checkpointed, Refused, Kind, MaintainsStore, Upkeep, Forces, Flushes, Checkpoints, kind_of, kept_answer, IsOfSession, AnswersUpkeep, StoreIsKept}
+use Rattle.access_method.proofs.Imports.{ForEachHistory, Runs, Fits, Event, IsSameHistory, CallIsRun, goes_by, keeps_silent, take_at, length-replicate, Add, ThereAtSomeMoment, Action, KeysDiffer}
+use Rattle.access_method.proofs.Imports.{later_or, last_said, contents_after, Failed, Ask, AskInsert, AskScan, Call, Ending, Running, EndsFinished, Meets, AnswersRight, InsertMayFail}
+use Rattle.access_method.proofs.Imports.{IsScanAnswer, IsScanAnswerSoFar, end_of, same_entry, Row, Entry, Fault, Exists, KeyExists, Format, Range, contents_after-append, contents_after-add}
+use Rattle.access_method.proofs.Imports.{Ghosts, begun_call, given_one, ended, StoreAndSlots, snapshot_of, get_append_new, get_set_same, get_within, same_some, InsertMeans, inserted_call, shapes}
+use Rattle.access_method.proofs.Imports.{InsertIsRun, CallRuns, or_left, or_right, has_entry, InsertsOrKeeps, AnswersScan, Inserted}
 
 -- changes of the shape say nothing of an entry, nor do the first of them
 shapes_say : (n k m : ℕ) (e : Entry) → last_said (take m (shapes n k)) e ≡ None

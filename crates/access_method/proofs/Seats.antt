@@ -1,34 +1,14 @@
 -- Seats and slots.
 use Rattle.std.proofs.Common.{◌≡◌, ◌≢◌, ℕ, ◌<◌, Option, Some, None, unwrap_or, Ok, List, [], ◌∷◌, ◌++◌, length, get_or, slice_get, slice_set, replicate, refl, sym, ap, subst, ◌∙◌, arith, inl, inr}
-use Rattle.std.proofs.lemmas.Bool.{cases_eq, eq-eqb, ne_eqb}
 use Rattle.std.proofs.lemmas.Option.{slice_get-get_or}
-use Rattle.index_model.specs.Actions.{Action}
-use Rattle.index_model.specs.Calls.{AskScan}
-use Rattle.std.specs.Prelude.{◌||◌, Bool, true, false}
-use Rattle.index_model.specs.Faults.{HasCause}
-use Rattle.index_model.specs.declared.fault.Fault.{Fault}
-use Rattle.index_model.specs.declared.fault.Fault.TheVariants.{NoMemory, Io, Stopped, Blocked, Exists, KeyTooLong, BadRow, IndexFull, LogFull, NoFrame, VacuumRunning, NoSession, SessionBusy, BadSuper, BadVersion, LogDamaged, PageDamaged, BadLimits, TooTall, DeviceTooSmall, KeyExists}
-use Rattle.page_action.specs.Causes.{nothing_wrong, is_at_end}
-use Rattle.page_action.specs.States.{Backing}
-use Rattle.index_model.specs.declared.range.Range.{Range}
 use Rattle.page_action.specs.Contents.{entry_on_live_leaf}
-use Rattle.page_action.specs.declared.page_store.PageStore.{Ghosts}
-use Rattle.session_calls.specs.TheoremCalls.{DeadSets, begun_call}
-use Rattle.session_calls.specs.Ops.{RunsOn}
 use Rattle.session_calls.proofs.RunningOn.{stays_vacuum}
-use Rattle.session_calls.specs.declared.request.Request.TheVariants.{Scan as ToScan}
-use Rattle.session_calls.specs.declared.op.Op.{Op}
-use Rattle.schedule.specs.TheoremMoments.{Moment}
-use Rattle.session_calls.specs.Slots.{slot_of, slot_vacuums}
-use Rattle.schedule.specs.Events.{OthersStay, causes_of_begun_at}
-use Rattle.schedule.proofs.Unused.{in_replicate}
-use Rattle.schedule.proofs.Lists.{get_set_same, get_set_other, get_some}
-use Rattle.whole_calls.specs.Meanings.{EndMeans, BeginMeans}
-use Rattle.whole_calls.proofs.Tellings.{true_false}
 use Rattle.page_codec.specs.declared.page.Page.{Page}
-use Rattle.access_method.specs.declared.index.Index.{Index}
-use Rattle.access_method.specs.Indexes.{IndexFits, IndexKeeps, RescanMeans}
-use Rattle.access_method.specs.Tokens.{SeatsAgree, NoneVacuums, seat_for}
+use Rattle.access_method.proofs.Imports.{cases_eq, eq-eqb, ne_eqb, Action, AskScan, ◌||◌, Bool, true, false, HasCause, Fault, NoMemory, Io, Stopped, Blocked, Exists, KeyTooLong, BadRow, IndexFull}
+use Rattle.access_method.proofs.Imports.{LogFull, NoFrame, VacuumRunning, NoSession, SessionBusy, BadSuper, BadVersion, LogDamaged, PageDamaged, BadLimits, TooTall, DeviceTooSmall, KeyExists}
+use Rattle.access_method.proofs.Imports.{nothing_wrong, is_at_end, Backing, Range, Ghosts, DeadSets, begun_call, RunsOn, ToScan, Op, Moment, slot_of, slot_vacuums, OthersStay, causes_of_begun_at}
+use Rattle.access_method.proofs.Imports.{in_replicate, get_set_same, get_set_other, get_some, EndMeans, BeginMeans, true_false, Index, IndexFits, IndexKeeps, RescanMeans, SeatsAgree, NoneVacuums}
+use Rattle.access_method.proofs.Imports.{seat_for}
 use Rattle.access_method.specs.declared.token.Seat.{Seat}
 
 -- no token is open

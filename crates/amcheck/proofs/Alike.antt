@@ -1,11 +1,9 @@
 -- Two checks of the same pages answer alike.
 use Rattle.std.proofs.Common.{◌≡◌, ℕ, suc, inl, inr, true, Ok, Err, Option, Some, List, sym, ap, ◌∙◌}
-use Rattle.page_codec.specs.declared.page.Page.{Page}
 use Rattle.damages.specs.Laws.{FirstIsOne, FirstIsNone}
 use Rattle.amcheck.specs.Laws.{AnswersAreOne, ParentsSeeMore}
-use Rattle.amcheck.specs.Reports.{IsReport, report_of}
 use Rattle.amcheck.specs.declared.report.CheckFault.TheVariants.{Damage, Refused}
-use Rattle.amcheck.specs.declared.report.Report.{Report}
+use Rattle.amcheck.proofs.Imports.{Page, IsReport, report_of, Report}
 use Rattle.amcheck.proofs.ParentDamages.{with_parents}
 
 some_page : (o : Option Page) (p q : Page) → o ≡ Some p → o ≡ Some q → p ≡ q

@@ -1,15 +1,7 @@
 -- The stops of the chains of all levels, each at its place.
 use Rattle.std.proofs.Common.{◌≡◌, ◌⊎◌, ℕ, zero, suc, ◌+◌, ◌-◌, ◌<◌, ◌≤◌, inl, inr, Bool, true, false, nat_lt, Some, None, List, [], ◌∷◌, ◌++◌, length, take, slice_get, get_or, refl, sym, ap, subst, ◌∙◌, arith}
-use Rattle.std.proofs.lemmas.Bool.{cases_lt, lt-ltb, le-ltb}
-use Rattle.std.proofs.lemmas.Option.{slice_get-get_or}
-use Rattle.damages.specs.Damages.{Index, Place, place_at, Here, IsOnLevel}
-use Rattle.damages.proofs.Decided.{no_link}
-use Rattle.damages.proofs.Walks.{has_before}
-use Rattle.amcheck.specs.AllStops.{StopsAreAll, AreAllStops}
-use Rattle.amcheck.specs.Chains.{IsClearChain}
-use Rattle.amcheck.specs.Ends.{IsChainEnd}
-use Rattle.amcheck.specs.Stops.{stop_blocks, IsStop}
-use Rattle.amcheck.specs.declared.stops.Stop.{Stop}
+use Rattle.amcheck.proofs.Imports.{cases_lt, lt-ltb, le-ltb, slice_get-get_or, Index, Place, place_at, Here, IsOnLevel, no_link, has_before, StopsAreAll, AreAllStops, IsClearChain, IsChainEnd}
+use Rattle.amcheck.proofs.Imports.{stop_blocks, IsStop, Stop}
 use Rattle.amcheck.specs.declared.walks.End.{End}
 use Rattle.amcheck.specs.declared.walks.End.TheVariants.{Whole, Off, Met}
 use Rattle.amcheck.proofs.Found.{no_stop}

@@ -1,29 +1,14 @@
 -- Whether an entry or a bound of a page of the format isn't beyond its low: the first entry and the second bound tell.
 use Rattle.std.proofs.Common.{◌≡◌, ◌≢◌, ◌⊎◌, ℕ, ◌<◌, inl, inr, Bool, true, false, Option, Some, None, List, [], ◌∷◌, length, slice_get, refl, sym, ap, subst, ◌∙◌, arith}
-use Rattle.std.specs.List.{Contains, AllByRecursion}
 use Rattle.index_model.specs.Order.{bound_of}
-use Rattle.index_model.specs.declared.bound.Bound.{Bound}
 use Rattle.index_model.specs.declared.entry.Entry.{Entry}
 use Rattle.page_codec.specs.Edits.{entries_of}
-use Rattle.page_codec.specs.Grammar.{IsPage, IsOfKind, IsLeafIn, LinkBefore, Ascends, StartsLow, Below}
-use Rattle.page_codec.specs.declared.page.Downlink.{Downlink}
-use Rattle.page_codec.specs.declared.page.Items.{Items}
-use Rattle.page_codec.specs.declared.page.Items.TheVariants.{Meta, Entries, Downlinks}
-use Rattle.page_codec.specs.declared.page.Page.{Page}
-use Rattle.page_codec.specs.declared.page.PageState.{PageState}
-use Rattle.page_codec.specs.declared.page.PageState.TheVariants.{Live, HalfDead, Deleted}
-use Rattle.tree_shape.specs.Nodes.{links_of, node_of}
-use Rattle.tree_shape.specs.Chains.{LeftContext, Rises, IsBeyond, LinksWithin}
-use Rattle.damages.specs.Damages.{HasNotBeyond}
-use Rattle.damages.proofs.Decided.{no_link, bool_so}
 use Rattle.damages.specs.Lows.{IsFirstBeyond, IsSecondBeyond, IsBoundBeyond}
 use Rattle.damages.proofs.Items.{entries_within, links_within}
 use Rattle.damages.proofs.TreesSound.{entry_beyond, link_beyond}
-use Rattle.amcheck.specs.Places.{IsNoneOrBeyond}
-use Rattle.amcheck.specs.Sketches.{IsSketch, second_bound, least_bound}
-use Rattle.amcheck.specs.Stops.{HasWrongItem, IsWrong, IsLeastNumber}
-use Rattle.amcheck.specs.WrongSketches.{IsWrongSketch}
-use Rattle.amcheck.specs.declared.sketches.Sketch.{Sketch}
+use Rattle.amcheck.proofs.Imports.{Contains, AllByRecursion, Bound, IsPage, IsOfKind, IsLeafIn, LinkBefore, Ascends, StartsLow, Below, Downlink, Items, Meta, Entries, Downlinks, Page, PageState}
+use Rattle.amcheck.proofs.Imports.{Live, HalfDead, Deleted, links_of, node_of, LeftContext, Rises, IsBeyond, LinksWithin, HasNotBeyond, no_link, bool_so, IsNoneOrBeyond, IsSketch, second_bound}
+use Rattle.amcheck.proofs.Imports.{least_bound, HasWrongItem, IsWrong, IsLeastNumber, IsWrongSketch, Sketch}
 
 pub first_not : (low : Option Bound) (es : List Entry) → (IsFirstBeyond low es → ⊥) → (e : Entry) × Contains es e × (IsBeyond low (bound_of e) → ⊥)
 first_not low [] h = absurd (h tt)

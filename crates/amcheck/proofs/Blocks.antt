@@ -1,9 +1,6 @@
 -- One more block in a list of different ones.
 use Rattle.std.proofs.Common.{◌≡◌, ◌≢◌, ◌↔◌, ℕ, ◌<◌, inl, inr, Bool, true, false, List, [], ◌∷◌, ◌++◌, length, get_or, slice_set, sym, subst, ◌∙◌}
-use Rattle.std.proofs.lemmas.Bool.{cases_eq}
-use Rattle.std.proofs.lemmas.List.{get_or-set_same, get_or-set_other}
-use Rattle.tree_shape.specs.Chains.{IsIn, AreDistinct}
-use Rattle.tree_shape.proofs.Members.{in_append_left, in_append_right, in_append_cases, apart_append}
+use Rattle.amcheck.proofs.Imports.{cases_eq, get_or-set_same, get_or-set_other, IsIn, AreDistinct, in_append_left, in_append_right, in_append_cases, apart_append}
 
 pub distinct_more : (xs : List ℕ) (b : ℕ) → AreDistinct xs → (IsIn b xs → ⊥) → AreDistinct (xs ++ b ∷ [])
 distinct_more xs b d not = apart_append xs (b ∷ []) d (tt, tt)

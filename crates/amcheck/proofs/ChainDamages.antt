@@ -1,18 +1,8 @@
 -- The chains of all levels: their first damage, or none.
 use Rattle.std.proofs.Common.{◌≡◌, ◌⊎◌, ℕ, zero, suc, ◌<◌, ◌≤◌, inl, inr, Bool, true, false, List, [], ◌∷◌, ◌++◌, length, get_or, replicate, refl, sym, ap, subst, ◌∙◌, arith, length-append}
-use Rattle.page_codec.specs.declared.page.Page.{Page}
-use Rattle.tree_shape.specs.Chains.{IsIn}
-use Rattle.tree_shape.proofs.Members.{in_append_cases}
-use Rattle.damages.specs.Damages.{Index, index_of, Site, IsOnLevel, IsOfPath, IsDamage, IsSound, IsFirstDamage, ComesBefore, rank}
-use Rattle.damages.specs.Damages.Site.{on_way, on_chain, at_child, at_page, nowhere}
-use Rattle.amcheck.specs.Chains.{IsFirstOfChain}
-use Rattle.amcheck.specs.Ways.{IsClearPath, IsFirstOfPath}
-use Rattle.amcheck.specs.LevelDamages.{IsClearLevel, IsFirstOfLevel, IsOfUpper, AreOfUpper}
-use Rattle.amcheck.specs.Marks.{IsMet}
-use Rattle.amcheck.specs.Stops.{stop_blocks, AreStops}
-use Rattle.amcheck.specs.declared.marks.Met.{Met}
-use Rattle.amcheck.specs.declared.stops.Stop.{Stop}
-use Rattle.tree_shape.proofs.Few.{few_blocks}
+use Rattle.amcheck.proofs.Imports.{Page, IsIn, in_append_cases, Index, index_of, Site, IsOnLevel, IsOfPath, IsDamage, IsSound, IsFirstDamage, ComesBefore, rank, on_way, on_chain, at_child}
+use Rattle.amcheck.proofs.Imports.{at_page, nowhere, IsFirstOfChain, IsClearPath, IsFirstOfPath, IsClearLevel, IsFirstOfLevel, IsOfUpper, AreOfUpper, IsMet, stop_blocks, AreStops, Met, Stop}
+use Rattle.amcheck.proofs.Imports.{few_blocks}
 use Rattle.amcheck.proofs.Walked.{stop_of, blocks_length}
 
 pub upper_on : (ix : Index) (depth block : ℕ) → IsOnLevel ix depth block → IsOfUpper ix (suc depth) block

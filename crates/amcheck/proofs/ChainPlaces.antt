@@ -1,10 +1,6 @@
 -- The places of the stops are noted one after the other.
 use Rattle.std.proofs.Common.{◌≡◌, ◌≢◌, ℕ, suc, ◌<◌, ◌≤◌, inl, inr, Option, Some, None, List, length, slice_get, slice_set, get_or, sym, ap, subst, ◌∙◌, arith}
-use Rattle.std.proofs.lemmas.Bool.{cases_eq}
-use Rattle.std.proofs.lemmas.List.{get_or-set_same, get_or-set_other}
-use Rattle.damages.proofs.Decided.{no_link, some_is}
-use Rattle.amcheck.specs.AllStops.{PlacesAreOfStops}
-use Rattle.amcheck.specs.declared.stops.Stop.{Stop}
+use Rattle.amcheck.proofs.Imports.{cases_eq, get_or-set_same, get_or-set_other, no_link, some_is, PlacesAreOfStops, Stop}
 use Rattle.amcheck.proofs.Walked.{stop_inside}
 
 -- ... those before this one

@@ -1,16 +1,8 @@
 -- The damages of a chain, and what is wrong at the stops of a walk along it.
 use Rattle.std.proofs.Common.{◌≡◌, ◌≢◌, ◌⊎◌, ℕ, ◌<◌, ◌≤◌, inl, inr, Bool, Option, Some, None, List, length, slice_get, get_or, refl, sym, ap, subst, ◌∙◌, arith}
-use Rattle.std.proofs.lemmas.Bool.{cases_lt}
-use Rattle.std.proofs.lemmas.Option.{slice_get-get_or}
-use Rattle.tree_shape.specs.Chains.{LeftContext, Rises}
-use Rattle.tree_shape.specs.KeyPages.{IsUniqueNode}
-use Rattle.damages.specs.Damages.{Index, Place, place_at, Here, node, spot, IsOnLevel, IsMetBefore, HasNotBeyond, IsAfterRoot, IsOfChain}
-use Rattle.damages.proofs.Decided.{no_link, some_is}
-use Rattle.damages.proofs.Walks.{has_before}
-use Rattle.amcheck.specs.Chains.{IsClearChain, IsFirstOfChain}
-use Rattle.amcheck.specs.Ends.{IsEarlier}
-use Rattle.amcheck.specs.Stops.{spot_at, IsStop, AreStops, IsRootAt, IsTooMuch, IsWrong, IsWrongAt, IsBad, IsFirstPlace, IsLeastNumber}
-use Rattle.amcheck.specs.declared.stops.Stop.{Stop}
+use Rattle.amcheck.proofs.Imports.{cases_lt, slice_get-get_or, LeftContext, Rises, IsUniqueNode, Index, Place, place_at, Here, node, spot, IsOnLevel, IsMetBefore, HasNotBeyond, IsAfterRoot}
+use Rattle.amcheck.proofs.Imports.{IsOfChain, no_link, some_is, has_before, IsClearChain, IsFirstOfChain, IsEarlier, spot_at, IsStop, AreStops, IsRootAt, IsTooMuch, IsWrong, IsWrongAt, IsBad}
+use Rattle.amcheck.proofs.Imports.{IsFirstPlace, IsLeastNumber, Stop}
 use Rattle.amcheck.proofs.Found.{no_stop, wrong_there}
 use Rattle.amcheck.proofs.Walked.{stop_inside}
 

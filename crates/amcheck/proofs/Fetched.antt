@@ -1,12 +1,7 @@
 -- What is written and forced while all pages are read.
 use Rattle.std.proofs.Common.{◌≡◌, ◌⊎◌, ℕ, zero, suc, ◌<◌, ◌≤◌, Bool, true, false, List, [], ◌∷◌, ◌++◌, length, inl, inr, refl, sym, ap, ◌∙◌, arith, append_assoc}
-use Rattle.std.specs.Prelude.{All}
-use Rattle.std.proofs.lemmas.Bool.{cases_lt}
-use Rattle.std.proofs.lemmas.List.{append-nil}
 use Rattle.std.proofs.lemmas.List.Elements.{All-cons}
-use Rattle.page_action.specs.Frames.{Memory, is_block_among, FrameCosts, TakesFrames}
-use Rattle.page_action.specs.States.{Backing}
-use Rattle.amcheck.specs.Reading.{blocks_below, without_first, IsRestBut}
+use Rattle.amcheck.proofs.Imports.{All, cases_lt, append-nil, Memory, is_block_among, FrameCosts, TakesFrames, Backing, blocks_below, without_first, IsRestBut}
 
 -- the blocks below a number are the first of those below a greater one
 pub below_split : (n k : ℕ) → k ≤ n → (rest : List ℕ) × (blocks_below n ≡ blocks_below k ++ rest)

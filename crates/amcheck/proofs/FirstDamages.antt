@@ -1,26 +1,9 @@
 -- What the search for the first damage of the chains comes to.
 use Rattle.std.proofs.Common.{◌≡◌, ℕ, ◌<◌, ◌≤◌, inl, inr, Bool, true, false, Option, Some, None, List, [], ◌∷◌, length, slice_get, refl, sym, ap, subst, ◌∙◌, arith}
-use Rattle.std.proofs.lemmas.Option.{slice_get_within}
-use Rattle.std.specs.Prelude.{IsSome, Result, Ok, Err, IfOk, IfErr, OnOk}
-use Rattle.index_model.specs.declared.fault.Fault.{Fault}
-use Rattle.page_codec.specs.Grammar.{IsBlock, IsPage, IsOfKind}
-use Rattle.page_codec.specs.declared.page.Items.{Items}
-use Rattle.page_codec.specs.declared.page.Items.TheVariants.{Meta, Entries, Downlinks}
-use Rattle.page_codec.specs.declared.page.Page.{Page}
-use Rattle.tree_shape.specs.Nodes.{Node, nodes_of, node_from, node_of}
-use Rattle.tree_acts.specs.TheoremTree.{IsTree}
-use Rattle.damages.specs.Damages.{index_of, or_block, Site, IsDamage, IsSound, IsFirstDamage, ComesBefore, rank}
-use Rattle.damages.specs.Damages.Site.{on_way, on_chain, at_child, at_page, nowhere}
 use Rattle.damages.specs.Levels as levels
-use Rattle.damages.proofs.Fitting.{page_there}
-use Rattle.amcheck.specs.Levels.{NamesRoot}
-use Rattle.amcheck.specs.Places.{StandAtTheirBlocks}
-use Rattle.amcheck.specs.Answers.{IsAnswer}
-use Rattle.amcheck.specs.Reports.{IsReport}
-use Rattle.amcheck.specs.declared.report.CheckFault.{CheckFault}
-use Rattle.amcheck.specs.declared.report.CheckFault.TheVariants.{Damage as Damaged, Refused}
-use Rattle.amcheck.specs.declared.report.Damage.{Damage}
-use Rattle.amcheck.specs.declared.report.Report.{Report}
+use Rattle.amcheck.proofs.Imports.{slice_get_within, IsSome, Result, Ok, Err, IfOk, IfErr, OnOk, Fault, IsBlock, IsPage, IsOfKind, Items, Meta, Entries, Downlinks, Page, Node, nodes_of, node_from}
+use Rattle.amcheck.proofs.Imports.{node_of, IsTree, index_of, or_block, Site, IsDamage, IsSound, IsFirstDamage, ComesBefore, rank, on_way, on_chain, at_child, at_page, nowhere, page_there}
+use Rattle.amcheck.proofs.Imports.{NamesRoot, StandAtTheirBlocks, IsAnswer, IsReport, CheckFault, Damaged, Refused, Damage, Report}
 
 none_of_length : (pages : List Page) → length pages ≡ 0 → pages ≡ []
 none_of_length [] e = refl

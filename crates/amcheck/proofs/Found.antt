@@ -1,8 +1,6 @@
 -- What is wrong at a stop.
 use Rattle.std.proofs.Common.{◌≡◌, ℕ, ◌<◌, Bool, Option, Some, None, is_some, List, length, slice_get, true, false, refl, subst}
-use Rattle.tree_shape.specs.Nodes.{Node}
-use Rattle.amcheck.specs.Stops.{spot_at, IsWrong, IsWrongAt, IsBad, IsLeastNumber}
-use Rattle.amcheck.specs.declared.stops.Stop.{Stop}
+use Rattle.amcheck.proofs.Imports.{Node, spot_at, IsWrong, IsWrongAt, IsBad, IsLeastNumber, Stop}
 use Rattle.amcheck.proofs.Walked.{stop_inside}
 
 abbrev pub no_stop : Stop

@@ -1,17 +1,7 @@
 -- The downlinks of a page, one after the other.
 use Rattle.std.proofs.Common.{◌≡◌, ◌⊎◌, ◌↔◌, ℕ, zero, suc, ◌<◌, ◌≤◌, inl, inr, Bool, true, false, not, IsTrue, Option, Some, None, List, [], ◌∷◌, length, slice_get, slice_set, get_or, refl, sym, ap, subst, ◌∙◌, arith}
-use Rattle.std.proofs.lemmas.Bool.{cases_eq}
-use Rattle.std.proofs.lemmas.List.{get_or-set_same, get_or-set_other}
-use Rattle.index_model.specs.declared.bound.Bound.{Bound}
-use Rattle.page_codec.specs.declared.page.Downlink.{Downlink}
-use Rattle.tree_shape.specs.Nodes.{Node}
-use Rattle.tree_shape.specs.Chains.{from_low}
-use Rattle.damages.specs.Damages.{Index, IsOnLevel}
-use Rattle.damages.proofs.Decided.{no_link, some_is}
-use Rattle.amcheck.specs.AllStops.{IsStopOf, HasNoStop, HaveBlocksOnce}
-use Rattle.amcheck.specs.Downlinks.{IsOff, HasOtherLow, HasWrongBound, IsSkipped, LacksLink, IsSkippedStop, LeadsBefore, IsExtra, HasExtra, DownlinksAreNoted, IsWrongAmong}
-use Rattle.amcheck.specs.Stops.{high_at, IsLeastNumber}
-use Rattle.amcheck.specs.declared.stops.Stop.{Stop}
+use Rattle.amcheck.proofs.Imports.{cases_eq, get_or-set_same, get_or-set_other, Bound, Downlink, Node, from_low, Index, IsOnLevel, no_link, some_is, IsStopOf, HasNoStop, HaveBlocksOnce, IsOff}
+use Rattle.amcheck.proofs.Imports.{HasOtherLow, HasWrongBound, IsSkipped, LacksLink, IsSkippedStop, LeadsBefore, IsExtra, HasExtra, DownlinksAreNoted, IsWrongAmong, high_at, IsLeastNumber, Stop}
 
 pub length-from_low : (low : Option Bound) (links : List Downlink) → length (from_low low links) ≡ length links
 length-from_low low [] = refl

@@ -1,13 +1,7 @@
 -- What is known of the pages that are judged.
 use Rattle.std.proofs.Common.{◌≤◌, inl, inr, List, length, arith}
-use Rattle.std.proofs.lemmas.Bool.{cases_lt}
-use Rattle.index_model.specs.declared.format.Format.{Format}
-use Rattle.page_codec.specs.declared.page.Page.{Page}
-use Rattle.page_action.specs.Stored.{AreStored}
-use Rattle.page_action.proofs.StoredPages.{stored_page}
 use Rattle.tree_acts.proofs.Sizes.{block_low}
-use Rattle.damages.proofs.Fitting.{page_there}
-use Rattle.amcheck.specs.Places.{StandAtTheirBlocks}
+use Rattle.amcheck.proofs.Imports.{cases_lt, Format, Page, AreStored, stored_page, page_there, StandAtTheirBlocks}
 
 -- pages as the format demands stand at their blocks
 pub they_stand : (limits : Format) (pages : List Page) → AreStored limits 0 pages → StandAtTheirBlocks pages

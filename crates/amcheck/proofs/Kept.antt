@@ -1,19 +1,9 @@
 -- What is kept of pages: one more, and what is read of one.
 use Rattle.std.proofs.Common.{◌≡◌, ◌⊎◌, ℕ, zero, suc, ◌+◌, ◌<◌, ◌≤◌, inl, inr, Bool, true, false, drop, List, [], ◌∷◌, ◌++◌, Option, Some, None, length, length-append, slice_get, refl, sym, ap, subst, ◌∙◌, arith}
-use Rattle.std.proofs.lemmas.Option.{slice_get_within, slice_get_past}
-use Rattle.std.specs.Prelude.{IfSome}
-use Rattle.page_codec.specs.declared.page.Items.{Items}
-use Rattle.page_codec.specs.declared.page.Items.TheVariants.{Meta, Entries, Downlinks}
-use Rattle.page_codec.specs.declared.page.Page.{Page}
-use Rattle.page_codec.specs.declared.page.PageState.{PageState}
-use Rattle.page_codec.specs.declared.page.PageState.TheVariants.{Live, HalfDead, Deleted}
 use Rattle.tree_shape.specs.LinkPlaces.{HasLinks}
-use Rattle.tree_shape.specs.Nodes.{Node, node_of, node_from, nodes_of, no_node, links_of}
-use Rattle.damages.proofs.Decided.{no_link, some_is}
-use Rattle.damages.proofs.Fitting.{page_there}
-use Rattle.amcheck.specs.Reports.{sum_of_all, count_entries_on, one_if_half_dead, one_if_deleted, one_if_incomplete}
-use Rattle.amcheck.specs.Sketches.{IsSketch, HoldsSketch, AreKept, links_at, HasGrown}
-use Rattle.amcheck.specs.declared.sketches.Sketch.{Sketch}
+use Rattle.amcheck.proofs.Imports.{slice_get_within, slice_get_past, IfSome, Items, Meta, Entries, Downlinks, Page, PageState, Live, HalfDead, Deleted, Node, node_of, node_from, nodes_of, no_node}
+use Rattle.amcheck.proofs.Imports.{links_of, no_link, some_is, page_there, sum_of_all, count_entries_on, one_if_half_dead, one_if_deleted, one_if_incomplete, IsSketch, HoldsSketch, AreKept}
+use Rattle.amcheck.proofs.Imports.{links_at, HasGrown, Sketch}
 
 get_left : {A : Type 0} (xs ys : List A) (k : ℕ) → k < length xs → slice_get (xs ++ ys) k ≡ slice_get xs k
 get_left [] ys k lt = absurd (omega arith)

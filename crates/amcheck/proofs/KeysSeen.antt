@@ -1,22 +1,11 @@
 -- What parents and children come to where keys are seen too: they have nothing to do with keys.
 use Rattle.std.proofs.Common.{◌≡◌, ℕ, Bool, true, false, List, Result, Ok, Err, IfOk, IfErr, OnOk, OnErr, sym, subst, ◌∙◌}
-use Rattle.page_codec.specs.declared.page.Page.{Page}
-use Rattle.page_action.specs.States.{State, Backing}
-use Rattle.page_action.specs.Stored.{AreStored}
-use Rattle.tree_shape.specs.KeyPages.{AreUnique}
 use Rattle.tree_acts.specs.TheoremKeys.{IsTreeFor}
-use Rattle.tree_acts.specs.TheoremTree.{IsTree}
 use Rattle.tree_acts.proofs.Keyed.{keyed_shows}
 use Rattle.damages.specs.Levels.{HasLevels, HasUniqueLevels}
-use Rattle.damages.specs.Damages.{index_of, Site, IsDamage, IsSound, IsFirstDamage, ComesBefore, rank}
-use Rattle.damages.specs.Damages.Site.{on_way, on_chain, at_child, at_page, nowhere}
-use Rattle.damages.proofs.KeysJudged.{more}
-use Rattle.amcheck.specs.Checks.{IsCheckFault}
 use Rattle.amcheck.specs.Sound.{HasLevelsFor, IsSoundTree}
-use Rattle.amcheck.specs.declared.report.CheckFault.{CheckFault}
-use Rattle.amcheck.specs.declared.report.CheckFault.TheVariants.{Damage as Damaged}
-use Rattle.amcheck.specs.declared.report.Damage.{Damage}
-use Rattle.amcheck.specs.declared.report.Report.{Report}
+use Rattle.amcheck.proofs.Imports.{Page, State, Backing, AreStored, AreUnique, IsTree, index_of, Site, IsDamage, IsSound, IsFirstDamage, ComesBefore, rank, on_way, on_chain, at_child, at_page}
+use Rattle.amcheck.proofs.Imports.{nowhere, more, IsCheckFault, CheckFault, Damaged, Damage, Report}
 
 module _ (keys : Bool) (pages : List Page) (sound : IsSound false keys pages) where
   -- where the chains are right

@@ -1,3 +1,4 @@
+pub mod Imports
 pub mod Blocks
 pub mod Kept
 pub mod Steps

@@ -1,21 +1,11 @@
 -- The damages of parents and children, and what is wrong at the stops of all chains.
 use Rattle.std.proofs.Common.{◌≡◌, ◌≢◌, ◌⊎◌, ℕ, zero, suc, ◌+◌, ◌<◌, ◌≤◌, inl, inr, Bool, true, false, Some, None, List, [], ◌∷◌, length, slice_get, get_or, refl, sym, ap, subst, ◌∙◌, arith}
-use Rattle.std.proofs.lemmas.Bool.{cases_eq, cases_lt}
-use Rattle.page_codec.specs.declared.page.Downlink.{Downlink}
-use Rattle.page_codec.specs.declared.page.Page.{Page}
-use Rattle.page_codec.specs.declared.page.PageState.TheVariants.{HalfDead}
-use Rattle.tree_shape.specs.Nodes.{Node, nodes_of}
-use Rattle.tree_shape.specs.Chains.{LeftContext, from_low, IsIn}
 use Rattle.damages.specs.Damages as damages
-use Rattle.damages.specs.Damages.{Index, index_of, Place, place_at, Here, Item, Site, node, spot, IsOnLevel, IsOnChain, IsUnlinked, IsSecond, IsOfParents, IsDamage, IsSound, IsFirstDamage, ComesBefore, rank}
-use Rattle.damages.specs.Damages.Site.{on_way, on_chain, at_child, at_page, nowhere}
-use Rattle.damages.proofs.Decided.{no_link, some_is, bool_so, on_level_so}
-use Rattle.amcheck.specs.AllStops.{AreAllStops, IsAt, HaveBlocksOnce, IsStopOf, HasNoStop}
-use Rattle.amcheck.specs.Downlinks.{IsOff, AreBelow, HasWrongBound, IsSkipped, LacksLink, IsSkippedStop, LeadsBefore, IsExtra, HasExtra, DownlinksAreNoted, IsWrongAmong}
-use Rattle.amcheck.specs.Levels.{IsNotMet}
-use Rattle.amcheck.specs.ParentDamages.{AreChildrenBelow, IsClearAt, IsFirstChild, IsFirstOfPage, IsFirstAt, AreMarked}
-use Rattle.amcheck.specs.Stops.{high_at, spot_at, stop_blocks, IsStop, IsLeastNumber, StopsAreInUse}
-use Rattle.amcheck.specs.declared.stops.Stop.{Stop}
+use Rattle.amcheck.proofs.Imports.{cases_eq, cases_lt, Downlink, Page, HalfDead, Node, nodes_of, LeftContext, from_low, IsIn, Index, index_of, Place, place_at, Here, Item, Site, node, spot}
+use Rattle.amcheck.proofs.Imports.{IsOnLevel, IsOnChain, IsUnlinked, IsSecond, IsOfParents, IsDamage, IsSound, IsFirstDamage, ComesBefore, rank, on_way, on_chain, at_child, at_page, nowhere}
+use Rattle.amcheck.proofs.Imports.{no_link, some_is, bool_so, on_level_so, AreAllStops, IsAt, HaveBlocksOnce, IsStopOf, HasNoStop, IsOff, AreBelow, HasWrongBound, IsSkipped, LacksLink}
+use Rattle.amcheck.proofs.Imports.{IsSkippedStop, LeadsBefore, IsExtra, HasExtra, DownlinksAreNoted, IsWrongAmong, IsNotMet, AreChildrenBelow, IsClearAt, IsFirstChild, IsFirstOfPage, IsFirstAt}
+use Rattle.amcheck.proofs.Imports.{AreMarked, high_at, spot_at, stop_blocks, IsStop, IsLeastNumber, StopsAreInUse, Stop}
 use Rattle.amcheck.proofs.AllStops.{HasIndex, Indexed, indexed, stop_moved}
 use Rattle.amcheck.proofs.ItemsNoted.{item_inside}
 use Rattle.amcheck.proofs.Walked.{stop_inside, stop_of}

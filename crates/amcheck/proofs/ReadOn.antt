@@ -1,14 +1,7 @@
 -- Pages are read one after the other.
 use Rattle.std.proofs.Common.{◌≡◌, ℕ, zero, suc, ◌+◌, ◌<◌, ◌≤◌, Bool, true, false, not, ◌&&◌, ◌||◌, ◌==◌, nat_lt, nat_le, List, [], ◌∷◌, ◌++◌, length, take, slice_get, Some, ◌≢◌, refl, sym, ap, subst, ◌∙◌, arith}
-use Rattle.std.proofs.lemmas.Bool.{ltb-true, lt-ltb}
-use Rattle.index_model.specs.Faults.{HasCause}
-use Rattle.index_model.specs.declared.fault.Fault.{Fault}
-use Rattle.index_model.specs.declared.fault.Fault.TheVariants.{NoMemory, Io, Stopped, NoFrame, PageDamaged}
-use Rattle.latch_table.specs.Holdings.{has_pin}
 use Rattle.page_action.specs.Causes.{causes_of_read, count_apart, pinned_blocks}
-use Rattle.page_action.specs.Room.{KeepsRoom}
-use Rattle.page_action.specs.States.{State, Backing, IsLater}
-use Rattle.amcheck.specs.Checks.{causes_of_checked}
+use Rattle.amcheck.proofs.Imports.{ltb-true, lt-ltb, HasCause, Fault, NoMemory, Io, Stopped, NoFrame, PageDamaged, has_pin, KeepsRoom, State, Backing, IsLater, causes_of_checked}
 
 pub kept_on : (st : State) (first mid last : Backing) → KeepsRoom st first mid → KeepsRoom st mid last → IsLater first mid → mid.durable ≤ st.acts → KeepsRoom st first last
 kept_on st first mid last a b later few = record {

@@ -1,10 +1,7 @@
 -- The first place at which a search in pieces stopped.
 use Rattle.std.proofs.Common.{◌≡◌, ◌↔◌, ℕ, zero, suc, ◌+◌, ◌-◌, ◌<◌, ◌≤◌, ◌^◌, inl, inr, Bool, true, false, List, [], ◌∷◌, Option, Some, None, IsTrue, min, refl, sym, subst, arith}
-use Rattle.std.specs.List.{AllZip, range_with_len}
-use Rattle.std.proofs.lemmas.Bool.{cases_lt}
 use Rattle.std.specs.Option.{option_map}
-use Rattle.rayon.specs.Lists.{first_true}
-use Rattle.amcheck.specs.Stops.{IsFirstPlace}
+use Rattle.amcheck.proofs.Imports.{AllZip, range_with_len, cases_lt, first_true, IsFirstPlace}
 
 -- of so many places from the first one on
 abbrev IsFirstIn : (ℕ → Type 0) → ℕ → ℕ → Option ℕ → Type 0

@@ -1,19 +1,9 @@
 -- A walk along a chain, as far as it has come.
 use Rattle.std.proofs.Common.{◌≡◌, ◌⊎◌, ℕ, zero, suc, ◌<◌, inl, inr, Some, None, List, [], ◌∷◌, ◌++◌, length, length-append, append_assoc, slice_get, refl, sym, ap, subst, ◌∙◌, arith}
-use Rattle.page_codec.specs.declared.page.Page.{Page}
-use Rattle.tree_shape.specs.Nodes.{nodes_of}
-use Rattle.tree_shape.specs.Chains.{past, IsIn, AreDistinct}
-use Rattle.tree_shape.proofs.Members.{in_append_cases, apart_back}
-use Rattle.damages.specs.Damages.{Index, index_of, Place, next_place, place_at, IsOnLevel}
-use Rattle.damages.proofs.Decided.{no_link, some_is}
 use Rattle.damages.proofs.Places.{one_place}
-use Rattle.amcheck.specs.Marks.{IsMet}
-use Rattle.amcheck.specs.Stops.{spot_at, stop_blocks, IsStop, AreStops}
-use Rattle.amcheck.specs.Ends.{IsChainEnd, IsEarlier}
-use Rattle.amcheck.specs.declared.marks.Met.{Met}
-use Rattle.amcheck.specs.declared.stops.Stop.{Stop}
 use Rattle.amcheck.specs.declared.walks.End.TheVariants as ends
-use Rattle.tree_shape.proofs.Few.{few_blocks}
+use Rattle.amcheck.proofs.Imports.{Page, nodes_of, past, IsIn, AreDistinct, in_append_cases, apart_back, Index, index_of, Place, next_place, place_at, IsOnLevel, no_link, some_is, IsMet, spot_at}
+use Rattle.amcheck.proofs.Imports.{stop_blocks, IsStop, AreStops, IsChainEnd, IsEarlier, Met, Stop, few_blocks}
 
 pub blocks_more : (ss : List Stop) (s : Stop) → stop_blocks (ss ++ s ∷ []) ≡ stop_blocks ss ++ s.block ∷ []
 blocks_more [] s = refl

@@ -1,16 +1,8 @@
 -- The way to the leftmost page of a level, as far as it was gone.
 use Rattle.std.proofs.Common.{◌≡◌, ◌≢◌, ◌⊎◌, ℕ, zero, suc, ◌+◌, ◌<◌, ◌≤◌, inl, inr, Bool, true, false, Option, Some, None, List, [], ◌∷◌, length, get_or, slice_set, refl, sym, ap, subst, ◌∙◌, arith}
-use Rattle.std.proofs.lemmas.Bool.{cases_eq, cases_lt}
-use Rattle.std.proofs.lemmas.List.{length-set, get_or-set_same, get_or-set_other}
-use Rattle.page_codec.specs.declared.page.Page.{Page}
-use Rattle.tree_shape.specs.Nodes.{Node, nodes_of}
-use Rattle.tree_shape.specs.Chains.{IsIn, AreDistinct}
-use Rattle.tree_shape.proofs.Members.{not_in_from}
-use Rattle.damages.specs.Damages.{Index, index_of, or_block, start, left_after_steps, IsOnLevel, IsOfPath}
-use Rattle.tree_shape.proofs.Few.{few_blocks}
-use Rattle.damages.proofs.Decided.{no_link, on_level_so}
 use Rattle.amcheck.specs.Places as places
-use Rattle.amcheck.specs.Ways.{IsClearPath, IsFirstOfPath}
+use Rattle.amcheck.proofs.Imports.{cases_eq, cases_lt, length-set, get_or-set_same, get_or-set_other, Page, Node, nodes_of, IsIn, AreDistinct, not_in_from, Index, index_of, or_block, start}
+use Rattle.amcheck.proofs.Imports.{left_after_steps, IsOnLevel, IsOfPath, few_blocks, no_link, on_level_so, IsClearPath, IsFirstOfPath}
 
 -- a level by its number, and by its depth below the root's
 pub level_there : (pages : List Page) (level depth block : ℕ) → level + depth ≡ (index_of pages).top → places.PageIsOnLevel pages level block → IsOnLevel (index_of pages) depth block

@@ -1,18 +1,10 @@
 -- How many different blocks there are among those that are pinned.
 use Rattle.std.proofs.Common.{◌≡◌, ◌≢◌, ℕ, zero, suc, ◌<◌, ◌≤◌, true, false, eqb, None, List, [], ◌∷◌, length, get_or, refl, sym, ap, inl, inr, ◌∙◌, arith}
-use Rattle.std.specs.List.{All, remove}
 use Rattle.std.specs.Prelude.{take, drop}
-use Rattle.std.proofs.lemmas.Bool.{cases_Bool, eqb-true, eq-eqb, ne_eqb, or_cases, or_left, or_right, cond-true, cond-false}
-use Rattle.std.proofs.lemmas.List.{length-map, get_or_default}
-use Rattle.std.proofs.lemmas.List.Edits.{length-remove}
-use Rattle.std.proofs.lemmas.List.Elements.{All-cons, All-append, All-take, All-drop, All-weaker}
-use Rattle.std.proofs.lemmas.List.Folds.{Any-from_list_any, list_any_none}
-use Rattle.std.proofs.lemmas.List.Quantifiers.{all_pairs_remove}
-use Rattle.page_codec.specs.declared.page.Page.{Page}
-use Rattle.buffer_pool.specs.declared.pool.Pool.{Pool}
-use Rattle.buffer_pool.specs.Frames.{blocks_in, has_block, BlocksAreApart}
 use Rattle.buffer_pool.specs.Pools.{frame_of}
-use Rattle.buffer_pool.specs.Choices.{count_distinct}
+use Rattle.buffer_pool.proofs.Imports.{All, remove, cases_Bool, eqb-true, eq-eqb, ne_eqb, or_cases, or_left, or_right, cond-true, cond-false, length-map, get_or_default, length-remove, All-cons}
+use Rattle.buffer_pool.proofs.Imports.{All-append, All-take, All-drop, All-weaker, Any-from_list_any, list_any_none, all_pairs_remove, Page, Pool, blocks_in, has_block, BlocksAreApart}
+use Rattle.buffer_pool.proofs.Imports.{count_distinct}
 use Rattle.buffer_pool.proofs.Changing.{none_of, has_block-remove_same}
 use Rattle.buffer_pool.proofs.Putting.{no_place_from}
 

@@ -1,14 +1,8 @@
 -- Which pages are changed, as acts change them and writes clean them.
 use Rattle.std.proofs.Common.{◌≡◌, ◌≢◌, ℕ, zero, suc, ◌+◌, ◌<◌, ◌≤◌, Bool, true, false, ◌||◌, cond, eqb, ltb, Option, Some, None, List, [], ◌∷◌, ◌++◌, length, get_or, set, drop, refl, sym, ap, subst, ◌⊎◌, inl, inr, ◌∙◌, arith, length-set, get_or-set_other, get_or-set_same}
-use Rattle.std.proofs.lemmas.Bool.{cases_eq, cases_lt, eqb-true, eq-eqb, ne_eqb, lt-ltb, ltb-true, or_left, or_right}
-use Rattle.std.proofs.lemmas.List.{get_or_default, length_push, drop_more}
-use Rattle.std.proofs.lemmas.List.Edits.{length-remove, get_or-remove_below, get_or-remove_above}
-use Rattle.std.proofs.lemmas.List.Folds.{list_any-append, list_any_at, list_any_none}
-use Rattle.std.proofs.lemmas.List.Quantifiers.{position-Some, all_pairs_push, all_pairs_remove}
-use Rattle.std.proofs.lemmas.List.Sums.{sum_by-set, count_by-le-length}
-use Rattle.std.specs.List.{remove, count_by}
-use Rattle.std.specs.Option.{option_map_or}
-use Rattle.buffer_pool.specs.Frames.{has_block, BlocksAreApart, frame_in, act_in, ArePlaces, AreChanged}
+use Rattle.buffer_pool.proofs.Imports.{cases_eq, cases_lt, eqb-true, eq-eqb, ne_eqb, lt-ltb, ltb-true, or_left, or_right, get_or_default, length_push, drop_more, length-remove}
+use Rattle.buffer_pool.proofs.Imports.{get_or-remove_below, get_or-remove_above, list_any-append, list_any_at, list_any_none, position-Some, all_pairs_push, all_pairs_remove, sum_by-set}
+use Rattle.buffer_pool.proofs.Imports.{count_by-le-length, remove, count_by, option_map_or, has_block, BlocksAreApart, frame_in, act_in, ArePlaces, AreChanged}
 use Rattle.buffer_pool.proofs.Placing.{as_frame, frame_is}
 
 pub frame_cases : (o : Option ℕ) → (o ≡ None) ⊎ ((at : ℕ) × (o ≡ Some at))

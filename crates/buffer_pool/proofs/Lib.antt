@@ -1,3 +1,4 @@
+pub mod Imports
 pub mod Placing
 pub mod Changing
 pub mod Lists

@@ -1,8 +1,6 @@
 -- What stands at a place of a list where one element is put or added.
 use Rattle.std.proofs.Common.{◌≡◌, ◌≢◌, ℕ, zero, suc, ◌<◌, Some, List, [], ◌∷◌, ◌++◌, length, get_or, set, slice_get, refl, sym, ap, ◌∙◌, arith}
-use Rattle.std.proofs.lemmas.List.{get_or-map}
-use Rattle.page_codec.specs.declared.page.Page.{Page}
-use Rattle.buffer_pool.specs.Frames.{blocks_in}
+use Rattle.buffer_pool.proofs.Imports.{get_or-map, Page, blocks_in}
 
 pub slice_get-set_same : {A : Type 0} (xs : List A) (at : ℕ) (y : A) → at < length xs → slice_get (set xs at y) at ≡ Some y
 slice_get-set_same [] at y less = absurd (omega (arith, less))

@@ -1,14 +1,9 @@
 -- What a pool holds, and what is changed of it, where a page was changed or written.
 use Rattle.std.proofs.Common.{◌≡◌, ℕ, ◌+◌, ◌<◌, ◌≤◌, Bool, true, false, ◌||◌, cond, ltb, eqb, Option, Some, None, List, [], ◌∷◌, ◌++◌, length, get_or, set, take, drop, slice_get, refl, sym, ap, subst, inl, inr, ◌∙◌, arith, length-set}
-use Rattle.std.specs.Option.{IsSome, is_some, option_and_then}
-use Rattle.std.specs.List.{remove}
-use Rattle.std.proofs.lemmas.Bool.{cases_lt, cases_Bool, ltb-true, ltb-false, le-ltb, eqb-true, cond-true, cond-false, false_from_ne_true}
-use Rattle.std.proofs.lemmas.List.{length-map, map-set, set-get_or, take-append-drop, get_or-take, get_or-drop, get_or_default, length-take, length-drop}
-use Rattle.std.proofs.lemmas.List.Folds.{list_any-append, Any-from_list_any}
-use Rattle.page_codec.specs.declared.page.Page.{Page}
 use Rattle.buffer_pool.specs.Orders.{waiting_in}
-use Rattle.buffer_pool.specs.declared.pool.Pool.{Pool}
-use Rattle.buffer_pool.specs.Frames.{blocks_in, has_block, BlocksAreApart, frame_in, act_in, AreChanged}
+use Rattle.buffer_pool.proofs.Imports.{IsSome, is_some, option_and_then, remove, cases_lt, cases_Bool, ltb-true, ltb-false, le-ltb, eqb-true, cond-true, cond-false, false_from_ne_true, length-map}
+use Rattle.buffer_pool.proofs.Imports.{map-set, set-get_or, take-append-drop, get_or-take, get_or-drop, get_or_default, length-take, length-drop, list_any-append, Any-from_list_any, Page, Pool}
+use Rattle.buffer_pool.proofs.Imports.{blocks_in, has_block, BlocksAreApart, frame_in, act_in, AreChanged}
 use Rattle.buffer_pool.specs.Pools.{most_of, reach_of, pool_count, pool_blocks, page_at, frame_of, held_page, act_of, changed_of, HasSamePages, HasSameChanges, IsChanged, IsWritten, AreWritten}
 use Rattle.buffer_pool.proofs.Placing.{placed_within}
 use Rattle.buffer_pool.proofs.Changing.{frame_cases, act_at, act_none, act_same, act_other, changed_first, changed_again, changed_act, has_block-at}

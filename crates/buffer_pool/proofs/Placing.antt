@@ -1,11 +1,7 @@
 -- The place of a block is its frame.
 use Rattle.std.proofs.Common.{◌≡◌, ◌≢◌, ℕ, zero, suc, ◌<◌, Bool, true, cond, eqb, ltb, Option, Some, None, List, [], ◌∷◌, ◌++◌, length, get_or, set, refl, sym, ap, ◌⊎◌, inl, inr, ◌∙◌, arith, length-set, get_or-set_other, get_or-set_same}
-use Rattle.std.proofs.lemmas.Bool.{cases_eq, cases_lt, eq-eqb, ne_eqb, lt-ltb, le-ltb}
-use Rattle.std.proofs.lemmas.List.{get_or_past, get_or_push, get_or_append_left, length_push}
-use Rattle.std.proofs.lemmas.List.Sums.{position_or_len_is}
-use Rattle.std.specs.List.{position_or_len}
-use Rattle.std.specs.Option.{option_map_or}
-use Rattle.buffer_pool.specs.Frames.{frame_in, act_in, ArePlaces}
+use Rattle.buffer_pool.proofs.Imports.{cases_eq, cases_lt, eq-eqb, ne_eqb, lt-ltb, le-ltb, get_or_past, get_or_push, get_or_append_left, length_push, position_or_len_is, position_or_len}
+use Rattle.buffer_pool.proofs.Imports.{option_map_or, frame_in, act_in, ArePlaces}
 
 -- the frame that a place stands for
 abbrev pub as_frame : ℕ → Option ℕ

@@ -1,13 +1,8 @@
 -- What a pool holds where a page came into a frame.
 use Rattle.std.proofs.Common.{◌≡◌, ◌≢◌, ℕ, suc, max, ◌<◌, cond, ltb, Some, None, List, [], ◌∷◌, ◌++◌, length, get_or, set, slice_get, refl, sym, ap, subst, inl, inr, ◌∙◌, arith, length-set, get_or-set_other, get_or-set_same}
-use Rattle.std.proofs.lemmas.Bool.{cases_eq, cases_lt}
-use Rattle.std.proofs.lemmas.List.{get_or_push, get_or_append_left, length_push, length-map, map-set, map_push}
-use Rattle.std.proofs.lemmas.List.Sums.{sum_by_push}
-use Rattle.std.specs.List.{count_by}
-use Rattle.page_codec.specs.declared.page.Page.{Page}
 use Rattle.buffer_pool.specs.Orders.{waiting_in}
-use Rattle.buffer_pool.specs.declared.pool.Pool.{Pool}
-use Rattle.buffer_pool.specs.Frames.{blocks_in, act_in, ArePlaces, AreChanged}
+use Rattle.buffer_pool.proofs.Imports.{cases_eq, cases_lt, get_or_push, get_or_append_left, length_push, length-map, map-set, map_push, sum_by_push, count_by, Page, Pool, blocks_in, act_in}
+use Rattle.buffer_pool.proofs.Imports.{ArePlaces, AreChanged}
 use Rattle.buffer_pool.specs.Pools.{most_of, reach_of, pool_count, pool_blocks, page_at, frame_of, held_page, act_of, changed_of, HasSameChanges, CanBeTaken, IsPut}
 use Rattle.buffer_pool.proofs.Placing.{as_frame, act_by, act_is, frame_is, place_cases, place_of_frame, place_of_none, placed_push, placed_set, placed_within}
 use Rattle.buffer_pool.proofs.Changing.{frame_cases, act_at, act_none}

@@ -1,21 +1,11 @@
 -- What is true of every pool.
 use Rattle.std.proofs.Common.{◌≡◌, ℕ, zero, suc, ◌<◌, ◌≤◌, Bool, true, false, not, cond, eqb, ltb, Option, Some, None, List, [], ◌∷◌, length, get_or, slice_get, refl, sym, ap, inl, inr, ◌∙◌, arith}
-use Rattle.std.specs.Option.{IsSome, IfSome, IfNone, is_some}
 use Rattle.std.specs.List.{All, position, position_or_len}
-use Rattle.std.proofs.lemmas.Bool.{cases_lt, cases_Bool, lt-ltb, ltb-false, not-false, not-true, false_from_ne_true}
-use Rattle.std.proofs.lemmas.List.{length-map, get_or_default}
-use Rattle.std.proofs.lemmas.List.Elements.{All-from_get_or}
-use Rattle.std.proofs.lemmas.List.Folds.{Any-from_list_any}
-use Rattle.std.proofs.lemmas.List.Quantifiers.{position-Some}
-use Rattle.std.proofs.lemmas.List.Sums.{fails_before_first}
-use Rattle.std.proofs.lemmas.Bool.{eqb-true}
-use Rattle.std.proofs.lemmas.Option.{slice_get_within, get_or_from_slice_get}
-use Rattle.page_codec.specs.declared.page.Page.{Page}
 use Rattle.buffer_pool.specs.Orders.{waiting_in}
-use Rattle.buffer_pool.specs.declared.pool.Pool.{Pool}
-use Rattle.buffer_pool.specs.Frames.{blocks_in, has_block, BlocksAreApart}
 use Rattle.buffer_pool.specs.Pools.{most_of, reach_of, pool_count, pool_blocks, page_at, frame_of, held_page, act_of, changed_of, HasSameChanges, HasSamePages, IsPool}
-use Rattle.buffer_pool.specs.Choices.{AreCleanPinned, IsFreeFrame, IsOldest, AreAllPinned}
+use Rattle.buffer_pool.proofs.Imports.{IsSome, IfSome, IfNone, is_some, cases_lt, cases_Bool, lt-ltb, ltb-false, not-false, not-true, false_from_ne_true, length-map, get_or_default}
+use Rattle.buffer_pool.proofs.Imports.{All-from_get_or, Any-from_list_any, position-Some, fails_before_first, eqb-true, slice_get_within, get_or_from_slice_get, Page, Pool, blocks_in, has_block}
+use Rattle.buffer_pool.proofs.Imports.{BlocksAreApart, AreCleanPinned, IsFreeFrame, IsOldest, AreAllPinned}
 use Rattle.buffer_pool.proofs.Placing.{placed_within}
 use Rattle.buffer_pool.proofs.Changing.{frame_cases, has_block-at, all_changed}
 use Rattle.buffer_pool.proofs.Putting.{no_act, held_at, held_none, frame_from, place_from, place_of_page}

@@ -1,13 +1,9 @@
 -- Those that wait in an order, while it is changed.
 use Rattle.std.proofs.Common.{◌≡◌, ◌≢◌, inl, inr, ℕ, ◌+◌, ◌-◌, ◌<◌, ◌≤◌, true, false, eqb, Some, List, [], ◌∷◌, ◌++◌, length, take, drop, get_or, refl, sym, ap, ◌∙◌, arith}
 use Rattle.std.specs.List.{remove, insert, swap, list_any, position}
-use Rattle.std.proofs.lemmas.Bool.{cases_eq, cases_lt, eqb-true, eq-eqb, ne_eqb}
-use Rattle.std.proofs.lemmas.List.{length-take, length-drop, length-append, get_or-take, get_or-drop, get_or_append_left, get_or_at, take_all}
-use Rattle.std.proofs.lemmas.List.Edits.{Swapped, swapped_from_swap, length-swap, length-remove, length-insert, get_or-insert_above, get_or-remove_below, get_or-remove_above}
-use Rattle.std.proofs.lemmas.Option.{slice_get-get_or}
-use Rattle.indexmap.specs.IndexSet.{move_index}
-use Rattle.std.proofs.lemmas.List.Quantifiers.{position-Some}
-use Rattle.buffer_pool.specs.Frames.{has_block}
+use Rattle.buffer_pool.proofs.Imports.{cases_eq, cases_lt, eqb-true, eq-eqb, ne_eqb, length-take, length-drop, length-append, get_or-take, get_or-drop, get_or_append_left, get_or_at, take_all}
+use Rattle.buffer_pool.proofs.Imports.{Swapped, swapped_from_swap, length-swap, length-remove, length-insert, get_or-insert_above, get_or-remove_below, get_or-remove_above, slice_get-get_or}
+use Rattle.buffer_pool.proofs.Imports.{move_index, position-Some, has_block}
 use Rattle.buffer_pool.proofs.Changing.{has_block-at}
 use lib.Seq.{ext_get_or}
 

@@ -1,15 +1,10 @@
 -- What is told of a check that found a damage.
 use Rattle.std.proofs.Common.{◌≡◌, Bool, true, ℕ, Option, Result, Ok, Err, List, IfOk, IfErr}
 use Rattle.amcheck.specs.Answers.{IsAnswer}
-use Rattle.amcheck.specs.Checks.{IsCheckFault}
 use Rattle.amcheck.specs.declared.report.CheckFault.{CheckFault}
 use Rattle.amcheck.specs.declared.report.CheckFault.TheVariants.{Damage, Refused as NotChecked}
 use Rattle.amcheck.specs.declared.report.Report.{Report}
-use Rattle.page_action.specs.States.{State, Backing}
-use Rattle.tree_acts.specs.TheoremKeys.{IsTreeFor}
-use Rattle.command_line.specs.Reporting.{PrintsDamage, PrintsAnswer}
-use Rattle.command_line.specs.declared.end.End.{End}
-use Rattle.command_line.specs.declared.end.End.TheVariants.{Done, Damaged, Refused}
+use Rattle.command_line.proofs.Imports.{IsCheckFault, State, Backing, IsTreeFor, PrintsDamage, PrintsAnswer, End, Done, Damaged, Refused}
 
 -- a damage that was printed is the first that the pages have, and sound pages have none
 pub tells_damage : {E : Type 0} (checked : Result Report CheckFault) (result : Result End E) (parents : Bool) (st : State) (was now : Backing)

@@ -1,26 +1,9 @@
 -- What is printed of a run that is done.
 use Rattle.std.proofs.Common.{◌≡◌, ◌++◌, ◌∷◌, ℕ, List, [], Option, refl, subst}
-use Rattle.std.specs.Prelude.{Result, Ok, Err, IfOk, OnOk}
-use Rattle.std.specs.Io.KnownBytes.{Appends}
-use Rattle.device.specs.declared.device.Device.{Ghosts as DeviceGhosts}
-use Rattle.index_model.specs.declared.dead_rows.DeadRows.{Ghosts as SetGhosts}
-use Rattle.index_model.specs.declared.fault.Fault.{Fault}
-use Rattle.page_action.specs.declared.page_store.PageStore.{Ghosts}
-use Rattle.schedule.specs.declared.event.Event.TheVariants.{Checkpoint}
-use Rattle.session_calls.specs.declared.answer.Answer.{Answer}
-use Rattle.session_calls.specs.declared.answer.Answer.TheVariants.{Refused as NotMade}
-use Rattle.page_store.specs.declared.store.Store.{Store}
 use Rattle.sessions.specs.Doing.{IsEventDone}
-use Rattle.sessions.specs.declared.job.Job.{Job}
 use Rattle.sessions.specs.declared.outcome.Finished.{Finished}
-use Rattle.world.specs.Worlds.{inside}
-use Rattle.world.specs.declared.world.World.{World}
-use Rattle.text_forms.specs.Printing.{answer_text}
-use Rattle.command_line.specs.Receipts.{run_text}
-use Rattle.command_line.specs.Running.{PrintsDone, PrintsRun, end_after, last_text}
-use Rattle.command_line.specs.RunningFiles.{IsWorldOfFile, PrintsRunOnFile}
-use Rattle.command_line.specs.declared.end.End.{End}
-use Rattle.command_line.specs.declared.end.End.TheVariants.{Done}
+use Rattle.command_line.proofs.Imports.{Result, Ok, Err, IfOk, OnOk, Appends, DeviceGhosts, SetGhosts, Fault, Ghosts, Checkpoint, Answer, NotMade, Store, Job, inside, World, answer_text, run_text}
+use Rattle.command_line.proofs.Imports.{PrintsDone, PrintsRun, end_after, last_text, IsWorldOfFile, PrintsRunOnFile, End, Done}
 
 -- after a checkpoint that isn't refused
 pub not_refused : (answer : Answer) → ((fault : Fault) → answer ≡ NotMade fault → ⊥) → (Done ≡ end_after answer) × (last_text answer ≡ answer_text answer ++ 10 ∷ [])

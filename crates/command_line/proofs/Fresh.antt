@@ -1,21 +1,18 @@
 -- The pages of an empty index are a tree with no entry on it.
 use Rattle.std.specs.Prelude.{◌≡◌, ℕ, zero, suc, true, false, ◌||◌, Option, Some, None, IfSome, IsNone, List, [], ◌∷◌}
-use Rattle.std.specs.List.{AllByRecursion}
 use Rattle.std.proofs.Common.{refl, sym, ap, subst, ◌∙◌}
 use Rattle.index_model.specs.Order.{is_among}
 use Rattle.index_model.specs.declared.bound.Bound.{Bound}
-use Rattle.index_model.specs.declared.entry.Entry.{Entry}
 use Rattle.page_action.specs.Contents.{live_entries, is_on, entry_on_live_leaf}
 use Rattle.page_codec.specs.Edits.{entries_of, HasEntries}
 use Rattle.page_codec.specs.Grammar.{IsMeta, IsOfKind}
 use Rattle.page_codec.specs.declared.page.Downlink.{Downlink}
 use Rattle.page_codec.specs.declared.page.Items.{Items}
 use Rattle.page_codec.specs.declared.page.Items.TheVariants.{Meta, Entries, Downlinks}
-use Rattle.page_codec.specs.declared.page.Page.{Page}
 use Rattle.page_codec.specs.declared.page.PageState.{PageState}
 use Rattle.page_codec.specs.declared.page.PageState.TheVariants.{Live, HalfDead, Deleted}
 use Rattle.recovery.specs.Fresh.{IsFirstMeta, IsFirstLeaf}
-use Rattle.tree_acts.specs.TheoremKeys.{AreKeyed}
+use Rattle.command_line.proofs.Imports.{AllByRecursion, Entry, Page, AreKeyed}
 use Rattle.tree_acts.specs.TheoremTree.{IsTree}
 use Rattle.tree_shape.specs.Chains.{IsTreeOf}
 use Rattle.tree_shape.specs.Nodes.{links_of, node_of, no_node, nodes_of}

@@ -1,8 +1,7 @@
 -- Lines that are read one after the other.
 use Rattle.std.proofs.Common.{◌≡◌, ◌∷◌, [], ◌++◌, ◌∙◌, ◌==◌, ℕ, true, false, List, length, refl, ap, sym, subst, append_assoc, arith}
 use Rattle.std.proofs.lemmas.Bool.{false≢true, eqb-true}
-use Rattle.command_line.specs.JobFiles.{SpellsJob, SpellJobs, sets_with, sets_after}
-use Rattle.sessions.specs.declared.job.Job.{Job}
+use Rattle.command_line.proofs.Imports.{SpellsJob, SpellJobs, sets_with, sets_after, Job}
 
 joined : (jobs : List Job) (job : Job) (more : List Job) → jobs ++ (job ∷ more) ≡ (jobs ++ job ∷ []) ++ more
 joined jobs job more = sym (append_assoc jobs (job ∷ []) more)

@@ -1,25 +1,10 @@
 -- What a command printed stays printed while the output is flushed.
 use Rattle.std.proofs.Common.{◌≡◌, ◌∙◌, ℕ, Bool, List, subst}
-use Rattle.std.specs.Prelude.{Option, Some, None, IsSomeAnd, IfNone, MatchOption}
-use Rattle.std.specs.Io.KnownBytes.{Appends, Keeps}
-use Rattle.std.proofs.lemmas.Option.{IfSome_then, none-some, same_Some}
-use Rattle.std.proofs.lemmas.Result.{IfOk-weaker}
-use Rattle.device.specs.declared.device.Device.{Ghosts as DeviceGhosts}
-use Rattle.index_model.specs.declared.dead_rows.DeadRows.{Ghosts as SetGhosts}
-use Rattle.index_model.specs.declared.limits.Limits.{Limits}
-use Rattle.page_action.specs.declared.page_store.PageStore.{Ghosts}
-use Rattle.page_action.specs.States.{State}
-use Rattle.page_codec.specs.declared.page.Page.{Page}
-use Rattle.page_store.specs.declared.store.Store.{Store}
-use Rattle.world.specs.declared.world.World.{World}
-use Rattle.command_line.specs.Commands.{DoesCommand, Named, PrintsCheck, PrintsCommand, PrintsCreation, PrintsDump, PrintsPlay, PrintsRunning}
 use Rattle.command_line.specs.Left.{IfNotRun}
-use Rattle.command_line.specs.Listing.{PrintsPages, ListsFirst}
-use Rattle.command_line.specs.Reporting.{PrintsReport, PrintsDamage}
-use Rattle.command_line.specs.RunningFiles.{PrintsRunOfJobFile}
 use Rattle.command_line.specs.declared.dead.DeadList.{DeadList}
-use Rattle.command_line.specs.declared.end.End.{End}
-use Rattle.command_line.specs.declared.engine.Setting.{Setting}
+use Rattle.command_line.proofs.Imports.{Option, Some, None, IsSomeAnd, IfNone, MatchOption, Appends, Keeps, IfSome_then, none-some, same_Some, IfOk-weaker, DeviceGhosts, SetGhosts, Limits, Ghosts}
+use Rattle.command_line.proofs.Imports.{State, Page, Store, World, DoesCommand, Named, PrintsCheck, PrintsCommand, PrintsCreation, PrintsDump, PrintsPlay, PrintsRunning, PrintsPages, ListsFirst}
+use Rattle.command_line.proofs.Imports.{PrintsReport, PrintsDamage, PrintsRunOfJobFile, End, Setting}
 use Rattle.command_line.specs.declared.file_commands.Created.{Created}
 use Rattle.command_line.specs.declared.file_commands.Looked.{Looked}
 use Rattle.command_line.specs.declared.left.Left.{Left}

@@ -1,3 +1,4 @@
+pub mod Imports
 pub mod Scripts
 pub mod Workers
 pub mod JobsRead

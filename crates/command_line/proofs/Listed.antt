@@ -1,13 +1,7 @@
 -- Pages printed one after the other.
 use Rattle.std.proofs.Common.{◌≡◌, ℕ, ◌+◌, ◌++◌, ◌∷◌, [], List, take, slice_get, Some, true, sym, ap, ◌∙◌, subst}
-use Rattle.std.proofs.KnownBytes.{Appends-trans}
-use Rattle.std.proofs.lemmas.List.{take_more, flat_map_more}
-use Rattle.std.proofs.lemmas.Option.{get_or_from_slice_get, slice_get_within}
-use Rattle.std.specs.Io.KnownBytes.{Appends}
-use Rattle.std.specs.Prelude.{Option, Bool, get_or}
-use Rattle.page_codec.specs.declared.page.Page.{Page}
 use Rattle.text_forms.specs.Dumping.{page_text, pages_text}
-use Rattle.command_line.specs.Listing.{PrintsPages}
+use Rattle.command_line.proofs.Imports.{Appends-trans, take_more, flat_map_more, get_or_from_slice_get, slice_get_within, Appends, Option, Bool, get_or, Page, PrintsPages}
 
 -- the lines of a page stand after those of the pages before it
 next_lines : (pages : List Page) (i : ℕ) (page : Page) → slice_get pages i ≡ Some page

@@ -1,15 +1,8 @@
 -- What is told of the pages of a store whose state has stayed.
 use Rattle.std.proofs.Common.{◌≡◌, ℕ, Bool, List, Option, sym, subst}
-use Rattle.amcheck.specs.Checks.{causes_of_checked}
-use Rattle.device.specs.declared.device.Device.{Ghosts as DeviceGhosts}
 use Rattle.index_model.specs.Faults.{HasCause}
-use Rattle.index_model.specs.declared.fault.Fault.{Fault}
-use Rattle.page_action.specs.States.{State}
-use Rattle.page_action.specs.declared.page_store.PageStore.{Ghosts}
-use Rattle.page_store.specs.declared.store.Store.{Store}
-use Rattle.command_line.specs.Files.{IsOpenedFromFile, IsLookedAt, IsCheckRefused}
-use Rattle.command_line.specs.Listing.{PrintsPages, ListsFirst}
-use Rattle.command_line.specs.Reporting.{PrintsReport, PrintsDamage}
+use Rattle.command_line.specs.Files.{IsOpenedFromFile, IsCheckRefused}
+use Rattle.command_line.proofs.Imports.{causes_of_checked, DeviceGhosts, Fault, State, Ghosts, Store, PrintsPages, ListsFirst, PrintsReport, PrintsDamage}
 
 module _ (now was : State) (same : now ≡ was) (honest : Bool) (old new : Option (List ℕ)) where
   pub report_stays : PrintsReport honest was.pages old new → PrintsReport honest now.pages old new

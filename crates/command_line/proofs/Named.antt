@@ -1,9 +1,6 @@
 -- The command that a parse of the command line names, and what is said of its arguments.
 use Rattle.std.proofs.Common.{◌≡◌, ◌∙◌, ℕ, Bool, List, [], true, inl, inr, refl, sym, ap, ap₂, subst, option_map}
-use Rattle.std.specs.Prelude.{Option, Some, None, Box}
 use Rattle.std.specs.Box.{box_value}
-use Rattle.std.proofs.lemmas.Option.{none-some, same_Some}
-use Rattle.index_model.specs.declared.limits.Limits.{Limits}
 use Rattle.clap.specs.Words.{App, HasKind, HasMatchesOf, Kinds, Row, Text, fault_of, is_simple, is_simple_and_free, kind_of, one_text, rows_of, subcommand_name_of, subcommand_of, subcommand_rows, subcommand_rows_of}
 use Rattle.clap.specs.declared.error.Error.{Error}
 use Rattle.clap.specs.declared.error.kind.ErrorKind.TheVariants.{OutOfMemory}
@@ -14,9 +11,7 @@ use Rattle.clap.specs.declared.parser.matches.SubCommand.{SubCommand}
 use Rattle.clap.proofs.OnLiterals.{clap_on_literals}
 use Rattle.clap.proofs.WalkLemmas.{one_text-rows}
 use Rattle.command_line.specs.CommandLine.{HasFlag, HasLimits, HasNumber, HasRunSizes, HasSetting, said_in}
-use Rattle.command_line.specs.Commands.{IsNoCommand, NamesNone}
-use Rattle.command_line.specs.Program.{KeepsLine, named_by, program_line}
-use Rattle.command_line.specs.declared.engine.Setting.{Setting}
+use Rattle.command_line.proofs.Imports.{Option, Some, None, Box, none-some, same_Some, Limits, IsNoCommand, NamesNone, KeepsLine, named_by, program_line, Setting}
 
 -- clap's clauses tell all of this command line
 pub line_is_simple : is_simple program_line ≡ true

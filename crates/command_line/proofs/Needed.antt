@@ -1,15 +1,13 @@
 -- Words that keep the command line name a command.
 use Rattle.std.proofs.Common.{◌≡◌, Bool, List, [], ◌∷◌, true, false, cond, not, ◌&&◌, refl, true≢false, sym}
 use Rattle.std.specs.Prelude.{Option, Some, None, IfSome, is_some, find, option_map, ⊤}
-use Rattle.std.specs.List.{list_any}
 use Rattle.clap.specs.Facts.{explicit_source}
 use Rattle.clap.specs.Faults.{check_fault, defaults_fault, entered_fault, level_fault, settle_fault, walk_fault}
 use Rattle.clap.specs.Kinds.{Kinds, check_kinds, or_else}
 use Rattle.clap.specs.Simple.{App, Shape, argument_words, built, entered, label_of, names_of, rows_at}
 use Rattle.clap.specs.Takes.{is_given}
 use Rattle.clap.specs.Walk.{Held, Names, Row, Text, answers_to, finished, nothing_held, settled, stop_after, walk, walk_from}
-use Rattle.command_line.specs.Commands.{IsNoCommand, NamesNone}
-use Rattle.command_line.specs.Program.{KeepsLine, named_by, program_line}
+use Rattle.command_line.proofs.Imports.{list_any, IsNoCommand, NamesNone, KeepsLine, named_by, program_line}
 
 -- where there is no kind, there is none after the first list
 no_second : (xs ys : Kinds) → or_else xs ys ≡ [] → ys ≡ []

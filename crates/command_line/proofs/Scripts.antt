@@ -1,7 +1,6 @@
 -- Lines by their words.
 use Rattle.std.proofs.Common.{◌≡◌, ℕ, List}
-use Rattle.text_forms.specs.Spelling.{words_of}
-use Rattle.command_line.specs.Script.{line_words, Spells}
+use Rattle.command_line.proofs.Imports.{words_of, line_words, Spells}
 use Rattle.command_line.specs.declared.line.Line.{Line}
 use Rattle.command_line.specs.declared.line.Line.TheVariants.{Nothing}
 use Rattle.text_forms.proofs.Parts.{words_of-some}

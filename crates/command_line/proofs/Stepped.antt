@@ -1,29 +1,19 @@
 -- Steps of a session's call, one after the other.
-use Rattle.std.specs.Prelude.{replicate}
 use Rattle.std.proofs.Common.{◌≡◌, ◌≢◌, ◌⊎◌, ℕ, ◌+◌, ◌≤◌, Bool, List, [], ◌∷◌, ◌++◌, refl, inl, inr, subst, arith}
-use Rattle.std.proofs.lemmas.List.{replicate-append-replicate}
 use Rattle.index_model.specs.Actions.{Action}
 use Rattle.index_model.specs.Calls.{Call}
-use Rattle.index_model.specs.declared.dead_rows.DeadRows.{Ghosts as SetGhosts}
-use Rattle.index_model.specs.declared.entry.Entry.{Entry}
-use Rattle.index_model.specs.declared.fault.Fault.{Fault}
-use Rattle.page_action.specs.States.{Continues}
-use Rattle.page_action.specs.declared.page_store.PageStore.{Ghosts}
 use Rattle.schedule.specs.Events.{AnswersBeginning}
 use Rattle.schedule.specs.declared.event.Event.{Event}
-use Rattle.schedule.specs.declared.event.Event.TheVariants.{Insert, Step}
 use Rattle.schedule.proofs.Fitting.{goes_does}
 use Rattle.schedule.proofs.Joining.{ran_then}
 use Rattle.schedule.proofs.Keeping.{Laws}
 use Rattle.schedule.proofs.Running.{none_ran, follow_runs}
 use Rattle.session_calls.specs.Slots.{slot_of}
-use Rattle.session_calls.specs.declared.answer.Answer.{Answer}
 use Rattle.session_calls.specs.declared.answer.Answer.TheVariants.{Begun, Going, Added, Ready, Done, Finished, Gave, Ended, Forced, Flushed, Checkpointed, Refused}
 use Rattle.whole_calls.specs.Spending.{steps_left}
 use Rattle.whole_calls.proofs.Spending.{steps_few, takes_fewer}
-use Rattle.world.specs.Worlds.{ForEachWorldHistory, WorldIsRun, WorldRuns, inside, snapshot_in}
-use Rattle.world.specs.declared.world.World.{World}
-use Rattle.command_line.specs.Stepping.{steps_of, answers_to, IsStepped, IsSteppedInsert}
+use Rattle.command_line.proofs.Imports.{replicate, replicate-append-replicate, SetGhosts, Entry, Fault, Continues, Ghosts, Insert, Step, Answer, ForEachWorldHistory, WorldIsRun, WorldRuns, inside}
+use Rattle.command_line.proofs.Imports.{snapshot_in, World, steps_of, answers_to, IsStepped, IsSteppedInsert}
 
 -- a beginning is answered with Begun, or with a refusal
 pub begun_or_refused : (answer : Answer) → AnswersBeginning answer → (answer ≡ Begun) ⊎ ((fault : Fault) × (answer ≡ Refused fault))

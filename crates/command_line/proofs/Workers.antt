@@ -1,7 +1,6 @@
 -- The lines of workers, one after the other.
 use Rattle.std.proofs.Common.{◌≡◌, ◌∷◌, [], ◌++◌, ◌∙◌, ◌+◌, ◌<◌, ℕ, zero, suc, List, length, take, ap, sym, add-one, append-nil, append_assoc, arith}
-use Rattle.std.specs.Prelude.{slice_index}
-use Rattle.command_line.specs.Receipts.{worker_text, calls_text}
+use Rattle.command_line.proofs.Imports.{slice_index, worker_text, calls_text}
 
 next : (worker : ℕ) (calls : List ℕ) (i : ℕ) → i < length calls
     → calls_text worker (take i calls) ++ worker_text (worker + i) (slice_index calls i) ≡ calls_text worker (take (suc i) calls)

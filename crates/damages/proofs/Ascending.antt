@@ -1,13 +1,8 @@
 -- Lists of downlinks whose bounds ascend strictly: those that a level has, and those that it is to have.
 use Rattle.std.proofs.Common.{◌≡◌, ◌⊎◌, ℕ, suc, inl, inr, Bool, true, false, Option, Some, None, is_some, List, [], ◌∷◌, ◌++◌, refl, sym, ap, ap₂, subst, ◌∙◌, arith}
-use Rattle.index_model.specs.declared.bound.Bound.{Bound}
-use Rattle.page_codec.specs.declared.page.Downlink.{Downlink}
-use Rattle.page_codec.specs.declared.page.PageState.{PageState}
-use Rattle.page_codec.specs.declared.page.PageState.TheVariants.{Live, HalfDead, Deleted}
-use Rattle.tree_shape.specs.Nodes.{Node}
-use Rattle.tree_shape.specs.Chains.{LeftContext, past, low_past, first_or, Rises, IsBoundWithin, BoundsWithin, LinksWithin, FitsState, IsRunOf, due_link, due_links, from_low, downlinks}
 use Rattle.tree_shape.proofs.Order.{before_trans, before_not, before_weak}
-use Rattle.damages.specs.Lows.{IsBoundBeyond}
+use Rattle.damages.proofs.Imports.{Bound, Downlink, PageState, Live, HalfDead, Deleted, Node, LeftContext, past, low_past, first_or, Rises, IsBoundWithin, BoundsWithin, LinksWithin, FitsState}
+use Rattle.damages.proofs.Imports.{IsRunOf, due_link, due_links, from_low, downlinks, IsBoundBeyond}
 
 pub beyond_not : (a b : Option Bound) → IsBoundBeyond a b → IsBoundBeyond b a → ⊥
 beyond_not None b p q = q

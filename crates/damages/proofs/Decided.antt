@@ -1,15 +1,10 @@
 -- What isn't refuted, of those facts that can be decided.
 use Rattle.std.proofs.Common.{◌≡◌, ◌≢◌, ◌⊎◌, ℕ, ◌+◌, inl, inr, Bool, true, false, Option, Some, None, refl, sym, ap, ◌∙◌, arith}
-use Rattle.std.specs.Ordering.{is_lt}
-use Rattle.std.proofs.lemmas.Bool.{cases_eq, cases_lt, cases_Bool}
 use Rattle.std.specs.declared.cmp.Ordering.{Ordering}
 use Rattle.std.specs.declared.cmp.Ordering.TheVariants.{Less, Equal, Greater}
 use Rattle.std.proofs.lemmas.Cmp.{tied_itself}
-use Rattle.index_model.specs.Order.{bound_cmp}
-use Rattle.index_model.specs.declared.bound.Bound.{Bound}
 use Rattle.index_model.proofs.Order.{bounds_total, exact_bounds}
-use Rattle.tree_shape.specs.Chains.{IsBeyond, Rises}
-use Rattle.damages.specs.Damages.{Index, IsOnLevel}
+use Rattle.damages.proofs.Imports.{is_lt, cases_eq, cases_lt, cases_Bool, bound_cmp, Bound, IsBeyond, Rises, Index, IsOnLevel}
 
 pub no_link : {A : Type 0} {n : A} → None ≡ Some n → ⊥
 no_link e = cc

@@ -1,23 +1,9 @@
 -- A page of the format at its place on a level, where nothing is damaged.
 use Rattle.std.proofs.Common.{◌≡◌, ◌≢◌, ℕ, zero, suc, ◌+◌, ◌<◌, inl, inr, true, false, Option, Some, None, is_some, List, [], ◌∷◌, length, slice_get, refl, sym, ap, subst, arith}
-use Rattle.std.specs.List.{Contains}
-use Rattle.index_model.specs.Order.{bound_of}
-use Rattle.index_model.specs.declared.bound.Bound.{Bound}
-use Rattle.index_model.specs.declared.entry.Entry.{Entry}
-use Rattle.page_codec.specs.Edits.{entries_of}
-use Rattle.page_codec.specs.Grammar.{IsPage, IsOfKind, LinkBefore, Ascends}
-use Rattle.page_codec.specs.declared.page.Downlink.{Downlink}
-use Rattle.page_codec.specs.declared.page.Items.{Items}
-use Rattle.page_codec.specs.declared.page.Items.TheVariants.{Meta, Entries, Downlinks}
-use Rattle.page_codec.specs.declared.page.Page.{Page}
-use Rattle.page_codec.specs.declared.page.PageState.{PageState}
-use Rattle.page_codec.specs.declared.page.PageState.TheVariants.{Live, HalfDead, Deleted}
-use Rattle.tree_shape.specs.Nodes.{Node, links_of, node_of, node_from, nodes_of}
-use Rattle.tree_shape.specs.Chains.{LeftContext, IsBeyond, Rises, FitsState, IsPlaced}
-use Rattle.damages.specs.Damages.{index_of, Here, node, spot, IsOnLevel, IsOfChain, HasNotBeyond}
-use Rattle.damages.specs.Levels.{StandAtTheirBlocks}
 use Rattle.damages.proofs.Decided.{link_so, beyond_so, rises_so, bool_so, on_level_so}
-use Rattle.damages.specs.Lows.{IsFirstBeyond, IsSecondBeyond, IsBoundBeyond}
+use Rattle.damages.proofs.Imports.{Contains, bound_of, Bound, Entry, entries_of, IsPage, IsOfKind, LinkBefore, Ascends, Downlink, Items, Meta, Entries, Downlinks, Page, PageState, Live, HalfDead}
+use Rattle.damages.proofs.Imports.{Deleted, Node, links_of, node_of, node_from, nodes_of, LeftContext, IsBeyond, Rises, FitsState, IsPlaced, index_of, Here, node, spot, IsOnLevel, IsOfChain}
+use Rattle.damages.proofs.Imports.{HasNotBeyond, StandAtTheirBlocks, IsFirstBeyond, IsSecondBeyond, IsBoundBeyond}
 use Rattle.damages.proofs.Items.{items_are, high_as_right, half_dead_is}
 
 first_so : (low : Option Bound) (es : List Entry) → ((e : Entry) → Contains es e → (IsBeyond low (bound_of e) → ⊥) → ⊥) → IsFirstBeyond low es

@@ -1,20 +1,8 @@
 -- What the format says of the items of a page, and what is left to be judged of them.
 use Rattle.std.proofs.Common.{◌≡◌, ◌↔◌, ℕ, zero, suc, ◌<◌, Bool, true, false, List, [], ◌∷◌, Option, Some, None, is_some, refl, sym, ap, subst, ◌∙◌, arith}
-use Rattle.std.specs.List.{AllByRecursion}
-use Rattle.index_model.specs.Order.{bound_of, IsUpTo, AscendsPast}
-use Rattle.index_model.specs.declared.bound.Bound.{Bound}
-use Rattle.index_model.specs.declared.entry.Entry.{Entry}
-use Rattle.page_codec.specs.Edits.{entries_of}
-use Rattle.page_codec.specs.Grammar.{IsPage, IsOfKind, Ascends, StartsLow, FollowedBy, LinkBefore, Below, IsLeafIn}
-use Rattle.page_codec.specs.declared.page.Downlink.{Downlink}
-use Rattle.page_codec.specs.declared.page.Items.{Items}
-use Rattle.page_codec.specs.declared.page.Items.TheVariants.{Meta, Entries, Downlinks}
-use Rattle.page_codec.specs.declared.page.Page.{Page}
-use Rattle.page_codec.specs.declared.page.PageState.{PageState}
-use Rattle.page_codec.specs.declared.page.PageState.TheVariants.{Live, HalfDead, Deleted}
-use Rattle.tree_shape.specs.Nodes.{links_of, node_of}
-use Rattle.tree_shape.specs.Chains.{AscendWithin, BoundsWithin, LinksWithin, IsBoundWithin, HasItems}
-use Rattle.damages.specs.Lows.{IsFirstBeyond, IsSecondBeyond, IsBoundBeyond}
+use Rattle.damages.proofs.Imports.{AllByRecursion, bound_of, IsUpTo, AscendsPast, Bound, Entry, entries_of, IsPage, IsOfKind, Ascends, StartsLow, FollowedBy, LinkBefore, Below, IsLeafIn, Downlink}
+use Rattle.damages.proofs.Imports.{Items, Meta, Entries, Downlinks, Page, PageState, Live, HalfDead, Deleted, links_of, node_of, AscendWithin, BoundsWithin, LinksWithin, IsBoundWithin, HasItems}
+use Rattle.damages.proofs.Imports.{IsFirstBeyond, IsSecondBeyond, IsBoundBeyond}
 
 ascend_more : (b : Bound) (es : List Entry) (high : Option Bound) → AscendsPast (Some b) es → AllByRecursion (IsUpTo high) es → AscendWithin (Some b) es high
 ascend_more b [] high up within = tt

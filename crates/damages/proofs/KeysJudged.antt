@@ -1,27 +1,11 @@
 -- What a unique index asks of bounds and keys, where it is judged and nothing is damaged.
 use Rattle.std.proofs.Common.{◌≡◌, ℕ, zero, suc, ◌<◌, inl, inr, Bool, true, false, Option, Some, None, List, [], ◌∷◌, length, slice_get, refl, sym, ap, subst, ◌∙◌, arith}
-use Rattle.std.proofs.lemmas.Bool.{cases_Bool}
 use Rattle.std.specs.Prelude.{IfSome, IsNone}
-use Rattle.std.specs.List.{AllByRecursion}
-use Rattle.std.specs.Ordering.{is_lt}
-use Rattle.index_model.specs.Order.{key_cmp}
 use Rattle.index_model.specs.Row.{Row}
-use Rattle.index_model.specs.declared.bound.Bound.{Bound}
-use Rattle.index_model.specs.declared.entry.Entry.{Entry}
-use Rattle.page_codec.specs.Edits.{entries_of}
-use Rattle.page_codec.specs.Grammar.{IsPage, IsOfKind, IsLeafIn, Ascends, FollowedBy}
-use Rattle.page_codec.specs.declared.page.Downlink.{Downlink}
-use Rattle.page_codec.specs.declared.page.Items.{Items}
-use Rattle.page_codec.specs.declared.page.Items.TheVariants.{Meta, Entries, Downlinks}
-use Rattle.page_codec.specs.declared.page.Page.{Page}
-use Rattle.page_codec.specs.declared.page.PageState.{PageState}
-use Rattle.page_codec.specs.declared.page.PageState.TheVariants.{Live, Deleted}
 use Rattle.tree_shape.specs.KeyBounds.{IsKeyBound}
-use Rattle.tree_shape.specs.KeyPages.{KeyBefore, IsKeyLink, IsUniqueNode, IsUniquePage, AreUnique}
-use Rattle.tree_shape.specs.Nodes.{Node, links_of, node_of, node_from, nodes_of, no_node}
-use Rattle.damages.specs.Damages.{Index, index_of, Here, Site, IsOfChain, IsDamage, IsSound}
-use Rattle.damages.specs.Damages.Site.{on_way, on_chain, at_child, at_page, nowhere}
-use Rattle.damages.specs.Levels.{StandAtTheirBlocks, HasUniqueLevels}
+use Rattle.damages.proofs.Imports.{cases_Bool, AllByRecursion, is_lt, key_cmp, Bound, Entry, entries_of, IsPage, IsOfKind, IsLeafIn, Ascends, FollowedBy, Downlink, Items, Meta, Entries, Downlinks}
+use Rattle.damages.proofs.Imports.{Page, PageState, Live, Deleted, KeyBefore, IsKeyLink, IsUniqueNode, IsUniquePage, AreUnique, Node, links_of, node_of, node_from, nodes_of, no_node, Index}
+use Rattle.damages.proofs.Imports.{index_of, Here, Site, IsOfChain, IsDamage, IsSound, on_way, on_chain, at_child, at_page, nowhere, StandAtTheirBlocks, HasUniqueLevels}
 use Rattle.damages.proofs.Items.{meta_is}
 
 -- each part of it can be decided

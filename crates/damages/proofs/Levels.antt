@@ -1,13 +1,9 @@
 -- Pages without a damage are an index of levels.
 use Rattle.std.proofs.Common.{◌≡◌, ◌≢◌, ◌⊎◌, ℕ, suc, ◌+◌, ◌-◌, ◌<◌, ◌≤◌, inl, inr, Bool, true, false, Option, Some, None, List, [], ◌∷◌, length, take, slice_get, refl, sym, ap, subst, ◌∙◌, arith}
-use Rattle.std.proofs.lemmas.Bool.{cases_eq}
-use Rattle.page_codec.specs.declared.page.Page.{Page}
-use Rattle.tree_shape.specs.Nodes.{Node, node_from, nodes_of}
-use Rattle.tree_shape.specs.Chains.{LeftContext, spot_after, first_spot, first_or, IsRunOf, IsRootLevel, IsIn, IsNotIn, AreDistinct}
 use Rattle.tree_shape.specs.Tree.{IsMetaOf}
-use Rattle.damages.specs.Damages.{Index, index_of, or_block, moved_left, first_child, head, Place, place_at, IsOnLevel, IsAfterRoot, IsSound, IsOfChain}
-use Rattle.damages.specs.Damages.Site.{on_way, on_chain}
-use Rattle.damages.specs.Levels.{StandAtTheirBlocks, IsAbove, AreLevels, HasLevels}
+use Rattle.damages.proofs.Imports.{cases_eq, Page, Node, node_from, nodes_of, LeftContext, spot_after, first_spot, first_or, IsRunOf, IsRootLevel, IsIn, IsNotIn, AreDistinct, Index, index_of}
+use Rattle.damages.proofs.Imports.{or_block, moved_left, first_child, head, Place, place_at, IsOnLevel, IsAfterRoot, IsSound, IsOfChain, on_way, on_chain, StandAtTheirBlocks, IsAbove, AreLevels}
+use Rattle.damages.proofs.Imports.{HasLevels}
 use Rattle.damages.proofs.Decided.{no_link, some_is, link_so, on_level_so}
 use Rattle.damages.proofs.Fitting.{IsRight, right_here, page_there}
 use Rattle.damages.proofs.Items.{meta_is}

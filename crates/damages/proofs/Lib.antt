@@ -1,3 +1,4 @@
+pub mod Imports
 pub mod Ranks
 pub mod Decided
 pub mod Items

@@ -1,13 +1,7 @@
 -- Downlinks of a level by the places of their pages, had and due.
 use Rattle.std.proofs.Common.{◌≡◌, ◌≢◌, ◌⊎◌, ℕ, zero, suc, ◌<◌, inl, inr, Bool, true, false, Some, List, [], ◌∷◌, take, slice_get, refl, sym, ap, subst, ◌∙◌, arith}
-use Rattle.std.proofs.lemmas.Bool.{cases_eq}
-use Rattle.page_codec.specs.declared.page.Downlink.{Downlink}
-use Rattle.page_codec.specs.declared.page.PageState.{PageState}
-use Rattle.page_codec.specs.declared.page.PageState.TheVariants.{Live, HalfDead, Deleted}
-use Rattle.tree_shape.specs.Nodes.{Node}
-use Rattle.tree_shape.specs.Chains.{LeftContext, past, spot_after, due_link, due_links, from_low, downlinks}
 use Rattle.damages.proofs.Ascending.{IsAmong, among_left, among_right, among_cases, Ascend, ascend_front, ascend_back, ascend_sides}
-use Rattle.damages.specs.Lows.{IsBoundBeyond}
+use Rattle.damages.proofs.Imports.{cases_eq, Downlink, PageState, Live, HalfDead, Deleted, Node, LeftContext, past, spot_after, due_link, due_links, from_low, downlinks, IsBoundBeyond}
 use Rattle.damages.proofs.Decided.{no_link, some_is}
 
 pub among_at : (d : Downlink) (xs : List Downlink) (n : ℕ) → slice_get xs n ≡ Some d → IsAmong d xs

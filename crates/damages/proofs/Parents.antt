@@ -1,16 +1,8 @@
 -- Where neither a chain nor parents and children are damaged, each level has the downlinks that the level below is to have.
 use Rattle.std.proofs.Common.{◌≡◌, ◌≢◌, ◌⊎◌, ℕ, suc, ◌+◌, ◌-◌, ◌≤◌, inl, inr, true, false, Some, List, take, slice_get, refl, sym, ap, subst, ◌∙◌, arith}
-use Rattle.page_codec.specs.declared.page.Downlink.{Downlink}
-use Rattle.page_codec.specs.declared.page.Page.{Page}
-use Rattle.page_codec.specs.declared.page.PageState.{PageState}
-use Rattle.page_codec.specs.declared.page.PageState.TheVariants.{Live, HalfDead, Deleted}
-use Rattle.tree_shape.specs.Nodes.{Node, nodes_of}
-use Rattle.tree_shape.specs.Chains.{LeftContext, spot_after, first_spot, due_links, from_low, downlinks, FitsState, IsIn}
-use Rattle.damages.specs.Damages.{Index, index_of, Place, place_at, Here, Item, spot, IsOnLevel, IsOnChain, IsUnlinked, IsSound}
-use Rattle.damages.specs.Damages.Site.{at_child, at_page}
-use Rattle.damages.specs.Levels.{StandAtTheirBlocks}
 use Rattle.damages.proofs.Ascending.{IsAmong, same_list, due_ascend, down_ascend}
-use Rattle.tree_shape.proofs.Few.{is_in_or}
+use Rattle.damages.proofs.Imports.{Downlink, Page, PageState, Live, HalfDead, Deleted, Node, nodes_of, LeftContext, spot_after, first_spot, due_links, from_low, downlinks, FitsState, IsIn, Index}
+use Rattle.damages.proofs.Imports.{index_of, Place, place_at, Here, Item, spot, IsOnLevel, IsOnChain, IsUnlinked, IsSound, at_child, at_page, StandAtTheirBlocks, is_in_or}
 use Rattle.damages.proofs.Decided.{bound_so, bool_so, on_level_so}
 use Rattle.damages.proofs.Levels.{chain_at, right_at, place_told, block_at, distinct_at, run_at}
 use Rattle.damages.proofs.Linking.{leads_or, had, has, IsDue, due, is_due}

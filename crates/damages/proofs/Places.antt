@@ -1,9 +1,6 @@
 -- The places of a level whose pages are a chain.
 use Rattle.std.proofs.Common.{◌≡◌, ℕ, zero, suc, ◌+◌, ◌<◌, inl, inr, Option, Some, None, List, [], ◌∷◌, take, slice_get, refl, sym, ap, subst, ◌∙◌, arith}
-use Rattle.tree_shape.specs.Nodes.{Node}
-use Rattle.tree_shape.specs.Chains.{LeftContext, past, spot_after, first_spot, first_or, IsPlaced, IsRunOf, IsIn, AreDistinct}
-use Rattle.tree_shape.proofs.Members.{not_in_apart, not_in_from}
-use Rattle.damages.specs.Damages.{Place, next_place, place_from}
+use Rattle.damages.proofs.Imports.{Node, LeftContext, past, spot_after, first_spot, first_or, IsPlaced, IsRunOf, IsIn, AreDistinct, not_in_apart, not_in_from, Place, next_place, place_from}
 use Rattle.damages.proofs.Decided.{no_link, some_is}
 
 -- a block of the list, with its place there

@@ -1,11 +1,7 @@
 -- Of two first damages of the same pages both are one.
 use Rattle.std.proofs.Common.{◌≡◌, ℕ, inl, inr, Bool, List, [], ◌∷◌, Option, Some, refl, slice_get, get_or, length, sym, ap, ◌∙◌, arith}
-use Rattle.std.proofs.lemmas.Bool.{cases_lt}
-use Rattle.page_codec.specs.declared.page.Downlink.{Downlink}
-use Rattle.page_codec.specs.declared.page.Page.{Page}
-use Rattle.tree_shape.specs.Chains.{from_low}
-use Rattle.damages.specs.Damages.{left_after_steps, IsSound, Index, Here, Item, Site, IsDamage, IsFirstDamage, IsOfParents, ComesBefore, rank, site_block, place_at, index_of}
-use Rattle.damages.specs.Damages.Site.{on_way, on_chain, at_child, at_page, nowhere}
+use Rattle.damages.proofs.Imports.{cases_lt, Downlink, Page, from_low, left_after_steps, IsSound, Index, Here, Item, Site, IsDamage, IsFirstDamage, IsOfParents, ComesBefore, rank, site_block}
+use Rattle.damages.proofs.Imports.{place_at, index_of, on_way, on_chain, at_child, at_page, nowhere}
 
 -- neither comes before the other
 abbrev Level : List ℕ → List ℕ → Type 0

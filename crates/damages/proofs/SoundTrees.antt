@@ -1,12 +1,7 @@
 -- Pages without a damage, parents and children seen, are a B-link tree.
 use Rattle.std.proofs.Common.{◌≡◌, ◌≢◌, ◌⊎◌, ℕ, suc, ◌-◌, ◌<◌, ◌≤◌, inl, inr, true, false, List, length, sym, ap, subst, ◌∙◌, refl, arith}
-use Rattle.page_codec.specs.declared.page.Page.{Page}
-use Rattle.page_codec.specs.declared.page.PageState.TheVariants.{Deleted}
-use Rattle.tree_shape.specs.Nodes.{Node, nodes_of}
-use Rattle.tree_shape.specs.Chains.{IsTreeOf, first_spot, due_links, downlinks, IsIn}
-use Rattle.damages.specs.Damages.{Index, index_of, Place, IsOnChain, IsSound}
-use Rattle.damages.specs.Damages.Site.{nowhere}
-use Rattle.damages.specs.Levels.{StandAtTheirBlocks, LevelsHaveTree}
+use Rattle.damages.proofs.Imports.{Page, Deleted, Node, nodes_of, IsTreeOf, first_spot, due_links, downlinks, IsIn, Index, index_of, Place, IsOnChain, IsSound, nowhere, StandAtTheirBlocks}
+use Rattle.damages.proofs.Imports.{LevelsHaveTree}
 use Rattle.damages.proofs.Levels.{chain_at, chain_of, right_at, place_told, run_at, distinct_at, on_level_at, rooted, has_meta}
 use Rattle.damages.proofs.Parents.{chain_or, parents_are}
 use Rattle.damages.proofs.Places.{in_from}

@@ -1,12 +1,8 @@
 -- In a B-link tree a level's places are the pages of its chain.
 use Rattle.std.proofs.Common.{◌≡◌, ℕ, zero, suc, ◌-◌, ◌<◌, ◌≤◌, inl, Some, None, List, [], ◌∷◌, ◌++◌, length, take, slice_get, refl, sym, ap, subst, ◌∙◌, arith}
-use Rattle.page_codec.specs.declared.page.Downlink.{Downlink}
-use Rattle.page_codec.specs.declared.page.Page.{Page}
-use Rattle.tree_shape.specs.Nodes.{Node, nodes_of}
-use Rattle.tree_shape.specs.Chains.{LeftContext, past, spot_after, first_spot, first_or, LinksWithin, IsPlaced, IsRunOf, IsRootLevel, IsTreeOf, from_low, downlinks}
-use Rattle.damages.specs.Damages.{Index, index_of, moved_left, first_child, head, start, left_after_steps, Place, place_at, Here, node, spot, IsOnLevel, IsBack}
 use Rattle.damages.proofs.Ascending.{IsAmong, upper_fits}
-use Rattle.tree_shape.proofs.Few.{few_blocks}
+use Rattle.damages.proofs.Imports.{Downlink, Page, Node, nodes_of, LeftContext, past, spot_after, first_spot, first_or, LinksWithin, IsPlaced, IsRunOf, IsRootLevel, IsTreeOf, from_low, downlinks}
+use Rattle.damages.proofs.Imports.{Index, index_of, moved_left, first_child, head, start, left_after_steps, Place, place_at, Here, node, spot, IsOnLevel, IsBack, few_blocks}
 use Rattle.damages.proofs.Decided.{no_link, some_is}
 use Rattle.damages.proofs.Linking.{due}
 use Rattle.damages.proofs.Places.{in_from, one_place, placed_at, place_is}

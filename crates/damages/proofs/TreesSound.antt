@@ -1,24 +1,12 @@
 -- In a B-link tree there is no damage.
 use Rattle.std.proofs.Common.{◌≡◌, ◌≢◌, ◌⊎◌, ℕ, zero, suc, ◌-◌, ◌<◌, ◌≤◌, inl, inr, Bool, true, false, Option, Some, List, [], ◌∷◌, length, take, slice_get, get_or, refl, sym, ap, subst, ◌∙◌, arith}
-use Rattle.std.specs.List.{Contains}
-use Rattle.std.proofs.lemmas.Bool.{cases_lt}
-use Rattle.index_model.specs.Order.{bound_of}
-use Rattle.index_model.specs.declared.bound.Bound.{Bound}
-use Rattle.index_model.specs.declared.entry.Entry.{Entry}
-use Rattle.page_codec.specs.declared.page.Downlink.{Downlink}
-use Rattle.page_codec.specs.declared.page.Page.{Page}
-use Rattle.page_codec.specs.declared.page.PageState.{PageState}
-use Rattle.page_codec.specs.declared.page.PageState.TheVariants.{Live, HalfDead, Deleted}
-use Rattle.tree_shape.specs.KeyPages.{AreUnique}
-use Rattle.tree_shape.specs.Nodes.{Node, node_of, node_from, nodes_of}
-use Rattle.tree_shape.specs.Chains.{LeftContext, spot_after, first_spot, IsBeyond, Rises, AscendWithin, LinksWithin, FitsState, IsRootLevel, IsTreeOf, from_low, downlinks}
-use Rattle.damages.specs.Damages.{Index, index_of, or_block, ComesBefore, Place, Here, Item, Site, node, spot, IsOnLevel, IsOnChain, IsMetBefore, HasNotBeyond, IsAfterRoot, IsUnlinked, IsOfPath, IsOfChain, IsOfParents, IsDamage, IsSound}
-use Rattle.damages.specs.Damages.Site.{on_way, on_chain, at_child, at_page, nowhere}
-use Rattle.damages.specs.Levels.{StandAtTheirBlocks, LevelsHaveTree}
 use Rattle.damages.proofs.Ascending.{IsAmong, Ascend, beyond_not, beyond_trans, bounds_in, down_ascend}
 use Rattle.damages.proofs.Decided.{no_link, some_is, bool_so}
 use Rattle.damages.proofs.Fitting.{page_there}
-use Rattle.damages.specs.Lows.{IsBoundBeyond}
+use Rattle.damages.proofs.Imports.{Contains, cases_lt, bound_of, Bound, Entry, Downlink, Page, PageState, Live, HalfDead, Deleted, AreUnique, Node, node_of, node_from, nodes_of, LeftContext}
+use Rattle.damages.proofs.Imports.{spot_after, first_spot, IsBeyond, Rises, AscendWithin, LinksWithin, FitsState, IsRootLevel, IsTreeOf, from_low, downlinks, Index, index_of, or_block}
+use Rattle.damages.proofs.Imports.{ComesBefore, Place, Here, Item, Site, node, spot, IsOnLevel, IsOnChain, IsMetBefore, HasNotBeyond, IsAfterRoot, IsUnlinked, IsOfPath, IsOfChain, IsOfParents}
+use Rattle.damages.proofs.Imports.{IsDamage, IsSound, on_way, on_chain, at_child, at_page, nowhere, StandAtTheirBlocks, LevelsHaveTree, IsBoundBeyond}
 use Rattle.damages.proofs.Items.{leaf_links, upper_entries}
 use Rattle.damages.proofs.KeysJudged.{unique_at}
 use Rattle.damages.proofs.Linking.{among_at, had, has, IsHad, due, IsDue, is_due, ascend_items, ascend_places}

@@ -1,12 +1,7 @@
 -- A walk along the right links of a level without damage: it ends, and what it came to is a chain.
 use Rattle.std.proofs.Common.{◌≡◌, ℕ, zero, suc, ◌+◌, ◌<◌, ◌≤◌, inl, inr, Option, Some, None, List, [], ◌∷◌, length, refl, sym, ap, subst, ◌∙◌, arith}
-use Rattle.std.proofs.lemmas.Bool.{cases_eq}
-use Rattle.page_codec.specs.declared.page.Page.{Page}
-use Rattle.tree_shape.specs.Nodes.{Node, nodes_of}
-use Rattle.tree_shape.specs.Chains.{LeftContext, past, first_spot, first_or, IsPlaced, IsRunOf, IsIn, IsNotIn, AreDistinct}
-use Rattle.tree_shape.proofs.Members.{not_in_from}
-use Rattle.damages.specs.Damages.{Index, index_of, or_block, head, Place, next_place, place_at}
-use Rattle.tree_shape.proofs.Few.{few_blocks}
+use Rattle.damages.proofs.Imports.{cases_eq, Page, Node, nodes_of, LeftContext, past, first_spot, first_or, IsPlaced, IsRunOf, IsIn, IsNotIn, AreDistinct, not_in_from, Index, index_of, or_block}
+use Rattle.damages.proofs.Imports.{head, Place, next_place, place_at, few_blocks}
 use Rattle.damages.proofs.Decided.{no_link}
 use Rattle.damages.proofs.Fitting.{IsRight}
 

@@ -1,9 +1,6 @@
 -- A way along left links from a page of a chain: it stays on the chain, comes to its first page and never back.
 use Rattle.std.proofs.Common.{◌≡◌, ◌≢◌, ℕ, zero, suc, ◌-◌, ◌<◌, ◌≤◌, inl, inr, Option, Some, None, List, [], ◌∷◌, length, take, slice_get, refl, sym, ap, subst, ◌∙◌, arith}
-use Rattle.std.proofs.lemmas.Bool.{cases_lt}
-use Rattle.tree_shape.specs.Nodes.{Node}
-use Rattle.tree_shape.specs.Chains.{LeftContext, past, spot_after, first_spot, IsRunOf, AreDistinct}
-use Rattle.damages.specs.Damages.{or_block, moved_left}
+use Rattle.damages.proofs.Imports.{cases_lt, Node, LeftContext, past, spot_after, first_spot, IsRunOf, AreDistinct, or_block, moved_left}
 use Rattle.damages.proofs.Decided.{no_link}
 use Rattle.damages.proofs.Places.{one_place, placed_at}
 

@@ -1,24 +1,16 @@
 -- What an act on a tree leaves to the sessions that share it.
 use Rattle.std.proofs.Common.{◌≡◌, ◌≢◌, inl, inr, ℕ, suc, Bool, true, false, ◌||◌, Option, Some, None, if◌then◌else◌, List, [], ◌∷◌, length, slice_get, refl, sym, subst, ◌∙◌, arith}
-use Rattle.std.specs.Prelude.{unwrap_or}
 use Rattle.index_model.specs.Actions.{Add, Shape, said_of}
 use Rattle.index_model.specs.Order.{same_entry}
-use Rattle.index_model.specs.declared.entry.Entry.{Entry}
 use Rattle.index_model.specs.declared.bound.Bound.{Bound}
-use Rattle.latch_table.specs.Holdings.{Table, holding_of, is_held_by_another}
-use Rattle.latch_table.specs.declared.mode.Mode.TheVariants.{Exclusive}
-use Rattle.page_codec.specs.declared.page.Page.{Page}
 use Rattle.page_action.specs.Contents.{entry_on_live_leaf}
-use Rattle.page_action.specs.States.{State, with_table, after_act}
-use Rattle.page_action.specs.Stored.{IsApartFrom}
 use Rattle.tree_acts.specs.Acts.{MayActWith, TreeLasts, ContentsStay, ContentsGain}
 use Rattle.tree_acts.specs.Leaves.{LeafPagesStay}
-use Rattle.tree_acts.specs.Trees.{HasTree, LeadsTo, HasTrail, PlacesLast, TrailsLast}
 use Rattle.tree_acts.proofs.Leaving.{leaves_same}
 use Rattle.tree_acts.proofs.Lows.{lows_same}
-use Rattle.tree_acts.proofs.Overlays.{pages_other}
-use Rattle.tree_acts.specs.Steps.{HoldsAlone, AreApart}
-use Rattle.tree_acts.specs.StepEffects.{IsRaised, IsInOrder, NumbersStay, OthersRely, SplitsALeaf, FinishesASplit, StepEffect, DeletesALeaf, CleanupEffect, IsOneActAtMost}
+use Rattle.descent.proofs.Imports.{unwrap_or, Entry, Table, holding_of, is_held_by_another, Exclusive, Page, State, with_table, after_act, IsApartFrom, HasTree, LeadsTo, HasTrail, PlacesLast}
+use Rattle.descent.proofs.Imports.{TrailsLast, pages_other, HoldsAlone, AreApart, IsRaised, IsInOrder, NumbersStay, OthersRely, SplitsALeaf, FinishesASplit, StepEffect, DeletesALeaf}
+use Rattle.descent.proofs.Imports.{CleanupEffect, IsOneActAtMost}
 use Rattle.descent.proofs.Tables.{any_excluded, free_of}
 
 -- nothing of another session's is in the way of changing these pages

@@ -1,15 +1,7 @@
 -- A block for a new page.
 use Rattle.std.proofs.Common.{◌≡◌, ℕ, zero, suc, ◌<◌, true, false, List, [], ◌∷◌, length, sym, ap, ◌∙◌, arith}
-use Rattle.std.proofs.lemmas.Bool.{and_parts}
 use Rattle.index_model.specs.declared.format.Format.{Format}
-use Rattle.page_codec.specs.Grammar.{IsPage, IsOfKind}
-use Rattle.page_codec.specs.declared.page.Items.{Items}
-use Rattle.page_codec.specs.declared.page.Items.TheVariants.{Meta, Entries, Downlinks}
-use Rattle.page_codec.specs.declared.page.Page.{Page}
-use Rattle.page_codec.specs.declared.page.PageState.TheVariants.{Live}
-use Rattle.page_action.specs.Reuse.{IsFresh, is_deleted, is_deleted_state}
-use Rattle.page_action.specs.States.{State}
-use Rattle.page_action.specs.Stored.{AreStored}
+use Rattle.descent.proofs.Imports.{and_parts, IsPage, IsOfKind, Items, Meta, Entries, Downlinks, Page, Live, IsFresh, is_deleted, is_deleted_state, State, AreStored}
 
 true_false : true ≡ false → ⊥
 true_false h = cc

@@ -1,12 +1,5 @@
 -- Where a page leads a call, in a tree.
 use Rattle.std.proofs.Common.{◌≡◌, ◌≢◌, ◌⊎◌, inl, inr, ℕ, zero, suc, ◌<◌, ◌≤◌, Bool, true, false, slice_get, length, Option, Some, None, refl, sym, ap, subst, ◌∙◌, arith}
-use Rattle.std.proofs.lemmas.Bool.{lt-ltb}
-use Rattle.page_codec.specs.Grammar.{Ascends, LinkBefore, StartsLow, IsPage, IsOfKind}
-use Rattle.page_codec.specs.declared.page.Items.{Items}
-use Rattle.page_codec.specs.declared.page.Items.TheVariants.{Meta, Entries, Downlinks}
-use Rattle.page_codec.specs.declared.page.Page.{Page}
-use Rattle.page_codec.specs.declared.page.PageState.TheVariants.{Live}
-use Rattle.page_action.specs.States.{State}
 use Rattle.page_action.proofs.StoredPages.{stored_page}
 use Rattle.tree_shape.specs.Aims.{aim_of, IsToward}
 use Rattle.tree_shape.specs.Nodes.{Node, node_of, node_from, nodes_of, links_of}
@@ -14,14 +7,13 @@ use Rattle.tree_shape.specs.Chains.{first_spot}
 use Rattle.tree_shape.proofs.Places.{IsCoverAt, cover_at}
 use Rattle.tree_shape.specs.Walks.{is_within}
 use Rattle.tree_shape.specs.declared.aim.SearchKey.{SearchKey}
-use Rattle.tree_acts.specs.Trees.{HasTree, LeadsTo, HasCover, HasTrail}
 use Rattle.tree_acts.specs.Ways.{RightIsThere, IsArrival, NoneIsIncomplete}
 use Rattle.tree_acts.proofs.Meanings.{passed_shows, live_shows, internal_shows, straight_shows, trail_begins_here, trail_moves_right, trail_is_short_here}
 use Rattle.tree_acts.proofs.Finishing.{covered}
 use Rattle.tree_acts.proofs.Lasting.{on_level}
 use Rattle.tree_acts.proofs.Words.{cover_in}
-use Rattle.descent.specs.NextPage.{IsOnDescent, LeadsToNext, LeadsStraight, right_from, right_of, going, DownTo}
-use Rattle.descent.specs.declared.way.Position.{Position}
+use Rattle.descent.proofs.Imports.{lt-ltb, Ascends, LinkBefore, StartsLow, IsPage, IsOfKind, Items, Meta, Entries, Downlinks, Page, Live, State, HasTree, LeadsTo, HasCover, HasTrail, IsOnDescent}
+use Rattle.descent.proofs.Imports.{LeadsToNext, LeadsStraight, right_from, right_of, going, DownTo, Position}
 
 -- an internal page of the format has downlinks that ascend from minus infinity
 internal_links : (page : Page) (level : ℕ) → IsPage page → page.level ≡ suc level → 0 < page.block → Ascends LinkBefore (links_of page.items) × StartsLow (links_of page.items)

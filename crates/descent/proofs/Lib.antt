@@ -1,3 +1,4 @@
+pub mod Imports
 pub mod Looking
 pub mod Tables
 pub mod Leading

@@ -1,22 +1,13 @@
 -- The page to the right of one that is split, with its left link mended; and a block that is free.
 use Rattle.std.proofs.Common.{◌≡◌, ◌≢◌, ℕ, ◌<◌, ◌≤◌, true, false, Option, Some, None, List, length, slice_get, refl, sym, ap, subst, ◌∙◌, arith}
-use Rattle.std.proofs.lemmas.Bool.{and_parts}
-use Rattle.index_model.specs.declared.entry.Entry.{Entry}
 use Rattle.index_model.specs.declared.layout.Layout.TheVariants.{Two}
-use Rattle.page_codec.specs.Grammar.{IsBlock, IsPage, IsOfKind, IsLeafIn}
 use Rattle.page_codec.specs.Edits.{renewed}
 use Rattle.page_codec.proofs.Renewed.{renewed_is_page}
-use Rattle.page_codec.specs.declared.page.Items.{Items}
-use Rattle.page_codec.specs.declared.page.Items.TheVariants.{Meta, Entries, Downlinks}
-use Rattle.page_codec.specs.declared.page.Page.{Page}
 use Rattle.page_codec.specs.declared.page.PageState.{PageState}
-use Rattle.page_codec.specs.declared.page.PageState.TheVariants.{Live, HalfDead, Deleted}
-use Rattle.page_action.specs.Reuse.{IsFresh, is_deleted, is_deleted_page, is_deleted_state}
-use Rattle.page_action.specs.States.{State}
-use Rattle.page_action.specs.Stored.{IsApartFrom, AreActable}
 use Rattle.page_action.proofs.Writable.{writable}
 use Rattle.tree_shape.specs.Mending.{MayBeMended}
-use Rattle.tree_acts.proofs.Overlays.{inside}
+use Rattle.descent.proofs.Imports.{and_parts, Entry, IsBlock, IsPage, IsOfKind, IsLeafIn, Items, Meta, Entries, Downlinks, Page, Live, HalfDead, Deleted, IsFresh, is_deleted, is_deleted_page}
+use Rattle.descent.proofs.Imports.{is_deleted_state, State, IsApartFrom, AreActable, inside}
 use Rattle.descent.specs.Splitting.{RightIsMendable, RightIsStored, mended_to}
 
 -- a page of the format stays one with another left link

@@ -1,8 +1,7 @@
 -- A way that leads on gets shorter, and none is as long as a walk.
 use Rattle.std.proofs.Common.{◌≡◌, ◌⊎◌, ℕ, suc, ◌+◌, ◌*◌, ◌<◌, ◌≤◌, inl, inr, ap, arith}
 use Rattle.std.proofs.Math.Nat.{mul-le-mul_right}
-use Rattle.descent.specs.NextPage.{IsShorter, way_left, walk_length}
-use Rattle.descent.specs.declared.way.Position.{Position}
+use Rattle.descent.proofs.Imports.{IsShorter, way_left, walk_length, Position}
 
 -- a way is shorter than a walk
 pub walk_is_long : (most : ℕ) (way : Position) → way.level ≤ 255 → way_left most way < walk_length most

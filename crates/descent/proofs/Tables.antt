@@ -1,12 +1,9 @@
 -- What latching, pinning and letting go leave of the holdings of all sessions.
 use Rattle.std.proofs.Common.{◌≡◌, ◌≢◌, ℕ, zero, suc, ◌<◌, ◌≤◌, Bool, true, false, ◌&&◌, ◌||◌, ◌==◌, List, [], ◌∷◌, length, refl, sym, ap, subst, inl, inr, ◌∙◌, arith}
-use Rattle.std.proofs.lemmas.Bool.{cases_lt, cases_eq, cases_Bool, or_cases, eqb-true, and_parts}
-use Rattle.latch_table.specs.Holdings.{Holding, Table, excludes, holding_of, nothing_held, with_holding, latched, latches_exclude, pins_exclude, is_held_by_another}
-use Rattle.latch_table.specs.declared.mode.Mode.{Mode}
-use Rattle.latch_table.specs.declared.mode.Mode.TheVariants.{Shared, Exclusive, Cleanup}
 use Rattle.latch_table.specs.declared.mode.Latch.{Latch}
 use Rattle.latch_table.proofs.Tables.{holding_of-with_holding, holding_of-with_holding_other, is_held_by_another-free}
-use Rattle.tree_acts.specs.Steps.{HoldsAlone, AreApart}
+use Rattle.descent.proofs.Imports.{cases_lt, cases_eq, cases_Bool, or_cases, eqb-true, and_parts, Holding, Table, excludes, holding_of, nothing_held, with_holding, latched, latches_exclude}
+use Rattle.descent.proofs.Imports.{pins_exclude, is_held_by_another, Mode, Shared, Exclusive, Cleanup, HoldsAlone, AreApart}
 
 or_left_false : (a b : Bool) → (a || b) ≡ false → a ≡ false
 or_left_false true b h = absurd cc

@@ -1,21 +1,13 @@
 -- Why steps are refused, by the calls that they make.
 use Rattle.std.proofs.Common.{◌≡◌, ◌⊎◌, ℕ, zero, suc, ◌+◌, ◌<◌, ◌≤◌, Bool, true, false, not, ◌||◌, ◌&&◌, ◌==◌, nat_lt, nat_le, if◌then◌else◌, List, [], ◌∷◌, ◌++◌, length, map, Result, Ok, Err, IfErr, refl, sym, ap, subst, inl, inr, ◌∙◌, arith}
-use Rattle.std.proofs.lemmas.Bool.{cases_lt, ltb-true, lt-ltb, le-ltb, leb-true, le-leb, and_parts}
 use Rattle.std.proofs.lemmas.List.{length-append}
 use Rattle.std.specs.List.{list_any}
-use Rattle.index_model.specs.Faults.{HasCause}
-use Rattle.index_model.specs.declared.fault.Fault.{Fault}
 use Rattle.index_model.specs.declared.fault.Fault.TheVariants.{NoMemory, Io, Stopped, Blocked, Exists, IndexFull, LogFull, NoFrame, PageDamaged, TooTall}
-use Rattle.latch_table.specs.Holdings.{has_pin, is_held_by_another}
-use Rattle.latch_table.specs.declared.mode.Mode.{Mode}
-use Rattle.latch_table.specs.declared.mode.Mode.TheVariants.{Shared, Exclusive}
-use Rattle.page_codec.specs.declared.page.Page.{Page}
-use Rattle.page_action.specs.Causes.{causes_of_read, causes_of_acted, is_at_end, count_apart, pinned_blocks}
 use Rattle.page_action.specs.Order.{with_changed}
 use Rattle.page_action.specs.Room.{KeepsRoom, HasNoRoomFor}
-use Rattle.page_action.specs.Reuse.{IsFresh, IsFull, is_reusable}
-use Rattle.page_action.specs.States.{State, Backing, IsLater}
-use Rattle.tree_acts.specs.StepEffects.{causes_of_working, causes_of_acting, lacks_room, count_new, frames_for, first_below, fresh_block, any_is_reusable}
+use Rattle.descent.proofs.Imports.{cases_lt, ltb-true, lt-ltb, le-ltb, leb-true, le-leb, and_parts, HasCause, Fault, has_pin, is_held_by_another, Mode, Shared, Exclusive, Page, causes_of_read}
+use Rattle.descent.proofs.Imports.{causes_of_acted, is_at_end, count_apart, pinned_blocks, IsFresh, IsFull, is_reusable, State, Backing, IsLater, causes_of_working, causes_of_acting, lacks_room}
+use Rattle.descent.proofs.Imports.{count_new, frames_for, first_below, fresh_block, any_is_reusable}
 
 or_left : (a b c : Bool) → (a ≡ true → c ≡ true) → (a || b) ≡ true → (c || b) ≡ true
 or_left true b c f h = rw (f refl) refl

@@ -1,13 +1,7 @@
 -- Bytes are ordered as the numbers that they spell.
 use Rattle.std.proofs.Common.{◌≡◌, ℕ, zero, suc, ◌+◌, ◌*◌, ◌≤◌, ◌<◌, List, [], ◌∷◌, length, take, drop, get_or, refl, sym, ap, ◌∙◌, subst, arith}
-use Rattle.std.specs.Cmp.{nat_cmp_is, ranks}
-use Rattle.std.proofs.lemmas.List.{get_or-drop, drop-drop, length-drop}
-use Rattle.std.specs.Cmp.Lexicographic.{slice_cmp}
-use Rattle.std.specs.Ordering.{nat_cmp, ordering_then, MatchOrdering}
-use Rattle.std.proofs.lemmas.Cmp.{nat_cmp_total, tied_itself}
-use Rattle.std.specs.declared.cmp.Ordering.{Ordering}
-use Rattle.std.specs.declared.cmp.Ordering.TheVariants.{Less, Equal, Greater}
-use Rattle.index_model.specs.Padded.{spelled}
+use Rattle.index_model.proofs.Imports.{nat_cmp_is, ranks, get_or-drop, drop-drop, length-drop, slice_cmp, nat_cmp, ordering_then, MatchOrdering, nat_cmp_total, tied_itself, Ordering, Less, Equal}
+use Rattle.index_model.proofs.Imports.{Greater, spelled}
 
 abbrev pub Bytes : List ℕ → Type 0
 Bytes xs = (k : ℕ) → get_or xs k 0 < 256

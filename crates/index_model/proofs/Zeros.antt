@@ -1,11 +1,6 @@
 -- Keys are ordered as their cells, and else as their lengths.
 use Rattle.std.proofs.Common.{◌≡◌, ℕ, zero, suc, ◌-◌, ◌≤◌, ◌<◌, List, [], ◌∷◌, ◌++◌, length, replicate, refl, sym, ap, ◌∙◌, arith}
-use Rattle.std.specs.Cmp.{nat_cmp_is, ranks}
-use Rattle.std.specs.Cmp.Lexicographic.{slice_cmp}
-use Rattle.std.specs.Ordering.{nat_cmp, ordering_then, MatchOrdering}
-use Rattle.std.proofs.lemmas.Cmp.{nat_list_cmp_total, tied_itself}
-use Rattle.std.specs.declared.cmp.Ordering.{Ordering}
-use Rattle.std.specs.declared.cmp.Ordering.TheVariants.{Less, Equal, Greater}
+use Rattle.index_model.proofs.Imports.{nat_cmp_is, ranks, slice_cmp, nat_cmp, ordering_then, MatchOrdering, nat_list_cmp_total, tied_itself, Ordering, Less, Equal, Greater}
 
 -- the list, and zeros after it up to n
 abbrev ending : ℕ → List ℕ → List ℕ

@@ -1,51 +1,15 @@
 -- An insert that adds its entry to the leaf that it holds.
 use Rattle.std.proofs.Common.{◌≡◌, ◌≢◌, ℕ, zero, suc, ◌<◌, ◌≤◌, Bool, true, false, ◌||◌, ◌==◌, Option, Some, None, Result, Ok, Err, List, [], ◌∷◌, ◌++◌, length, slice_get, refl, sym, ap, subst, inl, inr, ◌∙◌, arith}
-use Rattle.std.proofs.lemmas.Bool.{le-leb, cases_Bool, eq-eqb, lt-leb}
-use Rattle.index_model.specs.Actions.{Add}
-use Rattle.index_model.specs.Faults.{HasCause}
-use Rattle.index_model.specs.Order.{is_among, same_entry}
 use Rattle.index_model.specs.Row.{Row}
-use Rattle.index_model.specs.declared.entry.Entry.{Entry}
-use Rattle.index_model.specs.declared.fault.Fault.{Fault}
-use Rattle.index_model.specs.declared.fault.Fault.TheVariants.{Exists, KeyExists}
-use Rattle.latch_table.specs.Holdings.{Holding, Table, HasRoom, has_pin, holding_of, nothing_held, latches_exclude}
-use Rattle.latch_table.specs.declared.mode.Mode.TheVariants.{Shared, Exclusive}
 use Rattle.index_model.proofs.Ascending.{same_entry-is}
-use Rattle.page_codec.specs.Edits.{entries_of}
-use Rattle.page_codec.specs.Grammar.{IsPage}
-use Rattle.page_codec.specs.declared.page.Page.{Page}
-use Rattle.page_codec.specs.declared.page.PageState.TheVariants.{Live}
-use Rattle.page_action.specs.Causes.{pinned_blocks, causes_of_read, with_row}
-use Rattle.page_action.specs.Contents.{entry_on_live_leaf}
-use Rattle.page_action.specs.States.{State, Backing, Continues, after_act}
-use Rattle.page_action.specs.Stored.{AreActable}
-use Rattle.page_action.specs.declared.page_store.PageStore.{Ghosts}
-use Rattle.tree_shape.specs.Walks.{entry_aim, is_within}
-use Rattle.tree_acts.specs.Acts.{EntryIsPut, KeyMayEnter}
-use Rattle.tree_acts.specs.Flags.{FlagsMove}
-use Rattle.tree_acts.specs.Trees.{HasTree, LeadsTo, HasCover}
-use Rattle.tree_acts.proofs.Entering.{putting_lasts}
-use Rattle.tree_acts.proofs.Leaving.{putting_leaves}
-use Rattle.tree_acts.proofs.Flagging.{putting_flags}
-use Rattle.tree_acts.proofs.Weighed.{putting_weighs}
-use Rattle.tree_acts.proofs.Meanings.{live_shows, leaf_shows}
 use Rattle.tree_acts.proofs.Uniques.{key_shows}
-use Rattle.tree_acts.specs.StepEffects.{IsInOrder, StepEffect, is_incomplete, causes_of_working}
-use Rattle.tree_acts.specs.Steps.{HoldsAlone}
-use Rattle.descent.proofs.Acting.{does_add, one_act}
-use Rattle.descent.proofs.Tables.{any_excluded}
-use Rattle.descent.proofs.Working.{working_later, read_pinned_cause}
-use Rattle.std.specs.Prelude.{IfOk, IfErr, OnErr}
-use Rattle.split_finish.specs.Targets.{OnlyTargetsAreIncomplete, is_among_targets}
-use Rattle.insert_split.specs.Inserts.{leaf_held, IsLeafFor, InsertInvariant, InsertStands, InsertSteps, IsToCome, blocks_halved, images_at, frames_at, takes_block_at, targets_at, IsLeft, causes_of_inserting}
-use Rattle.insert_split.specs.Straight.{straight_steps}
-use Rattle.insert_split.specs.Turns.{EntryPut, PutsEntry, PlaceRefused}
-use Rattle.insert_split.specs.declared.insert.InsertAt.{InsertAt}
-use Rattle.insert_split.specs.declared.insert.InsertAt.TheVariants.{Coming}
-use Rattle.insert_split.specs.declared.insert.Stage.TheVariants.{Holding as Holds}
-use Rattle.insert_split.specs.declared.insert.InsertOp.{InsertOp}
-use Rattle.insert_split.specs.declared.insert.InsertStep.{InsertStep}
-use Rattle.insert_split.specs.declared.insert.InsertStep.TheVariants.{Going, Added}
+use Rattle.insert_split.proofs.Imports.{le-leb, cases_Bool, eq-eqb, lt-leb, Add, HasCause, is_among, same_entry, Entry, Fault, Exists, KeyExists, Holding, Table, HasRoom, has_pin, holding_of}
+use Rattle.insert_split.proofs.Imports.{nothing_held, latches_exclude, Shared, Exclusive, entries_of, IsPage, Page, Live, pinned_blocks, causes_of_read, with_row, entry_on_live_leaf, State}
+use Rattle.insert_split.proofs.Imports.{Backing, Continues, after_act, AreActable, Ghosts, entry_aim, is_within, EntryIsPut, KeyMayEnter, FlagsMove, HasTree, LeadsTo, HasCover, putting_lasts}
+use Rattle.insert_split.proofs.Imports.{putting_leaves, putting_flags, putting_weighs, live_shows, leaf_shows, IsInOrder, StepEffect, is_incomplete, causes_of_working, HoldsAlone, does_add}
+use Rattle.insert_split.proofs.Imports.{one_act, any_excluded, working_later, read_pinned_cause, IfOk, IfErr, OnErr, OnlyTargetsAreIncomplete, is_among_targets, leaf_held, IsLeafFor}
+use Rattle.insert_split.proofs.Imports.{InsertInvariant, InsertStands, InsertSteps, IsToCome, blocks_halved, images_at, frames_at, takes_block_at, targets_at, IsLeft, causes_of_inserting}
+use Rattle.insert_split.proofs.Imports.{straight_steps, EntryPut, PutsEntry, PlaceRefused, InsertAt, Coming, Holds, InsertOp, InsertStep, Going, Added}
 use Rattle.insert_split.proofs.Steps.{runs_no_more, refuses}
 use Rattle.insert_split.proofs.Walking.{as_inserting, leaf_items, up_to_within, place_in_use}
 

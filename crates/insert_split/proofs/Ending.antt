@@ -1,31 +1,12 @@
 -- An insert that finishes splits.
 use Rattle.std.proofs.Common.{◌≡◌, ℕ, ◌<◌, ◌||◌, Bool, true, false, Option, Some, None, Result, Ok, Err, List, slice_get, refl, sym, ap, subst, inl, inr, ◌∙◌, arith}
-use Rattle.index_model.specs.Actions.{Effect}
-use Rattle.index_model.specs.Faults.{HasCause}
-use Rattle.index_model.specs.declared.entry.Entry.{Entry}
-use Rattle.index_model.specs.declared.fault.Fault.{Fault}
-use Rattle.index_model.specs.declared.fault.Fault.TheVariants.{Stopped, Blocked}
-use Rattle.latch_table.specs.Holdings.{Table, holding_of, nothing_held}
-use Rattle.index_model.specs.declared.format.Format.{Format}
-use Rattle.page_action.specs.Causes.{is_at_end}
-use Rattle.page_action.specs.States.{State, Backing}
-use Rattle.page_action.specs.declared.page_store.PageStore.{Ghosts}
-use Rattle.tree_acts.specs.StepEffects.{IsInOrder, StepEffect, is_incomplete}
-use Rattle.descent.proofs.Acting.{nothing_else, one_nothing}
-use Rattle.split_finish.specs.Finishes.{FinishSteps, OnlyShapes, finish_blocks, frames_of, takes_block_of, causes_of_finishing}
-use Rattle.split_finish.specs.Targets.{OnlyTargetsAreIncomplete, FinishInvariant, finish_left}
 use Rattle.split_finish.specs.Turns.{splits_root_of}
-use Rattle.split_finish.specs.declared.finish.FinishOp.{FinishOp}
 use Rattle.split_finish.specs.declared.finish.FinishStep.TheVariants.{Going as FinishGoing, Done}
-use Rattle.insert_split.specs.Inserts.{InsertInvariant, InsertStands, InsertSteps, IsNoted, IsToCome, AnswersStopped, insert_left, targets_at, causes_of_inserting, causes_of_left}
-use Rattle.insert_split.specs.Straight.{IsStraight}
-use Rattle.insert_split.specs.Turns.{ContinuesAs, ContinuesFrom, Leaves, EndsBy, FinishesSplits, IsRefusedRightly, is_blocked}
-use Rattle.insert_split.specs.declared.insert.InsertAt.{InsertAt}
-use Rattle.insert_split.specs.declared.insert.InsertAt.TheVariants.{Coming, Finishing}
-use Rattle.insert_split.specs.declared.insert.Stage.TheVariants.{Start}
-use Rattle.insert_split.specs.declared.insert.InsertOp.{InsertOp}
-use Rattle.insert_split.specs.declared.insert.InsertStep.{InsertStep}
-use Rattle.insert_split.specs.declared.insert.InsertStep.TheVariants.{Going, Added}
+use Rattle.insert_split.proofs.Imports.{Effect, HasCause, Entry, Fault, Stopped, Blocked, Table, holding_of, nothing_held, Format, is_at_end, State, Backing, Ghosts, IsInOrder, StepEffect}
+use Rattle.insert_split.proofs.Imports.{is_incomplete, nothing_else, one_nothing, FinishSteps, OnlyShapes, finish_blocks, frames_of, takes_block_of, causes_of_finishing, OnlyTargetsAreIncomplete}
+use Rattle.insert_split.proofs.Imports.{FinishInvariant, finish_left, FinishOp, InsertInvariant, InsertStands, InsertSteps, IsNoted, IsToCome, AnswersStopped, insert_left, targets_at}
+use Rattle.insert_split.proofs.Imports.{causes_of_inserting, causes_of_left, IsStraight, ContinuesAs, ContinuesFrom, Leaves, EndsBy, FinishesSplits, IsRefusedRightly, is_blocked, InsertAt, Coming}
+use Rattle.insert_split.proofs.Imports.{Finishing, Start, InsertOp, InsertStep, Going, Added}
 use Rattle.insert_split.proofs.Steps.{refuses, runs_no_more}
 use Rattle.insert_split.proofs.Walking.{as_inserting}
 

@@ -1,29 +1,10 @@
 -- The pages of an act that splits a leaf may be written.
 use Rattle.std.proofs.Common.{◌≡◌, ◌≢◌, ℕ, ◌+◌, ◌<◌, ◌≤◌, true, Option, Some, None, List, [], ◌∷◌, ◌++◌, map, length, slice_set, refl, sym, subst, ◌∙◌, arith}
-use Rattle.index_model.specs.declared.entry.Entry.{Entry}
-use Rattle.index_model.specs.declared.format.Format.{Format}
-use Rattle.index_model.specs.declared.layout.Layout.TheVariants.{Two}
-use Rattle.page_codec.specs.Edits.{entries_of, HasEntries}
-use Rattle.page_codec.specs.Grammar.{IsBlock, IsPage}
 use Rattle.page_codec.specs.Spelling.{count_of}
-use Rattle.page_codec.specs.declared.page.Items.{Items}
-use Rattle.page_codec.specs.declared.page.Items.TheVariants.{Meta, Entries, Downlinks}
-use Rattle.page_codec.specs.declared.page.Page.{Page}
-use Rattle.page_codec.specs.declared.page.PageState.TheVariants.{Live, Deleted}
-use Rattle.page_action.specs.Reuse.{IsFresh}
-use Rattle.page_action.specs.States.{State}
-use Rattle.page_action.specs.Stored.{IsStored, IsApartFrom, AreActable}
 use Rattle.page_action.proofs.Writable.{writable}
-use Rattle.tree_shape.specs.Halves.{left_count}
-use Rattle.tree_shape.specs.Leaf.{MayHold}
-use Rattle.latch_table.specs.Holdings.{has_pin}
-use Rattle.page_action.specs.Causes.{pinned_blocks, count_apart}
 use Rattle.descent.proofs.Mended.{fresh_apart, RightMay, right_may}
-use Rattle.descent.proofs.Working.{apart_pinned}
-use Rattle.tree_acts.proofs.Overlays.{inside}
-use Rattle.tree_acts.specs.StepEffects.{sibling}
-use Rattle.descent.specs.Splitting.{RightIsStored, mended_to}
-use Rattle.insert_split.specs.Turns.{IsSplittable}
+use Rattle.insert_split.proofs.Imports.{Entry, Format, Two, entries_of, HasEntries, IsBlock, IsPage, Items, Meta, Entries, Downlinks, Page, Live, Deleted, IsFresh, State, IsStored, IsApartFrom}
+use Rattle.insert_split.proofs.Imports.{AreActable, left_count, MayHold, has_pin, pinned_blocks, count_apart, apart_pinned, inside, sibling, RightIsStored, mended_to, IsSplittable}
 
 -- a leaf has as many items as entries
 pub leaf_count : (items : Items) → HasEntries items → count_of items ≡ length (entries_of items)

@@ -1,28 +1,11 @@
 -- What an insert knows lasts while others act, and what it has to do has a bound.
 use Rattle.std.proofs.Common.{ℕ, suc, ◌<◌, ◌≤◌, length, true, sym, subst, ◌∙◌, arith}
-use Rattle.index_model.specs.declared.entry.Entry.{Entry}
-use Rattle.index_model.specs.Order.{bound_of}
-use Rattle.index_model.specs.declared.bound.Bound.{Bound}
-use Rattle.page_action.specs.States.{State}
-use Rattle.tree_shape.specs.Walks.{entry_aim, bound_aim}
-use Rattle.tree_shape.proofs.Fits.{bound_falls}
-use Rattle.tree_acts.specs.Trees.{HasTree}
 use Rattle.tree_acts.proofs.Sizes.{low_level}
-use Rattle.descent.specs.NextPage.{IsOnDescent}
-use Rattle.tree_acts.specs.StepEffects.{MayRely, NumbersStay}
-use Rattle.descent.specs.declared.way.Position.{Position}
-use Rattle.split_finish.specs.Targets.{IsTarget, FinishStands, FinishInvariant}
 use Rattle.split_finish.proofs.Bounds.{finish_bounded}
-use Rattle.descent.proofs.Shortening.{walk_is_long}
 use Rattle.split_finish.specs.declared.finish.FinishAt.{FinishAt}
-use Rattle.split_finish.specs.declared.finish.FinishAt.TheVariants.{Start as FinishStart, Down, Link, Root}
-use Rattle.split_finish.specs.declared.finish.FinishOp.{FinishOp}
-use Rattle.split_finish.specs.declared.finish.Target.{Target}
-use Rattle.insert_split.specs.Inserts.{InsertStands, insert_left}
 use Rattle.insert_split.specs.Laws.{InsertsAreUndisturbed, FreshInsertsAreBounded, InsertsAreBounded}
-use Rattle.insert_split.specs.declared.insert.InsertAt.{InsertAt}
-use Rattle.insert_split.specs.declared.insert.InsertAt.TheVariants.{Coming, Finishing}
-use Rattle.insert_split.specs.declared.insert.Stage.TheVariants.{Start, At, Holding as Holds}
+use Rattle.insert_split.proofs.Imports.{Entry, bound_of, Bound, State, entry_aim, bound_aim, bound_falls, HasTree, IsOnDescent, MayRely, NumbersStay, Position, IsTarget, FinishStands}
+use Rattle.insert_split.proofs.Imports.{FinishInvariant, walk_is_long, FinishStart, Down, Link, Root, FinishOp, Target, InsertStands, insert_left, InsertAt, Coming, Finishing, Start, At, Holds}
 use Rattle.insert_split.proofs.Adding.{holds_leaf}
 
 way_still : (old new : State) (start to : ℕ) (e : Bound) (way : Position) → NumbersStay start old new → IsOnDescent old start (bound_aim e) true to way → IsOnDescent new start (bound_aim e) true to way

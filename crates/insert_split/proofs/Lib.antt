@@ -1,3 +1,4 @@
+pub mod Imports
 pub mod Steps
 pub mod Ways
 pub mod Walking

@@ -2,35 +2,11 @@
 use Rattle.std.proofs.Common.{◌≡◌, ℕ, zero, suc, ◌+◌, ◌*◌, ◌<◌, Bool, true, false, Some, Result, Ok, Err, List, [], length, slice_get, refl, sym, ap, subst, ◌∙◌, arith}
 use Rattle.std.specs.Ordering.{is_eq}
 use Rattle.std.specs.Cmp.{tied_itself}
-use Rattle.index_model.specs.Order.{bound_cmp}
 use Rattle.index_model.proofs.Order.{bounds_total}
-use Rattle.index_model.specs.declared.bound.Bound.{Bound}
-use Rattle.index_model.specs.declared.fault.Fault.{Fault}
-use Rattle.page_codec.specs.Grammar.{IsPage}
-use Rattle.page_codec.specs.declared.page.Page.{Page}
-use Rattle.page_codec.specs.declared.page.PageState.TheVariants.{Live}
-use Rattle.page_action.specs.States.{State, Continues}
-use Rattle.page_action.specs.declared.page_store.PageStore.{Ghosts}
-use Rattle.tree_shape.specs.Nodes.{node_of, node_from, nodes_of}
-use Rattle.tree_shape.specs.Walks.{entry_aim, bound_aim}
-use Rattle.tree_acts.specs.Trees.{HasTree, LeadsTo}
-use Rattle.tree_acts.proofs.Meanings.{live_shows, high_key_shows}
-use Rattle.tree_acts.specs.StepEffects.{IsInOrder}
-use Rattle.descent.specs.declared.way.Position.{Position}
-use Rattle.latch_table.specs.Holdings.{holding_of, nothing_held}
-use Rattle.descent.specs.NextPage.{walk_length}
-use Rattle.split_finish.specs.Targets.{is_as_read, finish_left, is_among_targets, IsTarget, FinishStands, FinishInvariant}
-use Rattle.split_finish.specs.declared.finish.FinishOp.{FinishOp}
-use Rattle.split_finish.specs.declared.finish.FinishAt.TheVariants.{Start as FinishStart}
-use Rattle.split_finish.specs.declared.finish.Target.{Target}
-use Rattle.insert_split.specs.Inserts.{InsertInvariant, InsertSteps, insert_left, targets_at}
-use Rattle.insert_split.specs.Turns.{MeetsPage}
-use Rattle.insert_split.specs.declared.insert.InsertAt.{InsertAt}
-use Rattle.insert_split.specs.declared.insert.InsertAt.TheVariants.{Coming, Finishing}
-use Rattle.insert_split.specs.declared.insert.Stage.TheVariants.{At}
-use Rattle.insert_split.specs.declared.insert.InsertOp.{InsertOp}
-use Rattle.insert_split.specs.declared.insert.InsertStep.{InsertStep}
-use Rattle.insert_split.specs.declared.insert.InsertStep.TheVariants.{Going, Added}
+use Rattle.insert_split.proofs.Imports.{bound_cmp, Bound, Fault, IsPage, Page, Live, State, Continues, Ghosts, node_of, node_from, nodes_of, entry_aim, bound_aim, HasTree, LeadsTo, live_shows}
+use Rattle.insert_split.proofs.Imports.{high_key_shows, IsInOrder, Position, holding_of, nothing_held, walk_length, is_as_read, finish_left, is_among_targets, IsTarget, FinishStands}
+use Rattle.insert_split.proofs.Imports.{FinishInvariant, FinishOp, FinishStart, Target, InsertInvariant, InsertSteps, insert_left, targets_at, MeetsPage, InsertAt, Coming, Finishing, At, InsertOp}
+use Rattle.insert_split.proofs.Imports.{InsertStep, Going, Added}
 use Rattle.insert_split.proofs.Steps.{refuses, goes_on, StandsNow}
 use Rattle.insert_split.proofs.Walking.{on_way, incomplete_ends}
 

@@ -1,14 +1,7 @@
 -- An insert on its straight way to a leaf that has room.
 use Rattle.std.proofs.Common.{◌≡◌, ℕ, false, Some, slice_get, refl, sym, subst}
 use Rattle.page_action.proofs.StoredPages.{stored_page}
-use Rattle.page_action.specs.States.{State}
-use Rattle.tree_acts.specs.StepEffects.{IsInOrder}
-use Rattle.insert_split.specs.Inserts.{InsertInvariant, takes_block_at, splits_root_at}
-use Rattle.insert_split.specs.Straight.{IsStraight, HasRoomFor}
-use Rattle.insert_split.specs.declared.insert.InsertAt.{InsertAt}
-use Rattle.insert_split.specs.declared.insert.InsertAt.TheVariants.{Coming, Finishing}
-use Rattle.insert_split.specs.declared.insert.Stage.TheVariants.{Start, At, Holding as Holds}
-use Rattle.insert_split.specs.declared.insert.InsertOp.{InsertOp}
+use Rattle.insert_split.proofs.Imports.{State, IsInOrder, InsertInvariant, takes_block_at, splits_root_at, IsStraight, HasRoomFor, InsertAt, Coming, Finishing, Start, At, Holds, InsertOp}
 use Rattle.insert_split.proofs.Adding.{leaf_there, covers_there, roomy_is}
 
 -- no step of it takes a block, or splits the root

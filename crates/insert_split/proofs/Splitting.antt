@@ -1,57 +1,17 @@
 -- An insert that splits its leaf.
 use Rattle.std.proofs.Common.{◌≡◌, ◌≢◌, ℕ, suc, ◌<◌, ◌≤◌, Bool, true, false, ◌||◌, Option, Some, None, Result, Ok, Err, List, [], ◌∷◌, length, slice_get, refl, sym, ap, subst, inl, inr, ◌∙◌, arith}
-use Rattle.std.proofs.lemmas.Bool.{cases_eq, eq-eqb, ne_eqb}
-use Rattle.std.specs.Prelude.{IfOk, IfErr, OnOk, OnErr}
-use Rattle.index_model.specs.Actions.{Add}
-use Rattle.index_model.specs.Faults.{HasCause}
-use Rattle.index_model.specs.Order.{is_among}
-use Rattle.index_model.specs.declared.bound.Bound.{Bound}
-use Rattle.index_model.specs.declared.fault.Fault.{Fault}
-use Rattle.index_model.specs.declared.layout.Layout.TheVariants.{Two}
-use Rattle.latch_table.specs.Holdings.{Holding, Table, latches_exclude, HasRoom, has_pin, holding_of, nothing_held, released, unpinned, without_latch, without_pin, is_held_by_another}
-use Rattle.latch_table.specs.declared.mode.Mode.TheVariants.{Shared, Exclusive}
-use Rattle.latch_table.proofs.Tables.{length-released, length-unpinned, holding_of-released, holding_of-unpinned, holding_of-released_other, holding_of-unpinned_other}
-use Rattle.page_codec.specs.Edits.{entries_of}
-use Rattle.page_codec.specs.declared.page.Page.{Page}
-use Rattle.page_codec.specs.declared.page.PageState.TheVariants.{Live}
-use Rattle.page_action.specs.Causes.{pinned_blocks}
-use Rattle.page_action.specs.Contents.{entry_on_live_leaf}
-use Rattle.page_action.specs.States.{State, Continues, with_table, after_act}
-use Rattle.page_action.specs.Stored.{IsStored, IsApartFrom, AreActable}
-use Rattle.page_action.specs.declared.page_store.PageStore.{Ghosts}
-use Rattle.tree_shape.specs.Nodes.{Node}
-use Rattle.tree_shape.specs.Walks.{entry_aim, is_within}
-use Rattle.tree_acts.specs.Acts.{LeafIsSplit, KeyMayEnter}
-use Rattle.tree_acts.specs.Flags.{FlagsMove, flag_after}
-use Rattle.tree_acts.specs.Trees.{HasTree, LeadsTo}
-use Rattle.tree_acts.proofs.Entering.{leaf_split_lasts}
-use Rattle.tree_acts.proofs.Leaving.{leaf_split_leaves}
-use Rattle.tree_acts.proofs.Flagging.{leaf_split_flags}
-use Rattle.tree_acts.proofs.Weighed.{leaf_split_weighs}
-use Rattle.tree_acts.proofs.Overlays.{pages_first}
-use Rattle.tree_acts.proofs.Meanings.{leaf_shows, neighbour_shows}
-use Rattle.tree_acts.specs.StepEffects.{StepEffect, is_incomplete, level_in, causes_of_working}
-use Rattle.descent.specs.Splitting.{RightIsMendable, RightIsStored, RightIsFound, mended_to}
-use Rattle.tree_acts.specs.Steps.{HoldsAlone, AreApart}
-use Rattle.descent.proofs.Acting.{does_add, one_act_else, apart_from_held}
-use Rattle.descent.proofs.Working.{working_later}
-use Rattle.split_finish.specs.Targets.{OnlyTargetsAreIncomplete, is_among_targets, targets_of}
-use Rattle.split_finish.specs.declared.finish.FinishOp.{FinishOp}
-use Rattle.split_finish.specs.declared.finish.Target.{Target}
 use Rattle.split_finish.proofs.Parting.{mends_right}
-use Rattle.insert_split.specs.Inserts.{leaf_held, blocks_halved, InsertInvariant, InsertSteps, targets_at}
-use Rattle.insert_split.specs.Turns.{IsSplittable, SplitsLeaf}
-use Rattle.insert_split.specs.declared.insert.InsertAt.{InsertAt}
-use Rattle.insert_split.specs.declared.insert.InsertAt.TheVariants.{Coming}
-use Rattle.insert_split.specs.declared.insert.Stage.TheVariants.{Holding as Holds}
-use Rattle.insert_split.specs.declared.insert.InsertOp.{InsertOp}
-use Rattle.insert_split.specs.declared.insert.InsertStep.{InsertStep}
-use Rattle.insert_split.specs.declared.insert.InsertStep.TheVariants.{Going, Added}
 use Rattle.insert_split.proofs.Adding.{leaf_there, none_added, no_targets, same_leaf, room_held, pinned_leaf, not_the_leaf, full_is, holding_cause, covers_there}
 use Rattle.insert_split.proofs.Meeting.{one_target_fits, read_at}
-use Rattle.tree_shape.proofs.Fits.{bound_falls}
-use Rattle.index_model.specs.Order.{bound_of}
-use Rattle.page_action.specs.Reuse.{IsFresh}
+use Rattle.insert_split.proofs.Imports.{cases_eq, eq-eqb, ne_eqb, IfOk, IfErr, OnOk, OnErr, Add, HasCause, is_among, Bound, Fault, Two, Holding, Table, latches_exclude, HasRoom, has_pin}
+use Rattle.insert_split.proofs.Imports.{holding_of, nothing_held, released, unpinned, without_latch, without_pin, is_held_by_another, Shared, Exclusive, length-released, length-unpinned}
+use Rattle.insert_split.proofs.Imports.{holding_of-released, holding_of-unpinned, holding_of-released_other, holding_of-unpinned_other, entries_of, Page, Live, pinned_blocks, entry_on_live_leaf}
+use Rattle.insert_split.proofs.Imports.{State, Continues, with_table, after_act, IsStored, IsApartFrom, AreActable, Ghosts, Node, entry_aim, is_within, LeafIsSplit, KeyMayEnter, FlagsMove}
+use Rattle.insert_split.proofs.Imports.{flag_after, HasTree, LeadsTo, leaf_split_lasts, leaf_split_leaves, leaf_split_flags, leaf_split_weighs, pages_first, leaf_shows, neighbour_shows}
+use Rattle.insert_split.proofs.Imports.{StepEffect, is_incomplete, level_in, causes_of_working, RightIsMendable, RightIsStored, RightIsFound, mended_to, HoldsAlone, AreApart, does_add}
+use Rattle.insert_split.proofs.Imports.{one_act_else, apart_from_held, working_later, OnlyTargetsAreIncomplete, is_among_targets, targets_of, FinishOp, Target, leaf_held, blocks_halved}
+use Rattle.insert_split.proofs.Imports.{InsertInvariant, InsertSteps, targets_at, IsSplittable, SplitsLeaf, InsertAt, Coming, Holds, InsertOp, InsertStep, Going, Added, bound_falls, bound_of}
+use Rattle.insert_split.proofs.Imports.{IsFresh}
 use Rattle.insert_split.proofs.Steps.{refuses, runs_no_more}
 
 or_true : {a : Bool} → a ≡ true → (a || false) ≡ true

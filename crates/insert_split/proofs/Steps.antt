@@ -1,19 +1,7 @@
 -- Steps of an insert that change nothing but where it stands.
 use Rattle.std.proofs.Common.{◌≡◌, ℕ, ◌<◌, Bool, true, false, Option, None, Result, Ok, Err, refl, sym, subst}
-use Rattle.std.specs.Prelude.{OnOk, OnErr, IfOk}
-use Rattle.index_model.specs.Faults.{HasCause}
-use Rattle.index_model.specs.declared.fault.Fault.{Fault}
-use Rattle.page_action.specs.States.{State, Continues}
-use Rattle.page_action.specs.declared.page_store.PageStore.{Ghosts}
-use Rattle.tree_acts.specs.StepEffects.{IsInOrder}
-use Rattle.descent.proofs.Acting.{one_nothing, nothing_else}
-use Rattle.tree_acts.specs.Ways.{NoneIsIncomplete}
-use Rattle.split_finish.specs.Targets.{OnlyTargetsAreIncomplete}
-use Rattle.insert_split.specs.Straight.{IsStraight, CountsDown}
-use Rattle.insert_split.specs.Inserts.{InsertInvariant, InsertSteps, insert_left, targets_at, causes_of_inserting}
-use Rattle.insert_split.specs.declared.insert.InsertOp.{InsertOp}
-use Rattle.insert_split.specs.declared.insert.InsertStep.{InsertStep}
-use Rattle.insert_split.specs.declared.insert.InsertStep.TheVariants.{Going, Added}
+use Rattle.insert_split.proofs.Imports.{OnOk, OnErr, IfOk, HasCause, Fault, State, Continues, Ghosts, IsInOrder, one_nothing, nothing_else, NoneIsIncomplete, OnlyTargetsAreIncomplete, IsStraight}
+use Rattle.insert_split.proofs.Imports.{CountsDown, InsertInvariant, InsertSteps, insert_left, targets_at, causes_of_inserting, InsertOp, InsertStep, Going, Added}
 
 pub runs_no_more : (b : Bool) {A : Type 0} → b ≡ false → b ≡ true → A
 runs_no_more b alive stopped = absurd cc

@@ -1,37 +1,10 @@
 -- An insert that comes to its leaf, and takes it.
 use Rattle.std.proofs.Common.{[], ◌≡◌, ℕ, suc, ◌<◌, true, false, Option, Some, None, Result, Ok, Err, ◌∷◌, length, slice_get, refl, sym, ap, subst, inr, ◌∙◌, arith}
-use Rattle.index_model.specs.Faults.{HasCause}
-use Rattle.index_model.specs.declared.fault.Fault.{Fault}
-use Rattle.index_model.specs.declared.fault.Fault.TheVariants.{Blocked}
-use Rattle.latch_table.specs.Holdings.{Holding, Table, holding_of, nothing_held, latched, pinned, is_held_by_another}
-use Rattle.latch_table.specs.declared.mode.Mode.TheVariants.{Exclusive}
-use Rattle.latch_table.proofs.Tables.{length-latched, length-pinned, holding_of-latched, holding_of-pinned, holding_of-latched_other, holding_of-pinned_other}
-use Rattle.page_codec.specs.Grammar.{IsPage}
-use Rattle.page_codec.specs.declared.page.Page.{Page}
-use Rattle.page_codec.specs.declared.page.PageState.TheVariants.{Live}
-use Rattle.page_action.specs.States.{State, Continues, with_table}
-use Rattle.page_action.specs.declared.page_store.PageStore.{Ghosts}
-use Rattle.tree_shape.specs.Walks.{entry_aim, is_within}
-use Rattle.tree_shape.specs.Leaf.{MayHold}
-use Rattle.tree_acts.specs.Trees.{LeadsTo}
-use Rattle.tree_acts.proofs.Meanings.{live_shows}
-use Rattle.tree_acts.specs.StepEffects.{IsInOrder, StepEffect}
-use Rattle.tree_acts.specs.Steps.{AreApart}
-use Rattle.descent.specs.declared.way.Position.{Position}
-use Rattle.descent.proofs.Acting.{holds_else, one_table, place_held_else}
-use Rattle.descent.proofs.Tables.{apart_latched, apart_pins}
-use Rattle.descent.proofs.Working.{held_cause}
-use Rattle.split_finish.specs.Targets.{is_among_targets}
-use Rattle.tree_acts.specs.StepEffects.{is_incomplete}
-use Rattle.insert_split.specs.Inserts.{leaf_held, IsLeafFor, InsertInvariant, InsertSteps, insert_left, targets_at, causes_of_inserting}
-use Rattle.insert_split.specs.Straight.{IsStraight, straight_steps}
-use Rattle.insert_split.specs.Turns.{IsNotTaken, Takes}
-use Rattle.insert_split.specs.declared.insert.InsertAt.{InsertAt}
-use Rattle.insert_split.specs.declared.insert.InsertAt.TheVariants.{Coming}
-use Rattle.insert_split.specs.declared.insert.Stage.TheVariants.{At, Holding as Holds}
-use Rattle.insert_split.specs.declared.insert.InsertOp.{InsertOp}
-use Rattle.insert_split.specs.declared.insert.InsertStep.{InsertStep}
-use Rattle.insert_split.specs.declared.insert.InsertStep.TheVariants.{Going, Added}
+use Rattle.insert_split.proofs.Imports.{HasCause, Fault, Blocked, Holding, Table, holding_of, nothing_held, latched, pinned, is_held_by_another, Exclusive, length-latched, length-pinned}
+use Rattle.insert_split.proofs.Imports.{holding_of-latched, holding_of-pinned, holding_of-latched_other, holding_of-pinned_other, IsPage, Page, Live, State, Continues, with_table, Ghosts}
+use Rattle.insert_split.proofs.Imports.{entry_aim, is_within, MayHold, LeadsTo, live_shows, IsInOrder, StepEffect, AreApart, Position, holds_else, one_table, place_held_else, apart_latched}
+use Rattle.insert_split.proofs.Imports.{apart_pins, held_cause, is_among_targets, is_incomplete, leaf_held, IsLeafFor, InsertInvariant, InsertSteps, insert_left, targets_at, causes_of_inserting}
+use Rattle.insert_split.proofs.Imports.{IsStraight, straight_steps, IsNotTaken, Takes, InsertAt, Coming, At, Holds, InsertOp, InsertStep, Going, Added}
 use Rattle.insert_split.proofs.Steps.{refuses, runs_no_more}
 use Rattle.insert_split.proofs.Walking.{on_way, to_come_there, reading_cause, leaf_items, up_to_within, place_in_use}
 

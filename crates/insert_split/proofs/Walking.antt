@@ -1,36 +1,14 @@
 -- An insert on its way to its leaf.
 use Rattle.std.proofs.Common.{[], ◌≡◌, ℕ, ◌<◌, ◌≤◌, Bool, true, false, not, Option, Some, None, List, length, slice_get, refl, sym, subst, inl, inr, ◌∙◌, arith}
-use Rattle.index_model.specs.Faults.{HasCause}
-use Rattle.index_model.specs.Order.{IsUpTo, bound_of}
-use Rattle.index_model.specs.declared.bound.Bound.{Bound}
-use Rattle.index_model.specs.declared.entry.Entry.{Entry}
-use Rattle.index_model.specs.declared.fault.Fault.{Fault}
-use Rattle.index_model.specs.declared.fault.Fault.TheVariants.{Blocked, PageDamaged, Exists, KeyExists, Io, Stopped, IndexFull, LogFull, NoFrame, TooTall}
-use Rattle.latch_table.specs.Holdings.{Holding, HasRoom, holding_of, nothing_held}
-use Rattle.page_codec.specs.Edits.{HasEntries}
-use Rattle.std.specs.Prelude.{IsSome}
-use Rattle.page_codec.specs.Grammar.{IsPage, IsOfKind, IsLeafIn}
-use Rattle.page_codec.specs.declared.page.Items.{Items}
-use Rattle.page_codec.specs.declared.page.Items.TheVariants.{Meta, Entries, Downlinks}
-use Rattle.page_codec.specs.declared.page.Page.{Page}
 use Rattle.page_codec.specs.declared.page.PageState.{PageState}
-use Rattle.page_codec.specs.declared.page.PageState.TheVariants.{Live, HalfDead, Deleted}
-use Rattle.page_action.specs.States.{State, Backing}
-use Rattle.tree_shape.specs.Nodes.{nodes_of}
-use Rattle.tree_shape.specs.Walks.{entry_aim, bound_aim, is_within, is_fit}
 use Rattle.tree_shape.proofs.Shown.{places_keep_their_level}
-use Rattle.tree_acts.specs.Trees.{HasTree, LeadsTo}
 use Rattle.tree_acts.proofs.Lasting.{deleted_in_use}
 use Rattle.tree_acts.proofs.Words.{place_in}
-use Rattle.descent.specs.NextPage.{IsOnDescent, LeadsToNext}
 use Rattle.descent.specs.declared.way.NextPage.{NextPage}
-use Rattle.tree_acts.specs.StepEffects.{IsInOrder, causes_of_working}
-use Rattle.descent.specs.declared.way.Position.{Position}
-use Rattle.insert_split.specs.Inserts.{InsertInvariant, InsertStands, IsToCome, causes_of_inserting}
-use Rattle.insert_split.specs.declared.insert.InsertAt.{InsertAt}
-use Rattle.insert_split.specs.declared.insert.InsertAt.TheVariants.{Coming}
-use Rattle.insert_split.specs.declared.insert.Stage.TheVariants.{At}
-use Rattle.insert_split.specs.declared.insert.InsertOp.{InsertOp}
+use Rattle.insert_split.proofs.Imports.{HasCause, IsUpTo, bound_of, Bound, Entry, Fault, Blocked, PageDamaged, Exists, KeyExists, Io, Stopped, IndexFull, LogFull, NoFrame, TooTall, Holding}
+use Rattle.insert_split.proofs.Imports.{HasRoom, holding_of, nothing_held, HasEntries, IsSome, IsPage, IsOfKind, IsLeafIn, Items, Meta, Entries, Downlinks, Page, Live, HalfDead, Deleted, State}
+use Rattle.insert_split.proofs.Imports.{Backing, nodes_of, entry_aim, bound_aim, is_within, is_fit, HasTree, LeadsTo, IsOnDescent, LeadsToNext, IsInOrder, causes_of_working, Position}
+use Rattle.insert_split.proofs.Imports.{InsertInvariant, InsertStands, IsToCome, causes_of_inserting, InsertAt, Coming, At, InsertOp}
 
 -- a place is a block in use
 pub place_in_use : (st : State) (tree : HasTree st) (start level : ℕ) (aim : Bound → Bool) (clear : Bool) (block : ℕ) → LeadsTo st start level aim clear block

@@ -1,18 +1,9 @@
 -- Where an insert stands on its way.
 use Rattle.std.proofs.Common.{◌≡◌, ℕ, ◌≤◌, Bool, false, Some, slice_get, sym, ap, subst, ◌∙◌, arith}
-use Rattle.index_model.specs.declared.bound.Bound.{Bound}
-use Rattle.page_codec.specs.Grammar.{IsPage, IsOfKind}
-use Rattle.page_codec.specs.declared.page.Items.{Items}
-use Rattle.page_codec.specs.declared.page.Items.TheVariants.{Meta, Entries, Downlinks}
-use Rattle.page_codec.specs.declared.page.Page.{Page}
-use Rattle.page_action.specs.States.{State}
 use Rattle.tree_shape.specs.Tree.{IsMetaOf}
-use Rattle.tree_acts.specs.Trees.{HasTree, HasCover}
-use Rattle.tree_acts.specs.Ways.{NoneIsIncomplete}
 use Rattle.tree_acts.specs.Levels.{root_level, level_of, level_with}
-use Rattle.tree_acts.proofs.Meanings.{metapage_shows, trail_begins_here, root_covers_all}
-use Rattle.descent.specs.NextPage.{IsOnDescent, way_from}
-use Rattle.descent.specs.declared.way.Position.{Position}
+use Rattle.insert_split.proofs.Imports.{Bound, IsPage, IsOfKind, Items, Meta, Entries, Downlinks, Page, State, HasTree, HasCover, NoneIsIncomplete, metapage_shows, trail_begins_here}
+use Rattle.insert_split.proofs.Imports.{root_covers_all, IsOnDescent, way_from, Position}
 
 -- a page of the format is on a level up to 31
 pub level_low : (page : Page) → IsPage page → page.level ≤ 31

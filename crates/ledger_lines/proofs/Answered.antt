@@ -1,18 +1,8 @@
 -- The lines of an input that were answered so far, and those that are left.
-use Rattle.std.specs.Prelude.{◌≢◌, Bool, true, false, cond, Option, Some, None, IfSome, ⊤}
 use Rattle.std.proofs.Common.{◌≡◌, ℕ, List, [], ◌∷◌, ◌++◌, eqb, refl, sym, ap, subst, ◌∙◌, append_assoc}
-use Rattle.std.proofs.KnownBytes.{Appends-kept}
-use Rattle.std.specs.Io.BufRead.{take_through, drop_through, DropsThrough}
-use Rattle.std.specs.Io.KnownBytes.{Keeps}
-use Rattle.access_method.specs.declared.index.Index.{Index}
-use Rattle.device.specs.declared.device.Device.{Ghosts as DeviceGhosts}
-use Rattle.index_model.specs.Row.{Row}
-use Rattle.page_action.specs.declared.page_store.PageStore.{Ghosts}
-use Rattle.page_store.specs.declared.store.Store.{Store}
-use Rattle.text_forms.specs.Spelling.{lines_of, with_first}
 use Rattle.ledger_lines.specs.Replies.{reply_text}
-use Rattle.ledger_lines.specs.Sessions.{Answers, AnswersEach}
-use Rattle.ledger_lines.specs.declared.dead.Dead.{Dead}
+use Rattle.ledger_lines.proofs.Imports.{◌≢◌, Bool, true, false, cond, Option, Some, None, IfSome, ⊤, Appends-kept, take_through, drop_through, DropsThrough, Keeps, Index, DeviceGhosts, Row}
+use Rattle.ledger_lines.proofs.Imports.{Ghosts, Store, lines_of, with_first, Answers, AnswersEach, Dead}
 
 -- ---- the first line of a text
 

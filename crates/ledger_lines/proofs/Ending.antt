@@ -1,17 +1,9 @@
 -- How a session ends: what its closing and its streams answered, and what it is told to have ended with.
-use Rattle.std.specs.Prelude.{◌≡◌, ℕ, Bool, List, Result, Ok, Err, IsOk, IfOk, IfErr, OnOk, Option}
 use Rattle.std.proofs.Common.{subst, inl, inr}
 use Rattle.access_method.specs.Files.{StaysOnDevice, IsLastOver}
-use Rattle.access_method.specs.declared.index.Index.{Index}
-use Rattle.device.specs.declared.device.Device.{Ghosts as DeviceGhosts}
-use Rattle.index_model.specs.Row.{Row}
-use Rattle.index_model.specs.declared.fault.Fault.{Fault}
 use Rattle.page_action.specs.Room.{LogIsClosed}
-use Rattle.page_action.specs.declared.page_store.PageStore.{Ghosts}
-use Rattle.page_store.specs.Stores.{state_of}
-use Rattle.page_store.specs.declared.store.Store.{Store}
-use Rattle.ledger_lines.specs.Sessions.{AnswersAll, BeginsFrom, Closes, IsClosed, IsClosingRefused, Serves}
-use Rattle.ledger_lines.specs.declared.dead.Dead.{Dead}
+use Rattle.ledger_lines.proofs.Imports.{◌≡◌, ℕ, Bool, List, Result, Ok, Err, IsOk, IfOk, IfErr, OnOk, Option, Index, DeviceGhosts, Row, Fault, Ghosts, state_of, Store, AnswersAll, BeginsFrom}
+use Rattle.ledger_lines.proofs.Imports.{Closes, IsClosed, IsClosingRefused, Serves, Dead}
 
 -- what follows where both went well
 where_both : {T U V E F G : Type 0} (ended : Result T E) (written : Result U F) (answered : Result V G) (C A S : Type 0)

@@ -1,17 +1,10 @@
 -- What an open scan has given.
 use Rattle.std.specs.Prelude.{Result, Ok, flat_map}
-use Rattle.std.proofs.KnownBytes.{Appends-trans}
 use Rattle.std.proofs.Common.{◌≡◌, ℕ, ◌+◌, false, Option, Some, List, [], ◌∷◌, ◌++◌, length, refl, sym, ap, subst, ◌∙◌, append-nil, append_assoc, length-append, arith}
-use Rattle.std.specs.Io.KnownBytes.{Appends}
-use Rattle.access_method.specs.Indexes.{SameTokens, TokenAfter, seat_with}
-use Rattle.access_method.specs.Tokens.{seat_of}
-use Rattle.access_method.specs.declared.index.Index.{Index}
 use Rattle.access_method.specs.declared.token.ScanToken.{ScanToken}
 use Rattle.access_method.specs.declared.token.Seat.{Seat}
 use Rattle.index_model.specs.declared.entry.Entry.{Entry}
-use Rattle.index_model.specs.declared.fault.Fault.{Fault}
-use Rattle.page_action.specs.declared.page_store.PageStore.{Ghosts}
-use Rattle.ledger_lines.specs.Calls.{GivesEach, IsGive, PrintsScan, listed_line}
+use Rattle.ledger_lines.proofs.Imports.{Appends-trans, Appends, SameTokens, TokenAfter, seat_with, seat_of, Index, Fault, Ghosts, GivesEach, IsGive, PrintsScan, listed_line}
 
 -- so many entries were given, and printed
 pub record HasGiven {S : Type 0} (g : Ghosts S) (token : ScanToken) (count : ℕ) (old new : Index S) (before after : Option (List ℕ)) : Type 0 where

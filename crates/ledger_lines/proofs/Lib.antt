@@ -1,3 +1,4 @@
+pub mod Imports
 pub mod Given
 pub mod Answered
 pub mod Ending

@@ -1,5 +1,5 @@
 -- What an open scan gives to C.
-use Rattle.std.specs.Prelude.{◌≡◌, ◌≢◌, true, false, Option, Some, None, IsSome, Result, Ok, Err}
+use Rattle.std.specs.Prelude.{◌≡◌, ◌≢◌, true, false, Option, None, IsSome, Result, Ok, Err}
 use Rattle.access_method.specs.Indexes.{AnswersScan, ForEachIndexHistory, IndexIsRun, IndexMakes, TokenAfter, seat_with}
 use Rattle.access_method.specs.Refusals.{GiveHasCause}
 use Rattle.access_method.specs.Tokens.{seat_of}

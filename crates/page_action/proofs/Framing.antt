@@ -1,10 +1,7 @@
 -- Frames that pages take, one after the other.
 use Rattle.std.proofs.Common.{◌≡◌, ℕ, zero, suc, true, false, Some, List, [], ◌∷◌, ◌++◌, slice_get, refl, sym, ap, subst, inl}
-use Rattle.std.proofs.lemmas.Bool.{eq-eqb}
 use Rattle.std.specs.Prelude.{◌==◌, ◌||◌, Bool}
-use Rattle.page_codec.specs.declared.page.Page.{Page}
-use Rattle.page_action.specs.Frames.{Memory, is_block_among, CostsNothing, TakesFrame, TakesFrames, blocks_of}
-use Rattle.page_action.specs.States.{Backing}
+use Rattle.page_action.proofs.Imports.{eq-eqb, Page, Memory, is_block_among, CostsNothing, TakesFrame, TakesFrames, blocks_of, Backing}
 
 pub costs_same : (m : Memory) (b : Backing) → CostsNothing m m b b
 costs_same m b = record {

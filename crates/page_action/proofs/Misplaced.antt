@@ -1,8 +1,6 @@
 -- Which page of an act is the first that may not be changed.
 use Rattle.std.proofs.Common.{◌≡◌, ℕ, ◌+◌, ◌<◌, List, length, drop, get_or, refl, sym, subst, inl, inr}
-use Rattle.index_model.specs.declared.format.Format.{Format}
-use Rattle.page_codec.specs.declared.page.Page.{Page}
-use Rattle.page_action.specs.Stored.{IsActableBeside, IsFirstMisplaced}
+use Rattle.page_action.proofs.Imports.{Format, Page, IsActableBeside, IsFirstMisplaced}
 use Rattle.page_action.proofs.StoredPages.{drop_at_item}
 
 module _ (limits : Format) (used : ℕ) (pages : List Page) (k : ℕ) (page : Page) (within : k < length pages) (is : page ≡ get_or pages k page) where

@@ -1,18 +1,11 @@
 -- The deletion numbers that wait: they stay those of the deleted pages, and tell which of these may be reused.
 use Rattle.std.proofs.Common.{◌≡◌, ◌≢◌, ◌≤◌, ◌<◌, ℕ, zero, suc, Bool, true, false, ◌&&◌, nat_le, if◌then◌else◌, min, Option, Some, None, List, [], ◌∷◌, ◌++◌, length, slice_get, slice_set, slice_index, unwrap_or, replicate, refl, sym, ap, subst, ◌∙◌, inl, inr, arith, length-set}
-use Rattle.std.proofs.lemmas.Bool.{cases_lt, cases_eq, lt-ltb, le-ltb, le-leb, lt-leb}
 use Rattle.std.proofs.lemmas.List.{get_or-set_same, get_or-set_other}
-use Rattle.std.proofs.lemmas.Option.{unwrap_or-slice_get, get_or_from_slice_get}
-use Rattle.free_blocks.specs.Numbers.{number_at, lesser, is_at_most, IsLowest, AreBeyond}
-use Rattle.index_model.specs.declared.format.Format.{Format}
-use Rattle.page_codec.specs.declared.page.Page.{Page}
 use Rattle.page_codec.specs.declared.page.PageState.{PageState}
 use Rattle.page_codec.specs.declared.page.PageState.TheVariants.{Live, HalfDead, Deleted}
-use Rattle.page_action.specs.CallTables.{TableOfCalls, state_with}
-use Rattle.page_action.specs.Reuse.{is_deleted, is_deleted_page, is_deleted_state, others_began_after, is_reusable, IsFresh, IsFull}
-use Rattle.page_action.specs.States.{State, with_page, with_pages, with_count, with_counts, number_to_count}
-use Rattle.page_action.specs.Stored.{AreActable}
-use Rattle.page_action.specs.Waiting.{waiting_number, with_waiting, with_all_waiting, waiting_at, AreWaiting, least_start}
+use Rattle.page_action.proofs.Imports.{cases_lt, cases_eq, lt-ltb, le-ltb, le-leb, lt-leb, unwrap_or-slice_get, get_or_from_slice_get, number_at, lesser, is_at_most, IsLowest, AreBeyond, Format}
+use Rattle.page_action.proofs.Imports.{Page, TableOfCalls, state_with, is_deleted, is_deleted_page, is_deleted_state, others_began_after, is_reusable, IsFresh, IsFull, State, with_page}
+use Rattle.page_action.proofs.Imports.{with_pages, with_count, with_counts, number_to_count, AreActable, waiting_number, with_waiting, with_all_waiting, waiting_at, AreWaiting, least_start}
 use Rattle.page_action.proofs.StoredPages.{length-with_count, with_page-longer}
 
 more_same : {A : Type 0} (xs : List A) (x : A) → slice_get (xs ++ x ∷ []) (length xs) ≡ Some x

@@ -1,13 +1,11 @@
 -- Each index may have pages of the second layout.
 use Rattle.std.proofs.Common.{◌≡◌, ◌≤◌, sym, subst}
 use Rattle.index_model.specs.Limits.{Admits}
-use Rattle.index_model.specs.declared.format.Format.{Format}
 use Rattle.index_model.specs.declared.layout.Layout.{Layout}
 use Rattle.index_model.specs.declared.layout.Layout.TheVariants.{One, Two}
 use Rattle.page_codec.specs.Grammar.{IsPage}
 use Rattle.page_codec.specs.Spelling.{count_of}
-use Rattle.page_codec.specs.declared.page.Page.{Page}
-use Rattle.page_action.specs.Stored.{IsWritable}
+use Rattle.page_action.proofs.Imports.{Format, Page, IsWritable}
 
 pub admits_two : (layout : Layout) → Admits layout Two
 admits_two One = tt

@@ -1,17 +1,7 @@
 -- What bytes are read as, field by field, where each field is tested as little as it can be: with it, two pages of the same
 -- bytes are one.
 use Rattle.std.specs.Prelude.{ℕ, zero, suc, ◌%◌, ◌==◌, if◌then◌else◌, nat_lt, Option, Some, None, List, [], ◌∷◌, take, drop, slice_index}
-use Rattle.byteorder.specs.Endian.{little_number}
-use Rattle.index_model.specs.declared.entry.Entry.{Entry}
-use Rattle.index_model.specs.declared.bound.Bound.{Bound}
-use Rattle.index_model.specs.declared.layout.Layout.{Layout}
-use Rattle.index_model.specs.declared.layout.Layout.TheVariants.{One, Two}
-use Rattle.page_codec.specs.declared.page.PageState.{PageState}
-use Rattle.page_codec.specs.declared.page.PageState.TheVariants.{Live, HalfDead, Deleted}
-use Rattle.page_codec.specs.declared.page.Downlink.{Downlink}
-use Rattle.page_codec.specs.declared.page.Items.{Items}
-use Rattle.page_codec.specs.declared.page.Items.TheVariants.{Meta, Entries, Downlinks}
-use Rattle.page_codec.specs.declared.page.Page.{Page}
+use Rattle.page_codec.proofs.Imports.{little_number, Entry, Bound, Layout, One, Two, PageState, Live, HalfDead, Deleted, Downlink, Items, Meta, Entries, Downlinks, Page}
 
 infixl 10 ◌>>=◌
 -- what the second reads after the first, if both read something

@@ -1,8 +1,7 @@
 -- Reading items one after the other, as a loop does.
 use Rattle.std.proofs.Common.{◌≡◌, ℕ, ◌<◌, List, [], ◌∷◌, ◌++◌, length, drop, refl, sym, ap, subst, ◌∙◌, append_assoc, length-append, arith}
 use Rattle.std.specs.List.{flat_map, AllByRecursion}
-use Rattle.std.proofs.lemmas.List.{append-nil}
-use Rattle.page_codec.specs.Begins.{Begins}
+use Rattle.page_codec.proofs.Imports.{append-nil, Begins}
 use Rattle.page_codec.proofs.Pieces.{items_more, items_first, items_later}
 
 -- the list goes on after the items with others, whose bytes come next

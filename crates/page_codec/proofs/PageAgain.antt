@@ -1,25 +1,10 @@
 -- The bytes of a page are read as that page.
 use Rattle.std.proofs.Common.{◌≡◌, ℕ, ◌-◌, ◌+◌, ◌%◌, ◌<◌, ◌^◌, Bool, true, false, List, ◌++◌, Option, Some, None, length, drop, replicate, refl, sym, ap, subst, ◌∙◌, append_assoc, arith}
-use Rattle.std.specs.Prelude.{IfSome, nat_lt, ◌==◌, slice_index}
 use Rattle.std.specs.List.{flat_map, AllByRecursion}
-use Rattle.std.proofs.lemmas.Bool.Decides.{nat_tests}
-use Rattle.std.proofs.lemmas.List.{drop_at, drop-drop}
-use Rattle.byteorder.specs.Endian.{little_number}
-use Rattle.byteorder.specs.Numbers.{little_number-reads_back}
-use Rattle.index_model.specs.Order.{IsEntry}
-use Rattle.index_model.specs.declared.entry.Entry.{Entry}
-use Rattle.index_model.specs.declared.bound.Bound.{Bound}
-use Rattle.index_model.specs.declared.layout.Layout.{Layout}
-use Rattle.index_model.specs.declared.layout.Layout.TheVariants.{One, Two}
-use Rattle.page_codec.specs.Begins.{AreItems}
-use Rattle.page_codec.specs.Grammar.{IsBlock, IsBoundIn, IsPage, IsDownlink, IsLeafIn, IsOfKind}
 use Rattle.page_codec.specs.Spelling.{layout_digit, bit, bit_of, link_number, kind_byte, count_of, state_byte, slot_bytes, entry_bytes, downlink_bytes, items_bytes, head_bytes, used_bytes, page_bytes}
 use Rattle.page_codec.proofs.Fields.{◌>>=◌, slot_at, entry_at, downlink_at, items_at, items_of, layout_at, state_at, link_at, page_at}
-use Rattle.page_codec.specs.declared.page.PageState.{PageState}
-use Rattle.page_codec.specs.declared.page.PageState.TheVariants.{Live, HalfDead, Deleted}
-use Rattle.page_codec.specs.declared.page.Items.{Items}
-use Rattle.page_codec.specs.declared.page.Items.TheVariants.{Meta, Entries, Downlinks}
-use Rattle.page_codec.specs.declared.page.Page.{Page}
+use Rattle.page_codec.proofs.Imports.{IfSome, nat_lt, ◌==◌, slice_index, nat_tests, drop_at, drop-drop, little_number, little_number-reads_back, IsEntry, Entry, Bound, Layout, One, Two, AreItems}
+use Rattle.page_codec.proofs.Imports.{IsBlock, IsBoundIn, IsPage, IsDownlink, IsLeafIn, IsOfKind, PageState, Live, HalfDead, Deleted, Items, Meta, Entries, Downlinks, Page}
 use Rattle.page_codec.proofs.Again.{slot_widens, links_widen, slot_again, entry_again, downlink_again, items_again, length-slot, length-entry, length-downlink}
 
 leaf_entries : (s : PageState) (p : Page) (es : List Entry) → IsLeafIn s p es → AllByRecursion IsEntry es

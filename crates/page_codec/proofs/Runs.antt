@@ -4,12 +4,7 @@ use Rattle.std.specs.Ordering.{is_lt}
 use Rattle.std.specs.Cmp.Lexicographic.{options_total}
 use Rattle.std.specs.declared.cmp.Ordering.{Ordering}
 use Rattle.std.specs.declared.cmp.Ordering.TheVariants.{Less, Equal, Greater}
-use Rattle.index_model.specs.Order.{IsEntry, IsUpTo}
-use Rattle.index_model.specs.declared.entry.Entry.{Entry}
-use Rattle.index_model.specs.declared.bound.Bound.{Bound}
-use Rattle.index_model.specs.declared.layout.Layout.{Layout}
-use Rattle.page_codec.specs.Grammar.{IsDownlink, EntryBefore, LinkBefore, Below, EntryInPlace, LinkInPlace, AreEntries, AreLinks}
-use Rattle.page_codec.specs.declared.page.Downlink.{Downlink}
+use Rattle.page_codec.proofs.Imports.{IsEntry, IsUpTo, Entry, Bound, Layout, IsDownlink, EntryBefore, LinkBefore, Below, EntryInPlace, LinkInPlace, AreEntries, AreLinks, Downlink}
 use Rattle.index_model.proofs.Order.{bounds_total}
 use Rattle.index_model.proofs.Ascending.{is_past-falls}
 

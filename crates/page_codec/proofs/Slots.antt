@@ -1,19 +1,8 @@
 -- Entries, bounds and downlinks at the beginning of bytes.
 use Rattle.std.proofs.Common.{◌≡◌, ℕ, ◌<◌, ◌≤◌, List, [], ◌∷◌, ◌++◌, Option, Some, None, length, take, drop, replicate, refl, sym, ap, ◌∙◌, arith, length-append}
-use Rattle.std.specs.Prelude.{IfSome}
-use Rattle.std.proofs.lemmas.List.{append-nil}
-use Rattle.byteorder.specs.Endian.{little_bytes, little_number}
-use Rattle.byteorder.specs.Numbers.{little_number-reads_back, little_from-take}
-use Rattle.index_model.specs.Row.{Row, IsRow}
-use Rattle.index_model.specs.Padded.{padded, length-padded}
-use Rattle.index_model.specs.Order.{IsEntry}
-use Rattle.index_model.specs.declared.entry.Entry.{Entry}
-use Rattle.index_model.specs.declared.bound.Bound.{Bound}
-use Rattle.page_codec.specs.Begins.{Begins, HasSlot}
-use Rattle.index_model.specs.declared.layout.Layout.TheVariants.{Two}
-use Rattle.page_codec.specs.Grammar.{IsRowIn, IsBoundIn, IsDownlink}
 use Rattle.page_codec.specs.Spelling.{row_bytes, bound_bytes, slot_bytes, entry_bytes, downlink_bytes}
-use Rattle.page_codec.specs.declared.page.Downlink.{Downlink}
+use Rattle.page_codec.proofs.Imports.{IfSome, append-nil, little_bytes, little_number, little_number-reads_back, little_from-take, Row, IsRow, padded, length-padded, IsEntry, Entry, Bound, Begins}
+use Rattle.page_codec.proofs.Imports.{HasSlot, Two, IsRowIn, IsBoundIn, IsDownlink, Downlink}
 use Rattle.page_codec.proofs.Again.{length-slot}
 use Rattle.page_codec.proofs.Pieces.{begins_front, begins_after, begins_both, begins_one}
 

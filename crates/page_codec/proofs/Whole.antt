@@ -1,10 +1,7 @@
 -- A page's bytes, by their four pieces.
 use Rattle.std.proofs.Common.{◌≡◌, ℕ, ◌-◌, ◌+◌, List, ◌++◌, length, drop, replicate, sym, ap, ◌∙◌, append_assoc, arith, length-append}
-use Rattle.std.proofs.lemmas.List.{drop_at, drop-drop, length-drop, length-replicate}
-use Rattle.page_codec.specs.Grammar.{IsPage}
-use Rattle.page_codec.specs.Begins.{Begins, size_of}
 use Rattle.page_codec.specs.Spelling.{head_bytes, slot_bytes, items_bytes, used_bytes, page_bytes}
-use Rattle.page_codec.specs.declared.page.Page.{Page}
+use Rattle.page_codec.proofs.Imports.{drop_at, drop-drop, length-drop, length-replicate, IsPage, Begins, size_of, Page}
 use Rattle.page_codec.proofs.Again.{slot_widens, length-slot}
 use Rattle.page_codec.proofs.PageAgain.{are_items, length-head}
 use Rattle.page_codec.proofs.Laws.{length-items, size_fits}

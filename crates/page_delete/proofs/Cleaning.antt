@@ -1,23 +1,8 @@
 -- What a cleanup has counted and cleaned, after each step.
 use Rattle.std.proofs.Common.{◌≡◌, ◌≢◌, ℕ, zero, suc, ◌+◌, ◌<◌, ◌≤◌, inl, inr, length, slice_get, Option, Some, List, [], ◌∷◌, refl, sym, ap, ap₂, subst, ◌∙◌, arith}
-use Rattle.std.proofs.lemmas.Bool.{cases_eq}
-use Rattle.page_codec.specs.Edits.{HasEntries}
-use Rattle.page_codec.specs.declared.page.Page.{Page}
-use Rattle.page_codec.specs.declared.page.PageState.{PageState}
-use Rattle.page_codec.specs.declared.page.PageState.TheVariants.{Live, HalfDead, Deleted}
-use Rattle.page_action.specs.States.{State}
-use Rattle.tree_shape.specs.Nodes.{node_from}
-use Rattle.tree_acts.specs.Deletions.{state_in}
-use Rattle.tree_acts.proofs.Lasting.{meta_lives}
-use Rattle.vacuum.specs.Counts.{entry_count, entries_below}
-use Rattle.vacuum.proofs.Counting.{counted_beyond, no_leaf_count}
-use Rattle.page_delete.specs.Counts.{IsEmptyAt, IsFoundEmpty, come_to, IsCleaned, AllIsCleaned}
-use Rattle.page_delete.specs.Laws.{NothingIsCleaned}
-use Rattle.page_delete.specs.Ops.{turned_to, moved_past, moved_past_deleted, TurnsAt, unlinks, tries, passes}
-use Rattle.page_delete.specs.Parts.{MovesState, LeafDies, PageIsDeleted}
-use Rattle.page_delete.specs.declared.steps.CleanupAt.{CleanupAt}
-use Rattle.page_delete.specs.declared.steps.CleanupAt.TheVariants.{Start, Unlink}
-use Rattle.page_delete.specs.declared.steps.CleanupOp.{CleanupOp}
+use Rattle.page_delete.proofs.Imports.{cases_eq, HasEntries, Page, PageState, Live, HalfDead, Deleted, State, node_from, state_in, meta_lives, entry_count, entries_below, counted_beyond}
+use Rattle.page_delete.proofs.Imports.{no_leaf_count, IsEmptyAt, IsFoundEmpty, come_to, IsCleaned, AllIsCleaned, NothingIsCleaned, turned_to, moved_past, moved_past_deleted, TurnsAt, unlinks}
+use Rattle.page_delete.proofs.Imports.{tries, passes, MovesState, LeafDies, PageIsDeleted, CleanupAt, Start, Unlink, CleanupOp}
 use Rattle.page_delete.proofs.Moving.{leaf_count, dead_count}
 
 -- after a page that has so many entries and isn't half-dead

@@ -1,18 +1,9 @@
 -- What a cleanup knows lasts while others act, and what is left to do for it is bounded.
 use Rattle.std.proofs.Common.{ℕ, ◌+◌, ◌<◌, ◌≤◌, false, length, ◌∙◌, arith}
-use Rattle.index_model.specs.declared.bound.Bound.{Bound}
-use Rattle.page_action.specs.States.{State}
-use Rattle.tree_shape.specs.Walks.{bound_aim}
 use Rattle.tree_shape.proofs.Fits.{bound_falls}
 use Rattle.tree_acts.proofs.Sizes.{low_level, pages_few}
-use Rattle.descent.specs.NextPage.{IsOnDescent}
-use Rattle.tree_acts.specs.StepEffects.{IsInOrder, NumbersStay}
-use Rattle.descent.specs.declared.way.Position.{Position}
-use Rattle.page_delete.specs.Cleanups.{CleanupIsUnderway}
-use Rattle.page_delete.specs.Laws.{CleanupsAreUndisturbed, CleanupsAreBounded}
-use Rattle.page_delete.specs.Work.{steps_for_page, turn_left, pages_left}
-use Rattle.page_delete.specs.declared.steps.CleanupAt.{CleanupAt}
-use Rattle.page_delete.specs.declared.steps.CleanupAt.TheVariants.{Look, Start, Down, Judge, Unlink}
+use Rattle.page_delete.proofs.Imports.{Bound, State, bound_aim, IsOnDescent, IsInOrder, NumbersStay, Position, CleanupIsUnderway, CleanupsAreUndisturbed, CleanupsAreBounded, steps_for_page}
+use Rattle.page_delete.proofs.Imports.{turn_left, pages_left, CleanupAt, Look, Start, Down, Judge, Unlink}
 use Rattle.page_delete.proofs.Measuring.{mul_le, bounded}
 
 way_stays : (old new : State) (start : ℕ) (high : Bound) (way : Position) → NumbersStay start old new → IsOnDescent old start (bound_aim high) false 1 way → IsOnDescent new start (bound_aim high) false 1 way

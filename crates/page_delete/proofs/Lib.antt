@@ -1,3 +1,4 @@
+pub mod Imports
 pub mod Siblings
 pub mod Measuring
 pub mod Needs

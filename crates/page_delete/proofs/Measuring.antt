@@ -1,11 +1,6 @@
 -- How much is left to do after a step.
 use Rattle.std.proofs.Common.{◌≡◌, ℕ, zero, suc, ◌+◌, ◌-◌, ◌*◌, ◌<◌, ◌≤◌, inl, inr, refl, sym, ap, subst, ◌∙◌, arith}
-use Rattle.index_model.specs.declared.bound.Bound.{Bound}
-use Rattle.descent.specs.NextPage.{IsShorter}
-use Rattle.descent.specs.declared.way.Position.{Position}
-use Rattle.page_delete.specs.Work.{steps_for_page, turn_left, pages_left, cleanup_left}
-use Rattle.page_delete.specs.declared.steps.CleanupAt.{CleanupAt}
-use Rattle.page_delete.specs.declared.steps.CleanupAt.TheVariants.{Look, Start, Down, Judge, Unlink}
+use Rattle.page_delete.proofs.Imports.{Bound, IsShorter, Position, steps_for_page, turn_left, pages_left, cleanup_left, CleanupAt, Look, Start, Down, Judge, Unlink}
 
 pub mul_le : (a b k : ℕ) → a ≤ b → a * k ≤ b * k
 mul_le zero b k le = omega arith

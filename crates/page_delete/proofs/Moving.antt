@@ -1,21 +1,8 @@
 -- What the acts of a cleanup leave of entries and states.
 use Rattle.std.proofs.Common.{◌≡◌, ◌≢◌, ℕ, inl, inr, true, List, [], ◌∷◌, length, slice_get, Option, Some, None, refl, sym, ap, subst, ◌∙◌, arith}
-use Rattle.std.proofs.lemmas.Bool.{cases_eq}
-use Rattle.index_model.specs.declared.layout.Layout.TheVariants.{Two}
-use Rattle.page_codec.specs.Edits.{renewed}
-use Rattle.page_codec.specs.declared.page.Downlink.{Downlink}
-use Rattle.page_codec.specs.declared.page.Page.{Page}
-use Rattle.page_codec.specs.declared.page.PageState.TheVariants.{Live, HalfDead}
-use Rattle.page_action.specs.States.{State, after_act, with_pages}
-use Rattle.page_action.specs.Stored.{AreActable}
-use Rattle.tree_shape.specs.Deletion.{MayDie, as_deleted}
-use Rattle.tree_shape.specs.LinkPlaces.{HasLinks, with_downlinks}
-use Rattle.tree_shape.specs.Nodes.{node_from, nodes_of}
-use Rattle.tree_acts.proofs.Overlays.{pages_other, pages_first, pages_second, pages_third}
-use Rattle.vacuum.specs.Counts.{entry_count}
-use Rattle.vacuum.proofs.Counting.{no_leaf_count}
 use Rattle.vacuum.proofs.Removing.{live_is}
-use Rattle.page_delete.specs.Parts.{IsTakenLeft, LeafDies, PageIsDeleted, unlinked}
+use Rattle.page_delete.proofs.Imports.{cases_eq, Two, renewed, Downlink, Page, Live, HalfDead, State, after_act, with_pages, AreActable, MayDie, as_deleted, HasLinks, with_downlinks, node_from}
+use Rattle.page_delete.proofs.Imports.{nodes_of, pages_other, pages_first, pages_second, pages_third, entry_count, no_leaf_count, IsTakenLeft, LeafDies, PageIsDeleted, unlinked}
 use Rattle.page_delete.proofs.Dying.{links_no_leaf}
 
 -- the state of a page that is there

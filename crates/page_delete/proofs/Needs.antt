@@ -1,11 +1,6 @@
 -- What a step of a cleanup needs.
 use Rattle.std.proofs.Common.{◌≡◌, ℕ, Bool, Option, Some, None, ◌∷◌, ◌++◌, map, slice_get, refl}
-use Rattle.page_codec.specs.declared.page.Page.{Page}
-use Rattle.page_codec.specs.declared.page.PageState.TheVariants.{HalfDead}
-use Rattle.page_action.specs.States.{State}
-use Rattle.tree_acts.specs.StepEffects.{sibling}
-use Rattle.page_delete.specs.Needs.{blocks_unlinked_at}
-use Rattle.page_delete.specs.Parts.{IsTakenLeft, unlinked}
+use Rattle.page_delete.proofs.Imports.{Page, HalfDead, State, sibling, blocks_unlinked_at, IsTakenLeft, unlinked}
 
 -- the blocks that are written where a half-dead page is unlinked
 pub dead_blocks : (st : State) (page : Page) → slice_get st.pages page.block ≡ Some page → page.state ≡ HalfDead

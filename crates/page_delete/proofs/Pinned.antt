@@ -1,22 +1,9 @@
 -- Leaves that others have pinned stay after the acts of a cleanup.
 use Rattle.std.proofs.Common.{◌≡◌, ◌≢◌, ℕ, inl, inr, true, false, List, [], ◌∷◌, length, slice_get, Option, Some, None, refl, sym, ap, subst, ◌∙◌, arith}
-use Rattle.std.proofs.lemmas.Bool.{cases_eq}
-use Rattle.latch_table.specs.Holdings.{is_held_by_another}
-use Rattle.latch_table.specs.declared.mode.Mode.TheVariants.{Cleanup}
-use Rattle.index_model.specs.declared.layout.Layout.TheVariants.{Two}
-use Rattle.page_codec.specs.Edits.{HasEntries}
-use Rattle.page_codec.specs.declared.page.Page.{Page}
-use Rattle.page_codec.specs.declared.page.PageState.TheVariants.{Live, HalfDead}
-use Rattle.page_action.specs.States.{State, after_act, with_pages}
-use Rattle.page_action.specs.Stored.{AreActable}
-use Rattle.tree_shape.specs.Deletion.{as_deleted}
-use Rattle.tree_shape.specs.LinkPlaces.{HasLinks}
-use Rattle.tree_acts.specs.Leaves.{IsLeafAt, WasLeaf}
-use Rattle.tree_acts.proofs.Overlays.{pages_other, pages_first, pages_second, pages_third}
 use Rattle.vacuum.proofs.Holding.{pinned_is_held}
-use Rattle.page_delete.specs.Parts.{IsTakenLeft, PinnedLeafPagesStay, unlinked}
 use Rattle.page_delete.proofs.Dying.{links_no_leaf}
-use Rattle.vacuum.proofs.Lasting.{same_page}
+use Rattle.page_delete.proofs.Imports.{cases_eq, is_held_by_another, Cleanup, Two, HasEntries, Page, Live, HalfDead, State, after_act, with_pages, AreActable, as_deleted, HasLinks, IsLeafAt}
+use Rattle.page_delete.proofs.Imports.{WasLeaf, pages_other, pages_first, pages_second, pages_third, IsTakenLeft, PinnedLeafPagesStay, unlinked, same_page}
 
 -- a page that keeps its state and its items
 leaf_kept : (pages pages2 : List Page) (b : ℕ) (page before after : Page) → IsLeafAt pages b page → slice_get pages b ≡ Some before → slice_get pages2 b ≡ Some after

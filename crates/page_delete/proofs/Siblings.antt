@@ -1,22 +1,13 @@
 -- The siblings of a page of a tree link to it.
 use Rattle.std.proofs.Common.{◌≡◌, ◌≢◌, ℕ, zero, suc, ◌<◌, ◌≤◌, inl, inr, List, [], ◌∷◌, ◌++◌, length, slice_get, slice_index, Some, None, refl, sym, ap, subst, ◌∙◌, arith}
-use Rattle.page_codec.specs.Grammar.{IsPage}
-use Rattle.page_codec.specs.declared.page.Page.{Page}
-use Rattle.page_codec.specs.declared.page.PageState.TheVariants.{HalfDead, Deleted}
-use Rattle.page_action.specs.States.{State}
-use Rattle.tree_shape.specs.Nodes.{Node, node_of, nodes_of}
-use Rattle.tree_shape.specs.Chains.{IsRunOf, LeftContext, past, spot_after, first_spot, IsIn, AreDistinct}
 use Rattle.tree_shape.proofs.Deleting.{is_dead}
 use Rattle.tree_shape.proofs.LeafSplit.{first_in}
-use Rattle.tree_shape.proofs.Members.{apart_sides, apart_back, not_in_apart, in_append_left, in_append_right}
 use Rattle.tree_shape.proofs.Runs.{run_front, run_back, SplitAt, split_at}
 use Rattle.tree_shape.proofs.Unlink.{left_in}
-use Rattle.tree_shape.specs.Walks.{IsTrail, reached, over}
-use Rattle.tree_acts.specs.Trees.{HasTree, HasTrail}
-use Rattle.tree_acts.proofs.Lasting.{deleted_in_use}
 use Rattle.tree_acts.proofs.Words.{trail_in}
-use Rattle.tree_acts.proofs.Overlays.{inside, node_there}
-use Rattle.page_delete.specs.Parts.{LinksRight, LinksLeft, SiblingsLink}
+use Rattle.page_delete.proofs.Imports.{IsPage, Page, HalfDead, Deleted, State, Node, node_of, nodes_of, IsRunOf, LeftContext, past, spot_after, first_spot, IsIn, AreDistinct, apart_sides}
+use Rattle.page_delete.proofs.Imports.{apart_back, not_in_apart, in_append_left, in_append_right, IsTrail, reached, over, HasTree, HasTrail, deleted_in_use, inside, node_there, LinksRight}
+use Rattle.page_delete.proofs.Imports.{LinksLeft, SiblingsLink}
 
 -- a block in use has a page
 pub some_at : (pages : List Page) (c : ℕ) → c < length pages → (page : Page) × (slice_get pages c ≡ Some page)

@@ -1,45 +1,19 @@
 -- Which empty leaves a cleanup leaves in the tree, after each step.
 use Rattle.std.proofs.Common.{◌≡◌, ◌≢◌, ◌⊎◌, ℕ, suc, ◌+◌, take, All, ◌<◌, ◌≤◌, inl, inr, Bool, true, false, not, ◌&&◌, ◌||◌, ◌==◌, eq-eqb, List, [], ◌∷◌, ◌++◌, length, slice_get, Option, Some, None, IsSome, IsNone, refl, sym, ap, subst, ◌∙◌, arith}
-use Rattle.std.proofs.lemmas.Bool.{cases_eq}
 use Rattle.std.specs.Prelude.{slice_index_or}
-use Rattle.index_model.specs.declared.bound.Bound.{Bound}
-use Rattle.latch_table.specs.Holdings.{Holding, Table, holding_of, nothing_held, holding_excludes, others_exclude, is_held_by_another}
-use Rattle.latch_table.specs.declared.mode.Mode.TheVariants.{Cleanup}
-use Rattle.page_codec.specs.Edits.{HasEntries}
-use Rattle.page_codec.specs.Grammar.{IsPage, IsOfKind, IsLeafIn}
-use Rattle.page_codec.specs.declared.page.Downlink.{Downlink}
-use Rattle.page_codec.specs.declared.page.Items.{Items}
-use Rattle.page_codec.specs.declared.page.Items.TheVariants.{Meta, Entries, Downlinks}
-use Rattle.page_codec.specs.declared.page.Page.{Page}
-use Rattle.page_codec.specs.declared.page.PageState.{PageState}
-use Rattle.page_codec.specs.declared.page.PageState.TheVariants.{Live, HalfDead, Deleted}
-use Rattle.page_action.specs.States.{State}
 use Rattle.page_action.proofs.StoredPages.{stored_page}
-use Rattle.tree_shape.specs.Chains.{IsIn, IsTreeOf, first_spot}
-use Rattle.tree_shape.specs.Deletion.{MayDie}
 use Rattle.tree_shape.specs.Edits.{IsHalfDeath, IsUnlink}
-use Rattle.tree_shape.specs.LinkPlaces.{HasLinks}
-use Rattle.tree_shape.specs.Nodes.{Node, node_of, nodes_of, links_of}
 use Rattle.tree_shape.specs.Staying.{MustStay, rightmost, incomplete, behind, IsCompleteLeaf, HasBothLinks}
 use Rattle.tree_shape.proofs.Links.{link_cases}
-use Rattle.tree_shape.proofs.Members.{member, in_append_right}
 use Rattle.tree_shape.proofs.Places.{cover_at}
 use Rattle.tree_shape.proofs.Staying.{complete_leaf_has_both_links, root_leaf_is_not_complete, half_death_spares, unlink_spares}
-use Rattle.tree_acts.specs.Deletions.{IsCompleteAt, state_in}
-use Rattle.tree_acts.specs.Trees.{HasTree}
 use Rattle.tree_acts.proofs.Dying.{whole_from}
-use Rattle.tree_acts.proofs.Overlays.{node_there, inside}
-use Rattle.tree_acts.proofs.Removing.{leaf_is}
-use Rattle.tree_acts.specs.StepEffects.{IsInOrder}
-use Rattle.page_delete.specs.Judging.{IsToDie, IsHandingPlace}
-use Rattle.page_delete.specs.Laws.{NothingIsSpared}
-use Rattle.page_delete.specs.Ops.{turned_to, moved_past, moved_past_deleted, TurnsAt, unlinks, tries, passes}
-use Rattle.page_delete.specs.Parts.{LeafDies, PageIsDeleted, LinksLeft}
-use Rattle.page_delete.specs.Spares.{IsAlone, IsEmptyLeaf, HasToStay, MayGo, MayGoFrom, IsSought, IsSparing, OnlyNeededStay, EditsALeaf, dies, goes}
 use Rattle.page_delete.proofs.Siblings.{some_at, siblings}
-use Rattle.page_delete.specs.declared.steps.CleanupAt.{CleanupAt}
-use Rattle.page_delete.specs.declared.steps.CleanupAt.TheVariants.{Look, Start, Judge, Unlink}
-use Rattle.page_delete.specs.declared.steps.CleanupOp.{CleanupOp}
+use Rattle.page_delete.proofs.Imports.{cases_eq, Bound, Holding, Table, holding_of, nothing_held, holding_excludes, others_exclude, is_held_by_another, Cleanup, HasEntries, IsPage, IsOfKind}
+use Rattle.page_delete.proofs.Imports.{IsLeafIn, Downlink, Items, Meta, Entries, Downlinks, Page, PageState, Live, HalfDead, Deleted, State, IsIn, IsTreeOf, first_spot, MayDie, HasLinks, Node}
+use Rattle.page_delete.proofs.Imports.{node_of, nodes_of, links_of, member, in_append_right, IsCompleteAt, state_in, HasTree, node_there, inside, leaf_is, IsInOrder, IsToDie, IsHandingPlace}
+use Rattle.page_delete.proofs.Imports.{NothingIsSpared, turned_to, moved_past, moved_past_deleted, TurnsAt, unlinks, tries, passes, LeafDies, PageIsDeleted, LinksLeft, IsAlone, IsEmptyLeaf}
+use Rattle.page_delete.proofs.Imports.{HasToStay, MayGo, MayGoFrom, IsSought, IsSparing, OnlyNeededStay, EditsALeaf, dies, goes, CleanupAt, Look, Start, Judge, Unlink, CleanupOp}
 
 some_is : (a b : ℕ) → Some a ≡ Some b → a ≡ b
 some_is a b e = cc

@@ -1,56 +1,30 @@
 -- Steps of a cleanup.
 use Rattle.std.proofs.Common.{◌≡◌, ◌≢◌, ℕ, zero, suc, ◌+◌, ◌<◌, ◌≤◌, ◌||◌, inl, inr, Bool, true, false, Option, Some, None, Ok, Err, Result, List, length, slice_get, refl, sym, ap, subst, ◌∙◌, arith}
 use Rattle.index_model.specs.Actions.{Shape}
-use Rattle.index_model.specs.Faults.{HasCause}
-use Rattle.index_model.specs.declared.bound.Bound.{Bound}
-use Rattle.index_model.specs.declared.fault.Fault.{Fault}
 use Rattle.index_model.specs.declared.fault.Fault.TheVariants.{Stopped, PageDamaged}
 use Rattle.index_model.specs.declared.stats.VacuumStats.{VacuumStats}
-use Rattle.latch_table.specs.Holdings.{Holding, HasRoom, holding_of}
-use Rattle.page_codec.specs.Grammar.{IsPage, IsOfKind}
-use Rattle.page_codec.specs.declared.page.Items.{Items}
-use Rattle.page_codec.specs.declared.page.Items.TheVariants.{Meta, Entries, Downlinks}
-use Rattle.page_codec.specs.declared.page.Page.{Page}
-use Rattle.page_codec.specs.declared.page.PageState.TheVariants.{Live, HalfDead}
 use Rattle.page_action.specs.Causes.{is_at_end}
-use Rattle.page_action.specs.States.{State, Backing, Continues}
-use Rattle.page_action.specs.Stored.{IsStored}
-use Rattle.page_action.specs.declared.page_store.PageStore.{Ghosts}
-use Rattle.tree_shape.specs.Nodes.{node_from, nodes_of}
 use Rattle.tree_shape.specs.Tree.{IsMetaOf}
-use Rattle.tree_shape.specs.Walks.{bound_aim}
-use Rattle.tree_acts.specs.Deletions.{state_in}
-use Rattle.tree_acts.specs.Trees.{LeadsTo, HasTrail}
 use Rattle.tree_acts.specs.Ways.{RootIsThere}
-use Rattle.tree_acts.proofs.Removing.{leaf_begins_trail}
 use Rattle.tree_acts.proofs.Meanings.{metapage_shows, trail_begins_here}
-use Rattle.tree_acts.specs.StepEffects.{IsInOrder}
-use Rattle.descent.specs.NextPage.{IsOnDescent, LeadsToNext, DescentIsShorter, way_from}
 use Rattle.descent.specs.declared.way.NextPage.{NextPage}
 use Rattle.descent.specs.declared.way.NextPage.TheVariants.{Going as LeadsOn, Here}
-use Rattle.descent.specs.declared.way.Position.{Position}
-use Rattle.descent.proofs.Acting.{one_nothing, cleans_nothing}
-use Rattle.vacuum.proofs.Lasting.{same_page}
 use Rattle.vacuum.proofs.Causes.{or_more}
-use Rattle.page_delete.specs.Cleanups.{CleanupIsUnderway, CleanupInvariant, CleanupSteps, causes_of_cleaning}
-use Rattle.page_delete.specs.Counts.{IsEmptyAt, IsFoundEmpty, come_to, IsCleaned, AllIsCleaned, deleted_in}
-use Rattle.page_delete.specs.Ops.{cleanup_counted_out, cleanup_stats, turned_to, moved_past, moved_past_deleted, TurnsAt, unlinks, tries, passes}
-use Rattle.page_delete.specs.Needs.{blocks_judged, blocks_unlinked_at, blocks_written, causes_of_trying}
-use Rattle.page_delete.specs.Parts.{IsTried, DeletesOn, BlocksAreInUse, LeafDies, IsSpared, IsInUse, PageIsDeleted, IsNotDead, left_to, left_root, left_page, left_answer}
-use Rattle.page_delete.specs.Spares.{IsAlone, IsSought, IsSparing, EditsALeaf}
 use Rattle.page_delete.specs.Turns.{TurnsFrom}
-use Rattle.page_delete.specs.Work.{cleanup_left}
 use Rattle.page_delete.proofs.Cleaning.{cleaned_past, cleaned_at, cleaned_dying, cleaned_deleted, cleaned_looking, cleaned_all}
 use Rattle.page_delete.proofs.Measuring.{look_starts, look_unlinks, look_passes, start_passes, start_goes_down, down_goes_on, down_judges, judge_unlinks, judge_passes, unlink_passes}
 use Rattle.page_delete.proofs.Siblings.{trail_in_use, dead_begins_trail}
 use Rattle.page_delete.proofs.Sparing.{spared_at, spared_looking, spared_judged, spared_dying, spared_deleted, spared_all, no_root_leaf}
 use Rattle.page_delete.proofs.Tallying.{none_deleted, one_deleted}
 use Rattle.page_delete.proofs.Trying.{pinned_same}
-use Rattle.page_delete.specs.declared.steps.CleanupAt.{CleanupAt}
-use Rattle.page_delete.specs.declared.steps.CleanupAt.TheVariants.{Look, Start, Down, Judge, Unlink}
-use Rattle.page_delete.specs.declared.steps.CleanupOp.{CleanupOp}
 use Rattle.page_delete.specs.declared.steps.CleanupStep.{CleanupStep}
-use Rattle.page_delete.specs.declared.steps.CleanupStep.TheVariants.{Going, Finished}
+use Rattle.page_delete.proofs.Imports.{HasCause, Bound, Fault, Holding, HasRoom, holding_of, IsPage, IsOfKind, Items, Meta, Entries, Downlinks, Page, Live, HalfDead, State, Backing, Continues}
+use Rattle.page_delete.proofs.Imports.{IsStored, Ghosts, node_from, nodes_of, bound_aim, state_in, LeadsTo, HasTrail, leaf_begins_trail, IsInOrder, IsOnDescent, LeadsToNext, DescentIsShorter}
+use Rattle.page_delete.proofs.Imports.{way_from, Position, one_nothing, cleans_nothing, same_page, CleanupIsUnderway, CleanupInvariant, CleanupSteps, causes_of_cleaning, IsEmptyAt, IsFoundEmpty}
+use Rattle.page_delete.proofs.Imports.{come_to, IsCleaned, AllIsCleaned, deleted_in, cleanup_counted_out, cleanup_stats, turned_to, moved_past, moved_past_deleted, TurnsAt, unlinks, tries, passes}
+use Rattle.page_delete.proofs.Imports.{blocks_judged, blocks_unlinked_at, blocks_written, causes_of_trying, IsTried, DeletesOn, BlocksAreInUse, LeafDies, IsSpared, IsInUse, PageIsDeleted}
+use Rattle.page_delete.proofs.Imports.{IsNotDead, left_to, left_root, left_page, left_answer, IsAlone, IsSought, IsSparing, EditsALeaf, cleanup_left, CleanupAt, Look, Start, Down, Judge, Unlink}
+use Rattle.page_delete.proofs.Imports.{CleanupOp, Going, Finished}
 
 -- after the look at it the page at the cursor is in use
 come_within : (st : State) (op : CleanupOp) (at : CleanupAt) → op.at ≡ at → IsCleaned st op → come_to op.cursor at ≤ length st.pages

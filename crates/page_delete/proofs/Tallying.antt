@@ -1,15 +1,7 @@
 -- How many pages are deleted after a step of a cleanup.
 use Rattle.std.proofs.Common.{◌≡◌, ◌≢◌, ℕ, zero, suc, ◌+◌, ◌<◌, inl, inr, Bool, true, false, if◌then◌else◌, Option, Some, None, List, length, slice_get, refl, sym, ap, ◌∙◌, arith}
-use Rattle.std.proofs.lemmas.Bool.{cases_eq}
-use Rattle.page_codec.specs.declared.page.Page.{Page}
-use Rattle.page_codec.specs.declared.page.PageState.TheVariants.{Live, HalfDead}
 use Rattle.page_action.specs.Reuse.{is_deleted_state, is_deleted_page, is_deleted}
-use Rattle.page_action.specs.States.{State}
-use Rattle.tree_shape.specs.Nodes.{node_from, nodes_of}
-use Rattle.tree_acts.proofs.Overlays.{inside}
-use Rattle.vacuum.specs.Counts.{deleted_count}
-use Rattle.page_delete.specs.Counts.{deleted_in}
-use Rattle.page_delete.specs.Parts.{LeafDies, PageIsDeleted}
+use Rattle.page_delete.proofs.Imports.{cases_eq, Page, Live, HalfDead, State, node_from, nodes_of, inside, deleted_count, deleted_in, LeafDies, PageIsDeleted}
 
 -- the state of a page tells whether it is deleted
 told_by_state : (pages : List Page) (b : ℕ) → is_deleted pages b ≡ is_deleted_state (nodes_of pages b).state

@@ -1,19 +1,8 @@
 -- Parts of a step that may do one act.
 use Rattle.std.proofs.Common.{◌≡◌, eqb, eq-eqb, ℕ, ◌≤◌, Bool, true, false, List, length, Option, Some, None, Result, Ok, Err, OnErr, IfErr, refl, sym, ap, subst, ◌∙◌}
 use Rattle.std.specs.Option.{option_eq}
-use Rattle.index_model.specs.Faults.{HasCause}
-use Rattle.index_model.specs.declared.fault.Fault.{Fault}
-use Rattle.latch_table.specs.Holdings.{HasRoom}
-use Rattle.page_codec.specs.declared.page.Page.{Page}
-use Rattle.page_action.specs.States.{State, Continues, IsLater, after_act}
-use Rattle.page_action.specs.declared.page_store.PageStore.{Ghosts}
-use Rattle.tree_acts.specs.Deletions.{StartsAreBelow}
-use Rattle.tree_acts.specs.Leaves.{WasLeaf}
-use Rattle.tree_acts.specs.StepEffects.{IsInOrder, IsOneActAtMost, frames_for}
-use Rattle.descent.proofs.Acting.{one_act, one_nothing}
-use Rattle.descent.proofs.Working.{working_later}
-use Rattle.page_delete.specs.Needs.{causes_of_trying}
-use Rattle.page_delete.specs.Parts.{IsCandidate, IsTakenToChange, IsTakenLeft, DeletesOn, PinnedLeafPagesStay, IsTried}
+use Rattle.page_delete.proofs.Imports.{HasCause, Fault, HasRoom, Page, State, Continues, IsLater, after_act, Ghosts, StartsAreBelow, WasLeaf, IsInOrder, IsOneActAtMost, frames_for, one_act}
+use Rattle.page_delete.proofs.Imports.{one_nothing, working_later, causes_of_trying, IsCandidate, IsTakenToChange, IsTakenLeft, DeletesOn, PinnedLeafPagesStay, IsTried}
 
 -- two answers are the same
 abbrev Path_result : Result Bool Fault → Result Bool Fault → Type 0

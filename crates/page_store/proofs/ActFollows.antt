@@ -1,27 +1,11 @@
 -- Pages after an act follow those before it.
 use Rattle.std.proofs.Common.{◌≡◌, inl, inr, ℕ, suc, ◌<◌, ◌≤◌, true, Option, None, List, slice_get, [], ◌∷◌, ◌++◌, length, take, drop, refl, sym, ap, subst, ◌∙◌, arith, length-append}
-use Rattle.std.proofs.lemmas.List.{take-append-le, drop-append-le}
-use Rattle.std.specs.Prelude.{is_some}
-use Rattle.std.proofs.lemmas.Bool.{cases_lt}
-use Rattle.device.specs.Disk.{DiskMoment}
-use Rattle.device.specs.Places.{Has, OnDisk}
-use Rattle.device.proofs.Going.{stays}
-use Rattle.index_model.specs.declared.format.Format.{Format}
 use Rattle.page_codec.specs.Spelling.{page_bytes}
-use Rattle.page_codec.specs.declared.page.Page.{Page}
-use Rattle.page_action.specs.Stored.{AreStored, AreActable}
-use Rattle.redo_log.specs.Images.{last_image, later_of, images_of}
-use Rattle.redo_log.specs.Kept.{LogHolds, limits_of, is_stopped}
-use Rattle.redo_log.specs.declared.log.Log.{Log}
-use Rattle.redo_log.proofs.ImageLists.{last_image-append, images_of-push}
-use Rattle.page_store.specs.Histories.{with_act, after_acts, pages_after, pages_now, AreActs}
 use Rattle.page_codec.specs.Places.{superblock, place}
-use Rattle.page_store.specs.Restart.{CrashesToPart}
-use Rattle.page_store.specs.Logged.{Held, pages_held, is_named, AreHome, IsKept, IsOwn}
-use Rattle.page_store.specs.Following.{Follows}
-use Rattle.page_store.specs.declared.history.History.{History}
 use Rattle.page_store.proofs.Images.{acts-append, after_acts-append, get-with_pages, later_is_some, image_cases, all_dropped}
-use Rattle.page_store.specs.Crashing.{part_of_more}
+use Rattle.page_store.proofs.Imports.{take-append-le, drop-append-le, is_some, cases_lt, DiskMoment, Has, OnDisk, stays, Format, Page, AreStored, AreActable, last_image, later_of, images_of}
+use Rattle.page_store.proofs.Imports.{LogHolds, limits_of, is_stopped, Log, last_image-append, images_of-push, with_act, after_acts, pages_after, pages_now, AreActs, CrashesToPart, Held}
+use Rattle.page_store.proofs.Imports.{pages_held, is_named, AreHome, IsKept, IsOwn, Follows, History, part_of_more}
 
 module _ (old : Held) (log : Log) (changed : List Page) (room promised : ℕ) (limits : limits_of log ≡ limits_of old.log) (stopped : is_stopped log ≡ is_stopped old.log)
     (keeps : (m : DiskMoment) (acts : List (List Page)) (forced : ℕ) → LogHolds old.log m acts forced → LogHolds log m (acts ++ changed ∷ []) forced)

@@ -1,14 +1,6 @@
 -- An act and what was kept before it.
 use Rattle.std.proofs.Common.{◌≡◌, inl, inr, true, false, refl, sym, ◌∙◌, ℕ, ◌<◌, ◌≤◌, List, [], ◌∷◌, arith}
-use Rattle.std.specs.Prelude.{Bool, Result, Ok, Err}
-use Rattle.std.specs.Result.{is_err}
-use Rattle.index_model.specs.declared.fault.Fault.{Fault}
-use Rattle.index_model.specs.declared.fault.Fault.TheVariants.{Stopped}
-use Rattle.device.specs.Disk.{CountsFailures}
-use Rattle.redo_log.specs.Kept.{IoOrStopped}
-use Rattle.index_model.specs.declared.format.Format.{Format}
-use Rattle.page_codec.specs.declared.page.Page.{Page}
-use Rattle.page_action.specs.Stored.{AreActable}
+use Rattle.page_store.proofs.Imports.{Bool, Result, Ok, Err, is_err, Fault, Stopped, CountsFailures, IoOrStopped, Format, Page, AreActable}
 use Rattle.redo_log.specs.Groups.{AreImages}
 
 -- the pages of an act are images

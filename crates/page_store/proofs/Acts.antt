@@ -1,20 +1,8 @@
 -- Pages that an act changes one after the other.
 use Rattle.std.proofs.Common.{◌≡◌, ◌≢◌, inl, inr, ℕ, zero, suc, ◌≤◌, Some, None, List, [], ◌∷◌, ◌++◌, length, take, slice_get, refl, sym, ap, subst, ◌∙◌, arith}
-use Rattle.std.proofs.lemmas.Bool.{cases_eq}
-use Rattle.std.specs.Prelude.{is_some, if◌then◌else◌}
-use Rattle.buffer_pool.specs.Frames.{has_block}
 use Rattle.buffer_pool.specs.Pools.{held_page, act_of, changed_of, IsChanged}
-use Rattle.buffer_pool.specs.declared.pool.Pool.{Pool}
-use Rattle.index_model.specs.declared.format.Format.{Format}
-use Rattle.page_codec.specs.declared.page.Page.{Page}
-use Rattle.page_action.specs.Stored.{AreActable}
-use Rattle.page_action.specs.States.{with_page, with_pages}
-use Rattle.redo_log.specs.Images.{last_image, later_of, if_of}
-use Rattle.redo_log.proofs.ImageLists.{last_image-append}
-use Rattle.page_store.specs.Changing.{AreActed, used_after}
-use Rattle.page_action.specs.Order.{with_changed}
-use Rattle.page_store.specs.Histories.{pages_now, with_act}
-use Rattle.page_store.specs.declared.history.History.{History}
+use Rattle.page_store.proofs.Imports.{cases_eq, is_some, if◌then◌else◌, has_block, Pool, Format, Page, AreActable, with_page, with_pages, last_image, later_of, if_of, last_image-append, AreActed}
+use Rattle.page_store.proofs.Imports.{used_after, with_changed, pages_now, with_act, History}
 use Rattle.page_store.proofs.Images.{if_same, if_other, length-with_page, after_acts-append}
 
 take_next : {A : Type 0} (xs : List A) (k : ℕ) (x : A) → slice_get xs k ≡ Some x → take (suc k) xs ≡ take k xs ++ x ∷ []

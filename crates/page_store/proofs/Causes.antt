@@ -1,20 +1,11 @@
 -- Why a store over a device refuses.
 use Rattle.std.proofs.Common.{◌≡◌, ◌⊎◌, inl, inr, ℕ, suc, ◌<◌, ◌≤◌, ◌^◌, ◌-◌, Bool, true, false, List, [], ◌∷◌, ◌++◌, map, length, refl, sym, ap, subst, ◌∙◌, arith}
-use Rattle.std.proofs.lemmas.Bool.{lt-ltb, le-leb, eq-eqb}
-use Rattle.std.specs.Prelude.{◌||◌, ◌==◌, if◌then◌else◌}
 use Rattle.index_model.specs.Faults.{HasCause}
-use Rattle.index_model.specs.declared.fault.Fault.{Fault}
-use Rattle.index_model.specs.declared.fault.Fault.TheVariants.{Io, Stopped, NoFrame, LogFull, PageDamaged}
-use Rattle.latch_table.specs.Holdings.{has_pin, pinned_blocks}
-use Rattle.buffer_pool.specs.Choices.{count_distinct}
-use Rattle.buffer_pool.specs.Frames.{has_block}
 use Rattle.buffer_pool.specs.Pools.{most_of}
-use Rattle.buffer_pool.specs.declared.pool.Pool.{Pool}
-use Rattle.page_codec.specs.declared.page.Page.{Page}
 use Rattle.page_action.specs.Causes as causes
-use Rattle.page_action.specs.Causes.{causes_of_read, causes_of_acted, are_frames_pinned, has_failed, is_at_end}
-use Rattle.page_action.specs.States.{State, Backing}
-use Rattle.page_store.specs.Taking.{TakingFails, FetchFails}
+use Rattle.page_action.specs.Causes.{causes_of_read, causes_of_acted, are_frames_pinned, is_at_end}
+use Rattle.page_store.proofs.Imports.{lt-ltb, le-leb, eq-eqb, ◌||◌, ◌==◌, if◌then◌else◌, Fault, Io, Stopped, NoFrame, LogFull, PageDamaged, has_pin, pinned_blocks, count_distinct, has_block, Pool}
+use Rattle.page_store.proofs.Imports.{Page, State, Backing, TakingFails, FetchFails}
 
 has_pin-is : (blocks : List ℕ) (b : ℕ) → has_block blocks b ≡ has_pin blocks b
 has_pin-is [] b = refl

@@ -1,25 +1,10 @@
 -- Pages that all stand at their places, and whose log was then closed, follow those before.
 use Rattle.std.proofs.Common.{◌≡◌, ⊎_elim, ℕ, ◌+◌, ◌<◌, ◌≤◌, Bool, true, false, Option, None, List, [], ◌∷◌, length, take, drop, slice_get, refl, sym, ap, subst, inl, inr, ◌∙◌, arith, length-drop}
-use Rattle.std.proofs.lemmas.List.{append-nil}
-use Rattle.std.proofs.lemmas.Option.{slice_get_past}
-use Rattle.device.specs.Disk.{DiskMoment, Trace}
-use Rattle.device.specs.Moments.{AtEachMoment}
-use Rattle.device.specs.Places.{Has, OnDisk, ChangesOnly}
-use Rattle.device.proofs.Going.{goes_weaker, goes_both, goes_now}
-use Rattle.device.proofs.Standing.{same_only}
-use Rattle.index_model.specs.declared.format.Format.{Format}
 use Rattle.page_codec.specs.Spelling.{page_bytes}
-use Rattle.page_codec.specs.declared.page.Page.{Page}
-use Rattle.page_action.specs.Stored.{AreStored}
-use Rattle.redo_log.specs.Images.{last_image, later_of, images_of}
-use Rattle.redo_log.specs.Kept.{LogHolds, RestartsOrEmpty, RestartsOrEmptyThroughout, ChangesItsRange, limits_of, is_stopped}
-use Rattle.redo_log.specs.declared.log.Log.{Log}
-use Rattle.page_store.specs.Histories.{after_acts, pages_after, pages_now, AreActs}
 use Rattle.page_codec.specs.Places.{superblock, place}
-use Rattle.page_store.specs.Restart.{RestartsToPart, CrashesToPart}
-use Rattle.page_store.specs.Logged.{Held, pages_held, is_named, AreHome, IsKept, IsOwn}
-use Rattle.page_store.specs.Following.{Follows}
-use Rattle.page_store.specs.declared.history.History.{History}
+use Rattle.page_store.proofs.Imports.{append-nil, slice_get_past, DiskMoment, Trace, AtEachMoment, Has, OnDisk, ChangesOnly, goes_weaker, goes_both, goes_now, same_only, Format, Page, AreStored}
+use Rattle.page_store.proofs.Imports.{last_image, later_of, images_of, LogHolds, RestartsOrEmpty, RestartsOrEmptyThroughout, ChangesItsRange, limits_of, is_stopped, Log, after_acts, pages_after}
+use Rattle.page_store.proofs.Imports.{pages_now, AreActs, RestartsToPart, CrashesToPart, Held, pages_held, is_named, AreHome, IsKept, IsOwn, Follows, History}
 use Rattle.page_store.proofs.Images.{get-after_acts, acts-drop, later_is_none, after_both, image_cases}
 use Rattle.page_store.proofs.Restarting.{home_kept, superblock_kept, part_restarts, home_restarts, past_of_none}
 

@@ -3,25 +3,11 @@ use mathlib.Core.Path.{fun_ext}
 use Rattle.std.proofs.Common.{◌≡◌, ◌≢◌, ℕ, zero, suc, ◌+◌, ◌<◌, ◌≤◌, ◌/◌, Bool, true, false, Option, Some, None, List, [], ◌∷◌, ◌++◌, length, map, take, drop, slice_get, get_or, set, add-one, inl, inr, refl, sym, ap, subst, ◌∙◌, arith}
 use Rattle.std.specs.Prelude.{All, remove, not, is_some}
 use Rattle.std.specs.List.{position}
-use Rattle.std.proofs.lemmas.Bool.{cases_lt, not-false}
-use Rattle.std.proofs.lemmas.List.{get_or_append_left, length-take}
 use Rattle.std.proofs.lemmas.List.Quantifiers.{position-Some}
-use Rattle.std.proofs.lemmas.Option.{slice_get_within}
-use Rattle.device.specs.declared.device.Device.{Ghosts}
-use Rattle.buffer_pool.specs.Choices.{IsOldest}
-use Rattle.buffer_pool.specs.Frames.{has_block}
 use Rattle.buffer_pool.specs.Pools.{most_of, pool_count, pool_blocks, frame_of, act_of, changed_of, HasSamePages, HasSameChanges, CanBeTaken, IsPut, IsPool}
-use Rattle.buffer_pool.specs.declared.pool.Pool.{Pool}
-use Rattle.page_codec.specs.declared.page.Page.{Page}
-use Rattle.page_action.specs.Frames.{Memory, LogStays, TakesFrame, TakesUnused, TakesOver}
-use Rattle.page_action.proofs.Framing.{takes_nothing, takes_next, takes_rest}
-use Rattle.page_action.specs.States.{Backing}
-use Rattle.redo_log.specs.Kept.{is_stopped, waiting_blocks}
-use Rattle.redo_log.specs.declared.log.Log.{Log}
-use Rattle.page_store.specs.Logged.{held_of, backing_of, memory_in}
-use Rattle.page_store.specs.Quiet.{IsUnforced}
-use Rattle.page_store.specs.Taking.{AreWrittenAhead, CostsFrame, GetsFrame, GetFrames}
-use Rattle.page_store.specs.declared.logged_pages.LoggedPages.{LoggedPages}
+use Rattle.page_store.proofs.Imports.{cases_lt, not-false, get_or_append_left, length-take, slice_get_within, Ghosts, IsOldest, has_block, Pool, Page, Memory, LogStays, TakesFrame, TakesUnused}
+use Rattle.page_store.proofs.Imports.{TakesOver, takes_nothing, takes_next, takes_rest, Backing, is_stopped, waiting_blocks, Log, held_of, backing_of, memory_in, IsUnforced, AreWrittenAhead}
+use Rattle.page_store.proofs.Imports.{CostsFrame, GetsFrame, GetFrames, LoggedPages}
 use Rattle.page_store.proofs.Evicting.{put_back, has_between, has_wide}
 use Rattle.page_store.proofs.Pooling.{bool_cases, unchanged}
 

@@ -1,13 +1,8 @@
 -- Which changed pages are written after the first.
 use Rattle.std.proofs.Common.{◌≡◌, ℕ, zero, suc, ◌+◌, ◌<◌, ◌≤◌, ◌/◌, true, false, Some, List, [], ◌∷◌, ◌++◌, length, take, drop, slice_get, get_or, inl, inr, refl, sym, ap, subst, ◌∙◌, arith}
-use Rattle.std.specs.Prelude.{All, remove}
-use Rattle.std.proofs.lemmas.Bool.{cases_eq, ne_eqb}
-use Rattle.std.proofs.lemmas.List.{length-append, length-take, take-append-drop, append_assoc}
 use Rattle.std.proofs.lemmas.List.Elements.{All-cons, All-append}
-use Rattle.buffer_pool.specs.Frames.{has_block}
 use Rattle.buffer_pool.specs.Pools.{most_of, act_of, changed_of}
-use Rattle.buffer_pool.specs.declared.pool.Pool.{Pool}
-use Rattle.page_store.specs.Taking.{IsWrittenNext, AreWrittenAhead}
+use Rattle.page_store.proofs.Imports.{All, remove, cases_eq, ne_eqb, length-append, length-take, take-append-drop, append_assoc, has_block, Pool, IsWrittenNext, AreWrittenAhead}
 use Rattle.page_store.proofs.Pooling.{first_has, later_has, has_at}
 
 -- after these blocks this one comes first of the rest

@@ -1,17 +1,7 @@
 -- How pages over a device follow one another.
 use Rattle.std.proofs.Common.{◌≡◌, List, [], ◌++◌, refl, sym, ap, subst, ◌∙◌, arith, append_assoc}
-use Rattle.std.proofs.lemmas.List.{append-nil}
-use Rattle.device.proofs.Going.{goes_weaker, goes_on}
-use Rattle.index_model.specs.declared.format.Format.{Format}
-use Rattle.page_codec.specs.declared.page.Page.{Page}
 use Rattle.page_action.proofs.Laters.{later_trans}
-use Rattle.page_action.specs.States.{IsLater}
-use Rattle.redo_log.specs.Kept.{limits_of}
-use Rattle.redo_log.specs.declared.log.Log.{Log}
-use Rattle.page_store.specs.Restart.{RestartsToPart}
-use Rattle.page_store.specs.Logged.{Held, backing_of}
-use Rattle.page_store.specs.Crashing.{part_of_more}
-use Rattle.page_store.specs.Following.{GrowsTo, Follows, follows_same}
+use Rattle.page_store.proofs.Imports.{append-nil, goes_weaker, goes_on, Format, Page, IsLater, limits_of, Log, RestartsToPart, Held, backing_of, part_of_more, GrowsTo, Follows, follows_same}
 
 grows_on : (a b c : Held) → IsLater (backing_of a) (backing_of b) → GrowsTo a b → GrowsTo b c → GrowsTo a c
 grows_on a b c later f s = record {

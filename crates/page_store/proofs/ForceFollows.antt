@@ -1,25 +1,10 @@
 -- Pages after a force follow those before it, whether it succeeded or failed.
 use Rattle.std.proofs.Common.{◌≡◌, inr, ℕ, ◌<◌, ◌≤◌, Bool, true, false, List, [], length, take, drop, refl, sym, subst, ◌∙◌, arith, length-drop}
-use Rattle.std.proofs.lemmas.List.{append-nil}
-use Rattle.device.specs.Disk.{DiskMoment, Trace}
-use Rattle.device.specs.Moments.{AtEachMoment}
-use Rattle.device.specs.Places.{Has, OnDisk, ChangesOnly}
-use Rattle.device.proofs.Going.{goes_weaker, goes_both, goes_now}
-use Rattle.device.proofs.Standing.{same_only, has_kept}
-use Rattle.index_model.specs.declared.format.Format.{Format}
 use Rattle.page_codec.specs.Spelling.{page_bytes}
-use Rattle.page_codec.specs.declared.page.Page.{Page}
-use Rattle.page_action.specs.Stored.{AreStored}
-use Rattle.redo_log.specs.Images.{images_of}
-use Rattle.redo_log.specs.Kept.{LogHolds, Restarts, limits_of, is_stopped}
-use Rattle.redo_log.specs.declared.log.Log.{Log}
-use Rattle.redo_log.proofs.Keeping.{keeps_restarts}
-use Rattle.page_store.specs.Histories.{pages_after, AreActs}
 use Rattle.page_codec.specs.Places.{superblock, place}
-use Rattle.page_store.specs.Restart.{CrashesToPart}
-use Rattle.page_store.specs.Logged.{Held, AreHome, IsKept, IsOwn}
-use Rattle.page_store.specs.Following.{GrowsTo, Follows}
-use Rattle.page_store.specs.declared.history.History.{History}
+use Rattle.page_store.proofs.Imports.{append-nil, DiskMoment, Trace, AtEachMoment, Has, OnDisk, ChangesOnly, goes_weaker, goes_both, goes_now, same_only, has_kept, Format, Page, AreStored}
+use Rattle.page_store.proofs.Imports.{images_of, LogHolds, Restarts, limits_of, is_stopped, Log, keeps_restarts, pages_after, AreActs, CrashesToPart, Held, AreHome, IsKept, IsOwn, GrowsTo}
+use Rattle.page_store.proofs.Imports.{Follows, History}
 use Rattle.page_store.proofs.Images.{none_among_fewer}
 use Rattle.page_store.proofs.Restarting.{home_kept, superblock_kept, leaves_part}
 

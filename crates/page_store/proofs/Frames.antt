@@ -1,19 +1,9 @@
 -- Frames while pages are brought into memory, and why none is had.
 use Rattle.std.proofs.Common.{◌≡◌, ◌≢◌, inl, inr, ℕ, zero, suc, ◌<◌, true, Some, None, Result, Ok, Err, List, [], ◌∷◌, ◌++◌, map, slice_get, get_or, refl, sym, ap, subst, ◌∙◌}
-use Rattle.std.proofs.lemmas.Bool.{cases_eq}
-use Rattle.std.proofs.lemmas.Option.{slice_get_within, slice_get-get_or, get_or_from_slice_get}
-use Rattle.std.specs.Prelude.{is_some, IfErr, All}
-use Rattle.buffer_pool.specs.Choices.{count_distinct}
-use Rattle.buffer_pool.specs.Frames.{has_block}
 use Rattle.buffer_pool.specs.Pools.{most_of, frame_of, HasSamePages, IsPut}
-use Rattle.buffer_pool.specs.declared.pool.Pool.{Pool}
-use Rattle.index_model.specs.declared.fault.Fault.{Fault}
-use Rattle.index_model.specs.declared.format.Format.{Format}
-use Rattle.page_codec.specs.declared.page.Page.{Page}
-use Rattle.page_action.specs.Stored.{IsStored, AreActable}
-use Rattle.page_action.proofs.StoredPages.{stored_at}
 use Rattle.page_store.proofs.Pooling.{first_has, later_has}
-use Rattle.page_store.specs.Taking.{SameFrames, AreTooMany}
+use Rattle.page_store.proofs.Imports.{cases_eq, slice_get_within, slice_get-get_or, get_or_from_slice_get, is_some, IfErr, All, count_distinct, has_block, Pool, Fault, Format, Page, IsStored}
+use Rattle.page_store.proofs.Imports.{AreActable, stored_at, SameFrames, AreTooMany}
 
 -- a page was put into a frame of no pinned one
 pub kept_put : (old mid new : Pool) (pinned : List ℕ) (at : ℕ) (page : Page) → HasSamePages old mid

@@ -1,15 +1,7 @@
 -- Acts change the pages as their images say: of each block in use the last image, or else the page that was there.
 use Rattle.std.proofs.Common.{◌≡◌, ◌≢◌, ◌⊎◌, true, ℕ, zero, suc, ◌+◌, ◌<◌, ◌≤◌, Option, Some, None, List, [], ◌∷◌, ◌++◌, length, max, take, drop, slice_get, slice_set, length-set, length-append, refl, sym, ap, subst, inl, inr, ◌∙◌, arith}
-use Rattle.std.specs.Prelude.{is_some}
-use Rattle.std.proofs.lemmas.Bool.{lt-ltb, le-ltb, cases_lt, cases_eq, eq-eqb, ne_eqb}
-use Rattle.index_model.specs.declared.format.Format.{Format}
-use Rattle.page_codec.specs.declared.page.Page.{Page}
-use Rattle.page_action.specs.Stored.{AreStored, AreActable}
-use Rattle.page_action.specs.States.{with_page, with_pages}
-use Rattle.page_action.proofs.StoredPages.{stored-with_page, with_page-longer, with_page-few}
-use Rattle.redo_log.specs.Images.{if_of, later_of, last_image, images_of}
-use Rattle.redo_log.proofs.ImageLists.{last_image-append}
-use Rattle.page_store.specs.Histories.{after_acts, AreActs}
+use Rattle.page_store.proofs.Imports.{is_some, lt-ltb, le-ltb, cases_lt, cases_eq, eq-eqb, ne_eqb, Format, Page, AreStored, AreActable, with_page, with_pages, stored-with_page, with_page-longer}
+use Rattle.page_store.proofs.Imports.{with_page-few, if_of, later_of, last_image, images_of, last_image-append, after_acts, AreActs}
 
 -- a list with one element set, or one more
 set_same : {A : Type 0} (xs : List A) (at : ℕ) (x : A) → at < length xs → slice_get (slice_set xs at x) at ≡ Some x

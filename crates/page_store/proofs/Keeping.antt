@@ -1,33 +1,15 @@
 -- What the pool holds of the pages, as the device and the pool change.
 use Rattle.std.proofs.Common.{◌≡◌, ◌≢◌, ◌⊎◌, inl, inr, ℕ, suc, ◌<◌, ◌≤◌, Bool, true, Option, Some, None, List, [], length, take, slice_get, get_or, sym, ap, subst, ◌∙◌, arith}
-use Rattle.std.proofs.lemmas.Bool.{cases_eq, cases_lt}
-use Rattle.buffer_pool.specs.Frames.{has_block}
 use Rattle.buffer_pool.specs.Pools.{act_of, held_page, changed_of, pool_count, pool_blocks, HasSamePages, IsPut, IsWritten, AreWritten, IsPool}
-use Rattle.buffer_pool.specs.declared.pool.Pool.{Pool}
-use Rattle.device.specs.Disk.{DiskMoment}
-use Rattle.device.specs.Places.{Has, ChangesOnly}
-use Rattle.device.proofs.Standing.{has_kept}
-use Rattle.index_model.specs.declared.format.Format.{Format}
 use Rattle.page_codec.specs.Spelling.{page_bytes}
-use Rattle.page_codec.specs.declared.page.Page.{Page}
-use Rattle.page_codec.proofs.Laws.{length-page}
-use Rattle.page_action.specs.Stored.{IsStored, AreStored}
-use Rattle.page_action.proofs.StoredPages.{stored_page}
-use Rattle.page_codec.specs.Places.{place}
-use Rattle.page_store.specs.Histories.{after_acts, pages_now}
-use Rattle.page_store.specs.Writing.{HoldsPages, AreSeen}
-use Rattle.page_store.specs.declared.history.History.{History}
 use Rattle.page_store.proofs.Opened.{none_of_length}
 use Rattle.page_store.proofs.Places.{apart_long}
 use Rattle.page_store.proofs.CloseFollows.{whole_to}
 use Rattle.page_store.proofs.Images.{get-with_pages, stored-with_pages, image_cases}
 use Rattle.page_store.proofs.Pooling.{bool_cases, option_cases, some_of, none_isn't, has_next, has_all, next_apart, changed_some, unchanged, changed_at}
-use Rattle.std.proofs.lemmas.Option.{slice_get_within, slice_get_cases, get_or_from_slice_get}
-use Rattle.page_action.specs.Stored.{AreActable}
-use Rattle.page_action.specs.States.{with_pages}
-use Rattle.redo_log.specs.Images.{last_image, later_of}
-use Rattle.page_store.specs.Changing.{AreActed}
-use Rattle.page_store.specs.Writing.{AreWrittenUpTo, IsClean}
+use Rattle.page_store.proofs.Imports.{cases_eq, cases_lt, has_block, Pool, DiskMoment, Has, ChangesOnly, has_kept, Format, Page, length-page, IsStored, AreStored, stored_page, place, after_acts}
+use Rattle.page_store.proofs.Imports.{pages_now, HoldsPages, AreSeen, History, slice_get_within, slice_get_cases, get_or_from_slice_get, AreActable, with_pages, last_image, later_of, AreActed}
+use Rattle.page_store.proofs.Imports.{AreWrittenUpTo, IsClean}
 
 module _ (limits : Format) (pages : List Page) (acts : ℕ) (pool : Pool) (honest : Bool) (m n : DiskMoment) (holds : HoldsPages limits pages acts pool honest m) where
   -- where what a read gives stays at the places of clean pages

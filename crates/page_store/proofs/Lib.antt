@@ -1,3 +1,4 @@
+pub mod Imports
 pub mod Acting
 pub mod Images
 pub mod Restarting

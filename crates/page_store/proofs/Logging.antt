@@ -1,17 +1,8 @@
 -- Which blocks wait in the log, and what it has no room for.
 use Rattle.std.proofs.Common.{◌≡◌, inl, inr, ℕ, ◌+◌, ◌<◌, ◌≤◌, Bool, true, false, List, [], ◌∷◌, ◌++◌, length, refl, sym, ap, ◌∙◌, arith}
-use Rattle.std.specs.Prelude.{◌==◌, ◌||◌, if◌then◌else◌, Result, Ok, Err, IsErrAnd}
-use Rattle.std.specs.List.{list_any}
-use Rattle.std.proofs.lemmas.Bool.{cases_lt}
-use Rattle.index_model.specs.declared.fault.Fault.{Fault}
-use Rattle.index_model.specs.declared.fault.Fault.TheVariants.{Stopped, LogFull}
-use Rattle.page_codec.specs.declared.page.Page.{Page}
-use Rattle.page_action.specs.Order.{with_changed}
-use Rattle.page_action.specs.Room.{WaitsOn}
-use Rattle.page_action.specs.States.{Backing}
 use Rattle.redo_log.specs.Blocks.{is_among_blocks, with_blocks, new_count}
-use Rattle.redo_log.specs.Kept.{ImagesFit, end_with, limits_of, waiting_blocks}
-use Rattle.redo_log.specs.declared.log.Log.{Log}
+use Rattle.page_store.proofs.Imports.{◌==◌, ◌||◌, if◌then◌else◌, Result, Ok, Err, IsErrAnd, list_any, cases_lt, Fault, Stopped, LogFull, Page, with_changed, WaitsOn, Backing, ImagesFit, end_with}
+use Rattle.page_store.proofs.Imports.{limits_of, waiting_blocks, Log}
 use Rattle.redo_log.proofs.BlockLists.{length-with_blocks}
 
 -- to be one of these is one word of logs and of stores

@@ -1,9 +1,6 @@
 -- How many images fit into a log.
 use Rattle.std.proofs.Common.{◌≡◌, ℕ, suc, ◌+◌, ◌-◌, ◌*◌, ◌<◌, ◌≤◌, inl, inr, arith}
-use Rattle.std.proofs.lemmas.Bool.{cases_lt}
-use Rattle.page_action.specs.Room.{whole_room}
-use Rattle.redo_log.specs.Kept.{limits_of, end_with, ImagesFit}
-use Rattle.redo_log.specs.declared.log.Log.{Log}
+use Rattle.page_store.proofs.Imports.{cases_lt, whole_room, limits_of, end_with, ImagesFit, Log}
 
 -- what doesn't fit is longer than the log
 pub misfit : (log : Log) (n : ℕ) → (ImagesFit log n → ⊥) → (limits_of log).log_bytes < end_with log n

@@ -1,13 +1,6 @@
 -- Pages as they were opened are an own device's.
 use Rattle.std.proofs.Common.{◌≡◌, ℕ, ◌+◌, ◌-◌, ◌*◌, ◌/◌, ◌<◌, ◌≤◌, true, List, [], ◌∷◌, length, inl, inr, refl, sym, subst, arith}
-use Rattle.std.proofs.lemmas.Bool.{cases_lt}
-use Rattle.page_codec.specs.declared.page.Page.{Page}
-use Rattle.page_action.specs.Stored.{AreStored}
-use Rattle.redo_log.specs.Kept.{limits_of}
-use Rattle.redo_log.proofs.Keeping.{keeps_restarts}
-use Rattle.page_codec.specs.Places.{place}
-use Rattle.page_store.specs.Logged.{Held, is_named, StandsOpened, IsOwn}
-use Rattle.page_store.specs.declared.history.History.{History}
+use Rattle.page_store.proofs.Imports.{cases_lt, Page, AreStored, limits_of, keeps_restarts, place, Held, is_named, StandsOpened, IsOwn, History}
 use Rattle.page_store.proofs.Restarting.{leaves_part}
 
 -- a list of no length

@@ -1,7 +1,6 @@
 -- The order in which changed pages wait, while some are written.
 use Rattle.std.proofs.Common.{◌≡◌, inl, inr, ℕ, zero, suc, List, [], ◌∷◌, refl, subst, ◌∙◌}
-use Rattle.std.specs.Prelude.{remove}
-use Rattle.page_action.specs.Order.{IsPartOf}
+use Rattle.page_store.proofs.Imports.{remove, IsPartOf}
 
 pub part_same : (xs : List ℕ) → IsPartOf xs xs
 part_same [] = tt

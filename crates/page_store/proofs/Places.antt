@@ -1,15 +1,6 @@
 -- Pages at their places, while another place is written.
 use Rattle.std.proofs.Common.{◌≡◌, ◌≢◌, ◌⊎◌, inl, inr, ℕ, ◌+◌, ◌-◌, ◌<◌, ◌≤◌, List, length, take, drop, Result, Ok, Err, sym, ◌∙◌, ap, subst, arith}
-use Rattle.std.proofs.lemmas.Bool.{cases_lt}
-use Rattle.std.proofs.lemmas.List.{take_at}
-use Rattle.std.specs.Prelude.{OnOk, slice_range}
-use Rattle.device.specs.Disk.{Trace, Writes, wrote}
-use Rattle.device.specs.Moments.{AtEachMoment}
-use Rattle.device.specs.Places.{Has, ChangesOnly}
-use Rattle.device.proofs.Going.{writes_goes}
-use Rattle.device.proofs.Standing.{wrote_only, wrote_has, has_drop}
-use Rattle.index_model.specs.declared.format.Format.{Format}
-use Rattle.page_codec.specs.Places.{place}
+use Rattle.page_store.proofs.Imports.{cases_lt, take_at, OnOk, slice_range, Trace, Writes, wrote, AtEachMoment, Has, ChangesOnly, writes_goes, wrote_only, wrote_has, has_drop, Format, place}
 
 pub places_apart : (limits : Format) (b k : ℕ) → b ≢ k → (place limits b + 4096 ≤ place limits k) ⊎ (place limits k + 4096 ≤ place limits b)
 places_apart limits b k ne = elim (cases_lt b k) [

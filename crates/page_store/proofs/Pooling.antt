@@ -1,11 +1,7 @@
 -- What the law of a pool gives: changed pages in their order, frames, and pages that are clean.
 use Rattle.std.proofs.Common.{◌≡◌, ◌≢◌, ◌⊎◌, inl, inr, ℕ, zero, suc, ◌<◌, Bool, true, false, Option, Some, None, List, [], ◌∷◌, take, slice_get, refl, sym, ap, ◌∙◌, arith}
-use Rattle.std.proofs.lemmas.Bool.{cases_eq, cases_lt, eq-eqb, ne_eqb, lt-ltb, le-ltb}
-use Rattle.std.specs.Prelude.{◌==◌, ◌||◌, is_some}
-use Rattle.std.proofs.lemmas.Option.{slice_get_within, get_or_from_slice_get}
-use Rattle.buffer_pool.specs.Frames.{has_block, BlocksAreApart}
 use Rattle.buffer_pool.specs.Pools.{act_of, held_page, frame_of, page_at, changed_of, CanBeTaken, IsPool}
-use Rattle.buffer_pool.specs.declared.pool.Pool.{Pool}
+use Rattle.page_store.proofs.Imports.{cases_eq, cases_lt, eq-eqb, ne_eqb, lt-ltb, le-ltb, ◌==◌, ◌||◌, is_some, slice_get_within, get_or_from_slice_get, has_block, BlocksAreApart, Pool}
 
 or_true : (b : Bool) → (b || true) ≡ true
 or_true true = refl

@@ -1,14 +1,7 @@
 -- How calls that make no act follow one another.
 use Rattle.std.proofs.Common.{◌≡◌, ◌≤◌, ◌∙◌, refl, ap, inl, inr, arith}
-use Rattle.device.specs.declared.device.Device.{Ghosts}
-use Rattle.page_store.specs.Following.{Follows, follows_same}
-use Rattle.page_store.specs.Logged.{held_of, backing_of, SameButDevice}
-use Rattle.page_store.specs.Quiet.{IsSameButWritten}
-use Rattle.page_store.specs.declared.logged_pages.LoggedPages.{LoggedPages}
 use Rattle.buffer_pool.specs.Pools.{changed_of}
-use Rattle.page_action.specs.Order.{IsPartOf}
-use Rattle.page_action.specs.Room.{WaitsOn}
-use Rattle.redo_log.specs.Kept.{waiting_blocks}
+use Rattle.page_store.proofs.Imports.{Ghosts, Follows, follows_same, held_of, backing_of, SameButDevice, IsSameButWritten, LoggedPages, IsPartOf, WaitsOn, waiting_blocks}
 use Rattle.page_store.proofs.Ordering.{part_same, part_both, part_is}
 use Rattle.page_store.proofs.FollowLaws.{follows_both}
 

@@ -1,21 +1,9 @@
 -- What a read page is, where the device kept its model.
 use Rattle.std.proofs.Common.{◌≡◌, inl, inr, ℕ, ◌<◌, ◌≤◌, Bool, true, Some, List, length, slice_get, Result, Ok, Err, sym, ap, ◌∙◌, arith}
-use Rattle.std.specs.Prelude.{OnOk, OnErr}
-use Rattle.std.proofs.lemmas.Option.{slice_get_cases}
-use Rattle.device.specs.Disk.{DiskMoment}
-use Rattle.device.specs.Places.{Has}
-use Rattle.index_model.specs.declared.fault.Fault.{Fault}
-use Rattle.index_model.specs.declared.fault.Fault.TheVariants.{Io}
-use Rattle.index_model.specs.declared.format.Format.{Format}
 use Rattle.buffer_pool.specs.Pools.{act_of, held_page}
-use Rattle.buffer_pool.specs.declared.pool.Pool.{Pool}
 use Rattle.page_codec.specs.Spelling.{page_bytes}
-use Rattle.page_codec.specs.declared.page.Page.{Page}
-use Rattle.page_codec.proofs.Laws.{one_page}
-use Rattle.page_action.specs.Stored.{IsStored, AreStored}
-use Rattle.page_action.proofs.StoredPages.{stored_page}
-use Rattle.page_codec.specs.Places.{place}
-use Rattle.page_store.specs.Writing.{HoldsPages, GivesPage, ReadingFails}
+use Rattle.page_store.proofs.Imports.{OnOk, OnErr, slice_get_cases, DiskMoment, Has, Fault, Io, Format, Pool, Page, one_page, IsStored, AreStored, stored_page, place, HoldsPages, GivesPage}
+use Rattle.page_store.proofs.Imports.{ReadingFails}
 
 -- a block in use has its page
 pub page_in_use : (pages : List Page) (block : ℕ) → block < length pages → (page : Page) × (slice_get pages block ≡ Some page)

@@ -1,20 +1,9 @@
 -- What a crash leaves restarts to the pages after a prefix of the acts.
 use Rattle.std.proofs.Common.{◌≡◌, ◌⊎◌, ℕ, ◌+◌, ◌<◌, ◌≤◌, Option, Some, None, List, [], ◌∷◌, length, take, drop, replicate, slice_get, refl, sym, ap, subst, inl, inr, zero, suc, ◌∙◌, arith, length-drop}
-use Rattle.std.proofs.lemmas.Option.{slice_get_past}
-use Rattle.device.specs.Disk.{DiskMoment, MayCrashTo}
-use Rattle.device.specs.Places.{OnDisk, ChangesOnly}
-use Rattle.device.proofs.Standing.{on_image, kept}
-use Rattle.index_model.specs.declared.format.Format.{Format}
 use Rattle.page_codec.specs.Spelling.{page_bytes}
-use Rattle.page_codec.specs.declared.page.Page.{Page}
-use Rattle.page_action.specs.Stored.{AreStored}
-use Rattle.redo_log.specs.Images.{last_image, later_of, images_of}
-use Rattle.redo_log.specs.Kept.{Holds, HoldsFirst, Restarts}
-use Rattle.page_store.specs.Histories.{after_acts, pages_after, AreActs}
 use Rattle.page_codec.specs.Places.{superblock, place}
-use Rattle.page_store.specs.Restart.{StandsAtHome, RestartsTo, RestartsToPart, CrashesToPart}
-use Rattle.page_store.specs.Logged.{AreHome}
-use Rattle.page_store.specs.declared.history.History.{History}
+use Rattle.page_store.proofs.Imports.{slice_get_past, DiskMoment, MayCrashTo, OnDisk, ChangesOnly, on_image, kept, Format, Page, AreStored, last_image, later_of, images_of, Holds, HoldsFirst}
+use Rattle.page_store.proofs.Imports.{Restarts, after_acts, pages_after, AreActs, StandsAtHome, RestartsTo, RestartsToPart, CrashesToPart, AreHome, History}
 use Rattle.page_store.proofs.Images.{get-after_acts, stored-after_acts, acts-take, acts-drop, after_both, none_among_fewer, later_is_none}
 
 pub past_of_none : {A : Type 0} (xs : List A) (i : ℕ) → slice_get xs i ≡ None → length xs ≤ i

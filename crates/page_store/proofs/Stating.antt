@@ -1,8 +1,6 @@
 -- What a store shows, where its parts are alike.
 use Rattle.std.proofs.Common.{◌≡◌, ◌∙◌, ℕ, List, ap}
-use Rattle.index_model.specs.declared.format.Format.{Format}
-use Rattle.page_codec.specs.declared.page.Page.{Page}
-use Rattle.page_action.specs.CallTables.{TableOfCalls, state_with}
+use Rattle.page_store.proofs.Imports.{Format, Page, TableOfCalls, state_with}
 
 pub state_alike : (l k : Format) (f h : ℕ) (ps qs : List Page) (a b : ℕ) (c d : TableOfCalls) → l ≡ k → f ≡ h → ps ≡ qs → a ≡ b → c ≡ d → state_with l f ps a c ≡ state_with k h qs b d
 state_alike l k f h ps qs a b c d limits frames pages acts calls =

@@ -1,25 +1,9 @@
 -- Pages of which one was written to its place, or some were noted as written, or whose device was synced, follow those before.
 use Rattle.std.proofs.Common.{◌≡◌, ◌≢◌, ◌⊎◌, ℕ, ◌+◌, ◌<◌, ◌≤◌, Bool, true, false, Some, None, List, [], length, take, drop, replicate, slice_get, refl, sym, ap, subst, inl, inr, ◌∙◌, arith}
-use Rattle.std.proofs.lemmas.List.{append-nil, length-replicate}
-use Rattle.std.specs.Prelude.{is_some}
-use Rattle.device.specs.Disk.{DiskMoment, Trace, synced}
-use Rattle.device.specs.Moments.{AtEachMoment}
-use Rattle.device.specs.Places.{Has, ChangesOnly}
-use Rattle.device.proofs.Going.{goes_weaker, goes_now}
-use Rattle.device.proofs.Standing.{has_kept, kept, synced_only}
-use Rattle.index_model.specs.declared.format.Format.{Format}
 use Rattle.page_codec.specs.Spelling.{page_bytes}
-use Rattle.page_codec.specs.declared.page.Page.{Page}
-use Rattle.page_codec.proofs.Laws.{length-page}
-use Rattle.page_action.proofs.StoredPages.{stored_page}
-use Rattle.redo_log.specs.Images.{last_image, images_of}
-use Rattle.redo_log.specs.Kept.{limits_of, is_stopped}
-use Rattle.redo_log.proofs.Keeping.{keeps_elsewhere}
-use Rattle.page_codec.specs.Places.{place}
-use Rattle.page_store.specs.Histories.{pages_after, pages_now}
-use Rattle.page_store.specs.Logged.{Held, pages_held, is_named, IsKept, IsOwn}
-use Rattle.page_store.specs.Following.{Follows}
-use Rattle.page_store.specs.declared.history.History.{History}
+use Rattle.page_store.proofs.Imports.{append-nil, length-replicate, is_some, DiskMoment, Trace, synced, AtEachMoment, Has, ChangesOnly, goes_weaker, goes_now, has_kept, kept, synced_only, Format}
+use Rattle.page_store.proofs.Imports.{Page, length-page, stored_page, last_image, images_of, limits_of, is_stopped, keeps_elsewhere, place, pages_after, pages_now, Held, pages_held, is_named}
+use Rattle.page_store.proofs.Imports.{IsKept, IsOwn, Follows, History}
 use Rattle.page_store.proofs.Images.{stored-after_acts, image_cases, none_among_later, none_in_parts, drop_both}
 use Rattle.page_store.proofs.Places.{apart_long}
 use Rattle.page_store.proofs.Restarting.{superblock_kept, pages_stored}

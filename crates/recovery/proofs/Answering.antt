@@ -1,28 +1,9 @@
 -- An index is restored: its log first, then its pages.
 use Rattle.std.proofs.Common.{◌≡◌, ◌≤◌, ◌⊎◌, ⊎_elim, inl, inr, ℕ, suc, ◌+◌, ◌<◌, Bool, IsTrue, Result, Ok, Err, List, [], length, take, drop, refl, sym, ◌∙◌, ap, subst}
-use Rattle.std.specs.Prelude.{MatchResult, IfOk, OnOk}
-use Rattle.std.proofs.lemmas.List.{take_at}
-use Rattle.device.proofs.Standing.{has_drop}
-use Rattle.device.specs.Disk.{DiskMoment, Trace, next, synced}
-use Rattle.index_model.specs.declared.fault.Fault.{Fault}
-use Rattle.index_model.specs.declared.fault.Fault.TheVariants.{NoMemory, Io, LogDamaged}
-use Rattle.index_model.specs.Limits.{AreLimits}
-use Rattle.index_model.specs.declared.format.Format.{Format}
-use Rattle.page_codec.specs.declared.page.Page.{Page}
-use Rattle.page_store.specs.Logged.{AreHome, StandsOpened}
 use Rattle.page_codec.specs.Places.{superblock, place}
-use Rattle.page_store.specs.Restart.{RestartsTo}
-use Rattle.page_store.proofs.Restarting.{length-superblock}
-use Rattle.page_store.specs.Rooms.{limits_of_room, pages_of_room}
-use Rattle.redo_log.specs.Reading.{IsOpened, IsDamaged}
-use Rattle.redo_log.specs.declared.log.Log.{Log}
-use Rattle.recovery.specs.Calls.{IsIoOr, FailsWithIoOr}
-use Rattle.recovery.specs.Index.{HasIndex}
-use Rattle.recovery.specs.Opening.{AreFrames, HasGroups, IsFound, IsFront, IsRestored, IsRefusal, IsSynced, IsRestoreRefusal, IsNoMemoryOrIo, AreSamePages}
-use Rattle.recovery.specs.Reading.{AreInUse, IsDamagedBlock, IsAllRead}
-use Rattle.recovery.specs.declared.opening.Parts.{Parts}
-use Rattle.recovery.specs.declared.reading.Found.{Found}
-use Rattle.recovery.specs.Superblock.{sizes_in}
+use Rattle.recovery.proofs.Imports.{MatchResult, IfOk, OnOk, take_at, has_drop, DiskMoment, Trace, next, synced, Fault, NoMemory, Io, LogDamaged, AreLimits, Format, Page, AreHome, StandsOpened}
+use Rattle.recovery.proofs.Imports.{RestartsTo, length-superblock, limits_of_room, pages_of_room, IsOpened, IsDamaged, Log, IsIoOr, FailsWithIoOr, HasIndex, AreFrames, HasGroups, IsFound, IsFront}
+use Rattle.recovery.proofs.Imports.{IsRestored, IsRefusal, IsSynced, IsRestoreRefusal, IsNoMemoryOrIo, AreSamePages, AreInUse, IsDamagedBlock, IsAllRead, Parts, Found, sizes_in}
 use Rattle.recovery.proofs.Spelling.{sizes_spelled}
 use Rattle.recovery.proofs.Blocks.{home_in_use, one_reading, not_damaged}
 

@@ -1,27 +1,10 @@
 -- Pages are read, one block after the other.
 use Rattle.std.proofs.Common.{◌≡◌, ◌≢◌, inl, inr, ℕ, zero, suc, ◌+◌, ◌-◌, ◌<◌, ◌≤◌, max, Bool, IsTrue, Option, Some, None, List, [], ◌∷◌, ◌++◌, length, take, drop, replicate, get_or, slice_get, slice_index, Result, Ok, Err, refl, sym, ◌∙◌, ap, subst, arith, length-append}
-use Rattle.std.proofs.lemmas.Bool.{cases_eq}
-use Rattle.std.proofs.lemmas.List.{take_at, length-replicate, get_or-take, get_or-drop}
-use Rattle.std.proofs.lemmas.Option.{slice_get_within}
-use Rattle.std.specs.Prelude.{MatchResult, IsErrAnd}
-use Rattle.device.specs.Disk.{DiskMoment}
-use Rattle.device.specs.Places.{Has}
-use Rattle.device.proofs.Standing.{has_drop}
-use Rattle.index_model.specs.declared.fault.Fault.{Fault}
-use Rattle.index_model.specs.declared.format.Format.{Format}
-use Rattle.page_action.specs.Stored.{IsStored, AreStored}
-use Rattle.page_action.proofs.StoredPages.{stored-add, stored_page}
 use Rattle.page_codec.specs.Spelling.{page_bytes, used_bytes, head_bytes}
-use Rattle.page_codec.proofs.Laws.{one_page, length-page}
-use Rattle.page_codec.specs.declared.page.Page.{Page}
-use Rattle.page_store.specs.Rooms.{limits_of_room, pages_of_room, counts_of_room}
-use Rattle.page_codec.specs.Places.{place}
-use Rattle.page_store.specs.Logged.{AreHome}
-use Rattle.page_store.specs.Writing.{AreSeen}
-use Rattle.page_store.proofs.Restarting.{past_of_none}
 use Rattle.page_store.proofs.Images.{more_same, more_other}
-use Rattle.recovery.specs.Reading.{block_bytes, AreBytesOf, StandFirst, IsEnd, IsDamagedAt, AreInUse, greatest_cycle, HasReadPages}
-use Rattle.recovery.specs.declared.reading.Found.{Found}
+use Rattle.recovery.proofs.Imports.{cases_eq, take_at, length-replicate, get_or-take, get_or-drop, slice_get_within, MatchResult, IsErrAnd, DiskMoment, Has, has_drop, Fault, Format, IsStored}
+use Rattle.recovery.proofs.Imports.{AreStored, stored-add, stored_page, one_page, length-page, Page, limits_of_room, pages_of_room, counts_of_room, place, AreHome, AreSeen, past_of_none}
+use Rattle.recovery.proofs.Imports.{block_bytes, AreBytesOf, StandFirst, IsEnd, IsDamagedAt, AreInUse, greatest_cycle, HasReadPages, Found}
 
 cycle-more : (pages : List Page) (page : Page) → greatest_cycle (pages ++ page ∷ []) ≡ max (greatest_cycle pages) page.cycle
 cycle-more [] page = omega arith

@@ -1,19 +1,11 @@
 -- What each write of a new index leaves of the others.
 use Rattle.std.proofs.Common.{◌≡◌, ◌⊎◌, inl, inr, ⊎_elim, ℕ, ◌+◌, ◌*◌, ◌<◌, ◌≤◌, true, Result, Ok, Err, List, [], ◌∷◌, length, get_or, replicate, refl, sym, ◌∙◌, ap, subst, arith}
-use Rattle.std.proofs.lemmas.List.{length-replicate, get_or-take}
 use Rattle.std.proofs.lemmas.Bool.Decides.{nat_tests}
-use Rattle.std.specs.Prelude.{OnOk, ◌||◌}
-use Rattle.std.proofs.lemmas.Bool.{cases_lt}
-use Rattle.device.specs.Disk.{DiskMoment, Trace, Writes, Syncs, next, wrote, synced, is_in}
-use Rattle.device.specs.Moments.{AtEachMoment}
-use Rattle.device.specs.Places.{Has, OnDisk, ChangesOnly}
-use Rattle.device.proofs.Going.{steps, goes_on, goes_weaker, goes_now, writes_goes, syncs_goes}
-use Rattle.device.proofs.Standing.{only_wider, only_more, same_only, has_kept, kept, on_image, wrote_only, wrote_has, synced_only, synced_on}
-use Rattle.index_model.specs.declared.format.Format.{Format}
 use Rattle.page_codec.specs.Spelling.{page_bytes}
-use Rattle.page_codec.specs.declared.page.Page.{Page}
 use Rattle.page_codec.specs.Places.{superblock, place}
-use Rattle.recovery.specs.Fresh.{IsFirstMeta, IsFirstLeaf, AreZero, HasPages, HasBody, WritesFront, CrashesToNoMagic, IsMaking, IsEmptyIndex}
+use Rattle.recovery.proofs.Imports.{length-replicate, get_or-take, OnOk, ◌||◌, cases_lt, DiskMoment, Trace, Writes, Syncs, next, wrote, synced, is_in, AtEachMoment, Has, OnDisk, ChangesOnly}
+use Rattle.recovery.proofs.Imports.{steps, goes_on, goes_weaker, goes_now, writes_goes, syncs_goes, only_wider, only_more, same_only, has_kept, kept, on_image, wrote_only, wrote_has, synced_only}
+use Rattle.recovery.proofs.Imports.{synced_on, Format, Page, IsFirstMeta, IsFirstLeaf, AreZero, HasPages, HasBody, WritesFront, CrashesToNoMagic, IsMaking, IsEmptyIndex}
 
 -- what follows from success
 pub on_ok : {T E : Type 0} (P Q : Type 0) (r : Result T E) → (P → Q) → OnOk r P → OnOk r Q

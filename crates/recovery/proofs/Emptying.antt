@@ -1,23 +1,14 @@
 -- A device with an empty index on it leaves that index, whatever crashes.
 use Rattle.std.proofs.Common.{◌≡◌, inr, ℕ, zero, suc, ◌+◌, ◌-◌, ◌≤◌, Some, List, [], ◌∷◌, length, replicate, slice_get, refl, sym, ap, subst, arith}
-use Rattle.std.proofs.lemmas.List.{length-replicate}
-use Rattle.device.specs.Disk.{DiskMoment, MayCrashTo}
-use Rattle.device.specs.Places.{Has}
-use Rattle.device.proofs.Standing.{on_image}
-use Rattle.index_model.specs.Limits.{AreLimits, Admits}
-use Rattle.index_model.specs.declared.format.Format.{Format}
-use Rattle.index_model.specs.declared.layout.Layout.TheVariants.{Two}
-use Rattle.page_action.specs.Stored.{IsStored}
 use Rattle.page_action.proofs.Writable.{admits_two}
 use Rattle.page_codec.specs.Edits.{entries_of, HasEntries}
 use Rattle.page_codec.specs.Spelling.{count_of, page_bytes}
 use Rattle.page_codec.specs.declared.page.Items.{Items}
 use Rattle.page_codec.specs.declared.page.Items.TheVariants.{Meta, Entries, Downlinks}
-use Rattle.page_codec.specs.declared.page.Page.{Page}
 use Rattle.page_codec.specs.Places.{superblock, place}
-use Rattle.page_store.specs.Restart.{StandsAtHome, RestartsTo}
 use Rattle.redo_log.proofs.Leaving.{shut_stands}
-use Rattle.recovery.specs.Fresh.{IsFirstMeta, IsFirstLeaf, HasBody, IsEmptyIndex, CrashesToEmpty}
+use Rattle.recovery.proofs.Imports.{length-replicate, DiskMoment, MayCrashTo, Has, on_image, AreLimits, Admits, Format, Two, IsStored, Page, StandsAtHome, RestartsTo, IsFirstMeta, IsFirstLeaf}
+use Rattle.recovery.proofs.Imports.{HasBody, IsEmptyIndex, CrashesToEmpty}
 
 -- each index may have them
 may_have : (limits : Format) (page : Page) → page.layout ≡ Two → Admits limits.layout page.layout

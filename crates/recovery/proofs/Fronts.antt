@@ -1,12 +1,7 @@
 -- What refuses what stands in front of an index.
 use Rattle.std.proofs.Common.{◌≡◌, ◌⊎◌, ◌≤◌, ◌<◌, inl, inr, refl, sym, subst, ◌∙◌, ℕ, Bool, IsTrue, List, length, take}
-use Rattle.index_model.specs.Limits.{AreLimits}
-use Rattle.index_model.specs.declared.fault.Fault.{Fault}
-use Rattle.index_model.specs.declared.fault.Fault.TheVariants.{BadSuper, BadVersion, BadLimits}
-use Rattle.index_model.specs.declared.format.Format.{Format}
 use Rattle.page_codec.specs.Places.{needed_length, superblock}
-use Rattle.recovery.specs.Opening.{AreFrames, IsFrontFault, IsFrontRefusal}
-use Rattle.recovery.specs.Superblock.{IsNoSuperblock}
+use Rattle.recovery.proofs.Imports.{AreLimits, Fault, BadSuper, BadVersion, BadLimits, Format, AreFrames, IsFrontFault, IsFrontRefusal, IsNoSuperblock}
 
 -- a superblock is refused with one of three faults
 fault_of : (bytes : List ℕ) (fault : Fault) → IsNoSuperblock bytes fault → IsFrontFault fault

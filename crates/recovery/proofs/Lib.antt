@@ -1,3 +1,4 @@
+pub mod Imports
 pub mod Spelling
 pub mod Creating
 pub mod Blocks

@@ -1,17 +1,8 @@
 -- Images are written to their places, one block after the other.
 use Rattle.std.proofs.Common.{◌≡◌, inl, inr, ℕ, ◌+◌, ◌*◌, ◌<◌, Some, None, List, length, sym, ◌∙◌, ap, subst, arith}
-use Rattle.std.proofs.lemmas.Bool.{cases_eq}
-use Rattle.device.specs.Disk.{DiskMoment, Trace, synced}
-use Rattle.device.specs.Moments.{AtEachMoment}
-use Rattle.device.specs.Places.{Has, ChangesOnly}
-use Rattle.device.proofs.Going.{goes_weaker, goes_now}
-use Rattle.device.proofs.Standing.{has_kept, kept, same_only, only_more, only_wider, synced_only, synced_on}
-use Rattle.index_model.specs.declared.format.Format.{Format}
-use Rattle.page_codec.specs.Places.{place}
 use Rattle.page_store.proofs.Places.{apart_long}
-use Rattle.redo_log.specs.Reading.{kept_image}
-use Rattle.redo_log.specs.declared.log.Replayed.{Replayed}
-use Rattle.recovery.specs.Homing.{ChangesNamed, HasImages, AreHomed}
+use Rattle.recovery.proofs.Imports.{cases_eq, DiskMoment, Trace, synced, AtEachMoment, Has, ChangesOnly, goes_weaker, goes_now, has_kept, kept, same_only, only_more, only_wider, synced_only}
+use Rattle.recovery.proofs.Imports.{synced_on, Format, place, kept_image, Replayed, ChangesNamed, HasImages, AreHomed}
 
 pub same_named : (limits : Format) (found : Replayed) (m : DiskMoment) → ChangesNamed limits found m m
 same_named limits found m = record { only = same_only (place limits 0) (4096 * limits.pages) m; others = λ block bytes long unnamed on. on }

@@ -1,18 +1,7 @@
 -- What calls of a device leave alone, one after the other.
 use Rattle.std.proofs.Common.{◌≡◌, ◌⊎◌, inl, inr, ℕ, ◌+◌, ◌-◌, ◌*◌, ◌≤◌, List, [], ◌∷◌, Bool, IsTrue, Result, refl, ◌∙◌, ap, subst, length, arith}
-use Rattle.device.specs.Disk.{DiskMoment, Trace, synced, Syncs}
-use Rattle.device.specs.Moments.{AtEachMoment}
-use Rattle.device.specs.Places.{ChangesOnly, IsUntouched}
-use Rattle.device.proofs.Going.{goes_on, goes_now, goes_weaker, syncs_goes}
-use Rattle.device.proofs.Standing.{elsewhere_untouched}
-use Rattle.page_codec.specs.Places.{place, needed_length}
-use Rattle.index_model.specs.Limits.{AreLimits}
-use Rattle.index_model.specs.declared.format.Format.{Format}
-use Rattle.recovery.specs.Fresh.{WritesFront}
-use Rattle.recovery.specs.Homing.{ChangesNamed}
-use Rattle.recovery.specs.Opening.{IsFront}
-use Rattle.recovery.specs.Outside.{ChangesItsBytes, SameLogBytes, ChangesAfterFront, ChangesOneIndex}
-use Rattle.redo_log.specs.declared.log.Replayed.{Replayed}
+use Rattle.recovery.proofs.Imports.{DiskMoment, Trace, synced, Syncs, AtEachMoment, ChangesOnly, IsUntouched, goes_on, goes_now, goes_weaker, syncs_goes, elsewhere_untouched, place, needed_length}
+use Rattle.recovery.proofs.Imports.{AreLimits, Format, WritesFront, ChangesNamed, IsFront, ChangesItsBytes, SameLogBytes, ChangesAfterFront, ChangesOneIndex, Replayed}
 use Rattle.recovery.proofs.Creating.{wider_goes, more_goes, synced_goes}
 
 -- a range that nobody touches

@@ -1,35 +1,17 @@
 -- An index stays the same while its log is brought home and closed.
 use Rattle.std.proofs.Common.{◌≡◌, ◌⊎◌, ⊎_elim, inl, inr, ℕ, suc, ◌+◌, ◌*◌, ◌<◌, ◌≤◌, Some, None, Result, List, [], length, take, replicate, slice_get, refl, sym, ◌∙◌, ap, subst, arith}
-use Rattle.std.proofs.lemmas.List.{take_all, length-replicate}
 use Rattle.std.proofs.lemmas.Grind.{same_number_lists}
-use Rattle.std.proofs.lemmas.Option.{slice_get_within}
 use Rattle.std.specs.Option.{option_map}
-use Rattle.device.specs.Disk.{DiskMoment, Trace, MayCrashTo, Syncs, synced}
-use Rattle.device.specs.Moments.{AtEachMoment}
-use Rattle.device.specs.Places.{Has, OnDisk, ChangesOnly}
-use Rattle.device.proofs.Going.{goes_weaker, goes_both, goes_now, syncs_goes}
-use Rattle.device.proofs.Standing.{elsewhere_untouched, on_image, kept, same_only}
-use Rattle.index_model.specs.declared.fault.Fault.{Fault}
-use Rattle.index_model.specs.declared.fault.Fault.TheVariants.{NoMemory, Io, LogDamaged}
-use Rattle.index_model.specs.declared.format.Format.{Format}
-use Rattle.page_action.specs.Stored.{AreStored}
-use Rattle.page_action.proofs.StoredPages.{stored_page}
 use Rattle.page_codec.specs.Spelling.{page_bytes}
-use Rattle.page_codec.specs.declared.page.Page.{Page}
-use Rattle.page_codec.proofs.Laws.{length-page}
-use Rattle.page_store.specs.Logged.{AreHome, StandsOpened}
 use Rattle.page_codec.specs.Places.{superblock, place}
-use Rattle.page_store.specs.Restart.{RestartsTo, CrashesToPages}
-use Rattle.page_store.proofs.Restarting.{superblock_kept}
 use Rattle.redo_log.specs.Groups.{SpellsGroups, log_range}
 use Rattle.redo_log.specs.Images.{last_image, images_of, SameImages}
-use Rattle.redo_log.specs.Kept.{LogHolds, Restarts, RestartsOrEmpty, RestartsOrEmptyThroughout, ChangesItsRange, ForgetsForced, KeepsWhileUntouched, WhatItKeepsRestarts, limits_of, waiting_count}
-use Rattle.redo_log.specs.Reading.{Replays, IsOpened, IsDamaged, HoldsLast, kept_image}
-use Rattle.redo_log.specs.declared.log.Log.{Log}
-use Rattle.redo_log.specs.declared.log.Replayed.{Replayed}
 use Rattle.redo_log.proofs.Keeping.{forgets_all}
-use Rattle.recovery.specs.Homing.{ChangesNamed, AreHomed}
-use Rattle.recovery.specs.Opening.{IsSynced, IsNoMemoryOrIo}
+use Rattle.recovery.proofs.Imports.{take_all, length-replicate, slice_get_within, DiskMoment, Trace, MayCrashTo, Syncs, synced, AtEachMoment, Has, OnDisk, ChangesOnly, goes_weaker, goes_both}
+use Rattle.recovery.proofs.Imports.{goes_now, syncs_goes, elsewhere_untouched, on_image, kept, same_only, Fault, NoMemory, Io, LogDamaged, Format, AreStored, stored_page, Page, length-page}
+use Rattle.recovery.proofs.Imports.{AreHome, StandsOpened, RestartsTo, CrashesToPages, superblock_kept, LogHolds, Restarts, RestartsOrEmpty, RestartsOrEmptyThroughout, ChangesItsRange}
+use Rattle.recovery.proofs.Imports.{ForgetsForced, KeepsWhileUntouched, WhatItKeepsRestarts, limits_of, waiting_count, Replays, IsOpened, IsDamaged, HoldsLast, kept_image, Log, Replayed}
+use Rattle.recovery.proofs.Imports.{ChangesNamed, AreHomed, IsSynced, IsNoMemoryOrIo}
 use Rattle.recovery.proofs.Named.{same_named}
 
 -- of each block the page is the last of these images, or stands at home; and no crash changes that

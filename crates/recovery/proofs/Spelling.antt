@@ -1,12 +1,8 @@
 -- The pieces of a superblock.
 use Rattle.std.proofs.Common.{◌≡◌, inl, inr, ℕ, Bool, true, false, ◌-◌, ◌∙◌, List, [], ◌∷◌, ◌++◌, length, take, replicate, refl, ap, arith}
 use Rattle.std.proofs.lemmas.Nat.{from_le_bytes-to_le_bytes_4}
-use Rattle.std.specs.Int.{w32, from_le_bytes, to_le_bytes}
-use Rattle.index_model.specs.Limits.{AreLimits}
-use Rattle.index_model.specs.declared.format.Format.{Format}
 use Rattle.index_model.specs.declared.layout.Layout.{Layout}
-use Rattle.index_model.specs.declared.layout.Layout.TheVariants.{One, Two}
-use Rattle.recovery.specs.Superblock.{spelled_number, layout_of, is_unique, sizes_in, IsLayout}
+use Rattle.recovery.proofs.Imports.{w32, from_le_bytes, to_le_bytes, AreLimits, Format, One, Two, spelled_number, layout_of, is_unique, sizes_in, IsLayout}
 use Rattle.page_codec.specs.Places.{layout_number, unique_number, magic, superblock}
 
 -- the pieces of a superblock, one after the other

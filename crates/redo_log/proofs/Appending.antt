@@ -1,12 +1,7 @@
 -- One action more waits.
 use Rattle.std.proofs.Common.{◌≡◌, ℕ, zero, suc, ◌+◌, ◌*◌, ◌/◌, ◌<◌, ◌≤◌, List, [], ◌∷◌, ◌++◌, length, drop, sym, ◌∙◌, ap, subst, arith, length-append}
-use Rattle.std.proofs.lemmas.List.{take-append-le, drop-append-le}
-use Rattle.device.specs.Disk.{DiskMoment}
-use Rattle.page_codec.specs.declared.page.Page.{Page}
-use Rattle.redo_log.specs.Images.{SameImages, images_of}
-use Rattle.redo_log.specs.Blocks.{with_blocks, new_count, with_images, AreLaid}
-use Rattle.redo_log.specs.Kept.{LogHolds, IsSettled, ImagesFit, waiting_blocks, waiting_count}
-use Rattle.redo_log.specs.declared.log.Log.{Log}
+use Rattle.redo_log.proofs.Imports.{take-append-le, drop-append-le, DiskMoment, Page, SameImages, images_of, with_blocks, new_count, with_images, AreLaid, LogHolds, IsSettled, ImagesFit}
+use Rattle.redo_log.proofs.Imports.{waiting_blocks, waiting_count, Log}
 use Rattle.redo_log.proofs.ImageLists.{same_append, same_trans, same_eq, images_of-push}
 use Rattle.redo_log.proofs.BlockLists.{AreDistinct, distinct, length-with_blocks}
 use Rattle.redo_log.proofs.Laying.{with_images-same}

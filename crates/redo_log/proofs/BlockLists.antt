@@ -1,13 +1,9 @@
 -- Blocks in order: which are among others, and how many are new.
 use Rattle.std.proofs.Common.{◌≡◌, ◌≢◌, ℕ, zero, suc, ◌+◌, ◌<◌, ◌≤◌, ◌==◌, ◌||◌, Bool, true, false, cond, List, [], ◌∷◌, ◌++◌, length, get_or, set, Option, Some, None, refl, sym, ◌∙◌, ap, subst, arith, ⊎_elim, length-append}
 use Rattle.std.specs.Bool.{⊤}
-use Rattle.std.specs.Prelude.{IfSome, IfNone, is_some}
-use Rattle.std.proofs.lemmas.Bool.{cases_Bool, cases_lt, or_cases, or_left, or_right, or_parts, or_from, eqb-true, eqb-false, eq-eqb, ne_eqb, false_from_ne_true, true≢false, false≢true}
-use Rattle.std.proofs.lemmas.List.{get_or_append_left, get_or_push, get_or-set_same, get_or-set_other}
-use Rattle.index_model.specs.declared.format.Format.{Format}
-use Rattle.page_codec.specs.declared.page.Page.{Page}
-use Rattle.redo_log.specs.Groups.{AreImages}
-use Rattle.redo_log.specs.Blocks.{image_blocks, is_among_blocks, with_block, with_blocks, new_count, AreInside}
+use Rattle.redo_log.proofs.Imports.{IfSome, IfNone, is_some, cases_Bool, cases_lt, or_cases, or_left, or_right, or_parts, or_from, eqb-true, eqb-false, eq-eqb, ne_eqb, false_from_ne_true}
+use Rattle.redo_log.proofs.Imports.{true≢false, false≢true, get_or_append_left, get_or_push, get_or-set_same, get_or-set_other, Format, Page, AreImages, image_blocks, is_among_blocks, with_block}
+use Rattle.redo_log.proofs.Imports.{with_blocks, new_count, AreInside}
 
 -- each of these blocks stands there once
 abbrev pub AreDistinct : List ℕ → Type 0

@@ -1,22 +1,9 @@
 -- From a publication to the actions that a log keeps.
 use Rattle.std.proofs.Common.{◌≡◌, inl, ⊎_elim, ℕ, ◌+◌, ◌*◌, ◌<◌, ◌≤◌, List, [], ◌∷◌, ◌++◌, length, take, drop, Vec, false, refl, sym, ◌∙◌, ap, subst, arith}
-use Rattle.std.proofs.Math.Seq.{drop-length}
-use Rattle.std.proofs.lemmas.List.{with_items_is, append-nil}
 use Rattle.std.specs.declared.alloc.Global.{Global}
 use Rattle.std.specs.Vec.{with_items}
-use Rattle.std.specs.Int.{w32, to_le_bytes}
-use Rattle.device.specs.Disk.{DiskMoment, Trace}
-use Rattle.device.specs.Moments.{AtEachMoment}
-use Rattle.device.specs.Places.{OnDisk, ChangesOnly}
-use Rattle.device.proofs.Going.{goes_weaker, goes_now}
-use Rattle.device.proofs.Standing.{only_wider, same_only}
-use Rattle.index_model.specs.declared.format.Format.{Format}
-use Rattle.page_codec.specs.declared.page.Page.{Page}
-use Rattle.redo_log.specs.Images.{SameImages, images_bytes, images_of}
-use Rattle.redo_log.specs.Groups.{IsGroup, body}
-use Rattle.redo_log.specs.Publish.{IsClosedOrWritten}
-use Rattle.redo_log.specs.Kept.{LogHolds, IsSettled, Restarts, waiting_blocks, waiting_count}
-use Rattle.redo_log.specs.declared.log.Log.{Log}
+use Rattle.redo_log.proofs.Imports.{drop-length, with_items_is, append-nil, w32, to_le_bytes, DiskMoment, Trace, AtEachMoment, OnDisk, ChangesOnly, goes_weaker, goes_now, only_wider, same_only}
+use Rattle.redo_log.proofs.Imports.{Format, Page, SameImages, images_bytes, images_of, IsGroup, body, IsClosedOrWritten, LogHolds, IsSettled, Restarts, waiting_blocks, waiting_count, Log}
 use Rattle.redo_log.proofs.Leaving.{publishing, published}
 use Rattle.redo_log.proofs.ImageLists.{none, same_eq, same_trans, images_of-push}
 use Rattle.redo_log.proofs.Laying.{none_laid}

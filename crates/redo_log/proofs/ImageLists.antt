@@ -1,13 +1,8 @@
 -- Images in order: their bytes, and which is a block's last.
 use Rattle.std.proofs.Common.{◌≡◌, ℕ, ◌+◌, ◌*◌, ◌≤◌, List, [], ◌∷◌, ◌++◌, length, take, drop, Option, Some, None, refl, sym, ◌∙◌, ap, arith, append_assoc, length-append, length-take-le}
-use Rattle.std.proofs.lemmas.List.{append-nil, drop-take, drop-append-le}
 use Rattle.std.specs.List.{AllByRecursion}
-use Rattle.index_model.specs.declared.format.Format.{Format}
-use Rattle.page_codec.specs.declared.page.Page.{Page}
 use Rattle.page_codec.specs.Spelling.{page_bytes}
-use Rattle.page_codec.proofs.Laws.{length-page}
-use Rattle.redo_log.specs.Images.{if_of, later_of, last_image, SameImages, images_bytes, images_of}
-use Rattle.redo_log.specs.Groups.{AreImages}
+use Rattle.redo_log.proofs.Imports.{append-nil, drop-take, drop-append-le, Format, Page, length-page, if_of, later_of, last_image, SameImages, images_bytes, images_of, AreImages}
 
 -- no list of no length has elements
 pub none : {A : Type 0} (xs : List A) → length xs ≡ 0 → xs ≡ []

@@ -1,14 +1,7 @@
 -- What a log keeps stays so, whatever is written outside its range; and a crash leaves it.
-use Rattle.std.proofs.Common.{◌≡◌, ◌⊎◌, ℕ, ◌+◌, ◌-◌, ◌≤◌, List, [], ◌∷◌, ◌++◌, length, take, drop, sym, ◌∙◌, ap, arith, length-append}
-use Rattle.std.proofs.lemmas.List.{take-append-drop}
-use Rattle.device.specs.Disk.{DiskMoment}
-use Rattle.device.specs.Places.{ChangesOnly}
-use Rattle.device.proofs.Standing.{untouched_on, elsewhere_untouched}
-use Rattle.page_codec.specs.declared.page.Page.{Page}
-use Rattle.redo_log.specs.Groups.{spelled_groups}
-use Rattle.redo_log.specs.Images.{SameImages, images_of}
-use Rattle.redo_log.specs.Kept.{LogHolds, Restarts, ForgetsForced, RangeIsUntouched, limits_of, waiting_count}
-use Rattle.redo_log.specs.declared.log.Log.{Log}
+use Rattle.std.proofs.Common.{◌≡◌, ◌⊎◌, ℕ, ◌+◌, ◌-◌, ◌≤◌, List, [], ◌∷◌, ◌++◌, take, drop, sym, ◌∙◌, ap, arith, length-append}
+use Rattle.redo_log.proofs.Imports.{take-append-drop, DiskMoment, ChangesOnly, untouched_on, elsewhere_untouched, Page, spelled_groups, SameImages, images_of, LogHolds, Restarts, ForgetsForced}
+use Rattle.redo_log.proofs.Imports.{RangeIsUntouched, limits_of, waiting_count, Log}
 use Rattle.redo_log.proofs.ImageLists.{none, same_append, same_after, same_trans, same_eq, images_of-append}
 use Rattle.redo_log.proofs.Leaving.{settled_leaves}
 

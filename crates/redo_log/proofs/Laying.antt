@@ -1,17 +1,11 @@
 -- A list with one image for each block takes further ones, and so does its buffer.
 use Rattle.std.proofs.Common.{◌≡◌, ◌⊎◌, inl, inr, ℕ, zero, suc, ◌-◌, ◌+◌, ◌*◌, ◌<◌, ◌≤◌, ◌==◌, Bool, true, false, cond, List, [], ◌∷◌, ◌++◌, length, take, drop, get_or, Option, Some, None, refl, sym, ◌∙◌, ap, subst, arith, ⊎_elim, length-drop, append_assoc, length-take-le}
-use Rattle.std.proofs.Math.Seq.{take-append-add, drop-append-add}
-use Rattle.std.proofs.lemmas.Bool.{cases_Bool, cases_lt, or_parts, eqb-true, eq-eqb, ne_eqb, both_ways}
-use Rattle.std.proofs.lemmas.List.{append-nil, drop_at, drop-append-le, drop-drop, drop-take, take-take, get_or_append_left, length_push}
 use Rattle.std.proofs.lemmas.Slice.{take-put_mid}
 use borrow.Rule.Slice.PartMut.{put_mid}
-use Rattle.index_model.specs.declared.format.Format.{Format}
-use Rattle.page_codec.specs.declared.page.Page.{Page}
 use Rattle.page_codec.specs.Spelling.{page_bytes}
-use Rattle.page_codec.proofs.Laws.{length-page}
-use Rattle.redo_log.specs.Images.{if_of, later_of, last_image, SameImages, images_bytes}
-use Rattle.redo_log.specs.Groups.{IsImage, AreImages}
-use Rattle.redo_log.specs.Blocks.{image_blocks, is_among_blocks, with_block, with_image, with_images, AreLaid}
+use Rattle.redo_log.proofs.Imports.{take-append-add, drop-append-add, cases_Bool, cases_lt, or_parts, eqb-true, eq-eqb, ne_eqb, both_ways, append-nil, drop_at, drop-append-le, drop-drop}
+use Rattle.redo_log.proofs.Imports.{drop-take, take-take, get_or_append_left, length_push, Format, Page, length-page, if_of, later_of, last_image, SameImages, images_bytes, IsImage, AreImages}
+use Rattle.redo_log.proofs.Imports.{image_blocks, is_among_blocks, with_block, with_image, with_images, AreLaid}
 use Rattle.redo_log.proofs.ImageLists.{images_bytes-append, last_image-append, same_eq, same_trans, same_append, same_after, after_head}
 use Rattle.redo_log.proofs.BlockLists.{AreDistinct, is_among-at, with_block-old, with_block-new, distinct-with_block}
 

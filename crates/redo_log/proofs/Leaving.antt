@@ -1,17 +1,7 @@
 -- What a crash leaves of a log, before and while a group is published, and while the log is closed.
 use Rattle.std.proofs.Common.{◌≡◌, ◌≢◌, ◌⊎◌, inl, inr, ℕ, zero, suc, ◌+◌, ◌-◌, ◌*◌, ◌<◌, ◌≤◌, List, [], ◌∷◌, ◌++◌, length, take, drop, get_or, refl, sym, ◌∙◌, ap, subst, arith, append_assoc, length-append}
-use Rattle.std.proofs.lemmas.Bool.{cases_eq}
-use Rattle.std.proofs.lemmas.List.{append-nil}
-use Rattle.std.specs.Int.{w32, to_le_bytes}
-use Rattle.device.specs.Disk.{DiskMoment, MayCrashTo}
-use Rattle.device.specs.Places.{Has, OnDisk, ChangesOnly}
-use Rattle.device.proofs.Standing.{kept, on_image, on_front, on_back, on_both, has_both, has_drop}
-use Rattle.index_model.specs.declared.format.Format.{Format}
-use Rattle.page_codec.specs.declared.page.Page.{Page}
-use Rattle.redo_log.specs.Images.{images_bytes}
-use Rattle.redo_log.specs.Groups.{AreGroups, IsGroup, spelled_groups, body, SpellsGroups}
-use Rattle.redo_log.specs.Publish.{IsShut, IsClosedOrWritten}
-use Rattle.redo_log.specs.Kept.{IsSettled}
+use Rattle.redo_log.proofs.Imports.{cases_eq, append-nil, w32, to_le_bytes, DiskMoment, MayCrashTo, Has, OnDisk, ChangesOnly, kept, on_image, on_front, on_back, on_both, has_both, has_drop}
+use Rattle.redo_log.proofs.Imports.{Format, Page, images_bytes, AreGroups, IsGroup, spelled_groups, body, SpellsGroups, IsShut, IsClosedOrWritten, IsSettled}
 use Rattle.redo_log.proofs.ImageLists.{length-images_bytes, all-append}
 
 length_number : (n : ℕ) → length (to_le_bytes w32 n) ≡ 4

@@ -1,3 +1,4 @@
+pub mod Imports
 mod Appending
 pub mod BlockLists
 mod Forcing

@@ -1,14 +1,9 @@
 -- Of each block the last image is noted.
 use Rattle.std.proofs.Common.{◌≡◌, ◌≢◌, inl, inr, ℕ, zero, suc, ◌+◌, ◌-◌, ◌*◌, ◌<◌, ◌≤◌, Some, List, [], ◌∷◌, ◌++◌, length, take, drop, replicate, get_or, set, slice_range, refl, sym, ◌∙◌, ap, subst, arith, append_assoc, length-drop, length-set, length-take-le}
-use Rattle.std.proofs.lemmas.Bool.{cases_eq, eq-eqb, ne_eqb}
-use Rattle.std.proofs.lemmas.List.{drop-drop, drop-take, take-take, get_or-drop, get_or-set_same, get_or-set_other, length-replicate}
 use Rattle.std.specs.Option.{option_map}
-use Rattle.index_model.specs.declared.format.Format.{Format}
-use Rattle.page_codec.specs.declared.page.Page.{Page}
 use Rattle.page_codec.specs.Spelling.{page_bytes}
-use Rattle.redo_log.specs.Images.{last_image, images_bytes}
-use Rattle.redo_log.specs.Groups.{IsImage, AreImages, IsGroup, body, SpellsGroups}
-use Rattle.redo_log.specs.Reading.{bytes_at, AreNoted, NotesGroup, AreAllNoted, AreAllImages}
+use Rattle.redo_log.proofs.Imports.{cases_eq, eq-eqb, ne_eqb, drop-drop, drop-take, take-take, get_or-drop, get_or-set_same, get_or-set_other, length-replicate, Format, Page, last_image}
+use Rattle.redo_log.proofs.Imports.{images_bytes, IsImage, AreImages, IsGroup, body, SpellsGroups, bytes_at, AreNoted, NotesGroup, AreAllNoted, AreAllImages}
 use Rattle.redo_log.proofs.ImageLists.{last_image-append}
 use Rattle.redo_log.proofs.Parsing.{ImagesSoFar, image_read, no_image, GroupsSoFar, groups_start, group_read, no_group, groups_end}
 

@@ -1,15 +1,9 @@
 -- What has been read so far, and that it is the only reading.
 use Rattle.std.proofs.Common.{◌≡◌, ◌≢◌, ℕ, zero, suc, ◌+◌, ◌-◌, ◌*◌, ◌^◌, ◌<◌, List, [], ◌∷◌, ◌++◌, length, take, drop, get_or, Fits, w8, refl, sym, ◌∙◌, ap, subst, arith, append_assoc, length-append, length-drop, length-take-le, take-append-drop}
-use Rattle.std.proofs.lemmas.List.{take_at, drop_at, append-nil, drop-drop}
 use Rattle.std.proofs.lemmas.Nat.{from_le_bytes-to_le_bytes_4, le_bytes_4}
-use Rattle.std.specs.Int.{w32, to_le_bytes, from_le_bytes}
-use Rattle.index_model.specs.declared.format.Format.{Format}
-use Rattle.page_codec.specs.declared.page.Page.{Page}
 use Rattle.page_codec.specs.Spelling.{page_bytes}
-use Rattle.page_codec.proofs.Laws.{length-page, one_page}
-use Rattle.redo_log.specs.Images.{images_bytes, images_of}
-use Rattle.redo_log.specs.Groups.{IsImage, AreImages, IsGroup, AreGroups, body, spelled_groups, SpellsGroups}
-use Rattle.redo_log.specs.Reading.{NotesImages, NotesGroup, AreAllImages}
+use Rattle.redo_log.proofs.Imports.{take_at, drop_at, append-nil, drop-drop, w32, to_le_bytes, from_le_bytes, Format, Page, length-page, one_page, images_bytes, images_of, IsImage, AreImages}
+use Rattle.redo_log.proofs.Imports.{IsGroup, AreGroups, body, spelled_groups, SpellsGroups, NotesImages, NotesGroup, AreAllImages}
 use Rattle.redo_log.proofs.ImageLists.{images_bytes-append, length-images_bytes, all-append, images_of-push}
 use Rattle.redo_log.proofs.Leaving.{spelled-push}
 

@@ -1,17 +1,7 @@
 -- From what was read to a log that keeps it.
 use Rattle.std.proofs.Common.{◌≡◌, ℕ, ◌+◌, ◌-◌, ◌≤◌, List, [], ◌∷◌, ◌++◌, length, take, drop, get_or, Bool, IsTrue, false, sym, ◌∙◌, ap, subst, arith, append_assoc, length-append, length-drop, length-take-le}
-use Rattle.std.proofs.Math.Seq.{drop-length}
-use Rattle.std.proofs.lemmas.List.{get_or-drop, get_or-take, get_or_append_left}
-use Rattle.std.specs.Prelude.{slice_range}
-use Rattle.device.specs.Disk.{DiskMoment}
-use Rattle.device.specs.Places.{Has}
-use Rattle.index_model.specs.declared.format.Format.{Format}
-use Rattle.page_codec.specs.declared.page.Page.{Page}
-use Rattle.redo_log.specs.Images.{images_of}
-use Rattle.redo_log.specs.Groups.{IsImage, AreImages, AreGroups, spelled_groups, SpellsGroups, log_range}
-use Rattle.redo_log.specs.Kept.{IsSettled, waiting_blocks}
-use Rattle.redo_log.specs.Reading.{AreAllImages, AreAllNoted, Replays, IsReplay, bytes_at}
-use Rattle.redo_log.specs.declared.log.Log.{Log}
+use Rattle.redo_log.proofs.Imports.{drop-length, get_or-drop, get_or-take, get_or_append_left, slice_range, DiskMoment, Has, Format, Page, images_of, IsImage, AreImages, AreGroups, spelled_groups}
+use Rattle.redo_log.proofs.Imports.{SpellsGroups, log_range, IsSettled, waiting_blocks, AreAllImages, AreAllNoted, Replays, IsReplay, bytes_at, Log}
 use Rattle.redo_log.specs.declared.log.Replayed.{Replayed}
 use Rattle.redo_log.proofs.ImageLists.{same_eq, all-append}
 use Rattle.redo_log.proofs.Laying.{none_laid}

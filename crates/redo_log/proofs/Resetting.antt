@@ -1,16 +1,7 @@
 -- What the closing of a log leaves.
 use Rattle.std.proofs.Common.{◌≡◌, inl, inr, ⊎_elim, ℕ, ◌+◌, ◌<◌, ◌≤◌, List, [], ◌∷◌, length, take, drop, false, Result, Ok, Err, refl, sym, ap, subst, arith}
-use Rattle.std.specs.Prelude.{OnOk}
-use Rattle.device.specs.Disk.{DiskMoment, Trace, Writes, Syncs, next, wrote}
-use Rattle.device.specs.Moments.{AtEachMoment}
-use Rattle.device.specs.Places.{Has, OnDisk, ChangesOnly}
-use Rattle.device.proofs.Going.{steps, goes_on, writes_goes, syncs_goes, goes_weaker}
-use Rattle.device.proofs.Standing.{only_wider, only_more, wrote_only, wrote_has, synced_only, synced_on}
-use Rattle.page_codec.specs.declared.page.Page.{Page}
-use Rattle.redo_log.specs.Images.{images_of}
-use Rattle.redo_log.specs.Groups.{spelled_groups}
-use Rattle.redo_log.specs.Kept.{LogHolds, Waits, RestartsOrEmpty}
-use Rattle.redo_log.specs.declared.log.Log.{Log}
+use Rattle.redo_log.proofs.Imports.{OnOk, DiskMoment, Trace, Writes, Syncs, next, wrote, AtEachMoment, Has, OnDisk, ChangesOnly, steps, goes_on, writes_goes, syncs_goes, goes_weaker, only_wider}
+use Rattle.redo_log.proofs.Imports.{only_more, wrote_only, wrote_has, synced_only, synced_on, Page, images_of, spelled_groups, LogHolds, Waits, RestartsOrEmpty, Log}
 use Rattle.redo_log.proofs.Leaving.{resetting}
 use Rattle.redo_log.proofs.ImageLists.{same_refl, same_eq}
 

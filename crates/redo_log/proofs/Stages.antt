@@ -1,12 +1,7 @@
 -- What stands on the disk after each call of a publication.
 use Rattle.std.proofs.Common.{◌≡◌, inl, inr, ℕ, ◌+◌, ◌≤◌, List, [], ◌∷◌, length, Result, Ok, Err, refl, sym, ap, subst, arith}
-use Rattle.std.specs.Prelude.{OnOk}
-use Rattle.device.specs.Disk.{DiskMoment, Trace, next, wrote, synced, Writes, Syncs}
-use Rattle.device.specs.Moments.{AtEachMoment}
-use Rattle.device.specs.Places.{Has, OnDisk, ChangesOnly}
-use Rattle.device.proofs.Going.{steps, goes_on, writes_goes, syncs_goes}
-use Rattle.device.proofs.Standing.{wrote_only, synced_only, only_more, only_wider, has_kept, kept, wrote_has, synced_on, has_both, has_back}
-use Rattle.redo_log.specs.Publish.{IsShut, IsClosedOrWritten}
+use Rattle.redo_log.proofs.Imports.{OnOk, DiskMoment, Trace, next, wrote, synced, Writes, Syncs, AtEachMoment, Has, OnDisk, ChangesOnly, steps, goes_on, writes_goes, syncs_goes, wrote_only}
+use Rattle.redo_log.proofs.Imports.{synced_only, only_more, only_wider, has_kept, kept, wrote_has, synced_on, has_both, has_back, IsShut, IsClosedOrWritten}
 
 module _ (gate : ℕ) (body : List ℕ) (t : Trace) (room : gate + (length body + 1) ≤ length t.now.seen) where
   abbrev P : DiskMoment → Type 0

@@ -1,25 +1,13 @@
 -- The leaf after the frontier is a leaf.
 use Rattle.std.proofs.Common.{◌≡◌, ◌<◌, ◌≤◌, Bool, Some, length, slice_get, refl, sym, ap, subst, ◌∙◌, arith}
 use Rattle.arrayvec.specs.declared.array_vec.ArrayVec.{ArrayVec}
-use Rattle.index_model.specs.declared.bound.Bound.{Bound}
-use Rattle.index_model.specs.declared.entry.Entry.{Entry}
-use Rattle.latch_table.specs.Holdings.{Holding, HasRoom}
-use Rattle.page_codec.specs.Edits.{entries_of, HasEntries}
-use Rattle.page_codec.specs.Grammar.{IsPage, IsOfKind, IsLiveLeaf, IsLeafIn}
-use Rattle.page_codec.specs.declared.page.Items.{Items}
 use Rattle.page_codec.specs.declared.page.Items.TheVariants.{Meta, Entries, Downlinks}
-use Rattle.page_codec.specs.declared.page.Page.{Page}
 use Rattle.page_codec.specs.declared.page.PageState.{PageState}
-use Rattle.page_codec.specs.declared.page.PageState.TheVariants.{Live}
-use Rattle.page_action.specs.States.{State}
-use Rattle.tree_shape.specs.Nodes.{Node}
-use Rattle.tree_shape.specs.Chains.{IsIn}
-use Rattle.tree_acts.specs.Trees.{HasTree, HasCover}
 use Rattle.tree_acts.proofs.Finishing.{covered}
 use Rattle.tree_acts.proofs.Lasting.{on_level}
 use Rattle.tree_acts.proofs.Overlays.{node_there}
-use Rattle.scan.specs.Scans.{ScanInvariant}
-use Rattle.scan.specs.declared.steps.ScanOp.{ScanOp}
+use Rattle.scan.proofs.Imports.{Bound, Entry, Holding, HasRoom, entries_of, HasEntries, IsPage, IsOfKind, IsLiveLeaf, IsLeafIn, Items, Page, Live, State, Node, IsIn, HasTree, HasCover}
+use Rattle.scan.proofs.Imports.{ScanInvariant, ScanOp}
 
 -- a page of the lowest level has entries
 pub leaf_has_entries : (st : State) (aim : Bound → Bool) (page : Page) → HasTree st → slice_get st.pages page.block ≡ Some page → IsPage page → HasCover st 0 aim page.block → HasEntries page.items

@@ -6,14 +6,8 @@ use Rattle.std.specs.Option.{option_cmp}
 use Rattle.std.specs.declared.cmp.Ordering.{Ordering}
 use Rattle.std.specs.declared.cmp.Ordering.TheVariants.{Less, Equal, Greater}
 use Rattle.std.proofs.lemmas.Cmp.{nat_list_cmp_total}
-use Rattle.index_model.specs.Order.{bound_cmp, key_cmp, row_cmp, bound_of, is_past}
-use Rattle.index_model.specs.Range.{below_admits}
-use Rattle.index_model.specs.declared.bound.Bound.{Bound}
-use Rattle.index_model.specs.declared.entry.Entry.{Entry}
-use Rattle.tree_shape.specs.Chains.{IsNoGreater}
-use Rattle.tree_shape.specs.Walks.{frontier_aim, is_within}
 use Rattle.tree_shape.proofs.Order.{upto_self, upto_trans, upto_before, before_weak, before_or}
-use Rattle.scan.specs.Scans.{frontier_past}
+use Rattle.scan.proofs.Imports.{bound_cmp, key_cmp, row_cmp, bound_of, is_past, below_admits, Bound, Entry, IsNoGreater, frontier_aim, is_within, frontier_past}
 
 true_false : true ≡ false → ⊥
 true_false h = cc

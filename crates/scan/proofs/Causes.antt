@@ -1,15 +1,9 @@
 -- Why a page isn't read for a scan.
 use Rattle.std.proofs.Common.{◌≡◌, ℕ, suc, ◌+◌, ◌<◌, ◌≤◌, Bool, true, false, not, ◌||◌, ◌==◌, nat_lt, nat_le, if◌then◌else◌, List, ◌∷◌, length, sym, subst, arith}
-use Rattle.std.proofs.lemmas.Bool.{and_parts, eqb-true, ltb-true, lt-ltb, leb-true}
-use Rattle.index_model.specs.Faults.{HasCause}
-use Rattle.index_model.specs.declared.fault.Fault.{Fault}
-use Rattle.index_model.specs.declared.fault.Fault.TheVariants.{Blocked, NoFrame, PageDamaged}
-use Rattle.latch_table.specs.Holdings.{has_pin, is_held_by_another}
 use Rattle.latch_table.specs.declared.mode.Mode.TheVariants.{Shared}
 use Rattle.page_action.specs.Causes.{pinned_blocks, count_apart}
-use Rattle.page_action.specs.States.{State, Backing}
 use Rattle.descent.specs.Causes.{causes_of_looked}
-use Rattle.scan.specs.Scans.{causes_of_scanning}
+use Rattle.scan.proofs.Imports.{and_parts, eqb-true, ltb-true, lt-ltb, leb-true, HasCause, Fault, Blocked, NoFrame, PageDamaged, has_pin, is_held_by_another, State, Backing, causes_of_scanning}
 
 one_more : (c : Bool) (n : ℕ) → (if c then n else suc n) ≤ 1 + n
 one_more true n = omega arith

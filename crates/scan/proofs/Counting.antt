@@ -1,16 +1,7 @@
 -- What is left to do gets less.
 use Rattle.std.proofs.Common.{◌≡◌, ℕ, zero, suc, ◌+◌, ◌*◌, ◌<◌, ◌≤◌, Bool, true, false, ◌&&◌, if◌then◌else◌, Some, List, [], ◌∷◌, length, slice_get, refl, ap, ◌∙◌, arith}
-use Rattle.std.proofs.lemmas.Nat.{mul-add-lt}
 use Rattle.std.proofs.Math.Nat.{mul_comm}
-use Rattle.index_model.specs.declared.bound.Bound.{Bound}
-use Rattle.page_codec.specs.declared.page.Page.{Page}
-use Rattle.page_codec.specs.declared.page.PageState.TheVariants.{Live}
-use Rattle.tree_shape.specs.Chains.{IsNoGreater}
-use Rattle.tree_shape.specs.Nodes.{is_live}
-use Rattle.tree_shape.specs.Walks.{frontier_aim, is_within}
-use Rattle.descent.specs.NextPage.{walk_length}
-use Rattle.scan.specs.Scans.{frontier_past}
-use Rattle.scan.specs.Work.{is_ahead, count_ahead}
+use Rattle.scan.proofs.Imports.{mul-add-lt, Bound, Page, Live, IsNoGreater, is_live, frontier_aim, is_within, walk_length, frontier_past, is_ahead, count_ahead}
 use Rattle.scan.proofs.Behind.{within_falls, high_is_passed}
 
 counted : Bool → ℕ → ℕ

@@ -1,24 +1,10 @@
 -- What a scan knows lasts while others act, and what it has to do has a bound.
 use Rattle.std.proofs.Common.{◌≡◌, ℕ, ◌+◌, ◌≤◌, ◌||◌, Bool, false, Option, Some, None, List, length, refl, ap, ◌∙◌, arith, length-drop}
-use Rattle.std.proofs.lemmas.Bool.{eq-eqb}
-use Rattle.std.proofs.lemmas.Nat.{mul-le}
-use Rattle.index_model.specs.Range.{start_of}
-use Rattle.index_model.specs.declared.bound.Bound.{Bound}
-use Rattle.latch_table.specs.Holdings.{Holding, has_pin, holding_of}
-use Rattle.page_codec.specs.declared.page.Page.{Page}
-use Rattle.page_action.specs.States.{State}
-use Rattle.tree_shape.specs.Walks.{frontier_aim}
 use Rattle.tree_shape.proofs.Fits.{frontier_falls}
-use Rattle.tree_acts.specs.Trees.{HasTree}
 use Rattle.tree_acts.proofs.Sizes.{low_level, pages_few}
-use Rattle.tree_acts.specs.StepEffects.{NumbersStay}
-use Rattle.scan.specs.Scans.{LeafIsLive, leaf_pinned, ScanStands}
-use Rattle.descent.specs.NextPage.{walk_length}
-use Rattle.scan.specs.Work.{count_ahead, leaves_left, scan_walk_left}
 use Rattle.scan.specs.Laws.{PinnedLeavesLast, ScansAreUndisturbed, FreshScansAreBounded, ScansAreBounded}
-use Rattle.scan.specs.declared.steps.ScanAt.{ScanAt}
-use Rattle.scan.specs.declared.steps.ScanAt.TheVariants.{Start, At, Last}
-use Rattle.descent.proofs.Shortening.{walk_is_long}
+use Rattle.scan.proofs.Imports.{eq-eqb, mul-le, start_of, Bound, Holding, has_pin, holding_of, Page, State, frontier_aim, HasTree, NumbersStay, LeafIsLive, leaf_pinned, ScanStands, walk_length}
+use Rattle.scan.proofs.Imports.{count_ahead, leaves_left, scan_walk_left, ScanAt, Start, At, Last, walk_is_long}
 use Rattle.scan.proofs.Counting.{count_few}
 
 stands_still : (old new : State) (start : ℕ) (leaf : Option ℕ) (f : Bound) (at : ScanAt) → NumbersStay start old new → ScanStands old start leaf f at → ScanStands new start leaf f at

@@ -1,25 +1,9 @@
 -- What the leaf after the frontier gives a scan.
 use Rattle.std.proofs.Common.{◌≡◌, ℕ, Bool, true, false, not, ◌&&◌, if◌then◌else◌, Option, Some, None, List, slice_get, IsSome, ◌↔◌, inl, inr, refl, sym, ap, subst, ◌∙◌}
-use Rattle.std.proofs.lemmas.Bool.{cases_Bool, and_parts}
-use Rattle.index_model.specs.Order.{is_among, is_past, IsUpTo}
-use Rattle.index_model.specs.Range.{from_admits, below_admits}
-use Rattle.index_model.specs.declared.bound.Bound.{Bound}
-use Rattle.index_model.specs.declared.entry.Entry.{Entry}
 use Rattle.index_model.proofs.Ascending.{AllByRecursion-among}
-use Rattle.page_codec.specs.Edits.{entries_of}
-use Rattle.page_codec.specs.Grammar.{IsLiveLeaf}
-use Rattle.page_codec.specs.declared.page.Page.{Page}
 use Rattle.page_action.specs.Contents.{entry_on_live_leaf}
-use Rattle.page_action.specs.States.{State}
-use Rattle.tree_shape.specs.Leaf.{IsCopiedFrom}
-use Rattle.tree_shape.specs.Walks.{entry_aim, frontier_aim, is_within}
-use Rattle.tree_acts.specs.Trees.{HasTree, HasCover}
-use Rattle.tree_acts.proofs.Meanings.{leaf_shows, frontier_shows}
-use Rattle.descent.specs.declared.way.Position.{Position}
-use Rattle.scan.specs.Scans.{IsAfter, LeafIsRead, behind, after_leaf, frontier_past}
-use Rattle.scan.specs.declared.steps.ScanAt.{ScanAt}
-use Rattle.scan.specs.declared.steps.ScanAt.TheVariants.{At, Last}
-use Rattle.scan.specs.declared.steps.ScanOp.{ScanOp}
+use Rattle.scan.proofs.Imports.{cases_Bool, and_parts, is_among, is_past, IsUpTo, from_admits, below_admits, Bound, Entry, entries_of, IsLiveLeaf, Page, State, IsCopiedFrom, entry_aim}
+use Rattle.scan.proofs.Imports.{frontier_aim, is_within, HasTree, HasCover, leaf_shows, frontier_shows, Position, IsAfter, LeafIsRead, behind, after_leaf, frontier_past, ScanAt, At, Last, ScanOp}
 use Rattle.scan.proofs.Behind.{not_back, past_high, behind_stays, within_high, below_high}
 
 -- what the frontier has passed is after the scan

@@ -1,3 +1,4 @@
+pub mod Imports
 pub mod Resting
 pub mod Standing
 pub mod Causes

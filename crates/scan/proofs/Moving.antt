@@ -1,28 +1,10 @@
 -- What the steps of a scan leave it.
 use Rattle.std.proofs.Common.{◌≡◌, ℕ, ◌+◌, ◌<◌, ◌≤◌, Bool, true, false, if◌then◌else◌, Option, Some, None, List, length, slice_get, inr, refl, sym, ap, subst, ◌∙◌, arith}
-use Rattle.index_model.specs.Range.{below_admits}
-use Rattle.index_model.specs.declared.bound.Bound.{Bound}
-use Rattle.index_model.specs.declared.entry.Entry.{Entry}
-use Rattle.latch_table.specs.Holdings.{Table, pinned}
-use Rattle.page_codec.specs.declared.page.Page.{Page}
-use Rattle.page_action.specs.States.{State, with_table}
-use Rattle.tree_shape.specs.Nodes.{node_of}
 use Rattle.tree_shape.specs.Laws.{IsPassedBy}
-use Rattle.tree_shape.specs.Walks.{frontier_aim, is_within}
-use Rattle.tree_acts.specs.Leaves.{WasLeaf}
-use Rattle.tree_acts.specs.Trees.{HasTree, LeadsTo}
-use Rattle.tree_acts.specs.Ways.{RightIsThere}
-use Rattle.tree_acts.proofs.Meanings.{passed_shows, places_widen, trail_begins_here, trail_moves_right}
-use Rattle.descent.specs.NextPage.{IsOnDescent, IsArrived, IsShorter, way_left}
-use Rattle.tree_acts.specs.StepEffects.{IsInOrder, StepEffect}
-use Rattle.descent.specs.declared.way.Position.{Position}
-use Rattle.descent.proofs.Acting.{holds_else}
-use Rattle.descent.proofs.Shortening.{walk_is_long, way_shortens}
-use Rattle.scan.specs.Scans.{waiting, without_leaf, moved_to, behind, after_leaf, frontier_past, ScanStands, ScanInvariant}
-use Rattle.scan.specs.Work.{scan_left, leaves_left, scan_walk_left, count_ahead, is_ahead}
-use Rattle.scan.specs.declared.steps.ScanAt.{ScanAt}
-use Rattle.scan.specs.declared.steps.ScanAt.TheVariants.{Start, At, Last}
-use Rattle.scan.specs.declared.steps.ScanOp.{ScanOp}
+use Rattle.scan.proofs.Imports.{below_admits, Bound, Entry, Table, pinned, Page, State, with_table, node_of, frontier_aim, is_within, WasLeaf, HasTree, LeadsTo, RightIsThere, passed_shows}
+use Rattle.scan.proofs.Imports.{places_widen, trail_begins_here, trail_moves_right, IsOnDescent, IsArrived, IsShorter, way_left, IsInOrder, StepEffect, Position, holds_else, walk_is_long}
+use Rattle.scan.proofs.Imports.{way_shortens, waiting, without_leaf, moved_to, behind, after_leaf, frontier_past, ScanStands, ScanInvariant, scan_left, leaves_left, scan_walk_left, count_ahead}
+use Rattle.scan.proofs.Imports.{is_ahead, ScanAt, Start, At, Last, ScanOp}
 use Rattle.scan.proofs.Behind.{not_back, aim_widens, past_falls, high_is_passed}
 use Rattle.scan.proofs.Counting.{count_drops, live_ahead, passed_not_ahead, some_ahead, leaf_less}
 use Rattle.scan.proofs.Resting.{way_with}

@@ -1,23 +1,9 @@
 -- Steps of a scan that are refused, and where a page leads one that isn't.
 use Rattle.std.proofs.Common.{◌≡◌, ℕ, ◌≤◌, Bool, true, false, Option, Some, Err, [], length, slice_get, refl, sym, ap, subst, arith}
-use Rattle.index_model.specs.Faults.{HasCause}
-use Rattle.index_model.specs.declared.fault.Fault.{Fault}
-use Rattle.index_model.specs.declared.fault.Fault.TheVariants.{Stopped}
-use Rattle.index_model.specs.Formats.{sizes_of}
-use Rattle.index_model.specs.declared.limits.Limits.{Limits}
-use Rattle.page_codec.specs.declared.page.Page.{Page}
-use Rattle.page_action.specs.States.{State, Continues}
 use Rattle.page_action.specs.declared.page_store.PageStore.{Ghosts}
-use Rattle.tree_shape.specs.Walks.{frontier_aim}
-use Rattle.tree_acts.specs.Trees.{HasTree}
-use Rattle.descent.specs.NextPage.{IsOnDescent, LeadsToNext}
-use Rattle.tree_acts.specs.StepEffects.{IsInOrder}
-use Rattle.descent.specs.declared.way.Position.{Position}
 use Rattle.descent.specs.declared.way.NextPage.{NextPage}
-use Rattle.descent.proofs.Acting.{one_nothing}
-use Rattle.scan.specs.Scans.{waiting, ScanStands, ScanInvariant, ScanSteps, causes_of_scanning}
-use Rattle.scan.specs.declared.steps.ScanAt.TheVariants.{At}
-use Rattle.scan.specs.declared.steps.ScanOp.{ScanOp}
+use Rattle.scan.proofs.Imports.{HasCause, Fault, Stopped, sizes_of, Limits, Page, State, Continues, frontier_aim, HasTree, IsOnDescent, LeadsToNext, IsInOrder, Position, one_nothing, waiting}
+use Rattle.scan.proofs.Imports.{ScanStands, ScanInvariant, ScanSteps, causes_of_scanning, At, ScanOp}
 
 -- a step that is refused before anything is changed
 pub refuses : {S : Type 0} (g : Ghosts S) (op : ScanOp) (old new : S) (fault : Fault) → Continues g.follows old new → g.state new ≡ g.state old → waiting op ≡ []

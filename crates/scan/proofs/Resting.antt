@@ -1,12 +1,6 @@
 -- Steps with no action, on a tree that many sessions share.
 use Rattle.std.proofs.Common.{◌≡◌, ℕ, Bool, inl, refl, sym, subst}
-use Rattle.index_model.specs.declared.bound.Bound.{Bound}
-use Rattle.latch_table.specs.Holdings.{Table}
-use Rattle.page_action.specs.States.{State, with_table}
-use Rattle.tree_acts.specs.Trees.{LeadsTo, HasTrail}
-use Rattle.descent.specs.NextPage.{IsOnDescent}
-use Rattle.tree_acts.specs.StepEffects.{IsOneActAtMost}
-use Rattle.descent.specs.declared.way.Position.{Position}
+use Rattle.scan.proofs.Imports.{Bound, Table, State, with_table, LeadsTo, HasTrail, IsOnDescent, IsOneActAtMost, Position}
 
 -- other latches and pins leave every page number what it was
 place_with : (st : State) (table : Table) (start level : ℕ) (aim : Bound → Bool) (clear : Bool) (block : ℕ) → LeadsTo st start level aim clear block

@@ -1,14 +1,7 @@
 -- The way from the metapage.
-use Rattle.std.proofs.Common.{◌≡◌, ℕ, ◌<◌, Bool, Some, inl, inr, length, slice_get, slice_index, arith, false, ap, ◌∙◌}
-use Rattle.index_model.specs.declared.bound.Bound.{Bound}
-use Rattle.page_codec.specs.declared.page.Items.{Items}
-use Rattle.page_codec.specs.declared.page.Page.{Page}
-use Rattle.page_action.specs.States.{State}
+use Rattle.std.proofs.Common.{◌≡◌, ℕ, Bool, Some, slice_get, arith, false, ap, ◌∙◌}
 use Rattle.tree_shape.specs.Tree.{IsMetaOf}
-use Rattle.tree_acts.specs.Trees.{HasTree, HasCover}
-use Rattle.tree_acts.specs.Ways.{NoneIsIncomplete}
-use Rattle.tree_acts.proofs.Meanings.{metapage_shows, trail_begins_here, root_covers_all}
-use Rattle.descent.specs.NextPage.{IsOnDescent, way_from}
+use Rattle.scan.proofs.Imports.{Bound, Items, Page, State, HasTree, HasCover, NoneIsIncomplete, metapage_shows, trail_begins_here, root_covers_all, IsOnDescent, way_from}
 use Rattle.tree_acts.specs.Levels.{level_with, level_of, root_level}
 
 -- in a tree the metapage names a root, where a call begins its way

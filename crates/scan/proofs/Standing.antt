@@ -1,11 +1,9 @@
 -- What a scan holds.
 use Rattle.std.proofs.Common.{◌≡◌, ◌≢◌, ℕ, ◌<◌, Bool, Option, Some, None, [], ◌∷◌, length, cond, refl, sym, ap, subst, ◌∙◌, arith}
-use Rattle.std.proofs.lemmas.Bool.{eq-eqb}
-use Rattle.latch_table.specs.Holdings.{Holding, Table, holding_of, without_pin, pinned}
 use Rattle.latch_table.proofs.Tables.{length-pinned, length-unpinned, holding_of-pinned, holding_of-unpinned, holding_of-pinned_other, holding_of-unpinned_other}
 use Rattle.tree_acts.specs.Steps.{AreApart}
 use Rattle.descent.proofs.Tables.{apart_pins}
-use Rattle.scan.specs.Scans.{without_leaf, leaf_pinned}
+use Rattle.scan.proofs.Imports.{eq-eqb, Holding, Table, holding_of, without_pin, pinned, without_leaf, leaf_pinned}
 
 -- the leaf is let go
 pub without_many : (table : Table) (session : ℕ) (leaf : Option ℕ) → length (without_leaf table session leaf) ≡ length table

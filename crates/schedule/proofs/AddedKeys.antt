@@ -1,16 +1,8 @@
 -- An entry that is added to a unique index has a key that no entry had just before.
-use Rattle.std.proofs.Common.{◌≡◌, ℕ, zero, suc, Bool, true, false, ◌||◌, Option, Some, None, List, [], ◌∷◌, ◌++◌, take, slice_get, sym, ap, subst, inl, inr, ◌∙◌, arith, refl}
-use Rattle.std.proofs.lemmas.Bool.{cases_Bool}
-use Rattle.index_model.specs.Actions.{Action, Add, contents_after, is_there_after}
-use Rattle.index_model.specs.Order.{same_entry}
-use Rattle.index_model.specs.Calls.{Ask, AskInsert, Call, AddIsRight, AnswersRight, IsAdded, IsInsertAnswer, end_of}
-use Rattle.index_model.specs.declared.entry.Entry.{Entry}
-use Rattle.index_model.proofs.Ascending.{same_entry-self}
-use Rattle.index_model.proofs.Histories.{contents_after-add}
-use Rattle.page_action.specs.declared.page_store.PageStore.{Ghosts}
+use Rattle.std.proofs.Common.{◌≡◌, ℕ, zero, suc, Bool, true, false, ◌||◌, Option, Some, List, [], ◌∷◌, ◌++◌, take, slice_get, sym, ap, subst, inl, inr, ◌∙◌, arith, refl}
 use Rattle.schedule.specs.Keys.{AddedKeysAreNew}
-use Rattle.schedule.specs.TheoremMoments.{Moment}
-use Rattle.schedule.specs.TheoremRuns.{Fits}
+use Rattle.schedule.proofs.Imports.{cases_Bool, Action, Add, contents_after, is_there_after, same_entry, Ask, AskInsert, Call, AddIsRight, AnswersRight, IsAdded, IsInsertAnswer, end_of, Entry}
+use Rattle.schedule.proofs.Imports.{same_entry-self, contents_after-add, Ghosts, Moment, Fits}
 
 -- a prefix of one action more
 take_one_more : (l : List Action) (n : ℕ) (a : Action) → slice_get l n ≡ Some a → take (suc n) l ≡ take n l ++ a ∷ []

@@ -1,11 +1,7 @@
 -- What is left to do for what a session runs has a bound at each moment.
-use Rattle.std.specs.Prelude.{unwrap_or}
 use Rattle.std.proofs.Common.{◌≡◌, ◌<◌, Option, Some, None, slice_get, refl, arith}
-use Rattle.page_action.specs.declared.page_store.PageStore.{Ghosts}
-use Rattle.session_calls.specs.Sessions.{work_in}
-use Rattle.session_calls.specs.declared.op.Op.{Op}
 use Rattle.session_calls.proofs.Bounds.{calls_bounded}
-use Rattle.schedule.specs.MomentInvariants.{SlotMatches}
+use Rattle.schedule.proofs.Imports.{unwrap_or, Ghosts, work_in, Op, SlotMatches}
 use Rattle.schedule.specs.Bounds.{WorkIsBounded}
 use Rattle.schedule.proofs.Fitting.{running_of}
 

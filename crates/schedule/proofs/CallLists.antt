@@ -1,17 +1,8 @@
 -- The list of calls: one running call a session, and calls that were refused as they began.
 use Rattle.std.proofs.Common.{◌≡◌, ◌≢◌, ℕ, ◌<◌, Bool, Option, Some, None, List, [], ◌∷◌, length, refl, sym, subst, ap, arith, inl, inr, ◌∙◌}
-use Rattle.index_model.specs.Actions.{Action}
-use Rattle.index_model.specs.Calls.{Ask, AskInsert, AskScan, AskBulkDelete, AskCleanup, Running, Failed, Call, Meets, IsOwned}
-use Rattle.index_model.specs.Row.{Row}
-use Rattle.index_model.specs.declared.entry.Entry.{Entry}
-use Rattle.index_model.specs.declared.fault.Fault.{Fault}
-use Rattle.index_model.specs.declared.fault.Fault.TheVariants.{Exists, KeyExists}
-use Rattle.page_action.specs.declared.page_store.PageStore.{Ghosts}
-use Rattle.session_calls.specs.declared.op.Op.{Op}
 use Rattle.schedule.specs.CallLists.{with_one_call, refused_call, OneCallRuns, RefusedCallsFit}
-use Rattle.schedule.specs.MomentInvariants.{SlotMatches}
-use Rattle.schedule.specs.TheoremMoments.{Moment, IsRunningCall}
-use Rattle.schedule.specs.TheoremRuns.{Fits}
+use Rattle.schedule.proofs.Imports.{Action, Ask, AskInsert, AskScan, AskBulkDelete, AskCleanup, Running, Failed, Call, Meets, IsOwned, Row, Entry, Fault, Exists, KeyExists, Ghosts, Op}
+use Rattle.schedule.proofs.Imports.{SlotMatches, Moment, IsRunningCall, Fits}
 use Rattle.schedule.proofs.Fitting.{matches_of, running_of, beyond_of, fits_from}
 use Rattle.schedule.proofs.Lists.{get_append_some, get_append_cases}
 

@@ -1,54 +1,26 @@
 -- Why an event is refused, in the theorem's words: each cause that an operation tells is one of these.
 use Rattle.std.proofs.Common.{◌≡◌, ◌≢◌, ℕ, zero, suc, ◌+◌, ◌<◌, ◌≤◌, ◌&&◌, ◌||◌, ◌==◌, not, Bool, true, false, Option, Some, None, List, [], ◌∷◌, ◌++◌, length, slice_get, slice_index, refl, sym, ap, subst, arith, inl, inr, ◌∙◌}
 use Rattle.std.specs.Prelude.{nat_lt, nat_le, map, if◌then◌else◌}
-use Rattle.std.specs.List.{list_any}
-use Rattle.std.proofs.lemmas.Bool.{true≢false, false≢true, and_parts, or_cases, or_parts, eqb-true, eq-eqb, ltb-true, leb-true, leb-false, cases_eq}
-use Rattle.index_model.specs.Calls.{Ask, AskInsert, AskScan, AskBulkDelete, AskCleanup}
-use Rattle.index_model.specs.Faults.{Circumstances, HasCause}
-use Rattle.index_model.specs.Row.{Row}
-use Rattle.index_model.specs.declared.fault.Fault.{Fault}
-use Rattle.index_model.specs.declared.fault.Fault.TheVariants.{NoMemory, Io, Stopped, Blocked, Exists, KeyTooLong, BadRow, IndexFull, LogFull, NoFrame, VacuumRunning, NoSession, SessionBusy, BadSuper, BadVersion, LogDamaged, PageDamaged, BadLimits, TooTall, DeviceTooSmall, KeyExists}
-use Rattle.latch_table.specs.Holdings.{Holding, Table, excludes, latches_exclude, has_pin, pins_exclude, holding_excludes, others_exclude, is_held_by_another, pinned_blocks}
 use Rattle.latch_table.specs.declared.mode.Latch.{Latch}
 use Rattle.latch_table.specs.declared.mode.Mode.{Mode}
 use Rattle.latch_table.specs.declared.mode.Mode.TheVariants.{Shared, Exclusive, Cleanup as CleanupMode}
-use Rattle.page_action.specs.Causes.{nothing_wrong, count_apart, has_failed, is_at_end}
-use Rattle.page_action.specs.Reuse.{is_deleted, is_deleted_state, is_deleted_page, began_after, others_began_after, is_reusable}
-use Rattle.page_action.specs.States.{State}
-use Rattle.page_action.specs.declared.page_store.PageStore.{Ghosts}
 use Rattle.page_codec.specs.Edits.{entries_of}
 use Rattle.page_codec.specs.declared.page.Items.{Items}
 use Rattle.page_codec.specs.declared.page.Items.TheVariants.{Meta, Entries, Downlinks}
-use Rattle.page_codec.specs.declared.page.Page.{Page}
-use Rattle.page_codec.specs.declared.page.PageState.{PageState}
-use Rattle.page_codec.specs.declared.page.PageState.TheVariants.{Live, HalfDead, Deleted}
-use Rattle.tree_shape.specs.Chains.{IsIn}
-use Rattle.tree_shape.specs.Nodes.{node_from, nodes_of, links_of}
-use Rattle.tree_acts.specs.StepEffects.{any_is_reusable, is_out_of_blocks, fresh_block, count_new, lacks_room, frames_for, sibling}
-use Rattle.tree_acts.specs.Levels.{level_with, level_of, root_level}
 use Rattle.split_finish.specs.Finishes.{blocks_linked, finish_blocks, frames_of, is_to_link, is_to_grow}
-use Rattle.split_finish.specs.declared.finish.FinishAt.{FinishAt}
-use Rattle.split_finish.specs.declared.finish.FinishAt.TheVariants.{Start as FinishStart, Down, Link, Root}
-use Rattle.split_finish.specs.declared.finish.Target.{Target}
-use Rattle.insert_split.specs.Inserts.{blocks_halved, blocks_beside, images_at, frames_at, takes_block_at, splits_root_at}
-use Rattle.insert_split.specs.declared.insert.InsertAt.{InsertAt}
-use Rattle.insert_split.specs.declared.insert.InsertAt.TheVariants.{Coming, Finishing}
-use Rattle.insert_split.specs.declared.insert.Stage.TheVariants.{Start, At, Holding as Holds}
 use Rattle.vacuum.specs.Ops.{next_block}
-use Rattle.vacuum.specs.BulkDeletes.{is_full_count, is_counted_out, has_dead, block_if}
 use Rattle.page_delete.specs.Needs.{blocks_unlinked, blocks_unlinked_of, blocks_written}
-use Rattle.page_delete.specs.declared.steps.CleanupAt.{CleanupAt}
-use Rattle.page_delete.specs.declared.steps.CleanupAt.TheVariants.{Look, Start as CleanupStart, Down as CleanupDown, Judge, Unlink}
 use Rattle.page_delete.specs.Ops.{is_last_number, cleanup_counted_out as is_cleanup_full}
-use Rattle.session_calls.specs.TheoremCalls.{DeadSets}
-use Rattle.session_calls.specs.Ops.{set_at, asked_of, session_of, causes_of_stepped}
-use Rattle.session_calls.specs.declared.op.Op.{Op}
-use Rattle.session_calls.specs.declared.op.Op.TheVariants.{Insert, Scan, Bulk, Cleanup}
-use Rattle.session_calls.proofs.Meeting.{other_row_is}
-use Rattle.schedule.specs.TheoremMoments.{Moment}
-use Rattle.schedule.specs.TheoremKinds.{Steps}
 use Rattle.schedule.proofs.Lists.{get_within}
-use Rattle.schedule.specs.TheoremRefusals.{BlocksCall, IsHeldByAnother, HasNoBlock, MoveFails}
+use Rattle.schedule.proofs.Imports.{list_any, true≢false, false≢true, and_parts, or_cases, or_parts, eqb-true, eq-eqb, ltb-true, leb-true, leb-false, cases_eq, Ask, AskInsert, AskScan}
+use Rattle.schedule.proofs.Imports.{AskBulkDelete, AskCleanup, Circumstances, HasCause, Row, Fault, NoMemory, Io, Stopped, Blocked, Exists, KeyTooLong, BadRow, IndexFull, LogFull, NoFrame}
+use Rattle.schedule.proofs.Imports.{VacuumRunning, NoSession, SessionBusy, BadSuper, BadVersion, LogDamaged, PageDamaged, BadLimits, TooTall, DeviceTooSmall, KeyExists, Holding, Table, excludes}
+use Rattle.schedule.proofs.Imports.{latches_exclude, has_pin, pins_exclude, holding_excludes, others_exclude, is_held_by_another, pinned_blocks, nothing_wrong, count_apart, has_failed, is_at_end}
+use Rattle.schedule.proofs.Imports.{is_deleted, is_deleted_state, is_deleted_page, began_after, others_began_after, is_reusable, State, Ghosts, Page, PageState, Live, HalfDead, Deleted, IsIn}
+use Rattle.schedule.proofs.Imports.{node_from, nodes_of, links_of, any_is_reusable, is_out_of_blocks, fresh_block, count_new, lacks_room, frames_for, sibling, level_with, level_of, root_level}
+use Rattle.schedule.proofs.Imports.{FinishAt, FinishStart, Down, Link, Root, Target, blocks_halved, blocks_beside, images_at, frames_at, takes_block_at, splits_root_at, InsertAt, Coming}
+use Rattle.schedule.proofs.Imports.{Finishing, Start, At, Holds, is_full_count, is_counted_out, has_dead, block_if, CleanupAt, Look, CleanupStart, CleanupDown, Judge, Unlink, DeadSets, set_at}
+use Rattle.schedule.proofs.Imports.{asked_of, session_of, causes_of_stepped, Op, Insert, Scan, Bulk, Cleanup, other_row_is, Moment, Steps, BlocksCall, IsHeldByAnother, HasNoBlock, MoveFails}
 
 -- circumstances of which five may be so, as there are where no step is made
 abbrev pub few_circumstances : Bool → Bool → Bool → Bool → Bool → Circumstances

@@ -1,46 +1,15 @@
 -- Each event of a world that is fitted, by its kind.
 use Rattle.std.proofs.Common.{◌≡◌, ◌≢◌, ℕ, zero, suc, ◌<◌, ◌≤◌, ◌⊎◌, ◌||◌, Bool, true, false, Option, Some, None, Err, List, [], ◌∷◌, ◌++◌, length, slice_get, slice_set, refl, sym, ap, subst, arith, inl, inr, ◌∙◌}
-use Rattle.std.specs.Prelude.{unwrap_or}
-use Rattle.std.proofs.lemmas.List.{append-nil, append_cancel_left}
-use Rattle.std.proofs.lemmas.Bool.{cases_eq, ltb-true}
-use Rattle.index_model.specs.Actions.{Effect, Action}
-use Rattle.index_model.specs.Calls.{Call, Meets, IsOwned}
-use Rattle.index_model.specs.Faults.{Circumstances, HasCause}
-use Rattle.index_model.specs.declared.entry.Entry.{Entry}
-use Rattle.index_model.specs.declared.format.Format.{Format}
-use Rattle.index_model.specs.declared.fault.Fault.{Fault}
-use Rattle.index_model.specs.declared.fault.Fault.TheVariants.{Stopped, NoSession, SessionBusy}
-use Rattle.page_action.specs.Causes.{causes_of_forced}
-use Rattle.page_action.specs.States.{State, IsLater}
-use Rattle.page_action.specs.declared.page_store.PageStore.{Ghosts}
-use Rattle.tree_acts.specs.StepEffects.{OthersRely}
-use Rattle.page_delete.specs.Parts.{PinnedLeafPagesStay}
-use Rattle.session_calls.specs.Due.{IsDueIn, HasSteps}
-use Rattle.session_calls.specs.TheoremCalls.{DeadSets, asked_by, acts_of, begun_call}
-use Rattle.session_calls.specs.Ops.{op_before, asks_vacuum, asks_bulk_delete, is_vacuum, is_bulk_delete, runs_bulk_delete, no_call_begins, IsOfSets, IsCaused}
-use Rattle.session_calls.specs.Sessions.{Matches, OpRuns, CallFits, SlotFits, IsIdle, after_request, SessionEvent, SessionBegins, OnlyOwnAreIncomplete}
-use Rattle.session_calls.specs.BulkDeletions.{OpDeletions}
-use Rattle.session_calls.specs.declared.answer.Answer.{Answer}
-use Rattle.session_calls.specs.declared.answer.Answer.TheVariants.{Begun, Forced, Flushed, Checkpointed, Refused}
-use Rattle.session_calls.specs.declared.op.Op.{Op}
-use Rattle.session_calls.specs.declared.op.Op.TheVariants.{Insert, Scan, Bulk, Cleanup}
-use Rattle.session_calls.specs.declared.request.Request.{Request}
-use Rattle.session_calls.specs.declared.request.Request.TheVariants.{Insert as ToInsert, Scan as ToScan, Bulk as ToBulk, Cleanup as ToCleanup}
-use Rattle.tree_acts.specs.Leaves.{LeafPagesStay}
 use Rattle.session_calls.proofs.Counting.{due_still}
-use Rattle.session_calls.proofs.Meeting.{grown}
-use Rattle.session_calls.proofs.Vacuuming.{deletions_undisturbed}
-use Rattle.session_calls.proofs.Meanings.{told_same}
-use Rattle.session_calls.proofs.Undisturbed.{undisturbed, idle_undisturbed}
-use Rattle.schedule.specs.TheoremMoments.{Moment, IsRunningCall}
-use Rattle.schedule.specs.Making.{EventDoes}
-use Rattle.schedule.specs.TheoremRuns.{Fits}
-use Rattle.session_calls.specs.Slots.{slot_of, slot_vacuums, one_vacuums, slot_has_call, is_of_sets, session_to_begin}
-use Rattle.schedule.specs.MomentInvariants.{here_at, SlotRuns, IsFreeSession, SlotMatches, slot_is_bulk_delete, OneVacuums}
-use Rattle.schedule.specs.TheoremKinds.{Move, Steps, Takes, GivesUp, Upkeep, Forces, Flushes, Checkpoints, Kind, BeginsCall, MovesCall, MaintainsStore}
-use Rattle.schedule.specs.TheoremEvents.{IsDurable}
-use Rattle.schedule.specs.Events.{UpkeepAnswerMeans, UpkeepIsDurable, IsOfSession, Stays, kept_answer, MovesOn, MayBegin, causes_of_begun_at, causes_of_moving, Happens, causes_of_happening, OthersStay, session_at, EventAlways, CallIsFollowed, SameButForActs}
-use Rattle.schedule.specs.Making.{EventRuns}
+use Rattle.schedule.proofs.Imports.{unwrap_or, append-nil, append_cancel_left, cases_eq, ltb-true, Effect, Action, Call, Meets, IsOwned, Circumstances, HasCause, Entry, Format, Fault, Stopped}
+use Rattle.schedule.proofs.Imports.{NoSession, SessionBusy, causes_of_forced, State, IsLater, Ghosts, OthersRely, PinnedLeafPagesStay, IsDueIn, HasSteps, DeadSets, asked_by, acts_of, begun_call}
+use Rattle.schedule.proofs.Imports.{op_before, asks_vacuum, asks_bulk_delete, is_vacuum, is_bulk_delete, runs_bulk_delete, no_call_begins, IsOfSets, IsCaused, Matches, OpRuns, CallFits, SlotFits}
+use Rattle.schedule.proofs.Imports.{IsIdle, after_request, SessionEvent, SessionBegins, OnlyOwnAreIncomplete, OpDeletions, Answer, Begun, Forced, Flushed, Checkpointed, Refused, Op, Insert, Scan}
+use Rattle.schedule.proofs.Imports.{Bulk, Cleanup, Request, ToInsert, ToScan, ToBulk, ToCleanup, LeafPagesStay, grown, deletions_undisturbed, told_same, undisturbed, idle_undisturbed, Moment}
+use Rattle.schedule.proofs.Imports.{IsRunningCall, EventDoes, Fits, slot_of, slot_vacuums, one_vacuums, slot_has_call, is_of_sets, session_to_begin, here_at, SlotRuns, IsFreeSession, SlotMatches}
+use Rattle.schedule.proofs.Imports.{slot_is_bulk_delete, OneVacuums, Move, Steps, Takes, GivesUp, Upkeep, Forces, Flushes, Checkpoints, Kind, BeginsCall, MovesCall, MaintainsStore, IsDurable}
+use Rattle.schedule.proofs.Imports.{UpkeepAnswerMeans, UpkeepIsDurable, IsOfSession, Stays, kept_answer, MovesOn, MayBegin, causes_of_begun_at, causes_of_moving, Happens, causes_of_happening}
+use Rattle.schedule.proofs.Imports.{OthersStay, session_at, EventAlways, CallIsFollowed, SameButForActs, EventRuns}
 use Rattle.schedule.proofs.Frames.{began_within, slot_is, goes_fits}
 use Rattle.schedule.proofs.Keeping.{no_growth}
 use Rattle.schedule.proofs.Leaves.{leaf_same, leaves_same, lows_relied, lows_still}

@@ -1,19 +1,7 @@
 -- The parts of a moment that fits, session by session, and a moment that fits from such parts.
 use Rattle.std.proofs.Common.{◌≡◌, ℕ, zero, suc, ◌<◌, ◌≤◌, Bool, true, Option, Some, None, List, [], ◌∷◌, length, slice_get, refl, sym, subst, arith}
-use Rattle.index_model.specs.Actions.{KeysDiffer, is_there_after}
-use Rattle.index_model.specs.Calls.{Call, Meets, ActionsAreOwned}
-use Rattle.index_model.specs.declared.entry.Entry.{Entry}
-use Rattle.page_action.specs.declared.page_store.PageStore.{Ghosts}
-use Rattle.session_calls.specs.Sessions.{Matches, OpRuns, IsIdle}
-use Rattle.session_calls.specs.BulkDeletions.{OpDeletions}
-use Rattle.session_calls.specs.declared.answer.Answer.{Answer}
-use Rattle.session_calls.specs.declared.op.Op.{Op}
-use Rattle.schedule.specs.TheoremMoments.{Moment, RunsOne, IsRunningCall, HasOneCall}
-use Rattle.schedule.specs.MomentInvariants.{SlotRuns, SlotMatches, OneVacuums}
-use Rattle.schedule.specs.TheoremKinds.{Kind, kind_of}
-use Rattle.schedule.specs.TheoremRuns.{Fits, EventIsRun}
-use Rattle.schedule.specs.Making.{EventDoes}
-use Rattle.schedule.specs.declared.event.Event.{Event}
+use Rattle.schedule.proofs.Imports.{KeysDiffer, is_there_after, Call, Meets, ActionsAreOwned, Entry, Ghosts, Matches, OpRuns, IsIdle, OpDeletions, Answer, Op, Moment, RunsOne, IsRunningCall}
+use Rattle.schedule.proofs.Imports.{HasOneCall, SlotRuns, SlotMatches, OneVacuums, Kind, kind_of, Fits, EventIsRun, EventDoes, Event}
 use Rattle.schedule.proofs.Keys.{keyed_now}
 use Rattle.schedule.proofs.Lists.{get_within, same_some}
 

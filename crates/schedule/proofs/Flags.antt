@@ -1,27 +1,9 @@
 -- Over a run the splits are finished that a session's calls begin.
-use Rattle.std.specs.Prelude.{unwrap_or}
 use Rattle.std.proofs.Common.{◌≡◌, ◌≢◌, ℕ, suc, ◌&&◌, if◌then◌else◌, Bool, false, Option, Some, None, List, [], ◌∷◌, ◌++◌, slice_get, refl, sym, ap, subst, arith, inl, inr, ◌∙◌}
-use Rattle.std.proofs.lemmas.Bool.{cases_eq}
-use Rattle.index_model.specs.declared.entry.Entry.{Entry}
-use Rattle.page_action.specs.States.{State}
-use Rattle.page_action.specs.declared.page_store.PageStore.{Ghosts}
-use Rattle.page_codec.specs.declared.page.Page.{Page}
-use Rattle.split_finish.specs.Targets.{OnlyTargetsAreIncomplete}
-use Rattle.scan.specs.declared.steps.ScanOp.{ScanOp}
-use Rattle.session_calls.specs.Ops.{op_before, op_targets, call_kind, ScanKind, RunsOn}
-use Rattle.session_calls.specs.Sessions.{OnlyOwnAreIncomplete, LeavesOwnIncomplete, RefusalChangesNothing, RunsUntilLast, AnswersNext, GivesLess, is_busy}
-use Rattle.session_calls.specs.Slots.{slot_of}
-use Rattle.session_calls.specs.declared.answer.Answer.{Answer}
-use Rattle.session_calls.specs.declared.answer.Answer.TheVariants.{Begun, Going, Added, Ready, Done, Finished, Gave, Ended, Forced, Flushed, Checkpointed, Refused}
-use Rattle.session_calls.specs.declared.op.Op.{Op}
-use Rattle.session_calls.specs.declared.op.Op.TheVariants.{Insert, Scan, Bulk, Cleanup}
-use Rattle.session_calls.specs.declared.request.Request.{Request}
-use Rattle.session_calls.specs.declared.request.Request.TheVariants.{Insert as ToInsert, Scan as ToScan, Bulk as ToBulk, Cleanup as ToCleanup}
-use Rattle.schedule.specs.Making.{EventDoes}
-use Rattle.schedule.specs.Events.{IsOfSession, Stays, MayBegin}
-use Rattle.schedule.specs.Spans.{IsUnfailed, LeavesNoneIncomplete, SplitsAreFinished}
-use Rattle.schedule.specs.TheoremKinds.{Steps, Takes, GivesUp, Kind, BeginsCall, MovesCall, MaintainsStore, kind_of}
-use Rattle.schedule.specs.TheoremMoments.{Moment}
+use Rattle.schedule.proofs.Imports.{unwrap_or, cases_eq, Entry, State, Ghosts, Page, OnlyTargetsAreIncomplete, ScanOp, op_before, op_targets, call_kind, ScanKind, RunsOn, OnlyOwnAreIncomplete}
+use Rattle.schedule.proofs.Imports.{LeavesOwnIncomplete, RefusalChangesNothing, RunsUntilLast, AnswersNext, GivesLess, is_busy, slot_of, Answer, Begun, Going, Added, Ready, Done, Finished, Gave}
+use Rattle.schedule.proofs.Imports.{Ended, Forced, Flushed, Checkpointed, Refused, Op, Insert, Scan, Bulk, Cleanup, Request, ToInsert, ToScan, ToBulk, ToCleanup, EventDoes, IsOfSession, Stays}
+use Rattle.schedule.proofs.Imports.{MayBegin, IsUnfailed, LeavesNoneIncomplete, SplitsAreFinished, Steps, Takes, GivesUp, Kind, BeginsCall, MovesCall, MaintainsStore, kind_of, Moment}
 use Rattle.schedule.proofs.Fitting.{goes_does}
 
 -- flags are of the pages and of what the session runs

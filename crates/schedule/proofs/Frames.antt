@@ -1,29 +1,10 @@
 -- What an event of one session leaves the others: the frame of a running call's event, of a beginning and of a refusal.
-use Rattle.std.specs.Prelude.{unwrap_or}
 use Rattle.std.proofs.Common.{◌≡◌, ◌≢◌, ℕ, suc, ◌-◌, ◌<◌, ◌≤◌, Bool, true, false, refl, Option, Some, None, List, ◌++◌, length, slice_get, slice_set, sym, ap, subst, arith, inl, inr, ◌∙◌, length-append}
-use Rattle.std.proofs.lemmas.Bool.{cases_eq, cases_lt}
-use Rattle.index_model.specs.Actions.{Effect, Add, Remove, Shape, Action, contents_after, is_there_after}
 use Rattle.index_model.specs.Calls.{Ask, AskInsert, AskScan, AskBulkDelete, AskCleanup, Ending, Running, Added, Finished, Vacuumed, GivenUp, Failed, Call, Meets, MayAct, IsOwned, end_of}
-use Rattle.index_model.specs.declared.entry.Entry.{Entry}
-use Rattle.index_model.specs.declared.format.Format.{Format}
-use Rattle.index_model.proofs.Histories.{there_before, meets_later}
-use Rattle.page_action.specs.declared.page_store.PageStore.{Ghosts}
-use Rattle.tree_acts.specs.StepEffects.{OthersRely}
-use Rattle.page_delete.specs.Parts.{PinnedLeafPagesStay}
-use Rattle.tree_acts.specs.Leaves.{LeafPagesStay}
-use Rattle.session_calls.specs.Ops.{asked_of, is_vacuum}
-use Rattle.session_calls.specs.TheoremCalls.{acts_of}
-use Rattle.session_calls.specs.Sessions.{Matches, IsIdle, SlotIs, IsAsked, cycle_after, asks_cleanup}
-use Rattle.session_calls.specs.BulkDeletions.{OpDeletions, SlotDeletions}
-use Rattle.session_calls.specs.declared.op.Op.{Op}
-use Rattle.session_calls.specs.declared.op.Op.TheVariants.{Insert, Scan, Bulk, Cleanup}
-use Rattle.session_calls.proofs.Vacuuming.{deletions_undisturbed}
-use Rattle.session_calls.proofs.Meanings.{IsSameCall}
-use Rattle.session_calls.proofs.Undisturbed.{undisturbed, idle_undisturbed}
-use Rattle.schedule.specs.TheoremMoments.{Moment, IsRunningCall}
-use Rattle.schedule.specs.TheoremRuns.{Fits}
-use Rattle.session_calls.specs.Slots.{slot_of, slot_vacuums}
-use Rattle.schedule.specs.MomentInvariants.{SlotRuns, SlotMatches}
+use Rattle.schedule.proofs.Imports.{unwrap_or, cases_eq, cases_lt, Effect, Add, Remove, Shape, Action, contents_after, is_there_after, Entry, Format, there_before, meets_later, Ghosts, OthersRely}
+use Rattle.schedule.proofs.Imports.{PinnedLeafPagesStay, LeafPagesStay, asked_of, is_vacuum, acts_of, Matches, IsIdle, SlotIs, IsAsked, cycle_after, asks_cleanup, OpDeletions, SlotDeletions, Op}
+use Rattle.schedule.proofs.Imports.{Insert, Scan, Bulk, Cleanup, deletions_undisturbed, IsSameCall, undisturbed, idle_undisturbed, Moment, IsRunningCall, Fits, slot_of, slot_vacuums, SlotRuns}
+use Rattle.schedule.proofs.Imports.{SlotMatches}
 use Rattle.schedule.proofs.Leaves.{leaves_last}
 use Rattle.schedule.proofs.Lists.{get_set_same, get_set_other, length_set, get_within, get_append, get_append_right, same_some}
 use Rattle.schedule.proofs.Keys.{keys_go_on}

@@ -1,24 +1,8 @@
 -- What an event of a session that has no call makes: it is refused.
 use Rattle.std.proofs.Common.{◌≡◌, ℕ, Bool, true, false, Option, Some, None, List, slice_get, refl, sym, ap, subst, inl, ◌∙◌}
-use Rattle.std.specs.Prelude.{unwrap_or}
-use Rattle.index_model.specs.Faults.{HasCause}
-use Rattle.index_model.specs.declared.fault.Fault.{Fault}
-use Rattle.index_model.specs.declared.fault.Fault.TheVariants.{Stopped, NoSession}
-use Rattle.page_action.specs.States.{State}
-use Rattle.page_action.specs.declared.page_store.PageStore.{Ghosts}
-use Rattle.session_calls.specs.Following.{StepAnswerMeans}
-use Rattle.session_calls.specs.TheoremCalls.{DeadSets}
-use Rattle.session_calls.specs.Ops.{causes_of_slot_stepped_any, RunsOn, StoppedAnswersFirst}
-use Rattle.session_calls.specs.Sessions.{no_call, slot_add, after_slot, GivesLess, AnswersStep, AnswersNext, AnswersEnd, RefusalChangesNothing, RunsUntilLast, OnlyWritersAct}
-use Rattle.session_calls.specs.declared.answer.Answer.{Answer}
-use Rattle.session_calls.specs.declared.answer.Answer.TheVariants.{Refused}
-use Rattle.session_calls.specs.declared.op.Op.{Op}
-use Rattle.schedule.specs.TheoremMoments.{snapshot_of}
-use Rattle.session_calls.specs.Slots.{slot_of, slot_has_call, has_call}
-use Rattle.schedule.specs.MomentInvariants.{here_with}
-use Rattle.schedule.specs.TheoremKinds.{Move, Steps, Takes, GivesUp, MovesCall}
-use Rattle.schedule.specs.Events.{MovesOn, causes_of_moving, EventAlways, DoesOneAct}
-use Rattle.schedule.specs.Making.{EventEffect}
+use Rattle.schedule.proofs.Imports.{unwrap_or, HasCause, Fault, Stopped, NoSession, State, Ghosts, StepAnswerMeans, DeadSets, causes_of_slot_stepped_any, RunsOn, StoppedAnswersFirst, no_call}
+use Rattle.schedule.proofs.Imports.{slot_add, after_slot, GivesLess, AnswersStep, AnswersNext, AnswersEnd, RefusalChangesNothing, RunsUntilLast, OnlyWritersAct, Answer, Refused, Op, snapshot_of}
+use Rattle.schedule.proofs.Imports.{slot_of, slot_has_call, has_call, here_with, Move, Steps, Takes, GivesUp, MovesCall, MovesOn, causes_of_moving, EventAlways, DoesOneAct, EventEffect}
 use Rattle.schedule.proofs.Events.{stays_on, refused_stay}
 use Rattle.schedule.proofs.Keeping.{Laws}
 

@@ -1,13 +1,6 @@
 -- A run followed by a run is a run.
 use Rattle.std.proofs.Common.{ℕ, ◌≤◌, Bool, List, [], ◌∷◌, ◌++◌, sym, subst, append_assoc}
-use Rattle.std.proofs.lemmas.List.{append-nil}
-use Rattle.index_model.specs.declared.entry.Entry.{Entry}
-use Rattle.page_action.specs.declared.page_store.PageStore.{Ghosts}
-use Rattle.session_calls.specs.declared.answer.Answer.{Answer}
-use Rattle.schedule.specs.TheoremMoments.{Moment}
-use Rattle.schedule.specs.Events.{AreOf}
-use Rattle.schedule.specs.TheoremRuns.{AreDurable, IsRun, Ran}
-use Rattle.schedule.specs.declared.event.Event.{Event}
+use Rattle.schedule.proofs.Imports.{append-nil, Entry, Ghosts, Answer, Moment, AreOf, AreDurable, IsRun, Ran, Event}
 use Rattle.schedule.proofs.Keeping.{Laws, safe}
 use Rattle.schedule.proofs.Running.{durable_more}
 use Rattle.schedule.proofs.Fitting.{matches_of}

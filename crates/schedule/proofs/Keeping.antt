@@ -1,18 +1,8 @@
 -- A store that keeps its history keeps it still after an event, and a crash leaves a prefix of it.
 use Rattle.std.proofs.Common.{◌≡◌, ℕ, ◌≤◌, ◌+◌, Bool, List, [], length, take, sym, ap, subst, arith, inl, inr, ◌∙◌, length-append}
-use Rattle.std.proofs.lemmas.Bool.{cases_lt}
-use Rattle.std.proofs.lemmas.List.{append-nil, take_all, take-append-le}
-use Rattle.index_model.specs.Actions.{Action}
-use Rattle.index_model.specs.declared.entry.Entry.{Entry}
-use Rattle.index_model.specs.declared.format.Format.{Format}
-use Rattle.page_codec.specs.declared.page.Page.{Page}
 use Rattle.page_action.specs.Laws.{IsPageStore}
-use Rattle.page_action.specs.declared.page_store.PageStore.{Ghosts}
-use Rattle.session_calls.specs.Sessions.{Matches}
-use Rattle.schedule.specs.TheoremMoments.{Moment}
 use Rattle.schedule.proofs.Keys.{keyed_now}
-use Rattle.schedule.specs.TheoremCrashes.{ArePagesAfter, KeepsHistory, IsCrashSafe}
-use Rattle.schedule.specs.Events.{GrowsByOne}
+use Rattle.schedule.proofs.Imports.{cases_lt, append-nil, take_all, take-append-le, Action, Entry, Format, Page, Ghosts, Matches, Moment, ArePagesAfter, KeepsHistory, IsCrashSafe, GrowsByOne}
 
 -- the laws of a store
 abbrev pub Laws : {S : Type 0} → Ghosts S → Type 0

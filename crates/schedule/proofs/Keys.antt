@@ -1,15 +1,8 @@
 -- On a unique index no two entries share a key, at any moment that a history tells of.
-use Rattle.std.proofs.Common.{◌≡◌, ℕ, suc, ◌<◌, ◌≤◌, ◌+◌, Bool, true, List, ◌++◌, length, take, sym, ap, subst, inl, inr, ◌∙◌, arith, length-append}
-use Rattle.std.proofs.lemmas.Bool.{cases_lt}
-use Rattle.std.proofs.lemmas.List.{take_all, take-append-le}
-use Rattle.index_model.specs.Actions.{Action, KeysDiffer, contents_after, is_there_after}
-use Rattle.index_model.specs.declared.entry.Entry.{Entry}
-use Rattle.page_codec.specs.declared.page.Page.{Page}
-use Rattle.page_action.specs.Contents.{entry_on_live_leaf}
-use Rattle.page_action.specs.States.{State}
+use Rattle.std.proofs.Common.{◌≡◌, ℕ, ◌≤◌, ◌+◌, Bool, true, List, ◌++◌, length, sym, subst, inl, inr, ◌∙◌, arith, length-append}
 use Rattle.tree_acts.specs.TheoremKeys.{AreKeyed}
 use Rattle.tree_acts.proofs.Keyed.{keyed_of}
-use Rattle.session_calls.specs.Sessions.{Matches}
+use Rattle.schedule.proofs.Imports.{cases_lt, take_all, take-append-le, Action, KeysDiffer, contents_after, is_there_after, Entry, Page, entry_on_live_leaf, State, Matches}
 
 -- the pages of a unique index are keyed
 pub keyed_now : (st : State) (start : Entry → Bool) (history : List Action) → Matches st start history → st.limits.unique ≡ true → AreKeyed st.pages

@@ -1,12 +1,7 @@
 -- Live leaves stay after an event that changes no page, pinned ones after any, and lows don't rise.
 use Rattle.std.proofs.Common.{◌≡◌, ◌≢◌, ℕ, suc, List, sym, subst, arith}
-use Rattle.page_codec.specs.declared.page.Page.{Page}
-use Rattle.page_action.specs.States.{State}
-use Rattle.tree_acts.specs.Leaves.{IsLeafAt, WasLeaf}
-use Rattle.tree_acts.specs.Lows.{NoLowRises}
 use Rattle.tree_acts.proofs.Lows.{lows_same}
-use Rattle.tree_acts.specs.StepEffects.{OthersRely}
-use Rattle.page_delete.specs.Parts.{PinnedLeafPagesStay}
+use Rattle.schedule.proofs.Imports.{Page, State, IsLeafAt, WasLeaf, NoLowRises, OthersRely, PinnedLeafPagesStay}
 use Rattle.scan.specs.Laws.{PinnedLeavesLast}
 
 -- where the pages are as they were

@@ -1,32 +1,14 @@
 -- What each kind of event makes, by what the call after it promises.
 use Rattle.std.proofs.Common.{◌≡◌, ℕ, ◌&&◌, not, Bool, true, false, Option, Some, None, Ok, Err, List, length, slice_get, slice_set, refl, sym, ap, subst, inl, inr, ◌∙◌}
-use Rattle.std.specs.Prelude.{unwrap_or}
-use Rattle.index_model.specs.Actions.{Action}
-use Rattle.index_model.specs.Calls.{Ask, Call}
-use Rattle.index_model.specs.Faults.{Circumstances, HasCause}
-use Rattle.index_model.specs.declared.entry.Entry.{Entry}
-use Rattle.index_model.specs.declared.fault.Fault.{Fault}
-use Rattle.index_model.specs.declared.fault.Fault.TheVariants.{Stopped}
-use Rattle.page_action.specs.Causes.{nothing_wrong, is_at_end, causes_of_forced}
-use Rattle.page_action.specs.States.{State}
-use Rattle.page_action.specs.declared.page_store.PageStore.{Ghosts}
-use Rattle.session_calls.specs.Due.{IsDueIn, HasSteps}
-use Rattle.session_calls.specs.Following.{StepAnswerMeans, StepAlways, IsFitted, StepFollows}
-use Rattle.session_calls.specs.TheoremCalls.{DeadSets}
-use Rattle.session_calls.specs.Ops.{op_before, asks_vacuum, asks_bulk_delete, is_bulk_delete, session_of, asked_of, causes_of_slot_stepped, causes_of_asked_next, no_call_begins, causes_of_requesting, causes_of_beginning, RunsOn, StoppedAnswersFirst}
-use Rattle.session_calls.specs.Sessions.{Matches, IsIdle, SlotFits, SessionEvent, SessionBegins, IsBegun, BeginsBy, op_after_call, after_slot, let_go, is_busy, slot_add, StepHasLessLeft, GivesLess, AnswersStep, AnswersNext, AnswersEnd, RefusalChangesNothing, RunsUntilLast, leaf_of, OnlyWritersAct}
-use Rattle.session_calls.specs.declared.answer.Answer.{Answer}
-use Rattle.session_calls.specs.declared.answer.Answer.TheVariants.{Begun, Going, Added, Ready, Done, Finished, Gave, Ended, Forced, Flushed, Checkpointed, Refused}
-use Rattle.session_calls.specs.declared.op.Op.{Op}
-use Rattle.session_calls.specs.declared.request.Request.{Request}
 use Rattle.session_calls.proofs.RunningOn.{runs_over, ends_with_last}
-use Rattle.schedule.specs.TheoremMoments.{snapshot_of}
-use Rattle.schedule.specs.TheoremRuns.{Fits}
-use Rattle.session_calls.specs.Slots.{slot_of, one_vacuums, is_of_sets, session_to_begin}
-use Rattle.schedule.specs.MomentInvariants.{here_with}
-use Rattle.schedule.specs.TheoremKinds.{Steps, Takes, GivesUp, Upkeep, Forces, Flushes, Checkpoints, BeginsCall, MovesCall, MaintainsStore}
-use Rattle.schedule.specs.Events.{kept_answer, causes_of_begun_at, DoesOneAct, EventAlways, CallIsFollowed, AnswersUpkeep, IsFlushed, UpkeepChanges}
-use Rattle.schedule.specs.Making.{EventRuns, EventEffect}
+use Rattle.schedule.proofs.Imports.{unwrap_or, Action, Ask, Call, Circumstances, HasCause, Entry, Fault, Stopped, nothing_wrong, is_at_end, causes_of_forced, State, Ghosts, IsDueIn, HasSteps}
+use Rattle.schedule.proofs.Imports.{StepAnswerMeans, StepAlways, IsFitted, StepFollows, DeadSets, op_before, asks_vacuum, asks_bulk_delete, is_bulk_delete, session_of, asked_of}
+use Rattle.schedule.proofs.Imports.{causes_of_slot_stepped, causes_of_asked_next, no_call_begins, causes_of_requesting, causes_of_beginning, RunsOn, StoppedAnswersFirst, Matches, IsIdle, SlotFits}
+use Rattle.schedule.proofs.Imports.{SessionEvent, SessionBegins, IsBegun, BeginsBy, op_after_call, after_slot, let_go, is_busy, slot_add, StepHasLessLeft, GivesLess, AnswersStep, AnswersNext}
+use Rattle.schedule.proofs.Imports.{AnswersEnd, RefusalChangesNothing, RunsUntilLast, leaf_of, OnlyWritersAct, Answer, Begun, Going, Added, Ready, Done, Finished, Gave, Ended, Forced, Flushed}
+use Rattle.schedule.proofs.Imports.{Checkpointed, Refused, Op, Request, snapshot_of, Fits, slot_of, one_vacuums, is_of_sets, session_to_begin, here_with, Steps, Takes, GivesUp, Upkeep, Forces}
+use Rattle.schedule.proofs.Imports.{Flushes, Checkpoints, BeginsCall, MovesCall, MaintainsStore, kept_answer, causes_of_begun_at, DoesOneAct, EventAlways, CallIsFollowed, AnswersUpkeep, IsFlushed}
+use Rattle.schedule.proofs.Imports.{UpkeepChanges, EventRuns, EventEffect}
 use Rattle.schedule.proofs.Events.{at_slots, others_stay_set, moves_on, stays_on, refused_stay, keeps_on_store, flushes_on_store, begins_on, named_of, request_pages, request_limits, request_frames, request_acts, not_begun, not_found_why, not_found_first, none_begins, set_same}
 use Rattle.schedule.proofs.Keeping.{Laws}
 use Rattle.schedule.proofs.Lists.{length_set, get_within, same_some}

@@ -1,38 +1,17 @@
 -- What an event means follows from what its operation tells of it.
 use Rattle.std.proofs.Common.{◌≡◌, ◌≢◌, ◌⊎◌, ℕ, suc, ◌+◌, ◌≤◌, ◌&&◌, ◌==◌, not, Bool, true, false, Option, Some, None, List, [], ◌∷◌, ◌++◌, length, slice_get, slice_set, refl, sym, ap, subst, arith, inl, inr, ◌∙◌, length-append}
-use Rattle.std.specs.Prelude.{if◌then◌else◌, nat_lt, unwrap_or}
-use Rattle.std.proofs.lemmas.Bool.{true≢false, false≢true, and_parts, or_cases, eqb-true, eq-eqb, ne_eqb, ltb-true, ltb-false}
-use Rattle.index_model.specs.Actions.{Effect, Add, Remove, Shape, Action}
-use Rattle.index_model.specs.Calls.{Ask, AskInsert, AskScan, AskBulkDelete, AskCleanup, Added as EndsAdded, Failed, Call}
-use Rattle.index_model.specs.Faults.{Circumstances, HasCause}
-use Rattle.index_model.specs.Row.{Row}
-use Rattle.index_model.specs.declared.entry.Entry.{Entry}
-use Rattle.index_model.specs.declared.fault.Fault.{Fault}
-use Rattle.index_model.specs.declared.fault.Fault.TheVariants.{NoMemory, Io, Stopped, Blocked, Exists, KeyTooLong, BadRow, IndexFull, LogFull, NoFrame, VacuumRunning, NoSession, SessionBusy, BadSuper, BadVersion, LogDamaged, PageDamaged, BadLimits, TooTall, DeviceTooSmall, KeyExists}
-use Rattle.page_action.specs.Causes.{nothing_wrong, is_at_end, has_failed, causes_of_forced}
-use Rattle.page_action.specs.States.{State}
-use Rattle.page_action.specs.declared.page_store.PageStore.{Ghosts}
-use Rattle.tree_shape.specs.Nodes.{nodes_of}
 use Rattle.tree_acts.specs.Flags.{FlagsMove}
-use Rattle.tree_acts.specs.StepEffects.{FinishesASplit, DeletesALeaf, IsRaised, is_incomplete, level_in}
-use Rattle.session_calls.specs.TheoremCalls.{asked_by, acts_of, becomes, MayComeWith}
-use Rattle.session_calls.specs.Ops.{asked_of, session_of, asks_vacuum, is_vacuum, causes_of_asked_next, no_call_begins, once_added, IsCaused, ends_call}
-use Rattle.session_calls.specs.Sessions.{AnswerMeans, MovesShape, act_count, noted, ended, is_busy}
-use Rattle.session_calls.specs.declared.answer.Answer.{Answer}
-use Rattle.session_calls.specs.declared.answer.Answer.TheVariants.{Begun, Going, Added, Ready, Done, Finished, Gave, Ended, Forced, Flushed, Checkpointed, Refused}
-use Rattle.session_calls.specs.declared.op.Op.{Op}
-use Rattle.session_calls.specs.declared.op.Op.TheVariants.{Insert, Scan, Bulk, Cleanup}
-use Rattle.session_calls.specs.declared.request.Request.{Request}
-use Rattle.session_calls.specs.declared.request.Request.TheVariants.{Insert as ToInsert, Scan as ToScan, Bulk as ToBulk, Cleanup as ToCleanup}
-use Rattle.schedule.specs.TheoremMoments.{Moment, RunsOne, IsRunningCall}
-use Rattle.schedule.specs.TheoremKinds.{Move, Steps, Takes, GivesUp, Upkeep, Forces, Flushes, Checkpoints, Kind, BeginsCall, MovesCall, MaintainsStore}
-use Rattle.schedule.specs.TheoremRefusals.{MoveFails, Vacuums, EventFails}
-use Rattle.schedule.specs.TheoremEvents.{IsSameState, ClearsOneSplit, DeletesOneLeaf, ShapeMoves, IsRefusedFor, CallContinues, AllAreDurable, Means}
-use Rattle.schedule.specs.TheoremRuns.{Fits}
-use Rattle.schedule.specs.Making.{EventDoes}
-use Rattle.session_calls.specs.Slots.{slot_of, slot_vacuums, one_vacuums, slot_has_call, has_call, is_of_sets}
-use Rattle.schedule.specs.MomentInvariants.{SlotRuns, here_at}
-use Rattle.schedule.specs.Events.{CallMoves, Stays, kept_answer, UpkeepIsDurable, UpkeepIsDone, MovesOn, MayBegin, Happens, causes_of_no_call, causes_of_begun_at, causes_of_moving, causes_of_happening, EventAlso}
+use Rattle.schedule.proofs.Imports.{if◌then◌else◌, nat_lt, unwrap_or, true≢false, false≢true, and_parts, or_cases, eqb-true, eq-eqb, ne_eqb, ltb-true, ltb-false, Effect, Add, Remove, Shape}
+use Rattle.schedule.proofs.Imports.{Action, Ask, AskInsert, AskScan, AskBulkDelete, AskCleanup, EndsAdded, Failed, Call, Circumstances, HasCause, Row, Entry, Fault, NoMemory, Io, Stopped, Blocked}
+use Rattle.schedule.proofs.Imports.{Exists, KeyTooLong, BadRow, IndexFull, LogFull, NoFrame, VacuumRunning, NoSession, SessionBusy, BadSuper, BadVersion, LogDamaged, PageDamaged, BadLimits}
+use Rattle.schedule.proofs.Imports.{TooTall, DeviceTooSmall, KeyExists, nothing_wrong, is_at_end, has_failed, causes_of_forced, State, Ghosts, nodes_of, FinishesASplit, DeletesALeaf, IsRaised}
+use Rattle.schedule.proofs.Imports.{is_incomplete, level_in, asked_by, acts_of, becomes, MayComeWith, asked_of, session_of, asks_vacuum, is_vacuum, causes_of_asked_next, no_call_begins}
+use Rattle.schedule.proofs.Imports.{once_added, IsCaused, ends_call, AnswerMeans, MovesShape, act_count, noted, ended, is_busy, Answer, Begun, Going, Added, Ready, Done, Finished, Gave, Ended}
+use Rattle.schedule.proofs.Imports.{Forced, Flushed, Checkpointed, Refused, Op, Insert, Scan, Bulk, Cleanup, Request, ToInsert, ToScan, ToBulk, ToCleanup, Moment, RunsOne, IsRunningCall, Move}
+use Rattle.schedule.proofs.Imports.{Steps, Takes, GivesUp, Upkeep, Forces, Flushes, Checkpoints, Kind, BeginsCall, MovesCall, MaintainsStore, MoveFails, Vacuums, EventFails, IsSameState}
+use Rattle.schedule.proofs.Imports.{ClearsOneSplit, DeletesOneLeaf, ShapeMoves, IsRefusedFor, CallContinues, AllAreDurable, Means, Fits, EventDoes, slot_of, slot_vacuums, one_vacuums}
+use Rattle.schedule.proofs.Imports.{slot_has_call, has_call, is_of_sets, SlotRuns, here_at, CallMoves, Stays, kept_answer, UpkeepIsDurable, UpkeepIsDone, MovesOn, MayBegin, Happens}
+use Rattle.schedule.proofs.Imports.{causes_of_no_call, causes_of_begun_at, causes_of_moving, causes_of_happening, EventAlso}
 use Rattle.schedule.proofs.Causes.{one_of_few, step_fails}
 use Rattle.schedule.proofs.Fitting.{none_beyond, running_of}
 use Rattle.schedule.proofs.Lists.{same_some}

@@ -1,20 +1,9 @@
 -- What an event of a session makes, by what its call promises: of a session that runs nothing, and of one that runs a call.
 use Rattle.std.proofs.Common.{◌≡◌, ℕ, ◌&&◌, Bool, true, false, Option, Result, Ok, Err, List, slice_get, refl, sym, ap, subst, ◌∙◌}
-use Rattle.index_model.specs.declared.fault.Fault.{Fault}
-use Rattle.page_action.specs.declared.page_store.PageStore.{Ghosts}
-use Rattle.session_calls.specs.Ops.{asks_vacuum, no_call_begins}
-use Rattle.session_calls.specs.Sessions.{no_call}
-use Rattle.session_calls.specs.Slots.{has_call, one_vacuums, is_of_sets, session_to_begin, ChangesSlot, SlotBegins, SlotSteps, SlotGives, SlotEnds}
-use Rattle.session_calls.specs.TheoremCalls.{DeadSets}
-use Rattle.session_calls.specs.declared.answer.Answer.{Answer}
-use Rattle.session_calls.specs.declared.answer.Answer.TheVariants.{Refused}
 use Rattle.session_calls.specs.declared.calls.Calls.{Calls}
-use Rattle.session_calls.specs.declared.op.Op.{Op}
-use Rattle.session_calls.specs.declared.request.Request.{Request}
 use Rattle.session_calls.proofs.Slots.{op_at, found}
-use Rattle.schedule.specs.Making.{EventEffect}
-use Rattle.schedule.specs.MomentInvariants.{here_with}
-use Rattle.schedule.specs.TheoremKinds.{Steps, Takes, GivesUp, Kind, BeginsCall, MovesCall}
+use Rattle.schedule.proofs.Imports.{Fault, Ghosts, asks_vacuum, no_call_begins, no_call, has_call, one_vacuums, is_of_sets, session_to_begin, ChangesSlot, SlotBegins, SlotSteps, SlotGives}
+use Rattle.schedule.proofs.Imports.{SlotEnds, DeadSets, Answer, Refused, Op, Request, EventEffect, here_with, Steps, Takes, GivesUp, Kind, BeginsCall, MovesCall}
 use Rattle.schedule.proofs.Idling.{idle_makes}
 use Rattle.schedule.proofs.Keeping.{Laws}
 use Rattle.schedule.proofs.Making.{begin_makes, step_makes, next_makes, end_makes, not_found_makes}

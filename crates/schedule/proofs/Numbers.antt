@@ -1,47 +1,22 @@
 -- The page numbers that running calls keep lead on to their pages.
-use Rattle.std.specs.Prelude.{unwrap_or}
 use Rattle.std.proofs.Common.{◌≡◌, ℕ, zero, suc, ◌<◌, ◌≤◌, Bool, true, false, Option, Some, None, List, [], ◌∷◌, ◌++◌, map, length, slice_get, slice_index, refl, sym, ap, subst, inl, inr, ◌∙◌, arith}
-use Rattle.std.proofs.lemmas.Bool.{cases_lt}
 use Rattle.std.proofs.lemmas.Option.{slice_get_past}
-use Rattle.index_model.specs.declared.bound.Bound.{Bound}
-use Rattle.index_model.specs.declared.entry.Entry.{Entry}
-use Rattle.page_codec.specs.declared.page.Page.{Page}
-use Rattle.page_codec.specs.declared.page.PageState.{PageState}
-use Rattle.page_codec.specs.declared.page.PageState.TheVariants.{Live, Deleted}
-use Rattle.page_action.specs.Reuse.{IsFresh}
-use Rattle.page_action.specs.States.{State}
-use Rattle.page_action.specs.declared.page_store.PageStore.{Ghosts}
-use Rattle.tree_shape.specs.Chains.{FitsState, IsIn, IsRunOf, LeftContext, first_spot, past, spot_after}
-use Rattle.tree_shape.specs.Nodes.{Node, node_from, nodes_of}
-use Rattle.tree_shape.specs.Walks.{IsCoverOn, LeadsOn, here, step, IsTrail, reached, over, entry_aim, bound_aim, frontier_aim}
 use Rattle.tree_shape.proofs.Runs.{run_back, split_at}
 use Rattle.tree_shape.proofs.Shown.{places_lead_on}
 use Rattle.tree_acts.specs.Trees.{IsStart, HasTree, LeadsTo, HasTrail}
 use Rattle.tree_acts.proofs.Lasting.{fresh_free, fresh_reusable}
 use Rattle.tree_acts.proofs.Words.{place_in, trail_in}
-use Rattle.split_finish.specs.Targets.{targets_of, FinishInvariant, FinishStands}
-use Rattle.split_finish.specs.declared.finish.FinishAt.{FinishAt}
-use Rattle.split_finish.specs.declared.finish.FinishAt.TheVariants.{Start as FinishStart, Down as FinishDown, Link, Root}
 use Rattle.split_finish.specs.declared.finish.FinishOp.{FinishOp}
-use Rattle.split_finish.specs.declared.finish.Target.{Target}
 use Rattle.split_finish.proofs.Standing.{each_target}
-use Rattle.insert_split.specs.Inserts.{InsertStands}
-use Rattle.insert_split.specs.declared.insert.InsertAt.{InsertAt}
-use Rattle.insert_split.specs.declared.insert.InsertAt.TheVariants.{Coming, Finishing}
-use Rattle.insert_split.specs.declared.insert.Stage.TheVariants.{Start as InsertStart, At as InsertsAt, Holding as Holds}
-use Rattle.scan.specs.Scans.{ScanStands}
 use Rattle.scan.specs.declared.steps.ScanAt.{ScanAt}
 use Rattle.scan.specs.declared.steps.ScanAt.TheVariants.{Start as ScanStart, At as ScansAt, Last}
-use Rattle.vacuum.specs.BulkDeletes.{IsGoingBack}
 use Rattle.vacuum.specs.declared.steps.Backtrack.{Backtrack}
 use Rattle.page_delete.specs.Cleanups.{CleanupIsUnderway}
-use Rattle.page_delete.specs.declared.steps.CleanupAt.{CleanupAt}
-use Rattle.page_delete.specs.declared.steps.CleanupAt.TheVariants.{Look, Start as CleanupStart, Down as CleanupDown, Judge, Unlink}
-use Rattle.session_calls.specs.Ops.{OpInvariant}
-use Rattle.session_calls.specs.declared.op.Op.{Op}
-use Rattle.session_calls.specs.declared.op.Op.TheVariants.{Insert, Scan, Bulk, Cleanup}
 use Rattle.schedule.specs.Numbers.{KeptNumber, cover_of, page_of, target_number, finish_numbers, insert_numbers, scan_numbers, back_numbers, cleanup_numbers, kept_numbers, StandsOnLevel, LeadsPast, there, next_page, NumberLeads, AllLead, NumbersLeadOn}
-use Rattle.schedule.specs.MomentInvariants.{SlotMatches}
+use Rattle.schedule.proofs.Imports.{unwrap_or, cases_lt, Bound, Entry, Page, PageState, Live, Deleted, IsFresh, State, Ghosts, FitsState, IsIn, IsRunOf, LeftContext, first_spot, past, spot_after}
+use Rattle.schedule.proofs.Imports.{Node, node_from, nodes_of, IsCoverOn, LeadsOn, here, step, IsTrail, reached, over, entry_aim, bound_aim, frontier_aim, targets_of, FinishInvariant}
+use Rattle.schedule.proofs.Imports.{FinishStands, FinishAt, FinishStart, FinishDown, Link, Root, Target, InsertStands, InsertAt, Coming, Finishing, InsertStart, InsertsAt, Holds, ScanStands}
+use Rattle.schedule.proofs.Imports.{IsGoingBack, CleanupAt, Look, CleanupStart, CleanupDown, Judge, Unlink, OpInvariant, Op, Insert, Scan, Bulk, Cleanup, SlotMatches}
 use Rattle.schedule.proofs.Fitting.{running_of}
 
 -- a page of a chain that covers what is looked for is live

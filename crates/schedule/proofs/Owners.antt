@@ -1,15 +1,9 @@
 -- Each action is owned by the call that asked for it.
 use Rattle.std.proofs.Common.{◌≡◌, ℕ, zero, suc, ◌≤◌, Bool, Option, Some, None, List, [], ◌∷◌, ◌++◌, length, slice_get, refl, sym, ap, subst, arith, ◌∙◌}
-use Rattle.index_model.specs.Actions.{Effect, Add, Remove, Shape, Action, contents_after, is_there_after}
-use Rattle.index_model.specs.Calls.{Ask, AskInsert, AskScan, AskBulkDelete, AskCleanup, Call, MayAct}
-use Rattle.index_model.specs.declared.entry.Entry.{Entry}
-use Rattle.index_model.proofs.Histories.{there_before, there_now}
 use Rattle.tree_acts.specs.Steps.{IsApt}
-use Rattle.session_calls.specs.TheoremCalls.{acts_of}
-use Rattle.session_calls.specs.Sessions.{IsAsked, add_after, AnswerMeans}
-use Rattle.session_calls.specs.declared.answer.Answer.{Answer}
-use Rattle.session_calls.specs.declared.answer.Answer.TheVariants.{Begun, Going, Added, Ready, Done, Finished, Gave, Ended, Forced, Flushed, Checkpointed, Refused}
-use Rattle.schedule.specs.TheoremEvents.{IsDurable}
+use Rattle.schedule.proofs.Imports.{Effect, Add, Remove, Shape, Action, contents_after, is_there_after, Ask, AskInsert, AskScan, AskBulkDelete, AskCleanup, Call, MayAct, Entry, there_before}
+use Rattle.schedule.proofs.Imports.{there_now, acts_of, IsAsked, add_after, AnswerMeans, Answer, Begun, Going, Added, Ready, Done, Finished, Gave, Ended, Forced, Flushed, Checkpointed, Refused}
+use Rattle.schedule.proofs.Imports.{IsDurable}
 
 -- no number of durable actions is told of a call
 pub told_durable : (answer : Answer) (durable count : ℕ) (effect : Option Effect) (call after : Call) → AnswerMeans answer count effect call after → IsDurable durable answer

@@ -1,24 +1,9 @@
 -- What a running scan has ready.
-use Rattle.std.proofs.Common.{◌≡◌, ℕ, ◌<◌, ◌||◌, Bool, true, false, Option, Some, None, unwrap_or, List, [], ◌∷◌, ◌++◌, length, slice_get, refl, sym, ap, subst, ◌∙◌, arith}
-use Rattle.index_model.specs.Actions.{Action, ThereAtSomeMoment}
-use Rattle.index_model.specs.Calls.{Ask, AskInsert, AskScan, AskBulkDelete, AskCleanup, Call}
-use Rattle.index_model.specs.Order.{is_among, same_entry, IsAscending, IsPast, last_or}
-use Rattle.index_model.specs.Range.{matches}
-use Rattle.index_model.specs.declared.entry.Entry.{Entry}
+use Rattle.std.proofs.Common.{◌≡◌, ℕ, ◌<◌, ◌||◌, Bool, true, false, Option, None, unwrap_or, List, [], ◌∷◌, ◌++◌, length, refl, sym, ap, subst, ◌∙◌, arith}
 use Rattle.index_model.specs.declared.range.Range.{Range}
-use Rattle.index_model.proofs.Ascending.{is_among-append, same_entry-self, AscendsPast-back}
-use Rattle.page_action.specs.States.{State}
-use Rattle.page_action.specs.declared.page_store.PageStore.{Ghosts}
-use Rattle.scan.specs.Scans.{waiting}
-use Rattle.scan.specs.declared.steps.ScanOp.{ScanOp}
-use Rattle.session_calls.specs.Ops.{IsScanSoFar, ready_of}
-use Rattle.session_calls.specs.Sessions.{OpRuns, ready_count}
-use Rattle.session_calls.specs.Slots.{slot_of}
-use Rattle.session_calls.specs.TheoremCalls.{DeadSets}
-use Rattle.session_calls.specs.declared.op.Op.{Op}
-use Rattle.session_calls.specs.declared.op.Op.TheVariants.{Insert, Scan, Bulk, Cleanup}
+use Rattle.schedule.proofs.Imports.{Action, AskScan, Call, is_among, IsAscending, Entry, is_among-append, same_entry-self, AscendsPast-back, State, Ghosts, waiting, ScanOp, IsScanSoFar, ready_of}
+use Rattle.schedule.proofs.Imports.{OpRuns, ready_count, DeadSets, Op, Insert, Scan, Bulk, Cleanup}
 use Rattle.schedule.specs.Ready.{MayComeNext, ReadyMayComeNext}
-use Rattle.schedule.specs.TheoremMoments.{Moment, IsRunningCall}
 
 or_true : (a b : Bool) → b ≡ true → (a || b) ≡ true
 or_true true b h = refl

@@ -1,18 +1,8 @@
 -- Runs that go on by one event.
 use Rattle.std.proofs.Common.{ℕ, ◌≤◌, Bool, List, [], ◌∷◌, ◌++◌, refl, sym, subst, arith, append_assoc}
-use Rattle.std.proofs.lemmas.List.{append-nil}
-use Rattle.index_model.specs.declared.entry.Entry.{Entry}
-use Rattle.page_action.specs.declared.page_store.PageStore.{Ghosts}
-use Rattle.session_calls.specs.declared.answer.Answer.{Answer}
-use Rattle.session_calls.specs.declared.answer.Answer.TheVariants.{Begun, Going, Added, Ready, Done, Finished, Gave, Ended, Forced, Flushed, Checkpointed, Refused}
-use Rattle.schedule.specs.TheoremMoments.{StoreAndSlots, Moment, snapshot_of}
-use Rattle.schedule.specs.Making.{EventDoes, EventEffect, EachAlways}
-use Rattle.schedule.specs.Events.{EventAlways}
-use Rattle.schedule.specs.TheoremRuns.{Fits}
-use Rattle.schedule.specs.TheoremKinds.{kind_of}
-use Rattle.schedule.specs.TheoremEvents.{IsDurable}
-use Rattle.schedule.specs.TheoremRuns.{AreDurable, EventIsRun, IsRun, Ran, ForEachHistory, Runs, EventFollows}
-use Rattle.schedule.specs.declared.event.Event.{Event}
+use Rattle.schedule.proofs.Imports.{append-nil, Entry, Ghosts, Answer, Begun, Going, Added, Ready, Done, Finished, Gave, Ended, Forced, Flushed, Checkpointed, Refused, StoreAndSlots, Moment}
+use Rattle.schedule.proofs.Imports.{snapshot_of, EventDoes, EventEffect, EachAlways, EventAlways, Fits, kind_of, IsDurable, AreDurable, EventIsRun, IsRun, Ran, ForEachHistory, Runs, EventFollows}
+use Rattle.schedule.proofs.Imports.{Event}
 use Rattle.schedule.proofs.Keeping.{Laws, safe, keeps_on}
 use Rattle.schedule.proofs.Fitting.{fits_after, goes_does, matches_of}
 

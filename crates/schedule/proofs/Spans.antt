@@ -1,32 +1,11 @@
 -- Laws over whole runs.
 use Rattle.std.proofs.Common.{◌≡◌, ◌≢◌, ℕ, zero, suc, ◌+◌, ◌<◌, ◌≤◌, ◌==◌, if◌then◌else◌, Bool, true, false, Option, Some, None, List, [], ◌∷◌, ◌++◌, length, slice_get, refl, sym, ap, subst, arith, inl, inr, length-append, ◌∙◌}
-use Rattle.std.proofs.lemmas.Bool.{cases_eq, eq-eqb, eqb-true}
-use Rattle.std.proofs.lemmas.List.{append-nil}
-use Rattle.index_model.specs.Actions.{Action}
-use Rattle.index_model.specs.declared.bound.Bound.{Bound}
-use Rattle.index_model.specs.declared.entry.Entry.{Entry}
-use Rattle.index_model.specs.declared.fault.Fault.TheVariants.{Blocked}
-use Rattle.page_action.specs.States.{State}
-use Rattle.page_action.specs.declared.page_store.PageStore.{Ghosts}
-use Rattle.tree_shape.specs.Walks.{IsNoHigher}
 use Rattle.tree_shape.proofs.Order.{upto_self, upto_trans}
-use Rattle.tree_acts.specs.Lows.{HasLow}
-use Rattle.tree_acts.specs.Levels.{root_level}
-use Rattle.session_calls.specs.Due.{IsDueIn, DueCountsDown, IsServable, steps_for}
-use Rattle.session_calls.specs.Slots.{slot_of}
-use Rattle.session_calls.specs.declared.answer.Answer.{Answer}
-use Rattle.session_calls.specs.declared.answer.Answer.TheVariants.{Begun, Going, Added, Ready, Done, Finished, Gave, Ended, Forced, Flushed, Checkpointed, Refused}
-use Rattle.session_calls.specs.declared.op.Op.{Op}
-use Rattle.session_calls.specs.declared.request.Request.{Request}
-use Rattle.session_calls.specs.declared.request.Request.TheVariants.{Insert as ToInsert, Scan as ToScan, Bulk as ToBulk, Cleanup as ToCleanup}
-use Rattle.schedule.specs.Making.{EventDoes}
-use Rattle.schedule.specs.Events.{IsOfSession, Stays, MayBegin, StaysAsDue, StepIsFollowed, CallIsFollowed, session_at}
-use Rattle.schedule.specs.Spans.{IsNotDeleted, LowsStay, IsUnanswered, CallIsUnanswered, CallIsUnansweredAfterAll, goes_on, steps_gone, IsStillDue, CallsComeInTime}
-use Rattle.schedule.specs.Stands.{BeforeEach}
-use Rattle.schedule.specs.TheoremKinds.{Steps, Takes, GivesUp, Kind, BeginsCall, MovesCall, MaintainsStore, kind_of}
-use Rattle.schedule.specs.TheoremMoments.{Moment}
-use Rattle.schedule.specs.TheoremRuns.{IsRun}
-use Rattle.schedule.specs.declared.event.Event.{Event}
+use Rattle.schedule.proofs.Imports.{cases_eq, eq-eqb, eqb-true, append-nil, Action, Bound, Entry, Blocked, State, Ghosts, IsNoHigher, HasLow, root_level, IsDueIn, DueCountsDown, IsServable}
+use Rattle.schedule.proofs.Imports.{steps_for, slot_of, Answer, Begun, Going, Added, Ready, Done, Finished, Gave, Ended, Forced, Flushed, Checkpointed, Refused, Op, Request, ToInsert, ToScan}
+use Rattle.schedule.proofs.Imports.{ToBulk, ToCleanup, EventDoes, IsOfSession, Stays, MayBegin, StaysAsDue, StepIsFollowed, CallIsFollowed, session_at, IsNotDeleted, LowsStay, IsUnanswered}
+use Rattle.schedule.proofs.Imports.{CallIsUnanswered, CallIsUnansweredAfterAll, goes_on, steps_gone, IsStillDue, CallsComeInTime, BeforeEach, Steps, Takes, GivesUp, Kind, BeginsCall, MovesCall}
+use Rattle.schedule.proofs.Imports.{MaintainsStore, kind_of, Moment, IsRun, Event}
 use Rattle.schedule.proofs.Fitting.{goes_does}
 use Rattle.schedule.proofs.Standing.{slot_found}
 

@@ -1,27 +1,9 @@
 -- Over a run in which no action is logged, the steps of a call are of those that were left to do for it.
-use Rattle.std.specs.Prelude.{unwrap_or}
 use Rattle.std.proofs.Common.{◌≡◌, ◌≢◌, ◌==◌, ℕ, zero, suc, ◌+◌, ◌<◌, ◌≤◌, if◌then◌else◌, Bool, true, false, Option, Some, None, List, [], ◌∷◌, ◌++◌, length, refl, sym, ap, subst, arith, inl, inr, ◌∙◌}
-use Rattle.std.proofs.lemmas.Bool.{cases_eq, eq-eqb, eqb-true}
-use Rattle.index_model.specs.declared.entry.Entry.{Entry}
-use Rattle.index_model.specs.declared.format.Format.{Format}
-use Rattle.page_action.specs.States.{State}
-use Rattle.page_action.specs.declared.page_store.PageStore.{Ghosts}
-use Rattle.page_codec.specs.declared.page.Page.{Page}
-use Rattle.session_calls.specs.Sessions.{work_in, work_left, NothingIsReady, OwesLess, StepHasLessLeft, GivesLess, ready_count}
-use Rattle.session_calls.specs.Ops.{ready_of}
-use Rattle.session_calls.specs.Slots.{slot_of}
-use Rattle.session_calls.specs.declared.answer.Answer.{Answer}
-use Rattle.session_calls.specs.declared.answer.Answer.TheVariants.{Begun, Going, Added, Ready, Done, Finished, Gave, Ended, Forced, Flushed, Checkpointed, Refused}
-use Rattle.session_calls.specs.declared.op.Op.{Op}
-use Rattle.session_calls.specs.declared.op.Op.TheVariants.{Insert, Scan, Bulk, Cleanup}
-use Rattle.session_calls.specs.declared.request.Request.{Request}
-use Rattle.schedule.specs.Making.{EventDoes}
-use Rattle.schedule.specs.Events.{IsOfSession, AnswersBeginning}
-use Rattle.schedule.specs.Spans.{spends, steps_spent, BeginsNone, WorkIsSpent}
-use Rattle.schedule.specs.TheoremKinds.{Steps, Takes, GivesUp, Kind, BeginsCall, MovesCall, MaintainsStore, kind_of}
-use Rattle.schedule.specs.TheoremMoments.{Moment}
-use Rattle.schedule.specs.TheoremRuns.{Fits, IsRun}
-use Rattle.schedule.specs.declared.event.Event.{Event}
+use Rattle.schedule.proofs.Imports.{unwrap_or, cases_eq, eq-eqb, eqb-true, Entry, Format, State, Ghosts, Page, work_in, work_left, NothingIsReady, OwesLess, StepHasLessLeft, GivesLess}
+use Rattle.schedule.proofs.Imports.{ready_count, ready_of, slot_of, Answer, Begun, Going, Added, Ready, Done, Finished, Gave, Ended, Forced, Flushed, Checkpointed, Refused, Op, Insert, Scan, Bulk}
+use Rattle.schedule.proofs.Imports.{Cleanup, Request, EventDoes, IsOfSession, AnswersBeginning, spends, BeginsNone, WorkIsSpent, Steps, Takes, GivesUp, Kind, BeginsCall, MovesCall, MaintainsStore}
+use Rattle.schedule.proofs.Imports.{kind_of, Moment, Fits, IsRun, Event}
 use Rattle.schedule.proofs.Fitting.{goes_does, fits_after}
 use Rattle.schedule.proofs.Spans.{first_quiet}
 

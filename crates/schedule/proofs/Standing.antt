@@ -1,40 +1,13 @@
 -- A bulk delete waits for a scan that stands on a leaf that it hasn't come to, over runs.
-use Rattle.std.specs.Prelude.{unwrap_or}
 use Rattle.std.proofs.Common.{◌≡◌, ◌≢◌, ℕ, suc, ◌≤◌, ◌||◌, Bool, true, false, Option, Some, None, List, [], ◌∷◌, ◌++◌, length, slice_get, slice_set, refl, sym, ap, subst, arith, inl, inr, ◌∙◌}
-use Rattle.std.proofs.lemmas.Bool.{cases_eq, eq-eqb}
-use Rattle.index_model.specs.Calls.{Call}
-use Rattle.index_model.specs.declared.entry.Entry.{Entry}
-use Rattle.latch_table.specs.Holdings.{Holding, has_pin, holding_of}
-use Rattle.page_codec.specs.declared.page.Page.{Page}
 use Rattle.page_action.proofs.StoredPages.{stored_page}
-use Rattle.page_action.specs.States.{State}
-use Rattle.page_action.specs.declared.page_store.PageStore.{Ghosts}
-use Rattle.tree_acts.specs.Leaves.{IsLeafAt}
 use Rattle.tree_acts.proofs.Removing.{leaf_is}
-use Rattle.tree_acts.specs.StepEffects.{IsInOrder}
-use Rattle.scan.specs.Scans.{LeafIsLive, leaf_pinned}
-use Rattle.session_calls.specs.TheoremCalls.{DeadSets, acts_of}
-use Rattle.session_calls.specs.Ops.{op_before, asked_of}
-use Rattle.session_calls.specs.Sessions.{AnswersNext, IsStillBefore, KeepsBeforePins, OnlyWritersAct}
-use Rattle.session_calls.specs.declared.answer.Answer.{Answer}
-use Rattle.session_calls.specs.declared.answer.Answer.TheVariants.{Begun, Going, Added, Ready, Done, Finished, Gave, Ended, Forced, Flushed, Checkpointed, Refused}
-use Rattle.session_calls.specs.declared.op.Op.{Op}
-use Rattle.session_calls.specs.declared.op.Op.TheVariants.{Insert, Scan, Bulk, Cleanup}
-use Rattle.session_calls.specs.declared.request.Request.{Request}
-use Rattle.session_calls.specs.declared.request.Request.TheVariants.{Insert as ToInsert, Scan as ToScan, Bulk as ToBulk, Cleanup as ToCleanup}
-use Rattle.session_calls.proofs.Meeting.{grown}
-use Rattle.session_calls.proofs.Meanings.{IsSameCall, told_same}
-use Rattle.schedule.specs.TheoremMoments.{Moment}
-use Rattle.schedule.specs.Making.{EventDoes}
-use Rattle.schedule.specs.TheoremRuns.{Fits}
-use Rattle.session_calls.specs.Slots.{slot_of, slot_vacuums, slot_has_call}
-use Rattle.schedule.specs.MomentInvariants.{SlotRuns, slot_is_bulk_delete}
-use Rattle.vacuum.specs.declared.steps.BulkDeleteOp.{BulkDeleteOp}
-use Rattle.schedule.specs.TheoremKinds.{Move, Steps, Takes, GivesUp, Upkeep, Kind, BeginsCall, MovesCall, MaintainsStore, kind_of}
-use Rattle.schedule.specs.Events.{CallMoves, Stays, MovesOn, AnswersBeginning}
-use Rattle.schedule.specs.TheoremRuns.{IsRun}
-use Rattle.schedule.specs.Stands.{StandsOn, HasLeaf, BeforeEach, DoesNotFinish, NoneFinishes, HasNotCome, NoneHasCome, ScansStandOnLeaves, BulkDeletesWait, BegunBulkDeletesWait}
-use Rattle.schedule.specs.declared.event.Event.{Event}
+use Rattle.schedule.proofs.Imports.{unwrap_or, cases_eq, eq-eqb, Call, Entry, Holding, has_pin, holding_of, Page, State, Ghosts, IsLeafAt, IsInOrder, LeafIsLive, leaf_pinned, DeadSets, acts_of}
+use Rattle.schedule.proofs.Imports.{op_before, asked_of, AnswersNext, IsStillBefore, KeepsBeforePins, OnlyWritersAct, Answer, Begun, Going, Added, Ready, Done, Finished, Gave, Ended, Forced}
+use Rattle.schedule.proofs.Imports.{Flushed, Checkpointed, Refused, Op, Insert, Scan, Bulk, Cleanup, Request, ToInsert, ToScan, ToBulk, ToCleanup, grown, IsSameCall, told_same, Moment, EventDoes}
+use Rattle.schedule.proofs.Imports.{Fits, slot_of, slot_vacuums, slot_has_call, SlotRuns, slot_is_bulk_delete, BulkDeleteOp, Move, Steps, Takes, GivesUp, Upkeep, Kind, BeginsCall, MovesCall}
+use Rattle.schedule.proofs.Imports.{MaintainsStore, kind_of, CallMoves, Stays, MovesOn, AnswersBeginning, IsRun, StandsOn, HasLeaf, BeforeEach, DoesNotFinish, NoneFinishes, HasNotCome}
+use Rattle.schedule.proofs.Imports.{NoneHasCome, ScansStandOnLeaves, BulkDeletesWait, BegunBulkDeletesWait, Event}
 use Rattle.schedule.proofs.Frames.{slot_is}
 use Rattle.schedule.proofs.Leaves.{leaf_same}
 use Rattle.schedule.proofs.Lists.{get_set_same, get_set_other, get_within, same_some}

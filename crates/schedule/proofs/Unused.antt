@@ -1,21 +1,8 @@
 -- Moments that fit before any call, and with other sets.
 use Rattle.std.proofs.Common.{◌≡◌, ℕ, zero, suc, ◌<◌, Bool, false, Option, Some, None, unwrap_or, List, [], length, slice_get, replicate, refl, sym, ap, ◌∙◌, arith}
 use Rattle.tree_acts.specs.Deletions.{StartsAreBelow}
-use Rattle.index_model.specs.declared.entry.Entry.{Entry}
-use Rattle.page_action.specs.Contents.{entry_on_live_leaf}
-use Rattle.page_action.specs.States.{State}
-use Rattle.page_action.specs.declared.page_store.PageStore.{Ghosts}
-use Rattle.vacuum.specs.declared.steps.BulkDeleteOp.{BulkDeleteOp}
-use Rattle.session_calls.specs.TheoremCalls.{DeadSets}
-use Rattle.session_calls.specs.Ops.{runs_bulk_delete}
-use Rattle.session_calls.specs.declared.op.Op.{Op}
-use Rattle.session_calls.specs.declared.op.Op.TheVariants.{Insert, Scan, Bulk, Cleanup}
-use Rattle.schedule.specs.TheoremMoments.{Moment, snapshot_of}
-use Rattle.schedule.specs.TheoremRuns.{Fits}
-use Rattle.session_calls.specs.Slots.{slot_of, slot_vacuums}
-use Rattle.schedule.specs.MomentInvariants.{SlotRuns, SlotMatches, IsUnused, here_with, one_is_bulk_delete}
-use Rattle.schedule.specs.TheoremCrashes.{KeepsHistory}
-use Rattle.session_calls.specs.Sessions.{Matches}
+use Rattle.schedule.proofs.Imports.{Entry, entry_on_live_leaf, State, Ghosts, BulkDeleteOp, DeadSets, runs_bulk_delete, Op, Insert, Scan, Bulk, Cleanup, Moment, snapshot_of, Fits, slot_of}
+use Rattle.schedule.proofs.Imports.{slot_vacuums, SlotRuns, SlotMatches, IsUnused, here_with, one_is_bulk_delete, KeepsHistory, Matches}
 use Rattle.schedule.proofs.Keeping.{Laws, kept_at_start}
 use Rattle.schedule.proofs.Keys.{keys_at_end}
 use Rattle.schedule.proofs.Fitting.{fits_from, beyond_of, matches_of, running_of}

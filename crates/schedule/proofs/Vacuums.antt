@@ -1,19 +1,8 @@
 -- Which session runs a bulk delete or a cleanup, after a slot that is set.
-use Rattle.std.specs.Prelude.{unwrap_or}
-use Rattle.std.specs.List.{list_any}
 use Rattle.std.proofs.Common.{◌≡◌, ◌≢◌, ℕ, zero, suc, ◌<◌, ◌||◌, ◌&&◌, Bool, true, false, Option, Some, None, List, [], ◌∷◌, length, slice_set, refl, sym, ap, subst, arith, inl, inr, ◌∙◌}
-use Rattle.std.proofs.lemmas.Bool.{cases_eq}
-use Rattle.index_model.specs.Calls.{Ask, AskInsert, AskScan, AskBulkDelete, AskCleanup}
-use Rattle.page_action.specs.States.{State}
-use Rattle.session_calls.specs.TheoremCalls.{DeadSets}
-use Rattle.session_calls.specs.Ops.{asked_of, op_before, asks_vacuum, asks_bulk_delete, is_vacuum, is_bulk_delete, runs_bulk_delete}
-use Rattle.session_calls.specs.Sessions.{cycle_after, asks_cleanup}
-use Rattle.session_calls.specs.declared.op.Op.{Op}
-use Rattle.session_calls.specs.declared.op.Op.TheVariants.{Insert, Scan, Bulk, Cleanup}
-use Rattle.session_calls.specs.declared.request.Request.{Request}
-use Rattle.session_calls.specs.declared.request.Request.TheVariants.{Insert as ToInsert, Scan as ToScan, Bulk as ToBulk, Cleanup as ToCleanup}
-use Rattle.session_calls.specs.Slots.{slot_of, slot_vacuums, one_vacuums}
-use Rattle.schedule.specs.MomentInvariants.{slot_is_bulk_delete, one_is_bulk_delete, OneVacuums}
+use Rattle.schedule.proofs.Imports.{unwrap_or, list_any, cases_eq, Ask, AskInsert, AskScan, AskBulkDelete, AskCleanup, State, DeadSets, asked_of, op_before, asks_vacuum, asks_bulk_delete}
+use Rattle.schedule.proofs.Imports.{is_vacuum, is_bulk_delete, runs_bulk_delete, cycle_after, asks_cleanup, Op, Insert, Scan, Bulk, Cleanup, Request, ToInsert, ToScan, ToBulk, ToCleanup, slot_of}
+use Rattle.schedule.proofs.Imports.{slot_vacuums, one_vacuums, slot_is_bulk_delete, one_is_bulk_delete, OneVacuums}
 use Rattle.schedule.proofs.Lists.{get_set_same, get_set_other}
 
 true_false : true ≡ false → ⊥

@@ -1,7 +1,6 @@
 -- The theorem's words: why an event is refused.
 use Rattle.std.specs.Prelude.{◌≡◌, ◌≢◌, ◌⊎◌, ℕ, ◌+◌, ◌<◌, ◌≤◌, true, Some, length, map, slice_get, slice_index}
 use Rattle.index_model.specs.Calls.{Ask, AskInsert, AskScan, AskBulkDelete, AskCleanup, Call}
-use Rattle.index_model.specs.Row.{Row}
 use Rattle.index_model.specs.declared.fault.Fault.{Fault}
 use Rattle.index_model.specs.declared.fault.Fault.TheVariants.{Io, Stopped, Blocked, Exists, IndexFull, LogFull, NoFrame, VacuumRunning, NoSession, SessionBusy, TooTall, KeyExists}
 use Rattle.latch_table.specs.Holdings.{Holding, Table, pinned_blocks}

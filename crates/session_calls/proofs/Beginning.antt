@@ -1,40 +1,17 @@
 -- Beginnings over histories.
 use Rattle.std.proofs.Common.{◌≡◌, ◌+◌, ◌≤◌, ℕ, slice_get, ◌<◌, Bool, true, false, not, Option, Some, None, List, [], ◌∷◌, length, refl, sym, ap, subst, ◌∙◌, arith, length-set}
-use Rattle.std.specs.Prelude.{unwrap_or}
-use Rattle.index_model.specs.Actions.{Action}
-use Rattle.index_model.specs.Calls.{GivesOnly, Meets}
-use Rattle.index_model.specs.Order.{is_past}
-use Rattle.index_model.specs.Range.{matches, from_admits, below_admits, start_of}
-use Rattle.index_model.specs.declared.entry.Entry.{Entry}
-use Rattle.index_model.specs.declared.range.Range.{Range}
 use Rattle.index_model.proofs.Order.{from_key}
-use Rattle.page_action.specs.States.{State, after_begin, after_start_cycle, next_cycle}
 use Rattle.tree_acts.proofs.Leaving.{leaves_same}
-use Rattle.tree_acts.proofs.Lows.{lows_same}
-use Rattle.vacuum.proofs.Lasting.{all_to_come}
-use Rattle.page_codec.specs.declared.page.Page.{Page}
-use Rattle.tree_acts.specs.StepEffects.{NumbersStay, IsInOrder, OthersRely}
-use Rattle.insert_split.proofs.Lasting.{bounded as insert_bounded}
-use Rattle.scan.proofs.Lasting.{bounded as scan_bounded}
-use Rattle.tree_acts.specs.Levels.{root_level}
-use Rattle.tree_acts.specs.Ways.{NoneIsIncomplete}
-use Rattle.session_calls.specs.Due.{IsServable, IsDueIn, steps_for, HasSteps}
 use Rattle.session_calls.proofs.Counting.{due_still}
-use Rattle.session_calls.specs.Ops.{set_at}
-use Rattle.session_calls.specs.TheoremCalls.{DeadSets, asked_by, begun_call}
-use Rattle.session_calls.specs.Ops.{op_before, IsOfSets, asks_bulk_delete}
-use Rattle.session_calls.specs.BulkDeletions.{IsBulkDeleteSoFar, SlotDeletions}
 use Rattle.session_calls.proofs.Bounds.{bulk_few, cleanup_few}
 use Rattle.session_calls.proofs.Starting.{starts_kept, starts_begun, tree_begun}
-use Rattle.session_calls.specs.Sessions.{Matches, IsIdle, OpRuns, work_left, work_in, after_request, SessionBegins}
 use Rattle.session_calls.specs.declared.request.Request.{Request}
 use Rattle.session_calls.specs.declared.request.Request.TheVariants.{Insert as ToInsert, Scan as ToScan, Bulk as ToBulk, Cleanup as ToCleanup}
-use Rattle.session_calls.specs.declared.op.Op.{Op}
 use Rattle.session_calls.proofs.Lists.{get_set_same, get_set_other}
-use Rattle.std.proofs.lemmas.Bool.{and_parts, lt-ltb}
-use Rattle.std.proofs.lemmas.List.{drop_all}
-use Rattle.index_model.specs.Calls.{removed_by}
-use Rattle.std.specs.Prelude.{◌==◌, suc, nat_lt, if◌then◌else◌}
+use Rattle.session_calls.proofs.Imports.{unwrap_or, Action, GivesOnly, Meets, is_past, matches, from_admits, below_admits, start_of, Entry, Range, State, after_begin, after_start_cycle}
+use Rattle.session_calls.proofs.Imports.{next_cycle, lows_same, all_to_come, Page, NumbersStay, IsInOrder, OthersRely, insert_bounded, scan_bounded, root_level, NoneIsIncomplete, IsServable}
+use Rattle.session_calls.proofs.Imports.{IsDueIn, steps_for, HasSteps, set_at, DeadSets, asked_by, begun_call, op_before, IsOfSets, asks_bulk_delete, IsBulkDeleteSoFar, SlotDeletions, Matches}
+use Rattle.session_calls.proofs.Imports.{IsIdle, OpRuns, work_left, work_in, after_request, SessionBegins, Op, and_parts, lt-ltb, drop_all, removed_by, ◌==◌, suc, nat_lt, if◌then◌else◌}
 
 begun_order : (st : State) (session : ℕ) → session < 64 → IsInOrder st → IsInOrder (after_begin session st)
 begun_order st session low order = record {

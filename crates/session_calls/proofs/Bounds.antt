@@ -6,11 +6,10 @@ use Rattle.vacuum.specs.Work.{moves_left, bulk_delete_left}
 use Rattle.vacuum.specs.declared.steps.Backtrack.{Backtrack}
 use Rattle.insert_split.proofs.Lasting.{bounded_at_each_moment as insert_bounded}
 use Rattle.scan.proofs.Lasting.{bounded_at_each_moment as scan_bounded}
-use Rattle.page_delete.proofs.Lasting.{cleanups_bounded}
 use Rattle.page_delete.specs.Work.{steps_for_page, cleanup_left}
 use Rattle.page_delete.specs.declared.steps.CleanupAt.TheVariants.{Look}
 use Rattle.session_calls.specs.Bounds.{CallsAreBounded}
-use Rattle.session_calls.specs.declared.op.Op.TheVariants.{Insert, Scan, Bulk, Cleanup}
+use Rattle.session_calls.proofs.Imports.{cleanups_bounded, Insert, Scan, Bulk, Cleanup}
 
 moves_few : (most : ℕ) (back : Option Backtrack) → moves_left most back ≤ suc (suc most)
 moves_few most None = omega arith

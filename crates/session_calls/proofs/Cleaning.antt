@@ -1,24 +1,9 @@
 -- The steps of a cleanup over histories.
 use Rattle.std.proofs.Common.{◌≡◌, ℕ, suc, Bool, true, false, if◌then◌else◌, Option, Some, None, List, length, refl, sym, ap, subst, arith}
-use Rattle.std.proofs.lemmas.List.{append-nil}
-use Rattle.index_model.specs.Actions.{Effect, Add, Remove, Shape, Action, contents_after}
-use Rattle.index_model.specs.Calls.{Ask, AskCleanup, Vacuumed, Call, AnswersRight, Meets}
-use Rattle.index_model.specs.Faults.{Circumstances, HasCause}
-use Rattle.index_model.specs.declared.entry.Entry.{Entry}
-use Rattle.index_model.specs.declared.fault.Fault.{Fault}
-use Rattle.index_model.specs.declared.stats.VacuumStats.{VacuumStats}
-use Rattle.page_action.specs.States.{State, Backing}
-use Rattle.tree_acts.specs.StepEffects.{DeletesLeaves}
 use Rattle.page_delete.specs.Cleanups.{CleanupContinues, CleanupEnds, CleanupStays, causes_of_cleaning}
-use Rattle.page_delete.specs.Counts.{IsCleaned}
-use Rattle.page_delete.specs.declared.steps.CleanupOp.{CleanupOp}
-use Rattle.page_delete.specs.Parts.{PinnedLeafPagesStay}
-use Rattle.session_calls.specs.Ops.{ends_call}
-use Rattle.session_calls.specs.TheoremCalls.{DeadSets}
-use Rattle.session_calls.specs.Ops.{causes_of_stepped}
-use Rattle.session_calls.specs.Sessions.{CallFits, IsAsked, add_after, ended, OpEvent, slot_after, SlotIsCounted}
-use Rattle.session_calls.specs.declared.answer.Answer.TheVariants.{Going, Finished, Refused}
-use Rattle.session_calls.specs.declared.op.Op.TheVariants.{Cleanup}
+use Rattle.session_calls.proofs.Imports.{append-nil, Effect, Add, Remove, Shape, Action, contents_after, Ask, AskCleanup, Vacuumed, Call, AnswersRight, Meets, Circumstances, HasCause, Entry}
+use Rattle.session_calls.proofs.Imports.{Fault, VacuumStats, State, Backing, DeletesLeaves, IsCleaned, CleanupOp, PinnedLeafPagesStay, ends_call, DeadSets, causes_of_stepped, CallFits, IsAsked}
+use Rattle.session_calls.proofs.Imports.{add_after, ended, OpEvent, slot_after, SlotIsCounted, Going, Finished, Refused, Cleanup}
 use Rattle.session_calls.proofs.Effects.{works_cleaning, works_nothing}
 use Rattle.session_calls.proofs.Going.{step_goes_on, step_is_refused}
 use Rattle.session_calls.proofs.Meeting.{began_before}

@@ -1,39 +1,19 @@
 -- The steps of a call that is due, counted down.
 use Rattle.std.proofs.Common.{◌≡◌, ℕ, suc, ◌<◌, Bool, true, false, Option, Some, None, List, length, slice_get, refl, sym, ap, subst, ◌∙◌, arith}
-use Rattle.index_model.specs.Actions.{Effect, Add, Remove, Shape}
-use Rattle.index_model.specs.declared.bound.Bound.{Bound}
-use Rattle.index_model.specs.declared.entry.Entry.{Entry}
 use Rattle.index_model.specs.declared.format.Format.{Format}
 use Rattle.page_codec.specs.Edits.{entries_of}
-use Rattle.page_codec.specs.declared.page.Page.{Page}
 use Rattle.tree_shape.specs.Walks.{entry_aim, frontier_aim}
-use Rattle.page_action.specs.Causes.{with_row}
-use Rattle.page_action.specs.Contents.{entry_on_live_leaf}
-use Rattle.page_action.specs.States.{State}
 use Rattle.tree_shape.specs.Nodes.{nodes_of, node_from}
-use Rattle.tree_acts.specs.Trees.{HasCover}
-use Rattle.tree_acts.specs.Steps.{HasEffect}
-use Rattle.tree_acts.specs.StepEffects.{MovesFlags}
-use Rattle.tree_acts.specs.Ways.{NoneIsIncomplete}
-use Rattle.insert_split.specs.Inserts.{IsNoted, IsToCome, InsertContinues}
 use Rattle.insert_split.specs.Straight.{straight_steps as insert_steps, IsStraight as IsOnEntryWay, HasRoomFor}
 use Rattle.insert_split.specs.declared.insert.InsertAt.{InsertAt}
 use Rattle.insert_split.specs.declared.insert.InsertAt.TheVariants.{Coming, Finishing}
 use Rattle.insert_split.specs.declared.insert.Stage.TheVariants.{Start as InsertStart, At as InsertReads, Holding}
-use Rattle.insert_split.specs.declared.insert.InsertOp.{InsertOp}
-use Rattle.scan.specs.Scans.{waiting, IsMoving}
 use Rattle.scan.specs.Straight.{scan_straight_steps as scan_steps, ScanIsStraight as IsOnFrontierWay}
-use Rattle.scan.specs.declared.steps.ScanAt.{ScanAt}
-use Rattle.scan.specs.declared.steps.ScanAt.TheVariants.{Start as ScanStart, At as ScanReads, Last}
-use Rattle.scan.specs.declared.steps.ScanOp.{ScanOp}
-use Rattle.session_calls.specs.Due.{IsKeyAbsent, InsertIsDue, ScanIsDue, IsDueIn, IsHindered, DueCountsDown}
-use Rattle.index_model.specs.declared.fault.Fault.{Fault}
-use Rattle.index_model.specs.declared.fault.Fault.TheVariants.{NoMemory, Io, Stopped, Blocked, Exists, KeyTooLong, BadRow, IndexFull, LogFull, NoFrame, VacuumRunning, NoSession, SessionBusy, BadSuper, BadVersion, LogDamaged, PageDamaged, BadLimits, TooTall, DeviceTooSmall, KeyExists}
-use Rattle.session_calls.specs.Sessions.{OnlyOwnAreIncomplete, LeavesOwnIncomplete}
-use Rattle.session_calls.specs.declared.answer.Answer.{Answer}
-use Rattle.session_calls.specs.declared.answer.Answer.TheVariants.{Begun, Going, Added, Ready, Done, Finished, Gave, Ended, Forced, Flushed, Checkpointed, Refused}
-use Rattle.session_calls.specs.declared.op.Op.{Op}
-use Rattle.session_calls.specs.declared.op.Op.TheVariants.{Insert, Scan, Bulk, Cleanup}
+use Rattle.session_calls.proofs.Imports.{Effect, Add, Remove, Shape, Bound, Entry, Page, with_row, entry_on_live_leaf, State, HasCover, HasEffect, MovesFlags, NoneIsIncomplete, IsNoted, IsToCome}
+use Rattle.session_calls.proofs.Imports.{InsertContinues, InsertOp, waiting, IsMoving, ScanAt, ScanStart, ScanReads, Last, ScanOp, IsKeyAbsent, InsertIsDue, ScanIsDue, IsDueIn, IsHindered}
+use Rattle.session_calls.proofs.Imports.{DueCountsDown, Fault, NoMemory, Io, Stopped, Blocked, Exists, KeyTooLong, BadRow, IndexFull, LogFull, NoFrame, VacuumRunning, NoSession, SessionBusy}
+use Rattle.session_calls.proofs.Imports.{BadSuper, BadVersion, LogDamaged, PageDamaged, BadLimits, TooTall, DeviceTooSmall, KeyExists, OnlyOwnAreIncomplete, LeavesOwnIncomplete, Answer, Begun}
+use Rattle.session_calls.proofs.Imports.{Going, Added, Ready, Done, Finished, Gave, Ended, Forced, Flushed, Checkpointed, Refused, Op, Insert, Scan, Bulk, Cleanup}
 
 abbrev paged : State → List Page → State
 paged st pages = record st { pages = pages }

@@ -1,41 +1,17 @@
 -- The steps of a bulk delete over histories.
 use Rattle.std.proofs.Common.{◌≡◌, ℕ, suc, ◌+◌, ◌<◌, ◌≤◌, ◌==◌, if◌then◌else◌, Bool, true, false, Option, Some, None, List, [], ◌∷◌, ◌++◌, length, drop, get_or, slice_get, map, refl, sym, ap, subst, ◌∙◌, arith, inl, inr, ◌⊎◌}
-use Rattle.std.specs.Prelude.{unwrap_or}
 use Rattle.std.specs.Option.{option_map}
-use Rattle.std.proofs.lemmas.List.{append-nil, take_all}
-use Rattle.std.proofs.lemmas.Option.{slice_get-map, slice_get-get_or}
-use Rattle.std.proofs.lemmas.Bool.Decides.{eqb_tells}
-use Rattle.index_model.specs.Actions.{Effect, Add, Remove, Shape, Action, contents_after, is_there_after}
-use Rattle.index_model.specs.Calls.{Ask, AskBulkDelete, Vacuumed, Call, AnswersRight, IsBulkDeleteAnswer, actions_between, IsAddedIn, removed_by, Meets}
-use Rattle.index_model.specs.Faults.{Circumstances, HasCause}
-use Rattle.index_model.specs.Order.{same_entry, is_among}
-use Rattle.index_model.specs.Row.{Row}
-use Rattle.index_model.specs.declared.entry.Entry.{Entry}
-use Rattle.index_model.specs.declared.fault.Fault.{Fault}
-use Rattle.index_model.specs.declared.stats.VacuumStats.{VacuumStats}
-use Rattle.index_model.proofs.Ascending.{same_entry-is, same_entry-self}
-use Rattle.index_model.proofs.Histories.{there_now}
-use Rattle.page_action.specs.Contents.{entry_on_live_leaf}
-use Rattle.page_action.specs.States.{State, Backing}
-use Rattle.tree_acts.specs.Steps.{HasEffect}
-use Rattle.vacuum.specs.BulkDeletes.{BulkDeleteContinues, BulkDeleteEnds, BulkDeleteStays, removes, dead_at, causes_of_deleting, IsDueOf}
-use Rattle.page_codec.specs.declared.page.Page.{Page}
-use Rattle.vacuum.specs.Counts.{stats_of, IsCounted, entries_below}
 use Rattle.vacuum.specs.Ops.{next_block}
 use Rattle.vacuum.specs.Vacuuming.{DueIsToCome}
-use Rattle.vacuum.specs.declared.steps.BulkDeleteOp.{BulkDeleteOp}
-use Rattle.page_delete.specs.Counts.{AllIsCleaned}
 use Rattle.page_delete.proofs.Tallying.{deleted_alike}
-use Rattle.session_calls.specs.Ops.{set_at, ends_call}
-use Rattle.session_calls.specs.TheoremCalls.{DeadSets, acts_of}
-use Rattle.session_calls.specs.Ops.{causes_of_stepped, runs_bulk_delete}
-use Rattle.session_calls.specs.Sessions.{CallFits, IsAsked, add_after, ended, OpEvent, let_go, slot_after, SlotIsCounted, CountsAllEntries, CountsAllCleaned, CountsPages, CountsEntries, SparesLeaves, OnlyNeededAreLeft}
 use Rattle.page_delete.specs.Spares.{OnlyNeededStay}
-use Rattle.session_calls.specs.BulkDeletions.{IsDue, IsBulkDeleteSoFar}
-use Rattle.session_calls.specs.declared.answer.Answer.{Answer}
-use Rattle.session_calls.specs.declared.answer.Answer.TheVariants.{Begun, Going, Added, Ready, Done, Finished, Gave, Ended, Forced, Flushed, Checkpointed, Refused}
-use Rattle.session_calls.specs.declared.op.Op.{Op}
-use Rattle.session_calls.specs.declared.op.Op.TheVariants.{Insert, Scan, Bulk, Cleanup}
+use Rattle.session_calls.proofs.Imports.{unwrap_or, append-nil, take_all, slice_get-map, slice_get-get_or, eqb_tells, Effect, Add, Remove, Shape, Action, contents_after, is_there_after, Ask}
+use Rattle.session_calls.proofs.Imports.{AskBulkDelete, Vacuumed, Call, AnswersRight, IsBulkDeleteAnswer, actions_between, IsAddedIn, removed_by, Meets, Circumstances, HasCause, same_entry}
+use Rattle.session_calls.proofs.Imports.{is_among, Row, Entry, Fault, VacuumStats, same_entry-is, same_entry-self, there_now, entry_on_live_leaf, State, Backing, HasEffect, BulkDeleteContinues}
+use Rattle.session_calls.proofs.Imports.{BulkDeleteEnds, BulkDeleteStays, removes, dead_at, causes_of_deleting, IsDueOf, Page, stats_of, IsCounted, entries_below, BulkDeleteOp, AllIsCleaned}
+use Rattle.session_calls.proofs.Imports.{set_at, ends_call, DeadSets, acts_of, causes_of_stepped, runs_bulk_delete, CallFits, IsAsked, add_after, ended, OpEvent, let_go, slot_after, SlotIsCounted}
+use Rattle.session_calls.proofs.Imports.{CountsAllEntries, CountsAllCleaned, CountsPages, CountsEntries, SparesLeaves, OnlyNeededAreLeft, IsDue, IsBulkDeleteSoFar, Answer, Begun, Going, Added}
+use Rattle.session_calls.proofs.Imports.{Ready, Done, Finished, Gave, Ended, Forced, Flushed, Checkpointed, Refused, Op, Insert, Scan, Bulk, Cleanup}
 use Rattle.session_calls.proofs.Effects.{works_on, works_nothing, go_pages}
 use Rattle.session_calls.proofs.Going.{step_goes_on, step_is_refused}
 use Rattle.session_calls.proofs.Meeting.{began_before}

@@ -1,30 +1,15 @@
 -- What a step does to the pages, over histories; and the end of a call, which lets go what its session held.
 use Rattle.std.proofs.Common.{◌≡◌, ◌⊎◌, inl, inr, ℕ, suc, ◌<◌, Bool, true, false, Option, Some, None, List, [], ◌∷◌, ◌++◌, length, refl, sym, ap, subst, ◌∙◌, arith, length-append, length-set}
-use Rattle.std.specs.Prelude.{unwrap_or}
-use Rattle.std.proofs.lemmas.List.{append-nil}
-use Rattle.index_model.specs.Actions.{Effect, Add, Remove, Shape, Action, said_of}
-use Rattle.index_model.specs.declared.entry.Entry.{Entry}
-use Rattle.index_model.proofs.Histories.{contents_after-append}
 use Rattle.latch_table.specs.Holdings.{Holding, nothing_held, latches_exclude}
 use Rattle.latch_table.specs.declared.mode.Mode.TheVariants.{Shared}
 use Rattle.latch_table.proofs.Tables.{length-with_holding, holding_of-with_holding, holding_of-with_holding_other}
-use Rattle.page_action.specs.States.{State, after_end, after_stop_cycle}
-use Rattle.page_codec.specs.declared.page.Page.{Page}
 use Rattle.page_codec.specs.declared.page.PageState.{PageState}
-use Rattle.tree_acts.specs.Deletions.{OneStateMoves, OneLeafDies, OneLeafIsDeleted}
-use Rattle.tree_acts.specs.Leaves.{IsLeafAt, WasLeaf, LeafPagesStay}
 use Rattle.tree_acts.specs.Lows.{NoLowRises}
-use Rattle.tree_acts.proofs.Lows.{lows_same}
-use Rattle.tree_acts.specs.StepEffects.{IsRaised, NumbersStay, IsInOrder, MayRely, OthersRely, MovesFlags, level_in, StepEffect, DeletesLeaves, CleanupEffect}
-use Rattle.descent.proofs.Acting.{nothing_else}
 use Rattle.descent.proofs.Tables.{apart_nothing}
-use Rattle.index_model.specs.Calls.{Ask, AskInsert, AskScan, AskBulkDelete, AskCleanup}
-use Rattle.page_delete.specs.Parts.{PinnedLeafPagesStay}
-use Rattle.session_calls.specs.TheoremCalls.{DeadSets, acts_of}
-use Rattle.session_calls.specs.Ops.{asked_of, is_bulk_delete}
-use Rattle.session_calls.specs.Sessions.{Matches, IsIdle, HasStarted, let_go, cycle_after, asks_cleanup, MovesShape, CallEffect}
-use Rattle.session_calls.specs.declared.op.Op.{Op}
-use Rattle.session_calls.specs.declared.op.Op.TheVariants.{Insert, Scan, Bulk, Cleanup}
+use Rattle.session_calls.proofs.Imports.{unwrap_or, append-nil, Effect, Add, Remove, Shape, Action, said_of, Entry, contents_after-append, State, after_end, after_stop_cycle, Page, OneStateMoves}
+use Rattle.session_calls.proofs.Imports.{OneLeafDies, OneLeafIsDeleted, IsLeafAt, WasLeaf, LeafPagesStay, lows_same, IsRaised, NumbersStay, IsInOrder, MayRely, OthersRely, MovesFlags, level_in}
+use Rattle.session_calls.proofs.Imports.{StepEffect, DeletesLeaves, CleanupEffect, nothing_else, Ask, AskInsert, AskScan, AskBulkDelete, AskCleanup, PinnedLeafPagesStay, DeadSets, acts_of}
+use Rattle.session_calls.proofs.Imports.{asked_of, is_bulk_delete, Matches, IsIdle, HasStarted, let_go, cycle_after, asks_cleanup, MovesShape, CallEffect, Op, Insert, Scan, Bulk, Cleanup}
 use Rattle.session_calls.proofs.Lists.{get_set_same, get_set_other}
 use Rattle.session_calls.proofs.Starting.{starts_kept, starts_ended, tree_ended}
 

@@ -1,25 +1,8 @@
 -- What may be used again after a bulk delete or a cleanup that has finished.
-use Rattle.std.specs.Prelude.{slice_index}
 use Rattle.std.proofs.Common.{◌≡◌, ℕ, zero, suc, ◌+◌, ◌<◌, ◌&&◌, ◌||◌, ◌==◌, Bool, true, false, if◌then◌else◌, Option, Some, None, List, [], ◌∷◌, length, slice_set, refl, sym, ap, subst, inl, inr, ◌∙◌, arith}
-use Rattle.std.proofs.lemmas.Bool.{eq-eqb}
-use Rattle.std.proofs.lemmas.Bool.Decides.{eqb_tells}
-use Rattle.index_model.specs.Actions.{Effect, Action}
-use Rattle.index_model.specs.Calls.{Call}
-use Rattle.index_model.specs.Faults.{Circumstances}
-use Rattle.index_model.specs.declared.entry.Entry.{Entry}
-use Rattle.index_model.specs.declared.stats.VacuumStats.{VacuumStats}
 use Rattle.page_action.specs.Reuse.{is_deleted, began_after, others_began_after, is_reusable, is_reusable_without}
-use Rattle.page_action.specs.States.{State, with_table}
-use Rattle.page_codec.specs.declared.page.Page.{Page}
-use Rattle.tree_acts.specs.Steps.{HasEffect}
-use Rattle.vacuum.specs.Counts.{free_count}
-use Rattle.session_calls.specs.TheoremCalls.{DeadSets}
-use Rattle.session_calls.specs.Ops.{session_of, is_last}
-use Rattle.session_calls.specs.Sessions.{let_go, reusable_count, reusable_in, CountsStats, CountsFree, OpEvent}
-use Rattle.session_calls.specs.declared.answer.Answer.{Answer}
-use Rattle.session_calls.specs.declared.answer.Answer.TheVariants.{Finished}
-use Rattle.session_calls.specs.declared.op.Op.{Op}
-use Rattle.session_calls.specs.declared.op.Op.TheVariants.{Bulk, Cleanup}
+use Rattle.session_calls.proofs.Imports.{slice_index, eq-eqb, eqb_tells, Effect, Action, Call, Circumstances, Entry, VacuumStats, State, with_table, Page, HasEffect, free_count, DeadSets}
+use Rattle.session_calls.proofs.Imports.{session_of, is_last, let_go, reusable_count, reusable_in, CountsStats, CountsFree, OpEvent, Answer, Finished, Op, Bulk, Cleanup}
 use Rattle.session_calls.proofs.Effects.{go_pages}
 
 differ : (a b : ℕ) → (a ≡ b → ⊥) → (a == b) ≡ false

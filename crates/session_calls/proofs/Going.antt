@@ -1,27 +1,10 @@
 -- Steps of operations over histories, and the events that they make.
 use Rattle.std.proofs.Common.{◌≡◌, ◌≢◌, ℕ, suc, ◌+◌, ◌<◌, Bool, true, false, if◌then◌else◌, Option, Some, None, List, [], ◌++◌, length, refl, sym, ap, subst, ◌∙◌}
-use Rattle.std.proofs.lemmas.List.{append-nil}
-use Rattle.index_model.specs.Actions.{Effect, Action, contents_after}
-use Rattle.index_model.specs.Calls.{Ask, AskInsert, AskScan, Running, Added as EndsAdded, GivenUp, Failed, Call, InsertMayFail, Meets}
-use Rattle.index_model.specs.Faults.{Circumstances, HasCause}
-use Rattle.index_model.specs.Row.{Row}
-use Rattle.index_model.specs.declared.entry.Entry.{Entry}
-use Rattle.index_model.specs.declared.fault.Fault.{Fault}
-use Rattle.index_model.specs.declared.range.Range.{Range}
-use Rattle.page_action.specs.Causes.{with_row, other_row_is_there}
-use Rattle.page_action.specs.Contents.{entry_on_live_leaf}
-use Rattle.page_action.specs.States.{State}
-use Rattle.descent.proofs.Acting.{nothing_else}
-use Rattle.session_calls.specs.Ops.{ends_call}
-use Rattle.session_calls.specs.TheoremCalls.{DeadSets, acts_of}
-use Rattle.session_calls.specs.Ops.{session_of, is_bulk_delete, asked_of, add_of, OpInvariant, OpKnows, IsCaused, once_added, IsFaultCaused, is_last}
-use Rattle.session_calls.specs.Sessions.{Matches, OpRuns, CallFits, act_count, IsAsked, add_after, noted, ended, AnswerMeans, let_go, op_after_call, cycle_after, CallEffect, SessionEvent, OpEvent, HoldsOn}
-use Rattle.session_calls.specs.BulkDeletions.{OpDeletions}
-use Rattle.session_calls.specs.declared.answer.Answer.{Answer}
-use Rattle.session_calls.specs.declared.answer.Answer.TheVariants.{Going, Added, Ready, Ended, Refused}
-use Rattle.session_calls.specs.declared.op.Op.{Op}
-use Rattle.session_calls.specs.declared.op.Op.TheVariants.{Insert, Scan, Bulk, Cleanup}
-use Rattle.page_action.specs.Causes.{nothing_wrong}
+use Rattle.session_calls.proofs.Imports.{append-nil, Effect, Action, contents_after, Ask, AskInsert, AskScan, Running, EndsAdded, GivenUp, Failed, Call, InsertMayFail, Meets, Circumstances}
+use Rattle.session_calls.proofs.Imports.{HasCause, Row, Entry, Fault, Range, with_row, other_row_is_there, entry_on_live_leaf, State, nothing_else, ends_call, DeadSets, acts_of, session_of}
+use Rattle.session_calls.proofs.Imports.{is_bulk_delete, asked_of, add_of, OpInvariant, OpKnows, IsCaused, once_added, IsFaultCaused, is_last, Matches, OpRuns, CallFits, act_count, IsAsked}
+use Rattle.session_calls.proofs.Imports.{add_after, noted, ended, AnswerMeans, let_go, op_after_call, cycle_after, CallEffect, SessionEvent, OpEvent, HoldsOn, OpDeletions, Answer, Going, Added}
+use Rattle.session_calls.proofs.Imports.{Ready, Ended, Refused, Op, Insert, Scan, Bulk, Cleanup, nothing_wrong}
 use Rattle.session_calls.proofs.Meanings.{told_same}
 use Rattle.session_calls.proofs.Effects.{works_nothing, matches_after, started_after, pages_stay, go_shape, go_pinned, go_matches, go_others, go_idle, go_limits, go_frames, go_pages, go_leaves, go_cycle, cycle_stays}
 use Rattle.session_calls.proofs.Meeting.{grown, began_before, meets_noted, meets_failed, meets_given_up, meets_ended_added, there_at_present, other_row_is}

@@ -1,19 +1,9 @@
 -- Why an insert that is due is refused.
 use Rattle.std.proofs.Common.{◌≡◌, ℕ, suc, Bool, true, false, nat_le, sym, ap, subst}
-use Rattle.std.proofs.lemmas.Bool.{and_parts}
-use Rattle.index_model.specs.Faults.{HasCause}
-use Rattle.index_model.specs.declared.fault.Fault.{Fault}
-use Rattle.index_model.specs.declared.fault.Fault.TheVariants.{NoMemory, Io, Stopped, Blocked, Exists, KeyTooLong, BadRow, IndexFull, LogFull, NoFrame, VacuumRunning, NoSession, SessionBusy, BadSuper, BadVersion, LogDamaged, PageDamaged, BadLimits, TooTall, DeviceTooSmall, KeyExists}
-use Rattle.page_action.specs.States.{State, Backing}
-use Rattle.tree_acts.specs.StepEffects.{IsInOrder, is_out_of_blocks}
-use Rattle.tree_acts.specs.Levels.{root_level}
-use Rattle.insert_split.specs.Inserts.{InsertInvariant, InsertStays, takes_block_at, splits_root_at, causes_of_inserting}
-use Rattle.insert_split.specs.declared.insert.InsertOp.{InsertOp}
 use Rattle.insert_split.proofs.Roomy.{straight_takes_none}
-use Rattle.session_calls.specs.Due.{InsertIsDue, IsHindered}
-use Rattle.session_calls.specs.Sessions.{slot_after}
-use Rattle.session_calls.specs.declared.answer.Answer.TheVariants.{Refused}
-use Rattle.session_calls.specs.declared.op.Op.TheVariants.{Insert}
+use Rattle.session_calls.proofs.Imports.{and_parts, HasCause, Fault, NoMemory, Io, Stopped, Blocked, Exists, KeyTooLong, BadRow, IndexFull, LogFull, NoFrame, VacuumRunning, NoSession, SessionBusy}
+use Rattle.session_calls.proofs.Imports.{BadSuper, BadVersion, LogDamaged, PageDamaged, BadLimits, TooTall, DeviceTooSmall, KeyExists, State, Backing, IsInOrder, is_out_of_blocks, root_level}
+use Rattle.session_calls.proofs.Imports.{InsertInvariant, InsertStays, takes_block_at, splits_root_at, causes_of_inserting, InsertOp, InsertIsDue, IsHindered, slot_after, Refused, Insert}
 use Rattle.session_calls.proofs.Meeting.{other_row_is}
 
 -- what isn't so can't be so

@@ -1,24 +1,10 @@
 -- The steps of an insert over histories.
 use Rattle.std.proofs.Common.{◌≡◌, ◌≢◌, ℕ, suc, Bool, true, Option, Some, None, Err, List, length, refl, sym, ap, subst, ◌∙◌}
-use Rattle.index_model.specs.Actions.{Effect, Add, Remove, Shape, Action, contents_after}
-use Rattle.index_model.specs.Calls.{Ask, AskInsert, Call}
-use Rattle.index_model.specs.Faults.{Circumstances, HasCause}
-use Rattle.index_model.specs.declared.entry.Entry.{Entry}
-use Rattle.index_model.specs.declared.fault.Fault.{Fault}
-use Rattle.index_model.specs.declared.fault.Fault.TheVariants.{NoMemory, Io, Stopped, Blocked, Exists, KeyTooLong, BadRow, IndexFull, LogFull, NoFrame, VacuumRunning, NoSession, SessionBusy, BadSuper, BadVersion, LogDamaged, PageDamaged, BadLimits, TooTall, DeviceTooSmall, KeyExists}
-use Rattle.page_action.specs.Causes.{other_row_is_there}
-use Rattle.page_action.specs.Contents.{entry_on_live_leaf}
-use Rattle.page_action.specs.States.{State, Backing}
-use Rattle.tree_acts.specs.Steps.{HasEffect}
-use Rattle.insert_split.specs.Inserts.{IsNoted, IsLeft, InsertContinues, InsertEnds, InsertStays, causes_of_inserting}
-use Rattle.insert_split.specs.Turns.{is_blocked, IsRefusedRightly}
-use Rattle.insert_split.specs.declared.insert.InsertOp.{InsertOp}
-use Rattle.session_calls.specs.Ops.{ends_call}
-use Rattle.session_calls.specs.TheoremCalls.{DeadSets}
-use Rattle.session_calls.specs.Ops.{causes_of_stepped, once_added, IsFaultCaused}
-use Rattle.session_calls.specs.Sessions.{CallFits, IsAsked, add_after, OpEvent}
-use Rattle.session_calls.specs.declared.answer.Answer.TheVariants.{Going, Added, Refused}
-use Rattle.session_calls.specs.declared.op.Op.TheVariants.{Insert}
+use Rattle.session_calls.proofs.Imports.{Effect, Add, Remove, Shape, Action, contents_after, Ask, AskInsert, Call, Circumstances, HasCause, Entry, Fault, NoMemory, Io, Stopped, Blocked, Exists}
+use Rattle.session_calls.proofs.Imports.{KeyTooLong, BadRow, IndexFull, LogFull, NoFrame, VacuumRunning, NoSession, SessionBusy, BadSuper, BadVersion, LogDamaged, PageDamaged, BadLimits, TooTall}
+use Rattle.session_calls.proofs.Imports.{DeviceTooSmall, KeyExists, other_row_is_there, entry_on_live_leaf, State, Backing, HasEffect, IsNoted, IsLeft, InsertContinues, InsertEnds, InsertStays}
+use Rattle.session_calls.proofs.Imports.{causes_of_inserting, is_blocked, IsRefusedRightly, InsertOp, ends_call, DeadSets, causes_of_stepped, once_added, IsFaultCaused, CallFits, IsAsked}
+use Rattle.session_calls.proofs.Imports.{add_after, OpEvent, Going, Added, Refused, Insert}
 use Rattle.session_calls.proofs.Effects.{works_on}
 use Rattle.session_calls.proofs.Going.{step_goes_on, step_adds, step_is_refused}
 

@@ -1,3 +1,4 @@
+pub mod Imports
 pub mod Lists
 pub mod Slots
 pub mod Starting

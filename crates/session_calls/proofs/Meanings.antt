@@ -1,13 +1,7 @@
 -- What is told of a call leaves it the same call, with its Add noted, whose interval ends now.
 use Rattle.std.proofs.Common.{◌≡◌, ℕ, suc, ◌+◌, Bool, true, false, if◌then◌else◌, Option, Some, None, List, ◌∷◌, [], ◌++◌, length, refl, sym, ap, subst, ◌∙◌, arith}
-use Rattle.index_model.specs.Actions.{Effect, Action}
-use Rattle.index_model.specs.Calls.{Ending, Running, Added as EndsAdded, Finished as EndsFinished, Vacuumed, GivenUp, Failed, Call, end_of}
-use Rattle.index_model.specs.declared.entry.Entry.{Entry}
-use Rattle.index_model.specs.declared.fault.Fault.{Fault}
-use Rattle.session_calls.specs.Ops.{ends_call}
-use Rattle.session_calls.specs.Sessions.{act_count, add_after, noted, ended, OnlyBecomes, AnswerMeans}
-use Rattle.session_calls.specs.declared.answer.Answer.{Answer}
-use Rattle.session_calls.specs.declared.answer.Answer.TheVariants.{Begun, Going, Added, Ready, Done, Finished, Gave, Ended, Forced, Flushed, Checkpointed, Refused}
+use Rattle.session_calls.proofs.Imports.{Effect, Action, Ending, Running, EndsAdded, EndsFinished, Vacuumed, GivenUp, Failed, Call, end_of, Entry, Fault, ends_call, act_count, add_after, noted}
+use Rattle.session_calls.proofs.Imports.{ended, OnlyBecomes, AnswerMeans, Answer, Begun, Going, Added, Ready, Done, Finished, Gave, Ended, Forced, Flushed, Checkpointed, Refused}
 
 -- the same call after an event of this effect, over this history, which has the event's action
 pub record IsSameCall (history : List Action) (count : ℕ) (effect : Option Effect) (call after : Call) : Type 0 where

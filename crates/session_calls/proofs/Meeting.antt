@@ -1,19 +1,9 @@
 -- What a running call means still holds after an event of its own, and what it means when it ends.
 use Rattle.std.proofs.Common.{◌≡◌, ◌≢◌, ℕ, suc, ◌+◌, ◌≤◌, Bool, true, false, not, ◌&&◌, Option, Some, None, List, [], ◌∷◌, ◌++◌, length, inl, inr, refl, sym, ap, subst, ◌∙◌, arith, length-append}
-use Rattle.std.proofs.lemmas.Bool.{and_parts, cases_Bool}
-use Rattle.index_model.specs.Actions.{Effect, Add, Remove, Shape, Action, contents_after, ThereAtSomeMoment}
-use Rattle.index_model.specs.Calls.{Ask, AskInsert, AskScan, AskBulkDelete, AskCleanup, Ending, Running, Added as EndsAdded, GivenUp, Failed, Call, AnswersRight, InsertMayFail, IsAdded, IsInsertAnswer, end_of, Meets}
-use Rattle.index_model.specs.Order.{same_entry}
-use Rattle.index_model.specs.Row.{Row}
-use Rattle.index_model.specs.declared.entry.Entry.{Entry}
-use Rattle.index_model.specs.declared.fault.Fault.{Fault}
-use Rattle.index_model.proofs.Ascending.{same_entry-is, same_entry-self}
-use Rattle.index_model.proofs.Histories.{meets_later, there_before, there_now}
-use Rattle.page_action.specs.Causes.{with_row, other_row_is_there}
-use Rattle.page_action.specs.Contents.{entry_on_live_leaf}
-use Rattle.page_action.specs.States.{State}
-use Rattle.session_calls.specs.TheoremCalls.{acts_of}
-use Rattle.session_calls.specs.Sessions.{Matches, act_count, IsAsked, noted, ended}
+use Rattle.session_calls.proofs.Imports.{and_parts, cases_Bool, Effect, Add, Remove, Shape, Action, contents_after, ThereAtSomeMoment, Ask, AskInsert, AskScan, AskBulkDelete, AskCleanup, Ending}
+use Rattle.session_calls.proofs.Imports.{Running, EndsAdded, GivenUp, Failed, Call, AnswersRight, InsertMayFail, IsAdded, IsInsertAnswer, end_of, Meets, same_entry, Row, Entry, Fault}
+use Rattle.session_calls.proofs.Imports.{same_entry-is, same_entry-self, meets_later, there_before, there_now, with_row, other_row_is_there, entry_on_live_leaf, State, acts_of, Matches, act_count}
+use Rattle.session_calls.proofs.Imports.{IsAsked, noted, ended}
 use Rattle.session_calls.proofs.Lists.{get_append_new}
 
 -- the history has as many actions more as the event has effects

@@ -1,22 +1,9 @@
 -- A step that is refused, and changes nothing.
 use Rattle.std.proofs.Common.{◌≡◌, ◌≢◌, ◌≤◌, ℕ, Bool, true, false, Option, Some, None, Result, Err, [], refl, ap, arith}
-use Rattle.std.specs.Prelude.{if◌then◌else◌}
-use Rattle.index_model.specs.Faults.{HasCause}
-use Rattle.index_model.specs.declared.fault.Fault.{Fault}
-use Rattle.index_model.specs.declared.fault.Fault.TheVariants.{Stopped, NoSession}
-use Rattle.page_action.specs.States.{State, Continues}
 use Rattle.page_action.specs.declared.page_store.PageStore.{Ghosts}
-use Rattle.tree_acts.specs.StepEffects.{IsOneActAtMost, causes_of_writing_any}
-use Rattle.insert_split.specs.Inserts.{AnswersStopped as InsertAnswersStopped}
-use Rattle.insert_split.specs.Turns.{IsRefusedRightly}
-use Rattle.scan.specs.Scans.{waiting, ScanWaits}
-use Rattle.scan.specs.declared.steps.ScanOp.{ScanOp}
-use Rattle.session_calls.specs.Ops.{ends_call}
-use Rattle.session_calls.specs.Ops.{session_of, is_bulk_delete, call_kind, add_of, causes_of_stepped_any, StoppedAnswersFirst, AnswersLogged}
-use Rattle.session_calls.specs.Sessions.{OpSteps, AnswersStep, OnlyWritersAct, CountsStats, WaitsToGive, work_in}
-use Rattle.session_calls.specs.declared.answer.Answer.TheVariants.{Refused}
-use Rattle.session_calls.specs.declared.op.Op.{Op}
-use Rattle.session_calls.specs.declared.op.Op.TheVariants.{Insert, Scan, Bulk, Cleanup}
+use Rattle.session_calls.proofs.Imports.{if◌then◌else◌, HasCause, Fault, Stopped, NoSession, State, Continues, IsOneActAtMost, causes_of_writing_any, InsertAnswersStopped, IsRefusedRightly}
+use Rattle.session_calls.proofs.Imports.{waiting, ScanWaits, ScanOp, ends_call, session_of, is_bulk_delete, call_kind, add_of, causes_of_stepped_any, StoppedAnswersFirst, AnswersLogged, OpSteps}
+use Rattle.session_calls.proofs.Imports.{AnswersStep, OnlyWritersAct, CountsStats, WaitsToGive, work_in, Refused, Op, Insert, Scan, Bulk, Cleanup}
 
 answers : (before after : Op) (fault : Fault) → AnswersStep (Some before) (Some after) (Refused fault)
 answers (Insert op) after fault = tt

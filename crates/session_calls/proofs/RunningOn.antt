@@ -1,11 +1,6 @@
 -- What a session runs on after events of its call.
 use Rattle.std.proofs.Common.{◌≡◌, Bool, true, false, Option, Some, None, refl, ap, subst, sym, ◌∙◌}
-use Rattle.session_calls.specs.Ops.{CallKind, InsertKind, ScanKind, BulkKind, CleanupKind, call_kind, is_vacuum, RunsOn}
-use Rattle.session_calls.specs.Sessions.{RunsUntilLast}
-use Rattle.session_calls.specs.declared.answer.Answer.{Answer}
-use Rattle.session_calls.specs.declared.answer.Answer.TheVariants.{Ended}
-use Rattle.session_calls.specs.declared.op.Op.{Op}
-use Rattle.session_calls.specs.declared.op.Op.TheVariants.{Insert, Scan, Bulk, Cleanup}
+use Rattle.session_calls.proofs.Imports.{CallKind, InsertKind, ScanKind, BulkKind, CleanupKind, call_kind, is_vacuum, RunsOn, RunsUntilLast, Answer, Ended, Op, Insert, Scan, Bulk, Cleanup}
 
 -- what stays as it was runs on,
 pub runs_on_same : (slot : Option Op) → RunsOn slot slot

@@ -1,35 +1,14 @@
 -- Events of scans over histories.
 use Rattle.std.proofs.Common.{◌≡◌, ◌⊎◌, ℕ, suc, ◌≤◌, Bool, true, false, ◌||◌, Option, Some, None, List, [], ◌∷◌, ◌++◌, length, refl, sym, ap, subst, inl, inr, ◌∙◌, arith, append_assoc}
-use Rattle.std.proofs.lemmas.List.{append-nil}
-use Rattle.std.proofs.lemmas.Bool.{or_cases, cases_Bool}
 use Rattle.std.specs.List.{AllByRecursion}
-use Rattle.index_model.specs.Actions.{Action}
-use Rattle.index_model.specs.Calls.{Ask, AskScan, Ending, Running, Finished as EndsFinished, Call, IsReached, IsUpToLast, IsScanAnswer, IsScanAnswerSoFar, AnswersRight, end_of, Meets}
-use Rattle.index_model.specs.Faults.{Circumstances}
-use Rattle.index_model.specs.Order.{bound_of, same_entry, is_among, is_past, IsPast, AscendsPast, IsAscending, last_or}
-use Rattle.index_model.specs.Range.{matches}
-use Rattle.index_model.specs.declared.bound.Bound.{Bound}
-use Rattle.index_model.specs.declared.entry.Entry.{Entry}
-use Rattle.index_model.specs.declared.fault.Fault.TheVariants.{NoSession}
-use Rattle.index_model.specs.declared.range.Range.{Range}
-use Rattle.index_model.proofs.Ascending.{is_past-falls, same_entry-is, same_entry-self, three_ways, IsPast-trans, is_among-append, is_among-past, AscendsPast-append, AscendsPast-front, AscendsPast-back, AscendsPast-from, last_or-append}
-use Rattle.index_model.proofs.Histories.{there_now}
-use Rattle.page_action.specs.Contents.{entry_on_live_leaf}
-use Rattle.page_action.specs.States.{State}
-use Rattle.page_codec.specs.declared.page.Page.{Page}
-use Rattle.tree_acts.specs.Leaves.{IsLeafAt}
 use Rattle.descent.specs.declared.way.Position.{Position}
-use Rattle.scan.specs.Scans.{waiting, moved_to, ScanInvariant, IsNext, IsAfter, LeafIsRead, IsUnderway, IsMoving, IsReading, IsWaiting, IsDone}
-use Rattle.scan.specs.declared.steps.ScanAt.{ScanAt}
-use Rattle.scan.specs.declared.steps.ScanAt.TheVariants.{Start, At, Last}
-use Rattle.scan.specs.declared.steps.ScanOp.{ScanOp}
-use Rattle.session_calls.specs.TheoremCalls.{DeadSets}
-use Rattle.session_calls.specs.Ops.{IsScanSoFar, asked_of, causes_of_asked_next, is_last}
-use Rattle.session_calls.specs.Sessions.{Matches, OpRuns, CallFits, ended, given_one, SessionEvent, StandsOnLeaf, StandsByAnswer, OpEvent}
-use Rattle.session_calls.specs.declared.answer.Answer.{Answer}
-use Rattle.session_calls.specs.declared.answer.Answer.TheVariants.{Begun, Going, Added, Ready, Done, Finished, Gave, Ended, Forced, Flushed, Checkpointed, Refused}
-use Rattle.session_calls.specs.declared.op.Op.{Op}
-use Rattle.session_calls.specs.declared.op.Op.TheVariants.{Insert, Scan, Bulk, Cleanup}
+use Rattle.session_calls.proofs.Imports.{append-nil, or_cases, cases_Bool, Action, Ask, AskScan, Ending, Running, EndsFinished, Call, IsReached, IsUpToLast, IsScanAnswer, IsScanAnswerSoFar}
+use Rattle.session_calls.proofs.Imports.{AnswersRight, end_of, Meets, Circumstances, bound_of, same_entry, is_among, is_past, IsPast, AscendsPast, IsAscending, last_or, matches, Bound, Entry}
+use Rattle.session_calls.proofs.Imports.{NoSession, Range, is_past-falls, same_entry-is, same_entry-self, three_ways, IsPast-trans, is_among-append, is_among-past, AscendsPast-append}
+use Rattle.session_calls.proofs.Imports.{AscendsPast-front, AscendsPast-back, AscendsPast-from, last_or-append, there_now, entry_on_live_leaf, State, Page, IsLeafAt, waiting, moved_to}
+use Rattle.session_calls.proofs.Imports.{ScanInvariant, IsNext, IsAfter, LeafIsRead, IsUnderway, IsMoving, IsReading, IsWaiting, IsDone, ScanAt, Start, At, Last, ScanOp, DeadSets, IsScanSoFar}
+use Rattle.session_calls.proofs.Imports.{asked_of, causes_of_asked_next, is_last, Matches, OpRuns, CallFits, ended, given_one, SessionEvent, StandsOnLeaf, StandsByAnswer, OpEvent, Answer, Begun}
+use Rattle.session_calls.proofs.Imports.{Going, Added, Ready, Done, Finished, Gave, Ended, Forced, Flushed, Checkpointed, Refused, Op, Insert, Scan, Bulk, Cleanup}
 use Rattle.session_calls.proofs.Effects.{works_on, works_nothing}
 use Rattle.session_calls.proofs.Going.{event_of_nothing, step_goes_on, step_is_ready}
 use Rattle.session_calls.proofs.Meeting.{began_before, there_at_present}

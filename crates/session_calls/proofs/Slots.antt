@@ -1,8 +1,6 @@
 -- Slots as they are found and read.
 use Rattle.std.proofs.Common.{◌≡◌, ℕ, zero, suc, ◌<◌, Bool, true, false, Option, Some, None, Ok, List, [], ◌∷◌, length, slice_get, refl, sym, arith}
-use Rattle.std.specs.Prelude.{if◌then◌else◌}
-use Rattle.session_calls.specs.Slots.{session_to_begin, slot_has_call}
-use Rattle.session_calls.specs.declared.op.Op.{Op}
+use Rattle.session_calls.proofs.Imports.{if◌then◌else◌, session_to_begin, slot_has_call, Op}
 
 -- a slot that is found is one of them
 pub read_within : (slots : List (Option Op)) (session : ℕ) (x : Option Op) → slice_get slots session ≡ Some x → session < length slots

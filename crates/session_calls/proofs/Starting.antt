@@ -1,9 +1,6 @@
 -- Start numbers stay below the count of calls begun.
 use Rattle.std.proofs.Common.{◌≡◌, ℕ, ◌<◌, Option, Some, None, List, length, slice_get, slice_set, sym, subst, inl, inr, ◌∙◌, arith}
-use Rattle.std.proofs.lemmas.Bool.{cases_eq}
-use Rattle.page_action.specs.States.{State, after_begin, after_end}
-use Rattle.tree_acts.specs.Deletions.{StartsAreBelow}
-use Rattle.tree_acts.specs.Trees.{HasTree, IsStart}
+use Rattle.session_calls.proofs.Imports.{cases_eq, State, after_begin, after_end, StartsAreBelow, HasTree, IsStart}
 use Rattle.session_calls.proofs.Lists.{get_set_same, get_set_other}
 
 pub starts_kept : (old new : State) → new.running ≡ old.running → new.begun ≡ old.begun → StartsAreBelow old → StartsAreBelow new

@@ -1,23 +1,9 @@
 -- What others do leaves a running call what it stands on.
-use Rattle.std.specs.Prelude.{unwrap_or}
 use Rattle.std.proofs.Common.{◌≡◌, ◌≤◌, Bool, Option, None, List, ap, ◌++◌, length, sym, subst, ◌∙◌, ℕ, arith, length-append}
-use Rattle.index_model.specs.Actions.{Action}
-use Rattle.index_model.specs.declared.entry.Entry.{Entry}
-use Rattle.index_model.proofs.Histories.{at_some_moment_later, gives_all_later}
-use Rattle.page_action.specs.States.{State}
-use Rattle.tree_acts.specs.StepEffects.{MayRely}
-use Rattle.insert_split.proofs.Lasting.{undisturbed as insert_undisturbed}
 use Rattle.scan.specs.Laws.{PinnedLeavesLast}
-use Rattle.scan.specs.Scans.{IsAfter, waiting}
-use Rattle.scan.specs.declared.steps.ScanOp.{ScanOp}
-use Rattle.scan.proofs.Lasting.{undisturbed as scan_undisturbed}
-use Rattle.vacuum.proofs.Lasting.{undisturbed as bulk_undisturbed}
-use Rattle.page_delete.proofs.Lasting.{undisturbed as cleanup_undisturbed}
-use Rattle.session_calls.specs.Ops.{session_of, OpInvariant, OpKnows, IsScanSoFar}
-use Rattle.session_calls.specs.Sessions.{start_number, IsIdle}
-use Rattle.session_calls.specs.Undisturbed.{CallsAreUndisturbed}
-use Rattle.session_calls.specs.declared.op.Op.{Op}
-use Rattle.session_calls.specs.declared.op.Op.TheVariants.{Insert, Scan, Bulk, Cleanup}
+use Rattle.session_calls.proofs.Imports.{unwrap_or, Action, Entry, at_some_moment_later, gives_all_later, State, MayRely, insert_undisturbed, IsAfter, waiting, ScanOp, scan_undisturbed}
+use Rattle.session_calls.proofs.Imports.{bulk_undisturbed, cleanup_undisturbed, session_of, OpInvariant, OpKnows, IsScanSoFar, start_number, IsIdle, CallsAreUndisturbed, Op, Insert, Scan, Bulk}
+use Rattle.session_calls.proofs.Imports.{Cleanup}
 
 so_far_later : (start : Entry → Bool) (history acts : List Action) (began : ℕ) (given : List Entry) (op : ScanOp)
     → IsScanSoFar start history began given op → IsScanSoFar start (history ++ acts) began given op

@@ -1,23 +1,8 @@
 -- What a bulk delete is to remove is to come still, over histories.
 use Rattle.std.proofs.Common.{◌≡◌, ◌≢◌, inl, inr, ℕ, ◌+◌, ◌≤◌, ◌==◌, Bool, true, false, Option, Some, None, List, [], ◌∷◌, ◌++◌, length, drop, refl, sym, ap, subst, ◌∙◌, arith}
-use Rattle.std.proofs.lemmas.Bool.Decides.{eqb_tells}
-use Rattle.std.proofs.lemmas.List.{drop-append-le}
-use Rattle.index_model.specs.Actions.{Effect, Add, Remove, Shape, Action}
-use Rattle.index_model.specs.Calls.{removed_by, IsAddedIn}
-use Rattle.index_model.specs.Row.{Row}
-use Rattle.index_model.specs.declared.entry.Entry.{Entry}
-use Rattle.index_model.proofs.Ascending.{same_entry-is}
-use Rattle.index_model.proofs.Histories.{there_before}
-use Rattle.page_action.specs.States.{State}
-use Rattle.tree_acts.specs.Leaves.{LeafPagesStay, IsAddedBy}
-use Rattle.vacuum.proofs.Lasting.{due_undisturbed}
-use Rattle.vacuum.specs.declared.steps.BulkDeleteOp.{BulkDeleteOp}
-use Rattle.session_calls.specs.Ops.{set_at}
-use Rattle.session_calls.specs.TheoremCalls.{acts_of}
-use Rattle.session_calls.specs.Ops.{runs_bulk_delete}
-use Rattle.session_calls.specs.BulkDeletions.{IsDue, IsBulkDeleteSoFar}
-use Rattle.session_calls.specs.Undisturbed.{DeletionsAreUndisturbed}
-use Rattle.session_calls.specs.declared.op.Op.TheVariants.{Insert, Scan, Bulk, Cleanup}
+use Rattle.session_calls.proofs.Imports.{eqb_tells, drop-append-le, Effect, Add, Remove, Shape, Action, removed_by, IsAddedIn, Row, Entry, same_entry-is, there_before, State, LeafPagesStay}
+use Rattle.session_calls.proofs.Imports.{IsAddedBy, due_undisturbed, BulkDeleteOp, set_at, acts_of, runs_bulk_delete, IsDue, IsBulkDeleteSoFar, DeletionsAreUndisturbed, Insert, Scan, Bulk}
+use Rattle.session_calls.proofs.Imports.{Cleanup}
 
 added_before : (l m : List Action) (e : Entry) → IsAddedIn l e → IsAddedIn (l ++ m) e
 added_before [] m e h = absurd h

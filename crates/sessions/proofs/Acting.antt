@@ -1,25 +1,8 @@
 -- What was done for the records and the jobs that run, after some more transitions of one session.
 use Rattle.std.proofs.Common.{◌≡◌, ◌≢◌, ◌==◌, if◌then◌else◌, Bool, true, false, ℕ, ◌<◌, ◌≤◌, List, [], ◌∷◌, ◌++◌, length, map, Option, Some, None, slice_get, slice_set, vec_capacity, refl, sym, ap, ◌∙◌, subst, inl, inr, ⊎_elim, arith, length-append, append_assoc}
-use Rattle.std.proofs.lemmas.List.{append-nil, length-map}
-use Rattle.std.specs.List.{AllByRecursion}
-use Rattle.index_model.specs.declared.entry.Entry.{Entry}
-use Rattle.page_action.specs.declared.page_store.PageStore.{Ghosts}
-use Rattle.session_calls.specs.declared.answer.Answer.{Answer}
-use Rattle.session_calls.specs.declared.answer.Answer.TheVariants.{Begun}
-use Rattle.schedule.specs.Making.{EventEffect}
-use Rattle.schedule.specs.TheoremKinds.{kind_of}
-use Rattle.schedule.specs.TheoremMoments.{StoreAndSlots}
-use Rattle.worker_seats.proofs.Queueing.{nat_cases}
-use Rattle.worker_seats.proofs.Rows.{get_snoc, set_here, set_else, set_cases}
-use Rattle.sessions.specs.Acted.{KeepsRunning, AreOfRunning, EndsCall, AreOfRecord, AreOfPending, IsKnown, HasActed}
-use Rattle.sessions.specs.Handed.{Handed, IsAsHanded}
-use Rattle.sessions.specs.Jobs.{event_of, IsRoomOf, IsWithinRoom}
-use Rattle.sessions.specs.Kept.{record_of}
-use Rattle.sessions.specs.Transitions.{LockMoment, Transition, IsPath, Owner, OfRecord, OfSession, is_owner, owned_by, gifts_of}
-use Rattle.sessions.specs.declared.job.Job.{Job}
-use Rattle.sessions.specs.declared.job.Job.TheVariants.{Scan}
-use Rattle.sessions.specs.declared.record.Record.{Record}
-use Rattle.sessions.specs.declared.record.Pending.{Pending}
+use Rattle.sessions.proofs.Imports.{append-nil, length-map, AllByRecursion, Entry, Ghosts, Answer, Begun, EventEffect, kind_of, StoreAndSlots, nat_cases, get_snoc, set_here, set_else, set_cases}
+use Rattle.sessions.proofs.Imports.{KeepsRunning, AreOfRunning, EndsCall, AreOfRecord, AreOfPending, IsKnown, HasActed, Handed, IsAsHanded, event_of, IsRoomOf, IsWithinRoom, record_of, LockMoment}
+use Rattle.sessions.proofs.Imports.{Transition, IsPath, Owner, OfRecord, OfSession, is_owner, owned_by, gifts_of, Job, Scan, Record, Pending}
 use Rattle.sessions.proofs.Noting.{some_same, clash}
 use Rattle.sessions.proofs.Owning.{same_test, other_test, all_both, all_so, all_mapped, owners_for, length_for, all_for, owned_nobody, owned_own, owned_else, gifts-append, handed_over, owned_by_record, owned_by_other_record, owned_by_other_session}
 

@@ -1,39 +1,12 @@
 -- What asking a call for its next entry, and giving it up, leave of what is kept under the lock.
 use Rattle.std.proofs.Common.{◌≡◌, ◌<◌, ◌≤◌, ◌&&◌, not, Bool, true, false, ℕ, List, [], ◌∷◌, ◌++◌, length, Option, Some, None, slice_get, slice_set, vec_len, vec_capacity, refl, sym, ap, ◌∙◌, subst, arith, length-append}
-use Rattle.index_model.specs.Actions.{Action, ThereAtSomeMoment}
-use Rattle.index_model.specs.Calls.{AskScan, Call}
 use Rattle.index_model.specs.Order.{IsPast, last_or}
 use Rattle.index_model.specs.declared.range.Range.{Range}
-use Rattle.index_model.proofs.Histories.{at_some_moment_later}
-use Rattle.index_model.specs.declared.entry.Entry.{Entry}
-use Rattle.index_model.specs.declared.dead_rows.DeadRows.{Ghosts as SetGhosts}
-use Rattle.page_action.specs.declared.page_store.PageStore.{Ghosts}
-use Rattle.session_calls.specs.Ops.{is_last}
-use Rattle.session_calls.specs.Sessions.{AnswersEnd, GivesLess, RunsUntilLast, is_busy, ready_count}
-use Rattle.session_calls.specs.Slots.{has_call, slot_of}
-use Rattle.session_calls.specs.TheoremCalls.{DeadSets, asked_by}
-use Rattle.session_calls.specs.declared.request.Request.{Request}
 use Rattle.schedule.specs.Ready.{MayComeNext, ReadyMayComeNext}
-use Rattle.session_calls.specs.declared.answer.Answer.{Answer}
-use Rattle.session_calls.specs.declared.answer.Answer.TheVariants.{Gave, Ended}
-use Rattle.session_calls.specs.declared.op.Op.{Op}
-use Rattle.schedule.specs.CallLists.{OneCallRuns}
-use Rattle.schedule.specs.TheoremKinds.{Takes, GivesUp}
-use Rattle.schedule.specs.TheoremMoments.{StoreAndSlots, snapshot_of}
-use Rattle.schedule.specs.declared.event.Event.TheVariants.{Next, End}
-use Rattle.schedule.proofs.Fitting.{goes_does}
-use Rattle.worker_seats.specs.declared.run.Run.{Ghosts as RunGhosts}
-use Rattle.worker_seats.proofs.Rows.{get_within}
-use Rattle.world.specs.Worlds.{inside}
-use Rattle.world.specs.declared.world.World.{World}
-use Rattle.sessions.specs.declared.jobs.Jobs.{Ghosts as JobGhosts}
-use Rattle.sessions.specs.declared.shared.Shared.{Shared}
-use Rattle.sessions.specs.declared.job.Job.{Job}
-use Rattle.sessions.specs.declared.job.Job.TheVariants.{Scan}
-use Rattle.sessions.specs.declared.record.Pending.{Pending}
-use Rattle.sessions.specs.Doing.{IsEventDone, MayBeDone, HasTaken, IsFullScan, given_after}
-use Rattle.sessions.specs.Jobs.{IsRoomOf, request_of}
-use Rattle.sessions.specs.Kept.{IsCut, record_of}
+use Rattle.sessions.proofs.Imports.{Action, ThereAtSomeMoment, AskScan, Call, at_some_moment_later, Entry, SetGhosts, Ghosts, is_last, AnswersEnd, GivesLess, RunsUntilLast, is_busy, ready_count}
+use Rattle.sessions.proofs.Imports.{has_call, slot_of, DeadSets, asked_by, Request, Answer, Gave, Ended, Op, OneCallRuns, Takes, GivesUp, StoreAndSlots, snapshot_of, Next, End, goes_does}
+use Rattle.sessions.proofs.Imports.{RunGhosts, get_within, inside, World, JobGhosts, Shared, Job, Scan, Pending, IsEventDone, MayBeDone, HasTaken, IsFullScan, given_after, IsRoomOf, request_of}
+use Rattle.sessions.proofs.Imports.{IsCut, record_of}
 use Rattle.sessions.proofs.Happening.{keeps_going, keeps_ended}
 use Rattle.sessions.proofs.Handing.{IsNext}
 use Rattle.sessions.proofs.Noting.{some_same, set_same, busy_is, last_of, OthersRunOn, others_run_on, matches_runs, matches_ends}

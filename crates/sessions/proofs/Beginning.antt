@@ -1,41 +1,13 @@
 -- What the beginning of a job under the lock leaves of what is kept.
 use Rattle.std.proofs.Common.{◌≡◌, ◌⊎◌, Bool, true, false, ℕ, suc, ◌<◌, ◌≤◌, List, [], ◌∷◌, ◌++◌, length, Option, Some, None, slice_get, slice_set, vec_len, vec_capacity, refl, sym, ap, ◌∙◌, subst, inl, inr, arith}
-use Rattle.index_model.specs.Faults.{HasCause}
-use Rattle.index_model.specs.declared.entry.Entry.{Entry}
-use Rattle.index_model.specs.declared.dead_rows.DeadRows.{Ghosts as SetGhosts}
-use Rattle.index_model.specs.declared.fault.Fault.{Fault}
-use Rattle.index_model.specs.declared.fault.Fault.TheVariants.{Blocked}
-use Rattle.page_action.specs.declared.page_store.PageStore.{Ghosts}
-use Rattle.session_calls.specs.Ops.{IsCaused}
-use Rattle.session_calls.specs.TheoremCalls.{DeadSets, asked_by}
-use Rattle.session_calls.specs.Slots.{has_call, one_vacuums, slot_has_call}
-use Rattle.session_calls.specs.declared.answer.Answer.{Answer}
-use Rattle.session_calls.specs.declared.answer.Answer.TheVariants.{Begun, Forced, Checkpointed, Refused}
-use Rattle.session_calls.specs.declared.op.Op.{Op}
-use Rattle.session_calls.specs.declared.request.Request.{Request}
 use Rattle.session_calls.specs.declared.request.Request.TheVariants.{Insert as ToInsert, Scan as ToScan, Bulk as ToBulk, Cleanup as ToCleanup}
-use Rattle.schedule.specs.CallLists.{RefusedCallsFit}
-use Rattle.schedule.specs.Events.{AnswersEvent, AnswersBeginning, EventAlways, UpkeepIsDone, Stays, kept_answer, causes_of_begun_at}
-use Rattle.schedule.specs.Making.{EventDoes, EventEffect}
-use Rattle.schedule.specs.TheoremCrashes.{KeepsHistory}
-use Rattle.schedule.specs.TheoremKinds.{Upkeep, Forces, Flushes, Checkpoints, Kind, BeginsCall, MaintainsStore, kind_of}
-use Rattle.schedule.specs.TheoremMoments.{StoreAndSlots, Moment, snapshot_of}
-use Rattle.schedule.specs.TheoremRuns.{ForEachHistory, EventFollows, Fits}
-use Rattle.schedule.specs.declared.event.Event.{Event}
-use Rattle.schedule.proofs.Fitting.{goes_does}
 use Rattle.whole_calls.specs.Meanings.{IsSameHistory, HasBegun, NothingIsDone, BeginMeans, begun_of}
-use Rattle.whole_calls.proofs.Tellings.{begins_told, keeps_silent}
-use Rattle.worker_seats.specs.declared.run.Run.{Ghosts as RunGhosts}
-use Rattle.worker_seats.proofs.Rows.{get_within}
-use Rattle.world.specs.Worlds.{inside}
-use Rattle.world.specs.declared.world.World.{World}
-use Rattle.sessions.specs.declared.jobs.Jobs.{Ghosts as JobGhosts}
-use Rattle.sessions.specs.declared.shared.Shared.{Shared}
-use Rattle.sessions.specs.declared.job.Job.{Job}
 use Rattle.sessions.specs.declared.job.Job.TheVariants.{Insert, Scan, Bulk, Cleanup, Commit, Checkpoint}
-use Rattle.sessions.specs.declared.record.Pending.{Pending}
-use Rattle.sessions.specs.Jobs.{event_of, request_of, upkeep_of, begins, IsRoomOf}
-use Rattle.sessions.specs.Kept.{IsBlocked, KeepsFitting, record_of}
+use Rattle.sessions.proofs.Imports.{HasCause, Entry, SetGhosts, Fault, Blocked, Ghosts, IsCaused, DeadSets, asked_by, has_call, one_vacuums, slot_has_call, Answer, Begun, Forced, Checkpointed}
+use Rattle.sessions.proofs.Imports.{Refused, Op, Request, RefusedCallsFit, AnswersEvent, AnswersBeginning, EventAlways, UpkeepIsDone, Stays, kept_answer, causes_of_begun_at, EventDoes}
+use Rattle.sessions.proofs.Imports.{EventEffect, KeepsHistory, Upkeep, Forces, Flushes, Checkpoints, Kind, BeginsCall, MaintainsStore, kind_of, StoreAndSlots, Moment, snapshot_of, ForEachHistory}
+use Rattle.sessions.proofs.Imports.{EventFollows, Fits, Event, goes_does, begins_told, keeps_silent, RunGhosts, get_within, inside, World, JobGhosts, Shared, Job, Pending, event_of, request_of}
+use Rattle.sessions.proofs.Imports.{upkeep_of, begins, IsRoomOf, IsBlocked, KeepsFitting, record_of}
 use Rattle.sessions.proofs.Noting.{set_same, busy_is, OthersRunOn, matches_runs, matches_stays}
 use Rattle.sessions.proofs.Handing.{IsNext}
 use Rattle.sessions.proofs.Sharing.{KeepsWith, CarriesOn}

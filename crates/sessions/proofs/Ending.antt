@@ -1,21 +1,8 @@
 -- What is known once all jobs are done.
 use Rattle.std.proofs.Common.{◌≡◌, ◌⊎◌, Bool, true, false, ℕ, zero, suc, ◌<◌, ◌≤◌, List, [], ◌∷◌, length, Option, Some, None, slice_get, refl, sym, ap, ◌∙◌, inl, inr, ⊎_elim, arith}
 use mathlib.Core.Logic.{∥∥₁_elim}
-use Rattle.index_model.specs.Actions.{Action}
-use Rattle.index_model.specs.Calls.{Call}
-use Rattle.index_model.specs.declared.entry.Entry.{Entry}
-use Rattle.page_action.specs.declared.page_store.PageStore.{Ghosts}
-use Rattle.session_calls.specs.Slots.{has_call}
-use Rattle.session_calls.specs.declared.op.Op.{Op}
-use Rattle.schedule.specs.TheoremMoments.{StoreAndSlots}
-use Rattle.worker_seats.specs.Queue.{jobs_in}
-use Rattle.sessions.specs.declared.job.Job.{Job}
-use Rattle.sessions.specs.declared.record.Record.{Record}
-use Rattle.sessions.specs.declared.record.Pending.{Pending}
-use Rattle.sessions.specs.Finishing.{AreIdle, jobs_of_records}
-use Rattle.sessions.specs.Kept.{KeepsFitting, KeepsAll, MatchesPending}
-use Rattle.sessions.specs.Notes.{note_of, notes_of, jobs_of}
-use Rattle.worker_seats.proofs.Rows.{get_within}
+use Rattle.sessions.proofs.Imports.{Action, Call, Entry, Ghosts, has_call, Op, StoreAndSlots, jobs_in, Job, Record, Pending, AreIdle, jobs_of_records, KeepsFitting, KeepsAll, MatchesPending}
+use Rattle.sessions.proofs.Imports.{note_of, notes_of, jobs_of, get_within}
 use Rattle.sessions.proofs.Noting.{none_there, clash}
 
 -- the jobs of the notes are those of the records

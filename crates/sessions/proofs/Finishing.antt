@@ -1,25 +1,9 @@
 -- A run whose jobs are done has a receipt for each.
 use Rattle.std.proofs.Common.{◌≡◌, ℕ, ◌<◌, Bool, List, [], length, Option, Some, None, IfSome, slice_get, refl, sym, ap, ◌∙◌, arith}
-use Rattle.std.proofs.lemmas.List.{length-map}
-use Rattle.std.proofs.Math.Logic.{∥∥₁_map}
 use Rattle.std.specs.List.{sum}
-use Rattle.index_model.specs.Actions.{Action}
-use Rattle.index_model.specs.Calls.{Call}
-use Rattle.index_model.specs.declared.entry.Entry.{Entry}
-use Rattle.index_model.specs.declared.dead_rows.DeadRows.{Ghosts as SetGhosts}
-use Rattle.page_action.specs.declared.page_store.PageStore.{Ghosts}
-use Rattle.schedule.specs.TheoremMoments.{StoreAndSlots}
-use Rattle.world.specs.Worlds.{WorldFits, WorldKeeps}
-use Rattle.world.specs.declared.world.World.{World}
-use Rattle.sessions.specs.declared.job.Job.{Job}
 use Rattle.sessions.specs.declared.outcome.Finished.{Finished}
-use Rattle.sessions.specs.declared.outcome.Receipt.{Receipt}
-use Rattle.sessions.specs.declared.record.Record.{Record}
-use Rattle.sessions.specs.declared.record.Pending.{Pending}
-use Rattle.sessions.specs.Finishing.{HasRun, IsFinished, IsReceiptFor, handed_of, jobs_of_records, receipt_of, records_of}
-use Rattle.sessions.specs.Handed.{Handed}
-use Rattle.sessions.specs.Kept.{KeepsFitting}
-use Rattle.worker_seats.proofs.Rows.{get_within}
+use Rattle.sessions.proofs.Imports.{length-map, ∥∥₁_map, Action, Call, Entry, SetGhosts, Ghosts, StoreAndSlots, WorldFits, WorldKeeps, World, Job, Receipt, Record, Pending, HasRun, IsFinished}
+use Rattle.sessions.proofs.Imports.{IsReceiptFor, handed_of, jobs_of_records, receipt_of, records_of, Handed, KeepsFitting, get_within}
 use Rattle.sessions.proofs.Receipting.{all_below, as_many, each_once, get_mapped, got_mapped, one_place, place_of}
 
 pub if_some : {A : Type 0} (o : Option A) (P : A → Type 0) → ((x : A) → o ≡ Some x → P x) → IfSome o P

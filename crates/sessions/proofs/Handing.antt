@@ -1,15 +1,8 @@
 -- What is known of a world as it was handed in, after an event.
 use Rattle.std.proofs.Common.{◌≡◌, ◌∙◌, ℕ, List, map, Option, length, ap, subst}
-use Rattle.index_model.specs.declared.dead_rows.DeadRows.{Ghosts as SetGhosts}
-use Rattle.page_action.specs.States.{Continues, State, Backing, IsLater}
-use Rattle.page_action.specs.declared.page_store.PageStore.{Ghosts}
 use Rattle.page_action.proofs.Laters.{later_trans}
-use Rattle.schedule.specs.TheoremMoments.{StoreAndSlots}
 use Rattle.schedule.proofs.Keeping.{Laws}
-use Rattle.session_calls.specs.declared.op.Op.{Op}
-use Rattle.world.specs.Worlds.{SameSessions, inside}
-use Rattle.world.specs.declared.world.World.{World}
-use Rattle.sessions.specs.Handed.{Handed, IsAsHanded, ComesOf}
+use Rattle.sessions.proofs.Imports.{SetGhosts, Continues, State, Backing, IsLater, Ghosts, StoreAndSlots, Op, SameSessions, inside, World, Handed, IsAsHanded, ComesOf}
 
 -- an event has made this world of that one: its sessions and sets are the same, and its device is a later one
 pub record IsNext {S : Type 0} (g : Ghosts S) (w v : StoreAndSlots S) : Type 0 where

@@ -1,27 +1,8 @@
 -- What each event under the lock leaves of what is kept, by what it tells of its call.
 use Rattle.std.proofs.Common.{◌≡◌, Bool, ℕ, ◌≤◌, List, [], ◌∷◌, ◌++◌, length, Option, Some, None, slice_get, slice_set, vec_capacity, refl, sym, ap, ◌∙◌, subst, inl, inr, arith, length-append}
-use Rattle.index_model.specs.Actions.{Action}
-use Rattle.index_model.specs.Calls.{Call}
-use Rattle.index_model.specs.declared.entry.Entry.{Entry}
-use Rattle.index_model.specs.declared.fault.Fault.{Fault}
-use Rattle.page_action.specs.declared.page_store.PageStore.{Ghosts}
-use Rattle.session_calls.specs.TheoremCalls.{asked_by, begun_call}
-use Rattle.session_calls.specs.declared.answer.Answer.{Answer}
-use Rattle.session_calls.specs.declared.answer.Answer.TheVariants.{Ended, Refused}
-use Rattle.session_calls.specs.declared.request.Request.{Request}
-use Rattle.schedule.specs.CallLists.{OneCallRuns, refused_call}
-use Rattle.schedule.specs.Events.{AnswersUpkeep, kept_answer}
-use Rattle.schedule.specs.TheoremCrashes.{KeepsHistory}
-use Rattle.schedule.specs.TheoremKinds.{Upkeep}
-use Rattle.schedule.specs.TheoremMoments.{StoreAndSlots, Moment, snapshot_of}
-use Rattle.schedule.specs.TheoremRuns.{Fits}
-use Rattle.worker_seats.proofs.Rows.{get_last, set_here}
-use Rattle.sessions.specs.declared.job.Job.{Job}
-use Rattle.sessions.specs.declared.job.Job.TheVariants.{Scan}
-use Rattle.sessions.specs.declared.record.Record.{Record}
-use Rattle.sessions.specs.declared.record.Pending.{Pending}
-use Rattle.sessions.specs.Jobs.{request_of, upkeep_of, IsRoomOf, IsWithinRoom}
-use Rattle.sessions.specs.Kept.{RunsJob, IsBlocked, IsCut, IsSince, RecordFollows, KeepsFitting, record_of}
+use Rattle.sessions.proofs.Imports.{Action, Call, Entry, Fault, Ghosts, asked_by, begun_call, Answer, Ended, Refused, Request, OneCallRuns, refused_call, AnswersUpkeep, kept_answer, KeepsHistory}
+use Rattle.sessions.proofs.Imports.{Upkeep, StoreAndSlots, Moment, snapshot_of, Fits, get_last, set_here, Job, Scan, Record, Pending, request_of, upkeep_of, IsRoomOf, IsWithinRoom, RunsJob}
+use Rattle.sessions.proofs.Imports.{IsBlocked, IsCut, IsSince, RecordFollows, KeepsFitting, record_of}
 use Rattle.sessions.proofs.Noting.{some_same}
 use Rattle.sessions.proofs.Keeping.{follows_now, old_fits, touches_next, touches_none, touches_running, keeps_on, keeps_with}
 use Rattle.sessions.proofs.Meanings.{MovesOnTo, EndsTo}

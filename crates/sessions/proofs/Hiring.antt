@@ -1,9 +1,6 @@
 -- Lists of threads, workers and seats.
 use Rattle.std.proofs.Common.{◌≡◌, ℕ, zero, suc, ◌+◌, List, [], ◌∷◌, ◌++◌, map, Option, Some, None, IfSome, slice_get, refl, ap, ⊎_elim, arith}
-use Rattle.worker_seats.specs.Queue.{jobs_in, sum_over, weigh}
-use Rattle.worker_seats.proofs.Rows.{get_snoc}
-use Rattle.sessions.specs.declared.record.Pending.{Pending}
-use Rattle.sessions.specs.Notes.{jobs_of, job_of}
+use Rattle.sessions.proofs.Imports.{jobs_in, sum_over, weigh, get_snoc, Pending, jobs_of, job_of}
 
 pub jobs_of_snoc : (pending : List (Option Pending)) (o : Option Pending) → jobs_of (pending ++ o ∷ []) ≡ jobs_of pending ++ job_of o ∷ []
 jobs_of_snoc [] o = refl

@@ -1,22 +1,8 @@
 -- What each event under the lock leaves of what is kept: an event of one session touches one call at most.
 use Rattle.std.proofs.Common.{◌≡◌, ◌≢◌, ◌⊎◌, Bool, ℕ, zero, suc, ◌<◌, ◌≤◌, List, [], ◌∷◌, ◌++◌, length, Option, Some, None, slice_get, slice_set, refl, sym, ap, ◌∙◌, subst, inl, inr, ⊎_elim, arith, length-append, length-set, append_assoc}
-use Rattle.std.proofs.lemmas.List.{append-nil}
-use Rattle.index_model.specs.Actions.{Action}
-use Rattle.index_model.specs.Calls.{Call, Running}
-use Rattle.index_model.specs.declared.entry.Entry.{Entry}
-use Rattle.index_model.proofs.Histories.{at_some_moment_later}
-use Rattle.page_action.specs.declared.page_store.PageStore.{Ghosts}
-use Rattle.schedule.specs.CallLists.{OneCallRuns}
-use Rattle.schedule.specs.TheoremCrashes.{KeepsHistory}
-use Rattle.schedule.specs.TheoremMoments.{StoreAndSlots, snapshot_of}
-use Rattle.schedule.specs.TheoremRuns.{Fits}
-use Rattle.worker_seats.proofs.Queueing.{nat_cases}
-use Rattle.worker_seats.proofs.Rows.{get_front, get_snoc, get_within, get_there, set_else, set_cases}
-use Rattle.sessions.specs.declared.job.Job.{Job}
-use Rattle.sessions.specs.declared.job.Job.TheVariants.{Scan}
-use Rattle.sessions.specs.declared.record.Record.{Record}
-use Rattle.sessions.specs.declared.record.Pending.{Pending}
-use Rattle.sessions.specs.Kept.{IsCut, ListsCall, ListsUpkeep, Lists, RunsJob, IsPending, IsOurs, RecordFollows, IsSince, IsInTime, KeepsFitting}
+use Rattle.sessions.proofs.Imports.{append-nil, Action, Call, Running, Entry, at_some_moment_later, Ghosts, OneCallRuns, KeepsHistory, StoreAndSlots, snapshot_of, Fits, nat_cases, get_front}
+use Rattle.sessions.proofs.Imports.{get_snoc, get_within, get_there, set_else, set_cases, Job, Scan, Record, Pending, IsCut, ListsCall, ListsUpkeep, Lists, RunsJob, IsPending, IsOurs}
+use Rattle.sessions.proofs.Imports.{RecordFollows, IsSince, IsInTime, KeepsFitting}
 use Rattle.sessions.proofs.Noting.{some_same}
 
 below_snoc : {A : Type 0} (xs : List A) (x : A) (j : ℕ) → j < length (xs ++ x ∷ []) → (j < length xs) ⊎ (j ≡ length xs)

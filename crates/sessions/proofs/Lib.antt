@@ -1,3 +1,4 @@
+pub mod Imports
 pub mod Noting
 pub mod Handing
 pub mod Sharing

@@ -1,31 +1,10 @@
 -- What an event tells of a running call, as far as a record tells it.
 use Rattle.std.proofs.Common.{◌≡◌, ℕ, zero, suc, ◌+◌, Bool, true, false, List, [], ◌++◌, length, Option, Some, None, slice_set, refl, sym, ap, ◌∙◌, subst, inl, inr, arith, length-append}
-use Rattle.std.proofs.lemmas.List.{append-nil}
-use Rattle.index_model.specs.Actions.{Action, Effect}
-use Rattle.index_model.specs.Calls.{Call, Running}
-use Rattle.index_model.specs.Faults.{HasCause}
-use Rattle.index_model.specs.declared.entry.Entry.{Entry}
-use Rattle.index_model.specs.declared.fault.Fault.{Fault}
-use Rattle.index_model.specs.declared.fault.Fault.TheVariants.{Blocked, NoSession}
 use Rattle.page_action.specs.Causes.{causes_of_forced}
-use Rattle.page_action.specs.States.{Backing}
-use Rattle.page_action.specs.declared.page_store.PageStore.{Ghosts}
-use Rattle.session_calls.specs.Ops.{ends_call, is_last}
-use Rattle.session_calls.specs.Sessions.{AnswerMeans, AnswersStep, act_count}
-use Rattle.session_calls.specs.TheoremCalls.{acts_of}
-use Rattle.session_calls.specs.declared.answer.Answer.{Answer}
-use Rattle.session_calls.specs.declared.answer.Answer.TheVariants.{Begun, Going, Added, Ready, Done, Finished, Gave, Ended, Forced, Flushed, Checkpointed, Refused}
-use Rattle.session_calls.specs.declared.op.Op.{Op}
-use Rattle.session_calls.specs.declared.op.Op.TheVariants.{Insert as Inserts, Scan as Scans, Bulk as Bulks, Cleanup as Cleanups}
-use Rattle.schedule.specs.Events.{CallMoves, MovesOn}
-use Rattle.schedule.specs.Making.{EventDoes}
-use Rattle.schedule.specs.TheoremKinds.{Move, MovesCall}
-use Rattle.schedule.specs.TheoremMoments.{Moment, IsRunningCall}
-use Rattle.schedule.specs.TheoremRuns.{Fits}
-use Rattle.whole_calls.specs.OneStep.{cut_short, HasStepped, IsGivenUpFor}
-use Rattle.sessions.specs.Kept.{ending_by, HasEndedBy, IsBlocked}
-use Rattle.whole_calls.proofs.Tellings.{one_runs, runs_has_call}
-use Rattle.sessions.specs.Doing.{given_after}
+use Rattle.sessions.proofs.Imports.{append-nil, Action, Effect, Call, Running, HasCause, Entry, Fault, Blocked, NoSession, Backing, Ghosts, ends_call, is_last, AnswerMeans, AnswersStep, act_count}
+use Rattle.sessions.proofs.Imports.{acts_of, Answer, Begun, Going, Added, Ready, Done, Finished, Gave, Ended, Forced, Flushed, Checkpointed, Refused, Op, Inserts, Scans, Bulks, Cleanups}
+use Rattle.sessions.proofs.Imports.{CallMoves, MovesOn, EventDoes, Move, MovesCall, Moment, IsRunningCall, Fits, cut_short, HasStepped, IsGivenUpFor, ending_by, HasEndedBy, IsBlocked, one_runs}
+use Rattle.sessions.proofs.Imports.{runs_has_call, given_after}
 use Rattle.sessions.proofs.Keeping.{AllBy}
 
 -- the call is the same except for its Add and its end, and has given this

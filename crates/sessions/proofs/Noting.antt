@@ -1,22 +1,8 @@
 -- What the keeper's view has of the records and of the calls that run.
 use Rattle.std.proofs.Common.{◌≡◌, ◌≢◌, ℕ, zero, suc, ◌<◌, ◌&&◌, not, Bool, true, false, unwrap_or, List, [], ◌∷◌, ◌++◌, length, Option, Some, None, slice_get, slice_set, refl, sym, ap, ◌∙◌, subst, ⊎_elim, arith, length-set}
 use mathlib.Core.Logic.{∥∥₁_elim}
-use Rattle.session_calls.specs.Ops.{is_last}
-use Rattle.session_calls.specs.Sessions.{RunsUntilLast, is_busy}
-use Rattle.session_calls.specs.Slots.{has_call, slot_has_call, slot_of}
-use Rattle.session_calls.specs.declared.answer.Answer.{Answer}
-use Rattle.schedule.specs.Events.{OthersStay}
-use Rattle.worker_seats.specs.declared.seating.SeatView.{SeatView}
-use Rattle.worker_seats.specs.Seats.{keeper_of}
-use Rattle.session_calls.specs.declared.answer.Answer.TheVariants.{Begun}
-use Rattle.session_calls.specs.declared.op.Op.{Op}
-use Rattle.sessions.specs.Turns.{is_begun}
-use Rattle.sessions.specs.declared.record.Record.{Record}
-use Rattle.sessions.specs.declared.record.Pending.{Pending}
-use Rattle.sessions.specs.Kept.{MatchesPending}
-use Rattle.sessions.specs.Notes.{note_of, notes_of, job_of, jobs_of}
-use Rattle.worker_seats.proofs.Queueing.{nat_cases}
-use Rattle.worker_seats.proofs.Rows.{get_within, set_cases}
+use Rattle.sessions.proofs.Imports.{is_last, RunsUntilLast, is_busy, has_call, slot_has_call, slot_of, Answer, OthersStay, SeatView, keeper_of, Begun, Op, is_begun, Record, Pending}
+use Rattle.sessions.proofs.Imports.{MatchesPending, note_of, notes_of, job_of, jobs_of, nat_cases, get_within, set_cases}
 
 -- what is in equal options is equal
 pub some_same : {A : Type 0} {x y : A} → Some x ≡ Some y → x ≡ y

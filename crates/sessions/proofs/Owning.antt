@@ -1,9 +1,6 @@
 -- Whose transitions are, after some more of them, and where a job that ran has become a record.
 use Rattle.std.proofs.Common.{◌≡◌, ◌≢◌, ◌==◌, if◌then◌else◌, Bool, true, false, ℕ, suc, List, [], ◌∷◌, ◌++◌, length, map, refl, sym, ap, ◌∙◌, arith, append_assoc}
-use Rattle.std.proofs.lemmas.List.{append-nil}
-use Rattle.std.proofs.lemmas.Bool.Decides.{nat_tests}
-use Rattle.std.specs.List.{AllByRecursion}
-use Rattle.sessions.specs.Transitions.{Transition, Owner, OfRecord, OfSession, is_owner, owned_by, gift_of, gifts_of}
+use Rattle.sessions.proofs.Imports.{append-nil, nat_tests, AllByRecursion, Transition, Owner, OfRecord, OfSession, is_owner, owned_by, gift_of, gifts_of}
 
 pub same_test : (a b : ℕ) → a ≡ b → (a == b) ≡ true
 same_test a b e = grind (arith, nat_tests, e)

@@ -1,15 +1,8 @@
 -- Each job below a number stands once in the list of jobs that are done.
 use Rattle.std.proofs.Common.{◌≡◌, ◌≢◌, ◌==◌, Bool, ℕ, zero, suc, ◌+◌, ◌<◌, List, [], ◌∷◌, ◌++◌, map, length, replicate, take, set, Some, slice_get, cond, refl, sym, ap, ◌∙◌, subst, ⊎_elim, arith, length-append}
 use Rattle.std.specs.List.{sum}
-use Rattle.std.proofs.lemmas.Bool.Decides.{nat_tests}
-use Rattle.std.proofs.lemmas.List.Sums.{sum_by-cons, sum_by_push}
-use Rattle.worker_seats.specs.Queue.{below, weigh, at_alone, times}
-use Rattle.worker_seats.proofs.Counting.{last_or}
-use Rattle.worker_seats.proofs.Queueing.{weigh-append, is_here, is_else, under, nat_cases}
-use Rattle.worker_seats.proofs.Rows.{get_there, set_here, set_else}
-use Rattle.sessions.specs.declared.outcome.Receipt.{Receipt}
-use Rattle.sessions.specs.declared.record.Record.{Record}
-use Rattle.sessions.specs.Finishing.{receipt_of, records_of}
+use Rattle.sessions.proofs.Imports.{nat_tests, sum_by-cons, sum_by_push, below, weigh, at_alone, times, last_or, weigh-append, is_here, is_else, under, nat_cases, get_there, set_here, set_else}
+use Rattle.sessions.proofs.Imports.{Receipt, Record, receipt_of, records_of}
 
 weigh_one : (xs : List ℕ) → weigh (λ _. 1) xs ≡ length xs
 weigh_one [] = refl

@@ -1,27 +1,8 @@
 -- What lies under the lock: what a worker's seat tells of it, and what is so of it after an event.
 use Rattle.std.proofs.Common.{◌≡◌, ◌<◌, ◌≤◌, ◌+◌, ◌++◌, ◌∷◌, [], ℕ, true, List, length, Option, Some, None, slice_get, slice_set, get_or, vec_len, sym, ap, ◌∙◌, subst, arith}
-use Rattle.std.proofs.Math.Logic.{∥∥₁_map}
-use Rattle.std.proofs.lemmas.Option.{slice_get_read}
 use Rattle.atomic_table.specs.Seated.{TableId}
-use Rattle.index_model.specs.declared.dead_rows.DeadRows.{Ghosts as SetGhosts}
-use Rattle.page_action.specs.declared.page_store.PageStore.{Ghosts}
-use Rattle.session_calls.specs.Slots.{has_call}
-use Rattle.session_calls.specs.declared.answer.Answer.{Answer}
-use Rattle.schedule.specs.TheoremMoments.{StoreAndSlots}
-use Rattle.worker_seats.specs.Seats.{keeper_of, known_by}
-use Rattle.worker_seats.specs.declared.run.Run.{Ghosts as RunGhosts}
-use Rattle.worker_seats.specs.declared.seating.SeatView.{SeatView}
-use Rattle.world.specs.Worlds.{inside}
-use Rattle.world.specs.declared.world.World.{World}
-use Rattle.sessions.specs.declared.jobs.Jobs.{Ghosts as JobGhosts}
-use Rattle.sessions.specs.declared.record.Pending.{Pending}
-use Rattle.sessions.specs.declared.record.Record.{Record}
-use Rattle.sessions.specs.declared.shared.Shared.{Shared}
-use Rattle.sessions.specs.Acted.{HasActed}
-use Rattle.sessions.specs.Handed.{ComesOf}
-use Rattle.sessions.specs.Kept.{KeepsAll, MatchesPending, record_of}
-use Rattle.sessions.specs.Notes.{notes_of, jobs_of}
-use Rattle.sessions.specs.Turns.{TurnMeans, HasNotedAt}
+use Rattle.sessions.proofs.Imports.{∥∥₁_map, slice_get_read, SetGhosts, Ghosts, has_call, Answer, StoreAndSlots, keeper_of, known_by, RunGhosts, SeatView, inside, World, JobGhosts, Pending}
+use Rattle.sessions.proofs.Imports.{Record, Shared, HasActed, ComesOf, KeepsAll, MatchesPending, record_of, notes_of, jobs_of, TurnMeans, HasNotedAt}
 use Rattle.sessions.proofs.Handing.{IsNext, comes_on}
 use Rattle.sessions.proofs.Noting.{none_there, some_there, some_same, within, notes_of_snoc, length_notes, runs_there, seat_runs}
 

@@ -1,26 +1,8 @@
 -- What a step under the lock leaves of what is kept.
 use Rattle.std.proofs.Common.{◌≡◌, ◌⊎◌, true, false, ℕ, not, [], ◌∷◌, ◌++◌, Option, Some, None, slice_set, refl, ap, ◌∙◌, subst, inl, inr}
-use Rattle.index_model.specs.Calls.{Call}
-use Rattle.index_model.specs.declared.dead_rows.DeadRows.{Ghosts as SetGhosts}
-use Rattle.page_action.specs.declared.page_store.PageStore.{Ghosts}
-use Rattle.session_calls.specs.Ops.{is_last}
-use Rattle.session_calls.specs.Sessions.{AnswersStep}
-use Rattle.session_calls.specs.Slots.{has_call, slot_of}
-use Rattle.session_calls.specs.declared.answer.Answer.{Answer}
-use Rattle.session_calls.specs.declared.answer.Answer.TheVariants.{Ended}
-use Rattle.session_calls.specs.declared.op.Op.{Op}
-use Rattle.session_calls.specs.declared.op.Op.TheVariants.{Insert as Inserts, Scan as Scans, Bulk as Bulks, Cleanup as Cleanups}
-use Rattle.schedule.specs.CallLists.{OneCallRuns}
-use Rattle.schedule.specs.TheoremMoments.{StoreAndSlots, Moment, snapshot_of}
 use Rattle.whole_calls.specs.Going.{CallIsRun}
-use Rattle.whole_calls.specs.OneStep.{HasStepped, IsGivenUpFor, IsMadeAsStep, OneStepAlways, OneStepIsRun}
-use Rattle.worker_seats.specs.declared.run.Run.{Ghosts as RunGhosts}
-use Rattle.world.specs.Worlds.{inside}
-use Rattle.world.specs.declared.world.World.{World}
-use Rattle.sessions.specs.declared.jobs.Jobs.{Ghosts as JobGhosts}
-use Rattle.sessions.specs.declared.shared.Shared.{Shared}
-use Rattle.sessions.specs.declared.record.Pending.{Pending}
-use Rattle.sessions.specs.Kept.{KeepsFitting, record_of}
+use Rattle.sessions.proofs.Imports.{Call, SetGhosts, Ghosts, is_last, AnswersStep, has_call, slot_of, Answer, Ended, Op, Inserts, Scans, Bulks, Cleanups, OneCallRuns, StoreAndSlots, Moment}
+use Rattle.sessions.proofs.Imports.{snapshot_of, HasStepped, IsGivenUpFor, IsMadeAsStep, OneStepAlways, OneStepIsRun, RunGhosts, inside, World, JobGhosts, Shared, Pending, KeepsFitting, record_of}
 use Rattle.sessions.proofs.Noting.{clash, set_same, last_of, others_run_on, matches_goes, matches_ends}
 use Rattle.sessions.proofs.Handing.{IsNext}
 use Rattle.sessions.proofs.Sharing.{RunsAt, KeepsWith, CarriesOn}

@@ -1,31 +1,8 @@
 -- The transitions of each event under the lock.
 use Rattle.std.proofs.Common.{◌≡◌, true, false, ℕ, suc, ◌<◌, ◌≤◌, List, [], ◌∷◌, ◌++◌, length, Option, Some, None, slice_get, slice_set, vec_len, vec_capacity, refl, sym, ap, ◌∙◌, subst, inl, inr, arith, length-append}
-use Rattle.std.proofs.lemmas.List.{append-nil}
-use Rattle.index_model.specs.declared.entry.Entry.{Entry}
-use Rattle.page_action.specs.declared.page_store.PageStore.{Ghosts}
-use Rattle.session_calls.specs.Ops.{is_last}
-use Rattle.session_calls.specs.Sessions.{is_busy, ready_count}
-use Rattle.session_calls.specs.Slots.{has_call, slot_of}
-use Rattle.session_calls.specs.declared.answer.Answer.{Answer}
-use Rattle.session_calls.specs.declared.answer.Answer.TheVariants.{Gave, Ended, Checkpointed, Refused}
-use Rattle.schedule.specs.Events.{EventAlways}
-use Rattle.schedule.specs.Making.{EventEffect}
-use Rattle.schedule.specs.TheoremKinds.{kind_of}
-use Rattle.schedule.specs.TheoremMoments.{StoreAndSlots}
-use Rattle.schedule.specs.TheoremRuns.{ForEachHistory, EventFollows}
-use Rattle.schedule.specs.declared.event.Event.{Event}
-use Rattle.schedule.specs.declared.event.Event.TheVariants.{Step, Next, End, Checkpoint}
-use Rattle.whole_calls.specs.OneStep.{IsMadeAsStep}
-use Rattle.sessions.specs.Acted.{HasActed}
-use Rattle.sessions.specs.Doing.{MayBeDone, HasTaken, IsFullScan, given_after}
-use Rattle.sessions.specs.Handed.{Handed}
-use Rattle.sessions.specs.Jobs.{IsRoomOf, ScanIsFull}
-use Rattle.sessions.specs.Kept.{record_of}
-use Rattle.sessions.specs.Transitions.{Transition, gift_of}
-use Rattle.sessions.specs.declared.job.Job.{Job}
-use Rattle.sessions.specs.declared.job.Job.TheVariants.{Scan}
-use Rattle.sessions.specs.declared.record.Record.{Record}
-use Rattle.sessions.specs.declared.record.Pending.{Pending}
+use Rattle.sessions.proofs.Imports.{append-nil, Entry, Ghosts, is_last, is_busy, ready_count, has_call, slot_of, Answer, Gave, Ended, Checkpointed, Refused, EventAlways, EventEffect, kind_of}
+use Rattle.sessions.proofs.Imports.{StoreAndSlots, ForEachHistory, EventFollows, Event, Step, Next, End, Checkpoint, IsMadeAsStep, HasActed, MayBeDone, HasTaken, IsFullScan, given_after, Handed}
+use Rattle.sessions.proofs.Imports.{IsRoomOf, ScanIsFull, record_of, Transition, gift_of, Job, Scan, Record, Pending}
 use Rattle.sessions.proofs.Acting.{moment_of, acts_on, acts_ended}
 use Rattle.sessions.proofs.Noting.{some_same, clash, set_same, busy_is}
 use Rattle.sessions.proofs.Meanings.{IsOfStep}

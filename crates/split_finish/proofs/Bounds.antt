@@ -1,18 +1,7 @@
 -- What is left to do for a call that finishes splits has a bound.
 use Rattle.std.proofs.Common.{ℕ, suc, ◌+◌, ◌*◌, ◌≤◌, Bool, true, false, if◌then◌else◌, List, [], ◌∷◌, length, arith, length-append}
-use Rattle.std.proofs.Math.Nat.{mul-le-mul_right}
-use Rattle.page_action.specs.States.{State}
-use Rattle.tree_shape.specs.Nodes.{Node, nodes_of}
-use Rattle.tree_shape.specs.Walks.{bound_aim}
-use Rattle.tree_acts.specs.Trees.{HasTree}
-use Rattle.tree_acts.proofs.Sizes.{low_level}
-use Rattle.descent.specs.NextPage.{walk_length}
-use Rattle.split_finish.specs.Targets.{targets_of, FinishStands, FinishInvariant, is_as_read, stale_count, is_ready, one_unless, detour, walks_left, walk_left, finish_left}
-use Rattle.split_finish.specs.declared.finish.FinishAt.{FinishAt}
-use Rattle.split_finish.specs.declared.finish.FinishAt.TheVariants.{Start, Down, Link, Root}
-use Rattle.split_finish.specs.declared.finish.FinishOp.{FinishOp}
-use Rattle.split_finish.specs.declared.finish.Target.{Target}
-use Rattle.descent.proofs.Shortening.{walk_is_long}
+use Rattle.split_finish.proofs.Imports.{mul-le-mul_right, State, Node, nodes_of, bound_aim, HasTree, low_level, walk_length, targets_of, FinishStands, FinishInvariant, is_as_read, stale_count}
+use Rattle.split_finish.proofs.Imports.{is_ready, one_unless, detour, walks_left, walk_left, finish_left, FinishAt, Start, Down, Link, Root, FinishOp, Target, walk_is_long}
 
 -- no more targets are other than they were read than there are
 stale_few : (at : ℕ → Node) (targets : List Target) → stale_count at targets ≤ length targets

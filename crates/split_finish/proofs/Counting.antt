@@ -1,14 +1,7 @@
 -- What is left to do, while the pages are as they are.
 use Rattle.std.proofs.Common.{◌≡◌, ℕ, suc, ◌+◌, ◌-◌, ◌*◌, ◌<◌, ◌≤◌, ◌==◌, true, false, List, [], ◌∷◌, ◌++◌, length, refl, sym, ap, ◌∙◌, arith, length-append}
-use Rattle.std.proofs.Math.Nat.{mul-le-mul_right}
-use Rattle.tree_shape.specs.Nodes.{Node}
-use Rattle.descent.specs.NextPage.{IsShorter, way_left, walk_length}
-use Rattle.descent.specs.declared.way.Position.{Position}
-use Rattle.descent.proofs.Shortening.{walk_is_long, way_shortens}
-use Rattle.split_finish.specs.Targets.{is_as_read, stale_count, is_ready, detour, walk_left}
-use Rattle.split_finish.specs.declared.finish.FinishAt.{FinishAt}
-use Rattle.split_finish.specs.declared.finish.FinishAt.TheVariants.{Start, Down, Link, Root}
-use Rattle.split_finish.specs.declared.finish.Target.{Target}
+use Rattle.split_finish.proofs.Imports.{mul-le-mul_right, Node, IsShorter, way_left, walk_length, Position, walk_is_long, way_shortens, is_as_read, stale_count, is_ready, detour, walk_left}
+use Rattle.split_finish.proofs.Imports.{FinishAt, Start, Down, Link, Root, Target}
 
 -- the walks that are left outweigh one walk
 fewer_walks : (fewer more walk a b : ℕ) → fewer < more → a ≤ walk → fewer * suc walk + a < more * suc walk + b

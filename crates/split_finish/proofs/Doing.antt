@@ -1,28 +1,8 @@
 -- What the acts by which splits are finished leave to the call.
 use Rattle.std.proofs.Common.{◌≡◌, ℕ, suc, ◌==◌, if◌then◌else◌, Bool, true, false, Some, None, Ok, Err, List, map, slice_get, refl, sym, ap, subst, inr, ◌∙◌, arith}
-use Rattle.std.proofs.lemmas.Bool.{eq-eqb}
-use Rattle.index_model.specs.Actions.{Shape}
-use Rattle.index_model.specs.Faults.{HasCause}
-use Rattle.index_model.specs.declared.fault.Fault.{Fault}
-use Rattle.page_codec.specs.declared.page.Page.{Page}
-use Rattle.page_action.specs.States.{State, Backing, Continues, after_act}
-use Rattle.page_action.specs.declared.page_store.PageStore.{Ghosts}
-use Rattle.tree_shape.specs.Walks.{bound_aim}
-use Rattle.tree_shape.proofs.Fits.{bound_falls}
-use Rattle.tree_acts.specs.Acts.{TreeLasts}
-use Rattle.tree_acts.specs.Flags.{FlagsMove}
-use Rattle.tree_acts.specs.StepEffects.{IsInOrder, StepEffect, is_incomplete, causes_of_acting}
-use Rattle.descent.proofs.Acting.{one_act}
-use Rattle.descent.proofs.Working.{act_cause_of}
-use Rattle.split_finish.specs.Targets.{FinishInvariant, IsTarget}
-use Rattle.split_finish.specs.Turns.{Popped}
-use Rattle.split_finish.specs.Turns.{splits_root_of}
-use Rattle.split_finish.specs.Finishes.{FinishStepped, finish_blocks, takes_block_of}
-use Rattle.split_finish.specs.Acting.{FinishActs}
-use Rattle.split_finish.specs.declared.finish.FinishOp.{FinishOp}
-use Rattle.split_finish.specs.declared.finish.FinishStep.{FinishStep}
-use Rattle.split_finish.specs.declared.finish.FinishStep.TheVariants.{Going, Done}
-use Rattle.split_finish.specs.declared.finish.Target.{Target}
+use Rattle.split_finish.proofs.Imports.{eq-eqb, Shape, HasCause, Fault, Page, State, Backing, Continues, after_act, Ghosts, bound_aim, bound_falls, TreeLasts, FlagsMove, IsInOrder, StepEffect}
+use Rattle.split_finish.proofs.Imports.{is_incomplete, causes_of_acting, one_act, act_cause_of, FinishInvariant, IsTarget, Popped, splits_root_of, FinishStepped, finish_blocks, takes_block_of}
+use Rattle.split_finish.proofs.Imports.{FinishActs, FinishOp, FinishStep, Going, Done, Target}
 use Rattle.split_finish.proofs.Standing.{fits_popped}
 use Rattle.split_finish.proofs.Stepping.{acts_not}
 use Rattle.split_finish.proofs.Turning.{flags_popped, flags_gone}

@@ -1,35 +1,10 @@
 -- A new root: what the act is, and what it leaves.
 use Rattle.std.proofs.Common.{◌≡◌, ℕ, suc, ◌<◌, ◌≤◌, Bool, true, false, Some, None, Ok, List, [], ◌∷◌, length, slice_get, refl, sym, ap, subst, ◌∙◌, arith}
-use Rattle.latch_table.specs.Holdings.{is_held_by_another}
-use Rattle.latch_table.specs.declared.mode.Mode.TheVariants.{Exclusive}
-use Rattle.page_codec.specs.Grammar.{IsBlock}
-use Rattle.page_codec.specs.Spelling.{count_of}
-use Rattle.page_codec.specs.declared.page.Items.{Items}
-use Rattle.page_codec.specs.declared.page.Page.{Page}
-use Rattle.page_codec.specs.declared.page.PageState.TheVariants.{Live}
-use Rattle.page_action.specs.Reuse.{IsFresh}
-use Rattle.page_action.specs.States.{State, Backing, after_act}
-use Rattle.page_action.proofs.Writable.{writable}
-use Rattle.tree_shape.specs.Tree.{IsMetaOf}
-use Rattle.tree_acts.specs.Acts.{IsIncompleteSplit, MayActWith, RootIsSplit}
-use Rattle.tree_acts.specs.Flags.{FlagsMove}
-use Rattle.tree_acts.specs.Trees.{HasTree}
-use Rattle.tree_acts.proofs.Leaving.{root_split_leaves}
-use Rattle.tree_acts.proofs.Finishing.{root_split_lasts}
-use Rattle.tree_acts.proofs.Flagging.{root_split_flags}
-use Rattle.tree_acts.proofs.Weighed.{root_split_weighs}
-use Rattle.tree_acts.proofs.Overlays.{inside, node_there}
-use Rattle.tree_acts.specs.StepEffects.{IsInOrder}
-use Rattle.descent.proofs.Acting.{does_finish}
-use Rattle.split_finish.specs.Targets.{FinishInvariant}
-use Rattle.split_finish.specs.Turns.{IsReadyToGrow, Popped}
-use Rattle.split_finish.specs.Finishes.{FinishStepped}
-use Rattle.split_finish.specs.Acting.{AreGrown, IsReadToChange}
-use Rattle.split_finish.specs.declared.finish.FinishOp.{FinishOp}
-use Rattle.split_finish.specs.declared.finish.FinishStep.{FinishStep}
 use Rattle.split_finish.proofs.Standing.{incomplete_has, incomplete_block, right_block, high_bound, fresh_not_live}
 use Rattle.split_finish.proofs.Doing.{clears}
-use Rattle.tree_shape.specs.Nodes.{Node}
+use Rattle.split_finish.proofs.Imports.{is_held_by_another, Exclusive, IsBlock, count_of, Items, Page, Live, IsFresh, State, Backing, after_act, writable, IsMetaOf, IsIncompleteSplit, MayActWith}
+use Rattle.split_finish.proofs.Imports.{RootIsSplit, FlagsMove, HasTree, root_split_leaves, root_split_lasts, root_split_flags, root_split_weighs, inside, node_there, IsInOrder, does_finish}
+use Rattle.split_finish.proofs.Imports.{FinishInvariant, IsReadyToGrow, Popped, FinishStepped, AreGrown, IsReadToChange, FinishOp, FinishStep, Node}
 
 module _ (st : State) (op : FinishOp) (honest : Bool) (meta page : Page) (new fresh : ℕ) (pages : List Page) (order : IsInOrder st) (fits : FinishInvariant st op) (sound : honest ≡ true)
     (read_meta : IsReadToChange st honest op.session 0 meta) (read : IsReadToChange st honest op.session op.target.block page) (ready : IsReadyToGrow meta page op op) (right : page.right ≡ Some new)

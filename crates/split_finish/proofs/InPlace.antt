@@ -1,18 +1,7 @@
 -- The parent and the page in the first two of three pages: as they are read there, and as they are changed there.
 use Rattle.std.proofs.Common.{◌≡◌, ◌+◌, ◌++◌, ℕ, suc, List, [], ◌∷◌, length, take, slice_set, refl, sym, ap, subst, arith}
-use Rattle.std.specs.Prelude.{slice_index_or}
-use Rattle.index_model.specs.declared.bound.Bound.{Bound}
-use Rattle.page_codec.specs.Grammar.{IsBlock, IsPage, IsBoundIn}
-use Rattle.index_model.specs.declared.layout.Layout.TheVariants.{Two}
-use Rattle.page_codec.specs.Spelling.{count_of}
-use Rattle.page_codec.specs.declared.page.Items.{Items}
-use Rattle.page_codec.specs.declared.page.Items.TheVariants.{Meta, Entries, Downlinks}
-use Rattle.page_codec.specs.declared.page.Page.{Page}
-use Rattle.tree_shape.specs.Edits.{IsLinkAdded, with_links}
-use Rattle.tree_shape.specs.LinkPlaces.{HasLinks, FitsAfter, child_at}
-use Rattle.tree_shape.specs.Nodes.{node_of, links_of}
-use Rattle.tree_acts.specs.Acts.{IsClear}
-use Rattle.split_finish.specs.Acting.{IsLinkPlace}
+use Rattle.split_finish.proofs.Imports.{slice_index_or, Bound, IsBlock, IsPage, IsBoundIn, Two, count_of, Items, Meta, Entries, Downlinks, Page, IsLinkAdded, with_links, HasLinks, FitsAfter}
+use Rattle.split_finish.proofs.Imports.{child_at, node_of, links_of, IsClear, IsLinkPlace}
 
 -- what is put on the first page of one part and of the other stands there
 pub two_put : (front back : List Page) (parent page : Page) → length front ≡ 1 → length back ≡ 2

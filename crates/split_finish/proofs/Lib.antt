@@ -1,3 +1,4 @@
+pub mod Imports
 pub mod Counting
 pub mod Bounds
 pub mod Standing

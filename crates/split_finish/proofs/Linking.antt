@@ -1,37 +1,9 @@
 -- A downlink on a parent with room: what the act is, and what it leaves.
 use Rattle.std.proofs.Common.{◌≡◌, ◌&&◌, ◌==◌, not, ℕ, suc, ◌<◌, ◌≤◌, Bool, true, false, Some, None, Ok, List, [], ◌∷◌, length, slice_get, refl, sym, ap, subst, ◌∙◌, arith}
-use Rattle.std.proofs.lemmas.Bool.{and_parts, eqb-true}
-use Rattle.index_model.specs.declared.bound.Bound.{Bound}
-use Rattle.latch_table.specs.Holdings.{is_held_by_another}
-use Rattle.latch_table.specs.declared.mode.Mode.TheVariants.{Exclusive}
-use Rattle.page_codec.specs.Spelling.{count_of}
-use Rattle.page_codec.specs.declared.page.Items.{Items}
-use Rattle.page_codec.specs.declared.page.Page.{Page}
-use Rattle.page_codec.specs.declared.page.PageState.{PageState}
-use Rattle.page_codec.specs.declared.page.PageState.TheVariants.{Live, HalfDead, Deleted}
-use Rattle.page_action.specs.States.{State, Backing, after_act}
-use Rattle.page_action.proofs.Writable.{writable}
-use Rattle.tree_shape.specs.Nodes.{Node, node_of, links_of, is_live}
-use Rattle.tree_shape.specs.Walks.{bound_aim, is_within}
-use Rattle.tree_acts.specs.Acts.{IsIncompleteSplit, MayActWith, SplitIsFinished}
-use Rattle.tree_acts.specs.Flags.{FlagsMove}
-use Rattle.tree_acts.specs.Trees.{HasTree, LeadsTo, HasCover}
-use Rattle.tree_acts.proofs.Leaving.{finish_leaves}
-use Rattle.tree_acts.proofs.Finishing.{finish_lasts}
-use Rattle.tree_acts.proofs.Flagging.{finish_flags}
-use Rattle.tree_acts.proofs.Weighed.{finish_weighs}
-use Rattle.tree_acts.proofs.Overlays.{inside, node_there}
-use Rattle.tree_acts.proofs.Meanings.{live_shows}
-use Rattle.tree_acts.specs.StepEffects.{IsInOrder}
-use Rattle.descent.specs.declared.way.Position.{Position}
-use Rattle.descent.proofs.Acting.{does_finish}
-use Rattle.split_finish.specs.Targets.{FinishInvariant, FinishStands, is_ready}
-use Rattle.split_finish.specs.Turns.{IsReadyToLink, Popped}
-use Rattle.split_finish.specs.Finishes.{FinishStepped}
-use Rattle.split_finish.specs.Acting.{IsReadToChange}
-use Rattle.split_finish.specs.declared.finish.FinishAt.TheVariants.{Link}
-use Rattle.split_finish.specs.declared.finish.FinishOp.{FinishOp}
-use Rattle.split_finish.specs.declared.finish.FinishStep.{FinishStep}
+use Rattle.split_finish.proofs.Imports.{and_parts, eqb-true, Bound, is_held_by_another, Exclusive, count_of, Items, Page, PageState, Live, HalfDead, Deleted, State, Backing, after_act, writable}
+use Rattle.split_finish.proofs.Imports.{Node, node_of, links_of, is_live, bound_aim, is_within, IsIncompleteSplit, MayActWith, SplitIsFinished, FlagsMove, HasTree, LeadsTo, HasCover}
+use Rattle.split_finish.proofs.Imports.{finish_leaves, finish_lasts, finish_flags, finish_weighs, inside, node_there, live_shows, IsInOrder, Position, does_finish, FinishInvariant, FinishStands}
+use Rattle.split_finish.proofs.Imports.{is_ready, IsReadyToLink, Popped, FinishStepped, IsReadToChange, Link, FinishOp, FinishStep}
 use Rattle.split_finish.proofs.Standing.{right_block, high_bound}
 use Rattle.split_finish.proofs.Doing.{clears}
 use Rattle.split_finish.proofs.InPlace.{AreLinked}

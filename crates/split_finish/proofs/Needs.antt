@@ -1,25 +1,8 @@
 -- What a step takes that finishes a split.
 use Rattle.std.proofs.Common.{◌≡◌, ◌&&◌, ◌==◌, ℕ, suc, ◌<◌, ◌≤◌, Bool, true, nat_lt, if◌then◌else◌, Option, Some, None, List, [], ◌∷◌, ◌++◌, map, length, slice_get, refl, sym, ap, subst, ◌∙◌}
-use Rattle.std.proofs.lemmas.Bool.{and_from, eq-eqb, le-leb, lt-ltb, lt-leb}
-use Rattle.page_codec.specs.declared.page.Items.{Items}
-use Rattle.page_codec.specs.declared.page.Items.TheVariants.{Meta}
-use Rattle.page_codec.specs.declared.page.Page.{Page}
-use Rattle.page_action.specs.States.{State}
-use Rattle.tree_shape.specs.Nodes.{Node, links_of, nodes_of}
-use Rattle.tree_acts.proofs.Overlays.{node_there}
-use Rattle.tree_acts.specs.StepEffects.{fresh_block, sibling}
-use Rattle.descent.specs.Splitting.{RightIsStored}
-use Rattle.tree_acts.specs.Levels.{level_of, level_with, root_level}
-use Rattle.descent.specs.declared.way.Position.{Position}
-use Rattle.split_finish.specs.Finishes.{finish_blocks, frames_of, takes_block_of, blocks_linked, is_full_parent, is_to_link, is_to_grow}
-use Rattle.split_finish.specs.Parting.{halves_and}
-use Rattle.split_finish.specs.Targets.{is_as_read, is_ready}
-use Rattle.split_finish.specs.Turns.{IsReadyToLink, IsReadyToGrow}
-use Rattle.split_finish.specs.declared.finish.FinishAt.{FinishAt}
-use Rattle.split_finish.specs.declared.finish.FinishAt.TheVariants.{Link, Root}
-use Rattle.split_finish.specs.declared.finish.FinishOp.{FinishOp}
-use Rattle.split_finish.specs.declared.finish.Target.{Target}
-use Rattle.descent.proofs.Working.{frames_some}
+use Rattle.split_finish.proofs.Imports.{and_from, eq-eqb, le-leb, lt-ltb, lt-leb, Items, Meta, Page, State, Node, links_of, nodes_of, node_there, fresh_block, sibling, RightIsStored, level_of}
+use Rattle.split_finish.proofs.Imports.{level_with, root_level, Position, finish_blocks, frames_of, takes_block_of, blocks_linked, is_full_parent, is_to_link, is_to_grow, halves_and, is_as_read}
+use Rattle.split_finish.proofs.Imports.{is_ready, IsReadyToLink, IsReadyToGrow, FinishAt, Link, Root, FinishOp, Target, frames_some}
 use Rattle.split_finish.proofs.Turning.{as_read}
 
 -- the target as it was read, and a parent that is ready: the downlink is put there

@@ -1,50 +1,16 @@
 -- A full parent is split.
 use Rattle.std.proofs.Common.{◌≡◌, ◌≢◌, ℕ, suc, ◌+◌, ◌<◌, ◌≤◌, ◌&&◌, ◌||◌, ◌==◌, not, Bool, true, false, Option, Some, None, Ok, List, [], ◌∷◌, ◌++◌, length, slice_get, refl, sym, ap, subst, inl, inr, ◌∙◌, arith, eq-eqb}
-use Rattle.std.proofs.lemmas.Bool.{cases_eq, and_parts, eqb-true, ne_eqb}
-use Rattle.index_model.specs.Actions.{Shape}
-use Rattle.index_model.specs.declared.bound.Bound.{Bound}
-use Rattle.latch_table.specs.Holdings.{is_held_by_another}
-use Rattle.latch_table.specs.declared.mode.Mode.TheVariants.{Exclusive}
-use Rattle.page_codec.specs.Grammar.{IsBlock, IsPage}
-use Rattle.page_codec.specs.Spelling.{count_of}
-use Rattle.page_codec.specs.declared.page.Page.{Page}
-use Rattle.page_codec.specs.declared.page.PageState.TheVariants.{Live, Deleted}
-use Rattle.page_action.specs.Reuse.{IsFresh}
-use Rattle.page_action.specs.States.{State, Continues, after_act}
-use Rattle.page_action.specs.Stored.{IsWritable, IsApartFrom, AreActable}
-use Rattle.page_action.specs.declared.page_store.PageStore.{Ghosts}
-use Rattle.index_model.specs.declared.layout.Layout.TheVariants.{Two}
-use Rattle.page_action.proofs.Writable.{writable}
-use Rattle.tree_shape.specs.LinkPlaces.{LinkSplit, HasLinks}
-use Rattle.tree_shape.specs.Nodes.{Node, node_of, links_of, is_live}
-use Rattle.tree_shape.specs.Walks.{bound_aim, is_within}
-use Rattle.tree_shape.proofs.Fits.{bound_falls}
-use Rattle.tree_acts.specs.Acts.{ParentIsSplit, IsMended, IsClear}
 use Rattle.tree_acts.specs.Acts.IsMended.{rightmost, neighbour}
-use Rattle.tree_acts.specs.Flags.{FlagsMove, flag_after}
-use Rattle.tree_acts.specs.Trees.{LeadsTo, IsStart}
-use Rattle.tree_acts.proofs.Finishing.{parent_split_lasts, parent_edit}
-use Rattle.tree_acts.proofs.Leaving.{parent_split_leaves}
-use Rattle.tree_acts.proofs.Flagging.{parent_split_flags}
-use Rattle.tree_acts.proofs.Weighed.{parent_split_weighs}
-use Rattle.tree_acts.proofs.Overlays.{pages_first, node_there, inside}
 use Rattle.tree_shape.specs.Halves.{left_count}
-use Rattle.descent.specs.NextPage.{IsOnDescent}
 use Rattle.split_finish.proofs.Standing.{incomplete_has}
-use Rattle.tree_acts.proofs.Meanings.{high_key_shows, neighbour_shows}
-use Rattle.tree_acts.specs.StepEffects.{IsInOrder, StepEffect, is_incomplete}
-use Rattle.descent.specs.Splitting.{RightIsMendable, RightIsStored, RightIsFound, mended_to}
-use Rattle.descent.specs.declared.way.Position.{Position}
-use Rattle.descent.proofs.Acting.{AreFree, does_finish, one_act}
 use Rattle.descent.proofs.Mended.{fresh_apart, RightMay, right_may}
-use Rattle.split_finish.specs.Acting.{IsReadToChange, FinishActs}
-use Rattle.split_finish.specs.Parting.{halves_and}
-use Rattle.split_finish.specs.Targets.{targets_of, is_among_targets, OnlyTargetsAreIncomplete, IsTarget, FinishStands, FinishInvariant, is_ready}
-use Rattle.split_finish.specs.Turns.{IsReadyToLink}
-use Rattle.split_finish.specs.declared.finish.FinishAt.TheVariants.{Start, Link}
-use Rattle.split_finish.specs.declared.finish.FinishOp.{FinishOp}
-use Rattle.split_finish.specs.declared.finish.FinishStep.TheVariants.{Going}
-use Rattle.split_finish.specs.declared.finish.Target.{Target}
+use Rattle.split_finish.proofs.Imports.{cases_eq, and_parts, eqb-true, ne_eqb, Shape, Bound, is_held_by_another, Exclusive, IsBlock, IsPage, count_of, Page, Live, Deleted, IsFresh, State}
+use Rattle.split_finish.proofs.Imports.{Continues, after_act, IsWritable, IsApartFrom, AreActable, Ghosts, Two, writable, LinkSplit, HasLinks, Node, node_of, links_of, is_live, bound_aim}
+use Rattle.split_finish.proofs.Imports.{is_within, bound_falls, ParentIsSplit, IsMended, IsClear, FlagsMove, flag_after, LeadsTo, IsStart, parent_split_lasts, parent_edit, parent_split_leaves}
+use Rattle.split_finish.proofs.Imports.{parent_split_flags, parent_split_weighs, pages_first, node_there, inside, IsOnDescent, high_key_shows, neighbour_shows, IsInOrder, StepEffect}
+use Rattle.split_finish.proofs.Imports.{is_incomplete, RightIsMendable, RightIsStored, RightIsFound, mended_to, Position, AreFree, does_finish, one_act, IsReadToChange, FinishActs, halves_and}
+use Rattle.split_finish.proofs.Imports.{targets_of, is_among_targets, OnlyTargetsAreIncomplete, IsTarget, FinishStands, FinishInvariant, is_ready, IsReadyToLink, Start, Link, FinishOp, Going}
+use Rattle.split_finish.proofs.Imports.{Target}
 use Rattle.split_finish.proofs.InPlace.{links_count}
 use Rattle.split_finish.proofs.Linking.{live_is, not_is}
 use Rattle.split_finish.proofs.Turning.{among_more, among_fewer}

@@ -1,19 +1,9 @@
 -- In a tree there is a place for the downlink of a right half: a downlink leads to the left half, and the separator fits after it.
 use Rattle.std.proofs.Common.{◌≡◌, ◌≢◌, inl, inr, ℕ, zero, suc, ◌+◌, ◌<◌, Option, Some, None, List, [], ◌∷◌, ◌++◌, length, take, drop, slice_get, refl, sym, ap, subst, ◌∙◌, arith}
-use Rattle.std.specs.Prelude.{All, slice_index_or}
-use Rattle.index_model.specs.declared.bound.Bound.{Bound}
 use Rattle.page_codec.specs.declared.page.Downlink.{Downlink}
-use Rattle.page_codec.specs.declared.page.Page.{Page}
-use Rattle.page_action.specs.States.{State}
-use Rattle.tree_shape.specs.Edits.{IsBetween, IsBelowNext, IsBelowBound}
 use Rattle.tree_shape.specs.Laws.{HasLink}
-use Rattle.tree_shape.specs.LinkPlaces.{link_at, bound_at, IsBelowFirst, FitsAfter}
-use Rattle.tree_shape.specs.Nodes.{links_of}
-use Rattle.tree_shape.specs.Walks.{bound_aim}
-use Rattle.tree_acts.specs.Acts.{IsIncompleteSplit}
-use Rattle.tree_acts.specs.Trees.{HasTree, HasCover}
-use Rattle.tree_acts.proofs.Meanings.{parent_shows, separator_shows}
-use Rattle.split_finish.specs.Acting.{NoLinkPlace}
+use Rattle.split_finish.proofs.Imports.{All, slice_index_or, Bound, Page, State, IsBetween, IsBelowNext, IsBelowBound, link_at, bound_at, IsBelowFirst, FitsAfter, links_of, bound_aim}
+use Rattle.split_finish.proofs.Imports.{IsIncompleteSplit, HasTree, HasCover, parent_shows, separator_shows, NoLinkPlace}
 
 -- an item in the middle
 no_link : Downlink

@@ -1,38 +1,13 @@
 -- Where a call stands, in a tree.
 use Rattle.std.proofs.Common.{◌≡◌, ◌⊎◌, ℕ, zero, suc, ◌<◌, ◌≤◌, Bool, true, false, Option, Some, None, List, [], ◌∷◌, ◌++◌, length, slice_get, refl, sym, ap, subst, inl, inr, ◌∙◌, arith, length-append}
-use Rattle.index_model.specs.declared.bound.Bound.{Bound}
-use Rattle.page_codec.specs.declared.page.Page.{Page}
-use Rattle.page_codec.specs.Grammar.{IsPage, IsOfKind, IsLeafIn, IsBlock, IsBoundIn}
-use Rattle.index_model.specs.declared.layout.Layout.TheVariants.{Two}
 use Rattle.page_codec.proofs.Again.{slot_widens}
-use Rattle.page_codec.specs.declared.page.Items.{Items}
-use Rattle.page_codec.specs.declared.page.Items.TheVariants.{Meta, Entries, Downlinks}
-use Rattle.page_codec.specs.declared.page.PageState.{PageState}
-use Rattle.page_codec.specs.declared.page.PageState.TheVariants.{Live, HalfDead, Deleted}
 use Rattle.index_model.specs.declared.entry.Entry.{Entry}
-use Rattle.std.specs.Prelude.{IsSome, IfSome}
-use Rattle.page_action.specs.States.{State}
-use Rattle.latch_table.specs.Holdings.{Holding, HasRoom, holding_of, nothing_held}
-use Rattle.page_action.proofs.StoredPages.{stored_page}
-use Rattle.tree_shape.specs.Tree.{IsMetaOf}
-use Rattle.tree_shape.specs.Nodes.{Node}
-use Rattle.tree_shape.specs.Walks.{bound_aim}
 use Rattle.tree_acts.proofs.Lasting.{fresh_free}
-use Rattle.page_action.specs.Reuse.{IsFresh}
-use Rattle.tree_acts.proofs.Overlays.{inside, node_there}
-use Rattle.tree_acts.specs.Trees.{HasTree, LeadsTo}
-use Rattle.tree_acts.specs.Acts.{IsIncompleteSplit}
 use Rattle.tree_acts.specs.Ways.{RootIsThere}
-use Rattle.tree_acts.proofs.Meanings.{metapage_shows, live_shows, high_key_shows, trail_begins_here}
-use Rattle.descent.specs.NextPage.{IsOnDescent, way_from}
-use Rattle.descent.specs.declared.way.Position.{Position}
-use Rattle.split_finish.specs.Targets.{targets_of, IsTarget, FinishStands, FinishInvariant}
-use Rattle.split_finish.specs.Turns.{Popped, Pushed, Retaken}
-use Rattle.split_finish.specs.declared.finish.FinishAt.{FinishAt}
-use Rattle.split_finish.specs.declared.finish.FinishAt.TheVariants.{Down}
-use Rattle.split_finish.specs.declared.finish.FinishOp.{FinishOp}
-use Rattle.split_finish.specs.declared.finish.FinishStep.TheVariants.{Going}
-use Rattle.split_finish.specs.declared.finish.Target.{Target}
+use Rattle.split_finish.proofs.Imports.{Bound, Page, IsPage, IsOfKind, IsLeafIn, IsBlock, IsBoundIn, Two, Items, Meta, Entries, Downlinks, PageState, Live, HalfDead, Deleted, IsSome, IfSome}
+use Rattle.split_finish.proofs.Imports.{State, Holding, HasRoom, holding_of, nothing_held, stored_page, IsMetaOf, Node, bound_aim, IsFresh, inside, node_there, HasTree, LeadsTo, IsIncompleteSplit}
+use Rattle.split_finish.proofs.Imports.{metapage_shows, live_shows, high_key_shows, trail_begins_here, IsOnDescent, way_from, Position, targets_of, IsTarget, FinishStands, FinishInvariant, Popped}
+use Rattle.split_finish.proofs.Imports.{Pushed, Retaken, FinishAt, Down, FinishOp, Going, Target}
 
 -- the metapage that is read is the tree's
 pub meta_same : (st : State) (start level : ℕ) (aim : Bound → Bool) (clear : Bool) (block : ℕ) (meta : Page) → LeadsTo st start level aim clear block

@@ -1,27 +1,10 @@
 -- Steps that read and change nothing but the call, and those that act after their readings.
 use Rattle.std.proofs.Common.{◌≡◌, ℕ, suc, ◌*◌, ◌<◌, ◌≤◌, ◌||◌, Bool, true, false, None, Result, Ok, Err, refl, sym, ap, subst, inl, ◌∙◌, arith}
-use Rattle.std.proofs.lemmas.Bool.{ltb-true, lt-ltb}
-use Rattle.std.specs.Prelude.{OnErr}
-use Rattle.index_model.specs.Faults.{HasCause}
-use Rattle.index_model.specs.declared.fault.Fault.{Fault}
 use Rattle.index_model.specs.declared.fault.Fault.TheVariants.{NoMemory, Io, Stopped, Blocked, Exists, KeyTooLong, BadRow, IndexFull, LogFull, NoFrame, VacuumRunning, NoSession, SessionBusy, BadSuper, BadVersion, LogDamaged, PageDamaged, BadLimits, TooTall, DeviceTooSmall, KeyExists}
 use Rattle.page_action.specs.Causes.{is_at_end}
-use Rattle.page_action.specs.States.{State, Backing, Continues}
-use Rattle.page_action.specs.declared.page_store.PageStore.{Ghosts}
-use Rattle.tree_acts.specs.StepEffects.{IsInOrder, IsOneActAtMost, is_incomplete}
-use Rattle.descent.proofs.Acting.{one_nothing, nothing_else}
-use Rattle.descent.proofs.Working.{no_room_later}
-use Rattle.descent.specs.NextPage.{walk_length}
-use Rattle.split_finish.specs.Targets.{FinishInvariant, OnlyTargetsAreIncomplete, targets_of, finish_left}
-use Rattle.split_finish.specs.Turns.{Turned, causes_of_turned}
-use Rattle.split_finish.specs.Finishes.{FinishSteps, FinishStays, FinishStepped, finish_blocks, causes_of_finishing}
-use Rattle.page_codec.specs.declared.page.Page.{Page}
-use Rattle.split_finish.specs.Acting.{FinishActs, IsReadToChange, MeetsParent}
-use Rattle.split_finish.specs.declared.finish.FinishAt.{FinishAt}
-use Rattle.split_finish.specs.declared.finish.FinishOp.{FinishOp}
-use Rattle.split_finish.specs.declared.finish.FinishStep.{FinishStep}
-use Rattle.split_finish.specs.declared.finish.FinishStep.TheVariants.{Going, Done}
-use Rattle.split_finish.specs.declared.finish.Target.{Target}
+use Rattle.split_finish.proofs.Imports.{ltb-true, lt-ltb, OnErr, HasCause, Fault, State, Backing, Continues, Ghosts, IsInOrder, IsOneActAtMost, is_incomplete, one_nothing, nothing_else}
+use Rattle.split_finish.proofs.Imports.{no_room_later, walk_length, FinishInvariant, OnlyTargetsAreIncomplete, targets_of, finish_left, Turned, causes_of_turned, FinishSteps, FinishStays}
+use Rattle.split_finish.proofs.Imports.{FinishStepped, finish_blocks, causes_of_finishing, Page, FinishActs, IsReadToChange, MeetsParent, FinishAt, FinishOp, FinishStep, Going, Done, Target}
 
 -- a step that is refused before anything is changed
 pub refuses : {S : Type 0} (g : Ghosts S) (op : FinishOp) (old new : S) (fault : Fault) → Continues g.follows old new → g.state new ≡ g.state old

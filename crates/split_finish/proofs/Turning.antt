@@ -1,29 +1,10 @@
 -- Turns, by what is changed of the call.
 use Rattle.std.proofs.Common.{◌≡◌, ◌⊎◌, ℕ, ◌<◌, ◌≤◌, ◌||◌, ◌==◌, Bool, true, false, Some, Ok, List, [], ◌∷◌, ◌++◌, length, slice_get, refl, sym, ap, subst, inl, inr, ◌∙◌, eq-eqb}
-use Rattle.std.proofs.lemmas.Bool.{eqb-true}
 use Rattle.std.proofs.lemmas.Cmp.{tied_itself}
-use Rattle.std.specs.Ordering.{is_eq}
 use Rattle.index_model.specs.Order.{bound_cmp}
-use Rattle.index_model.proofs.Order.{bounds_total}
-use Rattle.index_model.specs.declared.bound.Bound.{Bound}
-use Rattle.page_codec.specs.declared.page.Page.{Page}
-use Rattle.page_codec.specs.declared.page.PageState.TheVariants.{Live}
-use Rattle.page_action.specs.States.{State}
-use Rattle.tree_shape.specs.Nodes.{Node, nodes_of}
-use Rattle.tree_acts.specs.Trees.{HasTree}
-use Rattle.tree_acts.proofs.Overlays.{node_there}
-use Rattle.descent.specs.declared.way.Position.{Position}
-use Rattle.tree_shape.specs.Walks.{bound_aim, is_within}
-use Rattle.descent.specs.NextPage.{walk_length}
-use Rattle.split_finish.specs.Targets.{FinishStands, FinishInvariant, OnlyTargetsAreIncomplete, targets_of, is_among_targets, is_as_read, is_ready, detour, walk_left}
-use Rattle.split_finish.specs.Turns.{Turned, TurnContinues, Popped, Pushed, Retaken}
-use Rattle.tree_acts.specs.StepEffects.{is_incomplete}
-use Rattle.split_finish.specs.declared.finish.FinishStep.{FinishStep}
-use Rattle.split_finish.specs.declared.finish.FinishStep.TheVariants.{Going, Done}
-use Rattle.split_finish.specs.declared.finish.FinishAt.{FinishAt}
-use Rattle.split_finish.specs.declared.finish.FinishAt.TheVariants.{Down}
-use Rattle.split_finish.specs.declared.finish.FinishOp.{FinishOp}
-use Rattle.split_finish.specs.declared.finish.Target.{Target}
+use Rattle.split_finish.proofs.Imports.{eqb-true, is_eq, bounds_total, Bound, Page, Live, State, Node, nodes_of, HasTree, node_there, Position, bound_aim, is_within, walk_length, FinishStands}
+use Rattle.split_finish.proofs.Imports.{FinishInvariant, OnlyTargetsAreIncomplete, targets_of, is_among_targets, is_as_read, is_ready, detour, walk_left, Turned, TurnContinues, Popped, Pushed}
+use Rattle.split_finish.proofs.Imports.{Retaken, is_incomplete, FinishStep, Going, Done, FinishAt, Down, FinishOp, Target}
 use Rattle.split_finish.proofs.Counting.{left, less_pushed, less_popped, less_retaken, over_alone}
 use Rattle.split_finish.proofs.Standing.{fits_moved, rises_to, fits_popped, fits_retaken, incomplete_in}
 

@@ -1,13 +1,7 @@
 -- The Add of an insert.
 use Rattle.std.proofs.Common.{◌≡◌, ℕ, suc, Bool, true, false, List, Some, sym, ap, subst, ◌∙◌, not, arith}
-use Rattle.std.specs.Prelude.{slice_get, IsTrue, ◌↔◌, None}
-use Rattle.std.proofs.lemmas.Option.{same_Some}
-use Rattle.index_model.specs.Actions.{Add, Action, is_there_after}
-use Rattle.index_model.specs.Calls.{IsAdded}
-use Rattle.index_model.specs.declared.entry.Entry.{Entry}
-use Rattle.tests_reference.specs.Plain.{effect_of, action_of}
 use Rattle.tests_reference.specs.declared.action.PlainEffect.TheVariants.{Adds}
-use Rattle.tests_reference.specs.declared.action.PlainAction.{PlainAction}
+use Rattle.tests_reference.proofs.Imports.{slice_get, IsTrue, ◌↔◌, None, same_Some, Add, Action, is_there_after, IsAdded, Entry, effect_of, action_of, PlainAction}
 
 -- the Add of a call
 abbrev pub add_by : ℕ → Entry → Action

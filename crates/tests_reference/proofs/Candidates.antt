@@ -1,19 +1,14 @@
 -- Why it is enough to look at the entries of the start and at those that a history adds.
 use Rattle.std.proofs.Common.{◌≡◌, ℕ, zero, suc, ◌≤◌, Bool, true, false, ◌||◌, Option, Some, None, List, [], ◌∷◌, take, refl, sym, ap, subst, ◌∙◌, arith, inl, inr, ◌⊎◌}
-use Rattle.std.specs.Prelude.{unwrap_or, if◌then◌else◌}
 use Rattle.std.specs.List.{AllByRecursion}
 use Rattle.std.specs.Ordering.{is_eq}
 use Rattle.std.specs.declared.cmp.Ordering.{Ordering}
 use Rattle.std.specs.declared.cmp.Ordering.TheVariants.{Less, Equal, Greater}
 use Rattle.std.proofs.lemmas.Cmp.{tied_itself}
-use Rattle.index_model.specs.Row.{Row}
-use Rattle.index_model.specs.Order.{entry_cmp, same_entry, is_among, IsAscending}
-use Rattle.index_model.specs.Actions.{Effect, Add, Remove, Shape, Action, said_of, later_or, last_said, is_there_after}
-use Rattle.index_model.specs.Calls.{GivesOnly, GivesAll, AreRemovable}
-use Rattle.index_model.specs.declared.entry.Entry.{Entry}
 use Rattle.index_model.specs.declared.range.Range.{Range}
 use Rattle.index_model.proofs.Order.{entries_total, exact_entries}
-use Rattle.tests_reference.specs.Named.{with_added, added_by, IsGivenIfOwed, MayBeGiven, IsRemoved, AreRemoved, IsRemovable}
+use Rattle.tests_reference.proofs.Imports.{unwrap_or, if◌then◌else◌, Row, entry_cmp, same_entry, is_among, IsAscending, Effect, Add, Remove, Shape, Action, said_of, later_or, last_said}
+use Rattle.tests_reference.proofs.Imports.{is_there_after, GivesOnly, GivesAll, AreRemovable, Entry, with_added, added_by, IsGivenIfOwed, MayBeGiven, IsRemoved, AreRemoved, IsRemovable}
 
 is_equal : (o : Ordering) → is_eq o ≡ true → o ≡ Equal
 is_equal Less e = absurd cc

@@ -1,3 +1,4 @@
+pub mod Imports
 pub mod Moments
 pub mod Candidates
 pub mod Adds

@@ -1,10 +1,7 @@
 -- Moments of an interval, one after the other.
 use Rattle.std.proofs.Common.{◌≡◌, ℕ, zero, suc, ◌+◌, ◌≤◌, ◌<◌, Bool, List, [], ◌∷◌, Some, None, length, take, drop, get_or, refl, ap, sym, arith}
-use Rattle.std.specs.Prelude.{slice_get}
-use Rattle.std.proofs.lemmas.List.{take_all}
 use borrow.Author.Count.{below_more}
-use Rattle.tests_reference.specs.Plain.{history_of, action_of}
-use Rattle.tests_reference.specs.declared.action.PlainAction.{PlainAction}
+use Rattle.tests_reference.proofs.Imports.{slice_get, take_all, history_of, action_of, PlainAction}
 
 pub take_history_of : (k : ℕ) (actions : List PlainAction) → history_of (take k actions) ≡ take k (history_of actions)
 take_history_of zero actions = refl

@@ -1,12 +1,6 @@
 -- The owners of actions.
 use Rattle.std.proofs.Common.{◌≡◌, ℕ, zero, suc, ◌≤◌, ◌<◌, Bool, true, false, List, [], ◌∷◌, Some, None, length, get_or, refl, sym, ap, subst, ◌∙◌, arith, inl, inr, ◌⊎◌}
-use Rattle.std.specs.Prelude.{slice_get, IsTrue, ◌↔◌}
-use Rattle.std.proofs.lemmas.Option.{same_Some}
-use Rattle.index_model.specs.Actions.{Action}
-use Rattle.index_model.specs.Calls.{Call, IsOwned, ActionsAreOwned}
-use Rattle.index_model.specs.declared.entry.Entry.{Entry}
-use Rattle.tests_reference.specs.Plain.{call_of, meant_calls}
-use Rattle.tests_reference.specs.Named.{HasRight, IsOwnedAt}
+use Rattle.tests_reference.proofs.Imports.{slice_get, IsTrue, ◌↔◌, same_Some, Action, Call, IsOwned, ActionsAreOwned, Entry, call_of, meant_calls, HasRight, IsOwnedAt}
 use Rattle.tests_reference.specs.declared.call.PlainCall.{PlainCall}
 
 -- after the last call there is none

@@ -1,30 +1,11 @@
 -- A split is finished: in a parent with room, in one that is split itself, and by a new root.
 use Rattle.std.proofs.Common.{◌≡◌, ◌≢◌, ◌↔◌, ℕ, suc, ◌<◌, ◌≤◌, max, inl, Bool, true, false, List, [], ◌∷◌, ◌++◌, length, slice_get, slice_index, Option, Some, refl, sym, ap, subst, ◌∙◌, arith}
-use Rattle.index_model.specs.declared.bound.Bound.{Bound}
-use Rattle.index_model.specs.declared.entry.Entry.{Entry}
-use Rattle.page_codec.specs.Edits.{entries_of}
-use Rattle.page_codec.specs.Grammar.{IsPage, IsOfKind, IsMeta, IsLeafIn}
-use Rattle.page_codec.specs.declared.page.Items.{Items}
-use Rattle.page_codec.specs.declared.page.Items.TheVariants.{Meta, Entries, Downlinks}
-use Rattle.page_codec.specs.declared.page.Page.{Page}
-use Rattle.page_codec.specs.declared.page.PageState.{PageState}
-use Rattle.page_codec.specs.declared.page.PageState.TheVariants.{Live, HalfDead, Deleted}
-use Rattle.page_action.specs.States.{State, after_act, with_pages}
-use Rattle.page_action.specs.Stored.{IsApartFrom}
-use Rattle.page_action.proofs.StoredPages.{stored_page}
-use Rattle.tree_shape.specs.Nodes.{Node, node_of, node_from, nodes_of, links_of, IsHeld}
-use Rattle.tree_shape.specs.Chains.{IsIn, IsTreeOf, first_spot}
-use Rattle.tree_shape.specs.Edits.{IsFree, IsFinish, IsParentSplit, IsRootSplit, with_links, cleared, new_root}
-use Rattle.tree_shape.specs.Laws.{IsTreeAgain, IsReusable}
-use Rattle.tree_shape.specs.Walks.{bound_aim, is_fit, IsFitOn}
-use Rattle.tree_shape.proofs.Held.{finish_holds, parent_split_holds, root_split_holds}
-use Rattle.tree_shape.proofs.StaySound.{finish_keeps, parent_split_keeps, root_split_keeps}
-use Rattle.tree_shape.proofs.Members.{in_append_right}
 use Rattle.tree_shape.proofs.Places.{cover_at}
-use Rattle.tree_shape.proofs.Shown.{only_the_root_is_clear}
-use Rattle.tree_acts.specs.TheoremTree.{IsTree}
-use Rattle.tree_acts.specs.Trees.{HasTree, HasCover}
-use Rattle.tree_acts.specs.Acts.{IsIncompleteSplit, IsClear, SplitIsFinished, ParentIsSplit, RootIsSplit, TreeLasts, ContentsStay, FinishLasts, ParentSplitLasts, RootSplitLasts}
+use Rattle.tree_acts.proofs.Imports.{Bound, Entry, entries_of, IsPage, IsOfKind, IsMeta, IsLeafIn, Items, Meta, Entries, Downlinks, Page, PageState, Live, HalfDead, Deleted, State, after_act}
+use Rattle.tree_acts.proofs.Imports.{with_pages, IsApartFrom, stored_page, Node, node_of, node_from, nodes_of, links_of, IsHeld, IsIn, IsTreeOf, first_spot, IsFree, IsFinish, IsParentSplit}
+use Rattle.tree_acts.proofs.Imports.{IsRootSplit, with_links, cleared, new_root, IsTreeAgain, IsReusable, bound_aim, is_fit, IsFitOn, finish_holds, parent_split_holds, root_split_holds}
+use Rattle.tree_acts.proofs.Imports.{finish_keeps, parent_split_keeps, root_split_keeps, in_append_right, only_the_root_is_clear, IsTree, HasTree, HasCover, IsIncompleteSplit, IsClear}
+use Rattle.tree_acts.proofs.Imports.{SplitIsFinished, ParentIsSplit, RootIsSplit, TreeLasts, ContentsStay, FinishLasts, ParentSplitLasts, RootSplitLasts}
 use Rattle.tree_acts.proofs.Overlays.{pages_length, pages_other, pages_first, pages_second, pages_third, counts_other, node_there, node_same, inside}
 use Rattle.tree_acts.proofs.Gone.{AreInUse, in_use_append, live_in_use}
 use Rattle.tree_acts.proofs.Mending.{mended_apart, mended_first, mended_used, mended_in_use, last_there, apart_last, used_last}

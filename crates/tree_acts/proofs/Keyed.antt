@@ -1,29 +1,9 @@
 -- Pages that are each one of a unique index are keyed, and the other way round.
-use Rattle.std.proofs.Common.{◌≡◌, ◌≢◌, ℕ, zero, suc, ◌<◌, Bool, true, false, ◌||◌, ◌↔◌, Option, Some, None, List, [], ◌∷◌, length, slice_get, refl, sym, ap, subst, ◌∙◌, arith}
-use Rattle.std.specs.Prelude.{IfSome}
-use Rattle.std.specs.List.{AllByRecursion}
-use Rattle.index_model.specs.Actions.{KeysDiffer}
-use Rattle.index_model.specs.Order.{AscendsPast, IsAscending, bound_of, is_among, is_past, same_entry}
-use Rattle.index_model.specs.declared.bound.Bound.{Bound}
-use Rattle.index_model.specs.declared.entry.Entry.{Entry}
-use Rattle.index_model.specs.declared.format.Format.{Format}
-use Rattle.index_model.proofs.Ascending.{is_past-self, same_entry-self}
-use Rattle.page_codec.specs.Edits.{entries_of}
-use Rattle.page_codec.specs.Grammar.{Ascends, FollowedBy, IsPage, IsOfKind, IsLeafIn}
-use Rattle.page_codec.specs.declared.page.Items.{Items}
-use Rattle.page_codec.specs.declared.page.Items.TheVariants.{Meta, Entries, Downlinks}
-use Rattle.page_codec.specs.declared.page.Page.{Page}
-use Rattle.page_codec.specs.declared.page.PageState.{PageState}
-use Rattle.page_codec.specs.declared.page.PageState.TheVariants.{Live, HalfDead, Deleted}
-use Rattle.page_action.specs.Contents.{entry_on_live_leaf}
-use Rattle.page_action.specs.Stored.{AreStored}
-use Rattle.page_action.proofs.StoredPages.{stored_page}
-use Rattle.tree_shape.specs.KeyPages.{KeyBefore, IsUniqueNode, IsUniquePage, AreUnique}
-use Rattle.tree_shape.specs.Nodes.{nodes_of, node_from, node_of, entries_alive, holds}
-use Rattle.tree_shape.proofs.KeyEdits.{before_key}
+use Rattle.std.proofs.Common.{◌≡◌, ℕ, zero, suc, ◌<◌, Bool, true, false, ◌||◌, Option, Some, None, List, [], ◌∷◌, length, slice_get, refl, sym, subst, arith}
 use Rattle.tree_acts.specs.TheoremKeys.{AreKeyed}
-use Rattle.tree_acts.specs.TheoremTree.{IsTree}
-use Rattle.tree_acts.specs.Uniques.{KeyedShows}
+use Rattle.tree_acts.proofs.Imports.{IfSome, AllByRecursion, KeysDiffer, AscendsPast, IsAscending, bound_of, is_among, is_past, same_entry, Bound, Entry, Format, is_past-self, same_entry-self}
+use Rattle.tree_acts.proofs.Imports.{entries_of, Ascends, FollowedBy, IsOfKind, IsLeafIn, Items, Meta, Entries, Downlinks, Page, PageState, Live, HalfDead, Deleted, entry_on_live_leaf, AreStored}
+use Rattle.tree_acts.proofs.Imports.{stored_page, KeyBefore, IsUniquePage, AreUnique, node_from, entries_alive, holds, before_key, IsTree, KeyedShows}
 use Rattle.tree_acts.proofs.Uniques.{unique_at, unique_shows}
 use Rattle.tree_acts.proofs.Words.{contents_held}
 

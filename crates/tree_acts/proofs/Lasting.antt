@@ -1,32 +1,10 @@
 -- What an act leaves, from what the tree's law says of it.
 use Rattle.std.proofs.Common.{◌≡◌, ◌≢◌, ◌⊎◌, ℕ, zero, suc, ◌<◌, ◌≤◌, ◌&&◌, inl, inr, Bool, true, false, if◌then◌else◌, List, [], ◌∷◌, ◌++◌, length, slice_get, slice_index, nat_le, Option, Some, None, refl, sym, ap, subst, ◌∙◌, arith}
-use Rattle.std.proofs.lemmas.Bool.{cases_lt, lt-leb}
-use Rattle.std.specs.Prelude.{nat_lt, slice_set}
-use Rattle.index_model.specs.declared.bound.Bound.{Bound}
-use Rattle.index_model.specs.declared.format.Format.{Format}
-use Rattle.page_codec.specs.Grammar.{IsOfKind, IsMeta}
-use Rattle.page_codec.specs.declared.page.Page.{Page}
-use Rattle.page_codec.specs.declared.page.PageState.{PageState}
-use Rattle.page_codec.specs.declared.page.PageState.TheVariants.{Live, HalfDead, Deleted}
-use Rattle.page_action.specs.Reuse.{is_deleted_state, is_deleted_page, is_deleted, began_after, others_began_after, is_reusable, IsFresh}
-use Rattle.page_action.specs.States.{State, after_act, with_page, with_pages}
-use Rattle.page_action.specs.Stored.{AreStored, AreActable}
-use Rattle.page_action.proofs.StoredPages.{stored-with_page, stored_page, length-with_counts}
-use Rattle.tree_shape.specs.KeyPages.{IsUniquePage, AreUnique}
-use Rattle.tree_shape.specs.Tree.{IsMetaOf}
-use Rattle.tree_shape.specs.Nodes.{node_from, nodes_of}
-use Rattle.tree_shape.specs.Chains.{LeftContext, IsIn, IsRunOf, IsTreeOf, first_spot}
-use Rattle.tree_shape.specs.Edits.{IsFree}
-use Rattle.tree_shape.specs.Laws.{IsTreeAgain, IsTreeAgainWithout, IsReusable}
-use Rattle.tree_shape.specs.Walks.{is_fit, IsFitOn}
-use Rattle.tree_shape.proofs.LeafSplit.{first_in}
-use Rattle.tree_shape.proofs.Members.{in_append_right, member}
-use Rattle.tree_shape.proofs.Runs.{run_back, split_at}
-use Rattle.tree_shape.proofs.Trails.{trail_stays}
-use Rattle.tree_shape.proofs.Shown.{places_stay, live_places_stand, places_keep_their_level}
-use Rattle.tree_acts.specs.TheoremTree.{IsTree}
-use Rattle.tree_acts.specs.Trees.{HasTree, LeadsTo, IsStart, KeptDeletedLeadOn}
-use Rattle.tree_acts.specs.Acts.{TreeLasts}
+use Rattle.tree_acts.proofs.Imports.{cases_lt, lt-leb, nat_lt, slice_set, Bound, Format, IsOfKind, IsMeta, Page, PageState, Live, HalfDead, Deleted, is_deleted_state, is_deleted_page, is_deleted}
+use Rattle.tree_acts.proofs.Imports.{began_after, others_began_after, is_reusable, IsFresh, State, after_act, with_page, with_pages, AreStored, AreActable, stored-with_page, stored_page}
+use Rattle.tree_acts.proofs.Imports.{length-with_counts, IsUniquePage, AreUnique, IsMetaOf, node_from, nodes_of, LeftContext, IsIn, IsRunOf, IsTreeOf, first_spot, IsFree, IsTreeAgain}
+use Rattle.tree_acts.proofs.Imports.{IsTreeAgainWithout, IsReusable, is_fit, IsFitOn, first_in, in_append_right, member, run_back, split_at, trail_stays, places_stay, live_places_stand}
+use Rattle.tree_acts.proofs.Imports.{places_keep_their_level, IsTree, HasTree, LeadsTo, IsStart, KeptDeletedLeadOn, TreeLasts}
 use Rattle.tree_acts.proofs.Gone.{AreInUse, CountUpTo, in_use_count, gone_lead_on, counts_within}
 use Rattle.tree_acts.proofs.Lows.{lows_of}
 use Rattle.tree_acts.proofs.Overlays.{page_length}

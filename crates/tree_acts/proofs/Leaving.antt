@@ -1,28 +1,10 @@
 -- What acts leave a bulk delete: leaves stay, or are split into halves that carry its cycle number.
 use Rattle.std.proofs.Common.{◌≡◌, ◌⊎◌, ℕ, ◌<◌, ◌≤◌, inl, inr, Bool, true, false, ◌||◌, List, [], ◌∷◌, ◌++◌, length, slice_get, Option, Some, refl, sym, ap, subst, ◌∙◌, arith}
-use Rattle.std.proofs.lemmas.Bool.{cases_eq, or_cases, and_parts}
-use Rattle.index_model.specs.Actions.{Effect, Add, Remove, Shape}
-use Rattle.index_model.specs.Order.{is_among, same_entry}
-use Rattle.index_model.specs.declared.entry.Entry.{Entry}
-use Rattle.index_model.specs.declared.format.Format.{Format}
-use Rattle.index_model.proofs.Ascending.{is_among-append}
-use Rattle.page_codec.specs.Edits.{entries_of, HasEntries}
-use Rattle.page_codec.specs.Grammar.{IsPage, IsOfKind}
 use Rattle.page_codec.specs.declared.page.Downlink.{Downlink}
-use Rattle.page_codec.specs.declared.page.Items.{Items}
-use Rattle.page_codec.specs.declared.page.Items.TheVariants.{Meta, Entries, Downlinks}
-use Rattle.page_codec.specs.declared.page.Page.{Page}
-use Rattle.page_codec.specs.declared.page.PageState.TheVariants.{Live, Deleted}
-use Rattle.page_action.specs.States.{State, after_act, with_page, with_pages}
-use Rattle.page_action.specs.Stored.{AreActable}
-use Rattle.page_action.specs.Reuse.{IsFresh}
-use Rattle.page_action.proofs.StoredPages.{stored_page}
-use Rattle.tree_shape.specs.Nodes.{Node, nodes_of, links_of}
-use Rattle.tree_shape.specs.Walks.{entry_aim, is_fit}
-use Rattle.tree_shape.proofs.Held.{put_among}
 use Rattle.tree_shape.proofs.Removal.{is_among-filter}
-use Rattle.tree_acts.specs.Trees.{HasTree}
-use Rattle.tree_acts.specs.Acts.{IsMended, rightmost, neighbour, LeafIsSplit, IsClear}
+use Rattle.tree_acts.proofs.Imports.{cases_eq, or_cases, and_parts, Effect, Add, Remove, Shape, is_among, same_entry, Entry, Format, is_among-append, entries_of, HasEntries, IsPage, IsOfKind}
+use Rattle.tree_acts.proofs.Imports.{Items, Meta, Entries, Downlinks, Page, Live, Deleted, State, after_act, with_page, with_pages, AreActable, IsFresh, stored_page, Node, nodes_of, links_of}
+use Rattle.tree_acts.proofs.Imports.{entry_aim, is_fit, put_among, HasTree, IsMended, rightmost, neighbour, LeafIsSplit, IsClear}
 use Rattle.tree_acts.specs.Leaves.{IsLeafAt, LeafStays, LeafIsHalved, LeafBecomes, WasLeaf, LeafPagesStay, PagesKeepLeaves, PuttingLeaves, RemovingLeaves, LeafSplitLeaves, FinishLeaves, ParentSplitLeaves, RootSplitLeaves}
 use Rattle.tree_acts.proofs.Overlays.{page_there, page_other, page_length, pages_first, pages_second, node_there, inside}
 use Rattle.tree_acts.proofs.Lasting.{Stands, stands, fresh_free}

@@ -1,31 +1,13 @@
 -- What a page tells, on the pages of a store.
 use Rattle.std.proofs.Common.{◌≡◌, ◌≢◌, ℕ, zero, suc, ◌<◌, ◌≤◌, inl, inr, Bool, true, false, not, ◌&&◌, List, [], ◌∷◌, length, slice_get, slice_index, Option, Some, None, refl, sym, ap, subst, ◌∙◌, arith}
-use Rattle.index_model.specs.Order.{is_among}
-use Rattle.index_model.specs.declared.bound.Bound.{Bound}
-use Rattle.page_codec.specs.Edits.{entries_of}
-use Rattle.page_codec.specs.Grammar.{IsOfKind, IsMeta}
-use Rattle.page_codec.specs.declared.page.Items.TheVariants.{Meta}
-use Rattle.page_codec.specs.declared.page.Page.{Page}
-use Rattle.page_codec.specs.declared.page.PageState.{PageState}
-use Rattle.page_codec.specs.declared.page.PageState.TheVariants.{Live}
-use Rattle.page_action.specs.Contents.{entry_on_live_leaf}
-use Rattle.page_action.specs.States.{State}
-use Rattle.tree_shape.specs.Tree.{IsMetaOf}
-use Rattle.tree_shape.specs.Nodes.{Node, node_from, nodes_of}
-use Rattle.tree_shape.specs.Chains.{IsIn, AreDistinct, IsRunOf, FitsState, Rises, LeftContext, past, first_spot}
-use Rattle.tree_shape.specs.Edits.{IsBetween}
-use Rattle.tree_shape.specs.Laws.{HasLink}
-use Rattle.tree_shape.specs.Walks.{entry_aim, bound_aim, frontier_aim, is_beyond, is_within, is_fit, IsFitOn, IsCoverOn, IsLead, on_chain, by_deleted}
-use Rattle.tree_shape.proofs.LeafSplit.{first_in}
-use Rattle.tree_shape.proofs.Members.{member, not_in_apart, apart_back}
-use Rattle.tree_shape.proofs.Runs.{run_back, split_at}
 use Rattle.tree_shape.proofs.Straight.{covers_lead_straight_down, root_covers}
-use Rattle.tree_shape.proofs.Trails.{trail_begins, trail_goes_on, here_apart, trail_is_short}
-use Rattle.tree_shape.proofs.Shown.{root_is_a_place, places_go_right, places_cover, covers_lead_down, held_on_its_cover, frontier_covers_entries, incomplete_split_has_its_link, separator_fits_after, only_the_root_is_clear, places_keep_their_level}
-use Rattle.page_action.proofs.StoredPages.{stored_page}
-use Rattle.tree_acts.specs.TheoremTree.{IsTree}
-use Rattle.tree_acts.specs.Trees.{HasTree, LeadsTo}
-use Rattle.tree_acts.specs.Ways.{MetapageShows, PassedShows, LiveShows, InternalShows, LeafShows, FrontierShows, ParentShows, SeparatorShows, RootShows, IncompleteSplitIsBelow, TrailBegins, TrailMovesRight, TrailIsShort, PlacesWiden, HighKeyShows, NeighbourShows, NoneIsIncomplete, StraightShows, RootCoversAll}
+use Rattle.tree_acts.proofs.Imports.{is_among, Bound, entries_of, IsOfKind, IsMeta, Meta, Page, PageState, Live, entry_on_live_leaf, State, IsMetaOf, Node, node_from, nodes_of, IsIn, AreDistinct}
+use Rattle.tree_acts.proofs.Imports.{IsRunOf, FitsState, Rises, LeftContext, past, first_spot, IsBetween, HasLink, entry_aim, bound_aim, frontier_aim, is_beyond, is_within, is_fit, IsFitOn}
+use Rattle.tree_acts.proofs.Imports.{IsCoverOn, IsLead, on_chain, by_deleted, first_in, member, not_in_apart, apart_back, run_back, split_at, trail_begins, trail_goes_on, here_apart}
+use Rattle.tree_acts.proofs.Imports.{trail_is_short, root_is_a_place, places_go_right, places_cover, covers_lead_down, held_on_its_cover, frontier_covers_entries, incomplete_split_has_its_link}
+use Rattle.tree_acts.proofs.Imports.{separator_fits_after, only_the_root_is_clear, places_keep_their_level, stored_page, IsTree, HasTree, LeadsTo, MetapageShows, PassedShows, LiveShows}
+use Rattle.tree_acts.proofs.Imports.{InternalShows, LeafShows, FrontierShows, ParentShows, SeparatorShows, RootShows, IncompleteSplitIsBelow, TrailBegins, TrailMovesRight, TrailIsShort}
+use Rattle.tree_acts.proofs.Imports.{PlacesWiden, HighKeyShows, NeighbourShows, NoneIsIncomplete, StraightShows, RootCoversAll}
 use Rattle.tree_acts.proofs.Overlays.{node_there}
 use Rattle.tree_acts.proofs.Words.{place_in, cover_in, contents_held, only_leaves, same_test, trail_in}
 use Rattle.tree_acts.proofs.Lasting.{Stands, stands, deleted_in_use, right_on_chain}

@@ -1,21 +1,10 @@
 -- The pages that an act writes on a unique index are pages of one, since those that stood there are.
 use Rattle.std.proofs.Common.{◌≡◌, ℕ, suc, Bool, true, Option, Some, None, List, [], ◌∷◌, ◌++◌, sym, subst}
-use Rattle.std.specs.Prelude.{IfSome, IsNone}
-use Rattle.std.specs.List.{AllByRecursion}
-use Rattle.index_model.specs.declared.bound.Bound.{Bound}
-use Rattle.index_model.specs.declared.entry.Entry.{Entry}
-use Rattle.index_model.proofs.Ascending.{AllByRecursion-append}
-use Rattle.page_codec.specs.Edits.{entries_of}
-use Rattle.page_codec.specs.Grammar.{Ascends, IsMeta, IsOfKind}
-use Rattle.page_codec.specs.declared.page.Items.{Items}
-use Rattle.page_codec.specs.declared.page.Page.{Page}
-use Rattle.page_action.specs.States.{State}
 use Rattle.tree_shape.specs.KeyBounds.{IsKeyBound}
-use Rattle.tree_shape.specs.KeyPages.{KeyBefore, IsKeyLink, IsUniqueNode, IsUniquePage, AreUnique}
-use Rattle.tree_shape.specs.Nodes.{Node, node_of, links_of}
-use Rattle.tree_shape.proofs.KeyEdits.{unique_page, unique_put, unique_halves, unique_links, unique_parts, unique_root, keys_filter, bounds_added}
-use Rattle.tree_acts.specs.Trees.{HasTree}
-use Rattle.tree_acts.specs.Acts.{EntryIsPut, EntriesAreRemoved, IsMended, rightmost, neighbour, LeafIsSplit, IsIncompleteSplit, IsClear, SplitIsFinished, ParentIsSplit, RootIsSplit}
+use Rattle.tree_acts.proofs.Imports.{IfSome, IsNone, AllByRecursion, Bound, Entry, AllByRecursion-append, entries_of, Ascends, IsMeta, IsOfKind, Items, Page, State, KeyBefore, IsKeyLink}
+use Rattle.tree_acts.proofs.Imports.{IsUniqueNode, IsUniquePage, AreUnique, Node, node_of, links_of, unique_page, unique_put, unique_halves, unique_links, unique_parts, unique_root, keys_filter}
+use Rattle.tree_acts.proofs.Imports.{bounds_added, HasTree, EntryIsPut, EntriesAreRemoved, IsMended, rightmost, neighbour, LeafIsSplit, IsIncompleteSplit, IsClear, SplitIsFinished, ParentIsSplit}
+use Rattle.tree_acts.proofs.Imports.{RootIsSplit}
 
 -- a page with the bounds and the entries of another
 pub seen_alike : (page : Page) (node : Node) → node_of page ≡ node → IsUniqueNode node → IsUniquePage page

@@ -1,12 +1,6 @@
 -- The pages that an act of a page deletion writes on a unique index are pages of one.
 use Rattle.std.proofs.Common.{◌≡◌, ℕ, true, Option, List, [], ◌∷◌, ◌++◌, sym, subst}
-use Rattle.index_model.proofs.Ascending.{AllByRecursion-append}
-use Rattle.page_codec.specs.declared.page.Page.{Page}
-use Rattle.page_action.specs.States.{State}
-use Rattle.tree_shape.specs.KeyPages.{IsUniquePage, AreUnique}
-use Rattle.tree_shape.specs.Nodes.{node_of, links_of}
-use Rattle.tree_shape.proofs.KeyEdits.{unique_page, unique_links, bounds_handed}
-use Rattle.tree_acts.specs.Trees.{HasTree}
+use Rattle.tree_acts.proofs.Imports.{AllByRecursion-append, Page, State, IsUniquePage, AreUnique, node_of, links_of, unique_page, unique_links, bounds_handed, HasTree}
 use Rattle.tree_acts.specs.Deletions.{LeafIsHalfDead, IsLinkedTo, leftmost, neighbour, PageIsUnlinked}
 use Rattle.tree_acts.proofs.UniqueActs.{seen_alike}
 

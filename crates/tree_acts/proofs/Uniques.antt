@@ -1,17 +1,9 @@
 -- What a unique index tells.
 use Rattle.std.proofs.Common.{◌≡◌, ◌≢◌, ℕ, zero, suc, Bool, true, false, List, [], ◌∷◌, length, refl, sym, ◌∙◌}
-use Rattle.index_model.specs.Order.{is_among}
-use Rattle.index_model.specs.declared.entry.Entry.{Entry}
-use Rattle.index_model.proofs.Ascending.{AllByRecursion-among}
-use Rattle.page_codec.specs.Edits.{entries_of}
-use Rattle.page_codec.specs.declared.page.Page.{Page}
-use Rattle.tree_shape.specs.KeyPages.{IsKeyFree, IsUniqueNode, AreUnique}
-use Rattle.tree_shape.specs.Nodes.{nodes_of}
 use Rattle.tree_shape.proofs.KeyCovers.{key_covers}
 use Rattle.tree_shape.proofs.KeyPages.{one_of_a_key}
 use Rattle.tree_shape.proofs.Reading.{held_covered}
-use Rattle.tree_shape.proofs.Shown.{held_on_its_cover}
-use Rattle.tree_acts.specs.Uniques.{KeyShows, FreeKeyShows, UniqueShows}
+use Rattle.tree_acts.proofs.Imports.{is_among, Entry, AllByRecursion-among, entries_of, Page, IsKeyFree, IsUniqueNode, AreUnique, nodes_of, held_on_its_cover, KeyShows, FreeKeyShows, UniqueShows}
 use Rattle.tree_acts.proofs.Meanings.{leaf_shows}
 use Rattle.tree_acts.proofs.Words.{contents_held, only_leaves}
 

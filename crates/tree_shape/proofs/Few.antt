@@ -1,7 +1,6 @@
 -- Different numbers below a bound are no more than it.
 use Rattle.std.proofs.Common.{◌≡◌, ◌≢◌, ◌⊎◌, ℕ, zero, suc, ◌<◌, ◌≤◌, inl, inr, List, [], ◌∷◌, ◌++◌, length, length-append, refl, sym, ap, subst, ◌∙◌, arith}
-use Rattle.std.proofs.lemmas.Bool.{cases_eq}
-use Rattle.tree_shape.specs.Chains.{IsIn, AreDistinct}
+use Rattle.tree_shape.proofs.Imports.{cases_eq, IsIn, AreDistinct}
 use Rattle.tree_shape.proofs.Runs.{split_at}
 use Rattle.tree_shape.proofs.Members.{in_append_left, in_append_right, in_append_cases, not_in_apart, not_in_from}
 

@@ -1,9 +1,6 @@
 -- A downlink that a tree is to have fits after the one before it.
 use Rattle.std.proofs.Common.{◌≡◌, ℕ, zero, suc, ◌<◌, Option, Some, None, List, [], ◌∷◌, ◌++◌, length, take, drop, arith}
-use Rattle.index_model.specs.declared.bound.Bound.{Bound}
-use Rattle.page_codec.specs.declared.page.Downlink.{Downlink}
-use Rattle.tree_shape.specs.Chains.{IsBeyond, Rises, IsBoundWithin, BoundsWithin}
-use Rattle.tree_shape.specs.LinkPlaces.{bound_at, IsBelowFirst}
+use Rattle.tree_shape.proofs.Imports.{Bound, Downlink, IsBeyond, Rises, IsBoundWithin, BoundsWithin, bound_at, IsBelowFirst}
 use Rattle.tree_shape.proofs.LinkHalves.{link_to}
 
 first_below : (separator : Bound) (ds : List Downlink) (high : Option Bound) → BoundsWithin (Some separator) ds high → IsBelowFirst separator ds

@@ -1,11 +1,6 @@
 -- A bound before all rows of a key has all entries of one key on one side.
 use Rattle.std.proofs.Common.{◌≡◌, List, ℕ, refl, sym, ap, ◌∙◌}
-use Rattle.std.specs.Ordering.{is_lt, ordering_then}
-use Rattle.std.specs.declared.cmp.Ordering.TheVariants.{Less}
-use Rattle.index_model.specs.Order.{key_cmp, is_past}
-use Rattle.index_model.specs.declared.bound.Bound.{Bound}
-use Rattle.index_model.specs.declared.entry.Entry.{Entry}
-use Rattle.tree_shape.specs.KeyBounds.{IsKeyBound, KeyBoundsPartKeys}
+use Rattle.tree_shape.proofs.Imports.{is_lt, ordering_then, Less, key_cmp, is_past, Bound, Entry, IsKeyBound, KeyBoundsPartKeys}
 
 -- what it says of an entry, it says of its key
 by_key : (b : Bound) (x : Entry) → IsKeyBound b → is_past b x ≡ is_lt (ordering_then (key_cmp b.key x.key) Less)

@@ -1,14 +1,7 @@
 -- One leaf covers all entries of a key.
 use Rattle.std.proofs.Common.{◌≡◌, ℕ, not, Option, Some, None, List, [], ◌∷◌, inl, inr, refl, sym, ap, ◌∙◌}
-use Rattle.std.specs.Prelude.{IfSome}
-use Rattle.index_model.specs.declared.bound.Bound.{Bound}
-use Rattle.index_model.specs.declared.entry.Entry.{Entry}
-use Rattle.page_codec.specs.declared.page.PageState.{PageState}
-use Rattle.page_codec.specs.declared.page.PageState.TheVariants.{Live, HalfDead, Deleted}
-use Rattle.tree_shape.specs.Nodes.{Node}
-use Rattle.tree_shape.specs.Chains.{LeftContext, past, low_past, first_spot}
-use Rattle.tree_shape.specs.Walks.{entry_aim, is_beyond, is_within, IsCoverOn}
-use Rattle.tree_shape.specs.KeyBounds.{IsKeyBound}
+use Rattle.tree_shape.proofs.Imports.{IfSome, Bound, Entry, PageState, Live, HalfDead, Deleted, Node, LeftContext, past, low_past, first_spot, entry_aim, is_beyond, is_within, IsCoverOn}
+use Rattle.tree_shape.proofs.Imports.{IsKeyBound}
 use Rattle.tree_shape.specs.KeyCovers.{HaveKeyBounds, KeyCovers}
 use Rattle.tree_shape.proofs.KeyBounds.{key_bounds_part_keys}
 

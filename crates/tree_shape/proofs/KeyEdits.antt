@@ -1,26 +1,10 @@
 -- What each edit leaves of a page of a unique index is such a page.
 use Rattle.std.proofs.Common.{◌≡◌, ◌≢◌, ℕ, zero, suc, ◌-◌, Bool, true, inl, inr, Option, Some, None, List, [], ◌∷◌, ◌++◌, length, slice_get, refl, sym, ap, subst, arith}
-use Rattle.std.proofs.lemmas.Bool.{cases_Bool}
-use Rattle.std.proofs.lemmas.Map.Lookups.{exact_bytes}
-use Rattle.std.specs.Prelude.{IfSome}
 use Rattle.std.specs.List.{AllByRecursion, filter}
-use Rattle.std.specs.Option.{option_cmp}
-use Rattle.std.specs.Ordering.{is_lt, ordering_then}
-use Rattle.std.specs.declared.cmp.Ordering.{Ordering}
-use Rattle.std.specs.declared.cmp.Ordering.TheVariants.{Less, Equal, Greater}
-use Rattle.index_model.specs.Order.{key_cmp, row_cmp, bound_of, last_or, IsBefore}
-use Rattle.index_model.specs.declared.bound.Bound.{Bound}
-use Rattle.index_model.specs.declared.entry.Entry.{Entry}
-use Rattle.index_model.proofs.Ascending.{AllByRecursion-append, AllByRecursion-front, AllByRecursion-back}
-use Rattle.page_codec.specs.Grammar.{Ascends, FollowedBy}
-use Rattle.page_codec.specs.declared.page.Downlink.{Downlink}
-use Rattle.page_codec.specs.declared.page.Page.{Page}
-use Rattle.tree_shape.specs.Chains.{IsBeyond}
-use Rattle.tree_shape.specs.Edits.{IsPutIn, IsBeforeFirst, LeafHalves, IsLinkAdded, LinkHalves, IsLinkHandedOn, with_leaf, with_links, new_root}
-use Rattle.tree_shape.specs.KeyBounds.{IsKeyBound}
-use Rattle.tree_shape.specs.KeyPages.{KeyBefore, IsKeyFree, IsKeyLink, IsUniqueNode, IsUniquePage, AreUnique}
-use Rattle.tree_shape.specs.Nodes.{Node}
-use Rattle.tree_shape.specs.Separators.{IsCutOf}
+use Rattle.tree_shape.proofs.Imports.{cases_Bool, exact_bytes, IfSome, option_cmp, is_lt, ordering_then, Ordering, Less, Equal, Greater, key_cmp, row_cmp, bound_of, last_or, IsBefore, Bound}
+use Rattle.tree_shape.proofs.Imports.{Entry, AllByRecursion-append, AllByRecursion-front, AllByRecursion-back, Ascends, FollowedBy, Downlink, Page, IsBeyond, IsPutIn, IsBeforeFirst, LeafHalves}
+use Rattle.tree_shape.proofs.Imports.{IsLinkAdded, LinkHalves, IsLinkHandedOn, with_leaf, with_links, new_root, IsKeyBound, KeyBefore, IsKeyFree, IsKeyLink, IsUniqueNode, IsUniquePage, AreUnique}
+use Rattle.tree_shape.proofs.Imports.{Node, IsCutOf}
 use Rattle.tree_shape.proofs.KeyPages.{key_chain, tail_ascends}
 
 -- a page among those of a unique index

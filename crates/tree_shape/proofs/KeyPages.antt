@@ -1,15 +1,7 @@
 -- Entries of one page with one key are one entry.
 use Rattle.std.proofs.Common.{◌≡◌, Bool, true, false, List, [], ◌∷◌, ℕ, refl, sym, ap, subst, ◌∙◌}
-use Rattle.std.proofs.lemmas.Cmp.{nat_list_cmp_total, tied_itself}
-use Rattle.std.specs.Cmp.{IsTotalOrder}
-use Rattle.std.specs.Ordering.{is_lt}
-use Rattle.std.specs.declared.cmp.Ordering.{Ordering}
-use Rattle.std.specs.declared.cmp.Ordering.TheVariants.{Less, Equal, Greater}
-use Rattle.index_model.specs.Order.{key_cmp, is_among, same_entry}
-use Rattle.index_model.specs.declared.entry.Entry.{Entry}
-use Rattle.page_codec.specs.Grammar.{Ascends, FollowedBy}
-use Rattle.tree_shape.specs.KeyPages.{KeyBefore}
-use Rattle.index_model.proofs.Ascending.{same_entry-is}
+use Rattle.tree_shape.proofs.Imports.{nat_list_cmp_total, tied_itself, IsTotalOrder, is_lt, Ordering, Less, Equal, Greater, key_cmp, is_among, same_entry, Entry, Ascends, FollowedBy, KeyBefore}
+use Rattle.tree_shape.proofs.Imports.{same_entry-is}
 
 less : (o : Ordering) → is_lt o ≡ true → o ≡ Less
 less Less e = refl

@@ -1,22 +1,9 @@
 -- Where none of the two entries beside an entry's place has its key, none has.
 use Rattle.std.proofs.Common.{◌≡◌, ◌≢◌, ℕ, zero, suc, ◌≤◌, ◌||◌, Bool, true, false, Option, Some, None, List, [], ◌∷◌, length, slice_get, take, drop, refl, sym, ap, subst, ◌∙◌, arith}
-use Rattle.std.proofs.lemmas.Cmp.{nat_list_cmp_total}
-use Rattle.std.proofs.lemmas.Map.Lookups.{exact_bytes}
-use Rattle.std.proofs.lemmas.List.{take-append-drop}
-use Rattle.std.specs.Prelude.{IfNone}
-use Rattle.std.specs.Cmp.{IsTotalOrder}
-use Rattle.std.specs.List.{AllByRecursion}
-use Rattle.std.specs.Option.{option_cmp}
-use Rattle.std.specs.Ordering.{is_lt, ordering_then, ordering_reverse}
-use Rattle.std.specs.declared.cmp.Ordering.{Ordering}
-use Rattle.std.specs.declared.cmp.Ordering.TheVariants.{Less, Equal, Greater}
-use Rattle.index_model.specs.Order.{key_cmp, row_cmp, bound_of, same_entry, is_among, is_past, AscendsPast, IsAscending}
 use Rattle.index_model.specs.Row.{Row}
-use Rattle.index_model.specs.declared.bound.Bound.{Bound}
-use Rattle.index_model.specs.declared.entry.Entry.{Entry}
-use Rattle.index_model.proofs.Ascending.{is_past-trans, same_entry-self, AllByRecursion-append}
-use Rattle.tree_shape.specs.KeyPages.{IsKeyFree}
-use Rattle.tree_shape.specs.Leaf.{IsPlaceOf}
+use Rattle.tree_shape.proofs.Imports.{nat_list_cmp_total, exact_bytes, take-append-drop, IfNone, IsTotalOrder, AllByRecursion, option_cmp, is_lt, ordering_then, ordering_reverse, Ordering, Less}
+use Rattle.tree_shape.proofs.Imports.{Equal, Greater, key_cmp, row_cmp, bound_of, same_entry, is_among, is_past, AscendsPast, IsAscending, Bound, Entry, is_past-trans, same_entry-self}
+use Rattle.tree_shape.proofs.Imports.{AllByRecursion-append, IsKeyFree, IsPlaceOf}
 
 keys_total : IsTotalOrder key_cmp
 keys_total = nat_list_cmp_total

@@ -1,3 +1,4 @@
+pub mod Imports
 pub mod Splits
 pub mod Puts
 pub mod Order

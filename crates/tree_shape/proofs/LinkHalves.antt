@@ -1,29 +1,11 @@
 -- Downlinks with one put in, and in two halves.
 use Rattle.std.proofs.Common.{◌≡◌, ℕ, zero, suc, ◌+◌, ◌<◌, ◌≤◌, true, false, Option, Some, None, List, [], ◌∷◌, ◌++◌, length, take, drop, unwrap_or, refl, sym, ap, ap₂, subst, ◌∙◌, arith, rules, add-one, IfSome, length-append, length-take-le, take-append-drop}
-use Rattle.std.proofs.lemmas.List.Edits.{length-insert}
 use Rattle.std.specs.Prelude.{insert}
-use Rattle.std.specs.List.{AllByRecursion}
-use Rattle.std.specs.Option.{option_cmp}
-use Rattle.std.specs.Ordering.{is_lt}
 use Rattle.std.specs.Cmp.Lexicographic.{options_total}
-use Rattle.std.specs.declared.cmp.Ordering.{Ordering}
-use Rattle.std.specs.declared.cmp.Ordering.TheVariants.{Less, Equal, Greater}
-use Rattle.index_model.specs.Order.{bound_cmp}
-use Rattle.index_model.specs.declared.bound.Bound.{Bound}
-use Rattle.index_model.proofs.Order.{bounds_total}
-use Rattle.index_model.proofs.Ascending.{AllByRecursion-append, AllByRecursion-front, AllByRecursion-back}
-use Rattle.index_model.specs.declared.layout.Layout.{Layout}
-use Rattle.page_codec.specs.Grammar.{FollowedBy, Ascends, LinkBefore, Below, StartsLow, IsDownlink, AreLinks, IsBlock, IsInternal, IsOfKind, IsPage, IsBoundIn}
-use Rattle.page_codec.specs.declared.page.Downlink.{Downlink}
-use Rattle.page_codec.specs.declared.page.Items.{Items}
-use Rattle.page_codec.specs.declared.page.Items.TheVariants.{Meta, Entries, Downlinks}
-use Rattle.page_codec.specs.declared.page.Page.{Page}
-use Rattle.page_codec.specs.Edits.{entries_of}
-use Rattle.tree_shape.specs.Nodes.{Node, node_of, links_of}
-use Rattle.tree_shape.specs.Chains.{IsBeyond, Rises, from_low}
-use Rattle.tree_shape.specs.Edits.{IsLinkAdded, LinkHalves, left_links, right_links}
-use Rattle.tree_shape.specs.Halves.{left_count}
-use Rattle.tree_shape.specs.LinkPlaces.{with_downlinks, HasLinks, child_at, bound_at, IsBelowFirst, FitsAfter, LinkSplit}
+use Rattle.tree_shape.proofs.Imports.{length-insert, AllByRecursion, option_cmp, is_lt, Ordering, Less, Equal, Greater, bound_cmp, Bound, bounds_total, AllByRecursion-append, AllByRecursion-front}
+use Rattle.tree_shape.proofs.Imports.{AllByRecursion-back, Layout, FollowedBy, Ascends, LinkBefore, Below, StartsLow, IsDownlink, AreLinks, IsBlock, IsInternal, IsOfKind, IsPage, IsBoundIn}
+use Rattle.tree_shape.proofs.Imports.{Downlink, Items, Meta, Entries, Downlinks, Page, entries_of, Node, node_of, links_of, IsBeyond, Rises, from_low, IsLinkAdded, LinkHalves, left_links}
+use Rattle.tree_shape.proofs.Imports.{right_links, left_count, with_downlinks, HasLinks, child_at, bound_at, IsBelowFirst, FitsAfter, LinkSplit}
 
 -- a downlink with this bound
 abbrev pub link_to : Bound → ℕ → Downlink

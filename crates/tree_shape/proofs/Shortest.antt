@@ -1,16 +1,7 @@
 -- The shortest beginning of a key that is greater than another key is one byte longer than what the two share.
 use Rattle.std.proofs.Common.{◌≡◌, ℕ, zero, suc, ◌==◌, if◌then◌else◌, ◌<◌, ◌≤◌, Bool, true, false, None, List, [], ◌∷◌, length, take, refl, sym, subst, ◌∙◌, arith}
-use Rattle.std.specs.Ordering.{nat_cmp, is_lt, is_gt, ordering_then, ordering_reverse}
-use Rattle.std.proofs.lemmas.Cmp.{nat_cmp_total, nat_list_cmp_total, tied_itself}
-use Rattle.std.proofs.lemmas.Bool.{eqb-true, eq-eqb}
-use Rattle.std.proofs.lemmas.Map.Lookups.{exact_unsigned}
-use Rattle.std.specs.declared.cmp.Ordering.{Ordering}
-use Rattle.std.specs.declared.cmp.Ordering.TheVariants.{Less, Equal, Greater}
-use Rattle.index_model.specs.Order.{key_cmp, bound_cmp, bound_of, IsBefore}
-use Rattle.index_model.specs.declared.bound.Bound.{Bound}
-use Rattle.index_model.specs.declared.entry.Entry.{Entry}
-use Rattle.index_model.proofs.Order.{bounds_total}
-use Rattle.tree_shape.specs.Separators.{IsKeyBefore, shared, IsShortestPast}
+use Rattle.tree_shape.proofs.Imports.{nat_cmp, is_lt, is_gt, ordering_then, ordering_reverse, nat_cmp_total, nat_list_cmp_total, tied_itself, eqb-true, eq-eqb, exact_unsigned, Ordering, Less}
+use Rattle.tree_shape.proofs.Imports.{Equal, Greater, key_cmp, bound_cmp, bound_of, IsBefore, Bound, Entry, bounds_total, IsKeyBefore, shared, IsShortestPast}
 
 -- equal bytes tie
 same_tie : (x y : ℕ) → (x == y) ≡ true → nat_cmp x y ≡ Equal

@@ -1,17 +1,9 @@
 -- Each edit leaves a tree, and each kept number good.
 use Rattle.std.proofs.Common.{◌≡◌, ◌≢◌, ◌⊎◌, ℕ, suc, ◌<◌, ◌≤◌, inl, inr, Bool, true, List, [], ◌∷◌, ◌++◌, Some, None, refl, sym, ap, subst, ◌∙◌, arith}
-use Rattle.std.proofs.lemmas.Bool.{cases_eq}
 use Rattle.std.specs.List.{filter}
-use Rattle.index_model.specs.Order.{bound_of}
-use Rattle.index_model.specs.declared.bound.Bound.{Bound}
-use Rattle.index_model.specs.declared.entry.Entry.{Entry}
-use Rattle.page_codec.specs.declared.page.PageState.{PageState}
-use Rattle.page_codec.specs.declared.page.PageState.TheVariants.{Live, Deleted}
-use Rattle.tree_shape.specs.Nodes.{Node}
-use Rattle.tree_shape.specs.Chains.{IsRunOf, LeftContext, spot_after, first_spot, IsIn, AreDistinct, IsRootLevel, IsTreeOf}
-use Rattle.tree_shape.specs.Walks.{entry_aim, bound_aim, is_fit, IsFitOn, KeepsPlaces, SameOrder}
-use Rattle.tree_shape.specs.Edits.{IsInsertion, IsRemoval}
-use Rattle.tree_shape.specs.Laws.{InsertionKeeps, RemovalKeeps, LeafSplitKeeps, FinishKeeps, ParentSplitKeeps, RootSplitKeeps}
+use Rattle.tree_shape.proofs.Imports.{cases_eq, bound_of, Bound, Entry, PageState, Live, Deleted, Node, IsRunOf, LeftContext, spot_after, first_spot, IsIn, AreDistinct, IsRootLevel, IsTreeOf}
+use Rattle.tree_shape.proofs.Imports.{entry_aim, bound_aim, is_fit, IsFitOn, KeepsPlaces, SameOrder, IsInsertion, IsRemoval, InsertionKeeps, RemovalKeeps, LeafSplitKeeps, FinishKeeps}
+use Rattle.tree_shape.proofs.Imports.{ParentSplitKeeps, RootSplitKeeps}
 use Rattle.tree_shape.proofs.Runs.{run_back, SplitAt, split_at}
 use Rattle.tree_shape.proofs.Members.{member, in_append_left, in_append_right, apart_sides, apart_back, not_in_apart}
 use Rattle.tree_shape.proofs.Links.{link_cases}

@@ -1,18 +1,9 @@
 -- Why a step of a bulk delete is refused.
 use Rattle.std.proofs.Common.{◌≡◌, ℕ, ◌<◌, ◌≤◌, inl, inr, Bool, true, false, ◌||◌, List, [], refl, arith}
-use Rattle.std.proofs.lemmas.Bool.{or_cases, ltb-true, lt-ltb}
-use Rattle.index_model.specs.Faults.{HasCause}
-use Rattle.index_model.specs.Row.{Row}
-use Rattle.index_model.specs.declared.fault.Fault.{Fault}
-use Rattle.index_model.specs.declared.fault.Fault.TheVariants.{Io, Stopped, Blocked, LogFull}
-use Rattle.latch_table.specs.Holdings.{is_held_by_another}
-use Rattle.latch_table.specs.declared.mode.Mode.TheVariants.{Shared, Exclusive}
 use Rattle.page_action.specs.Causes.{is_at_end}
-use Rattle.page_action.specs.States.{State, Backing}
-use Rattle.tree_acts.specs.StepEffects.{causes_of_working}
 use Rattle.descent.proofs.Working.{no_room_later, room_for_none}
-use Rattle.vacuum.specs.BulkDeletes.{causes_of_taking, causes_of_deleting, is_counted_out}
-use Rattle.vacuum.specs.declared.steps.BulkDeleteOp.{BulkDeleteOp}
+use Rattle.vacuum.proofs.Imports.{or_cases, ltb-true, lt-ltb, HasCause, Row, Fault, Io, Stopped, Blocked, LogFull, is_held_by_another, Shared, Exclusive, State, Backing, causes_of_working}
+use Rattle.vacuum.proofs.Imports.{causes_of_taking, causes_of_deleting, is_counted_out, BulkDeleteOp}
 use Rattle.vacuum.proofs.Holding.{held_for_cleanup}
 
 pub or_more : (a b c : Bool) → (a || b) ≡ true → (a || (b || c)) ≡ true

@@ -1,24 +1,7 @@
 -- How much is left to do, and what is counted, after a page that is read.
 use Rattle.std.proofs.Common.{◌≡◌, ◌≢◌, ℕ, zero, suc, ◌+◌, ◌-◌, ◌*◌, ◌<◌, ◌≤◌, inl, inr, Bool, true, false, Option, Some, None, List, [], ◌∷◌, length, slice_get, refl, sym, ap, subst, ◌∙◌, arith}
-use Rattle.std.proofs.lemmas.Bool.{cases_eq, cases_lt}
-use Rattle.index_model.specs.Order.{is_among}
-use Rattle.index_model.specs.Row.{Row}
-use Rattle.index_model.specs.declared.entry.Entry.{Entry}
-use Rattle.page_codec.specs.Edits.{entries_of, HasEntries}
-use Rattle.page_codec.specs.declared.page.Items.{Items}
-use Rattle.page_codec.specs.declared.page.Items.TheVariants.{Meta, Entries, Downlinks}
-use Rattle.page_codec.specs.declared.page.Page.{Page}
-use Rattle.page_codec.specs.declared.page.PageState.{PageState}
-use Rattle.page_codec.specs.declared.page.PageState.TheVariants.{Live, HalfDead, Deleted}
-use Rattle.page_action.specs.Contents.{live_entries}
-use Rattle.page_action.specs.States.{State}
-use Rattle.tree_acts.specs.Leaves.{IsLeafAt}
-use Rattle.vacuum.specs.Counts.{entry_count, entries_below, IsBelow, IsCounted}
-use Rattle.vacuum.specs.Ops.{next_block, last_read, moves_of, cursor_past}
-use Rattle.vacuum.specs.Turns.{moved_beyond}
-use Rattle.vacuum.specs.Work.{bulk_delete_left}
-use Rattle.vacuum.specs.declared.steps.Backtrack.{Backtrack}
-use Rattle.vacuum.specs.declared.steps.BulkDeleteOp.{BulkDeleteOp}
+use Rattle.vacuum.proofs.Imports.{cases_eq, cases_lt, is_among, Row, Entry, entries_of, HasEntries, Items, Meta, Entries, Downlinks, Page, PageState, Live, HalfDead, Deleted, live_entries, State}
+use Rattle.vacuum.proofs.Imports.{IsLeafAt, entry_count, entries_below, IsBelow, IsCounted, next_block, last_read, moves_of, cursor_past, moved_beyond, bulk_delete_left, Backtrack, BulkDeleteOp}
 
 -- a block less, and no more moves than one block brings
 block_less : (n k m : ℕ) → m < k → n * k + m < suc n * k

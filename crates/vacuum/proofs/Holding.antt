@@ -1,9 +1,8 @@
 -- What keeps a bulk delete from a leaf: any latch or pin of another session.
 use Rattle.std.proofs.Common.{◌≡◌, ◌≢◌, ℕ, suc, inl, inr, Bool, true, false, not, ◌&&◌, ◌||◌, ◌==◌, List, [], ◌∷◌, length, refl, sym, ap, ◌∙◌}
-use Rattle.std.proofs.lemmas.Bool.{cases_lt, cases_Bool, or_cases, and_parts}
-use Rattle.latch_table.specs.Holdings.{Holding, Table, excludes, has_pin, holding_of, holding_excludes, latches_exclude, pins_exclude, others_exclude, is_held_by_another}
 use Rattle.latch_table.specs.declared.mode.Mode.{Mode}
-use Rattle.latch_table.specs.declared.mode.Mode.TheVariants.{Shared, Exclusive, Cleanup}
+use Rattle.vacuum.proofs.Imports.{cases_lt, cases_Bool, or_cases, and_parts, Holding, Table, excludes, has_pin, holding_of, holding_excludes, latches_exclude, pins_exclude, others_exclude}
+use Rattle.vacuum.proofs.Imports.{is_held_by_another, Shared, Exclusive, Cleanup}
 use Rattle.latch_table.specs.declared.mode.Latch.{Latch}
 use Rattle.latch_table.proofs.Tables.{is_held_by_another-free}
 use Rattle.descent.proofs.Tables.{out_of_table}

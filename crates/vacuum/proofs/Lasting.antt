@@ -1,21 +1,8 @@
 -- What a bulk delete knows lasts while others act, and what is due to it is to come still.
 use Rattle.std.proofs.Common.{◌≡◌, ℕ, ◌<◌, ◌≤◌, inl, inr, true, false, Option, Some, None, List, slice_get, sym, subst, ◌∙◌, arith}
-use Rattle.std.proofs.lemmas.Bool.{cases_lt}
-use Rattle.index_model.specs.Actions.{Effect}
-use Rattle.index_model.specs.Order.{is_among}
-use Rattle.index_model.specs.declared.entry.Entry.{Entry}
-use Rattle.page_codec.specs.Edits.{entries_of}
-use Rattle.page_codec.specs.declared.page.Page.{Page}
-use Rattle.page_action.specs.States.{State}
-use Rattle.page_action.proofs.StoredPages.{stored_page}
-use Rattle.tree_acts.specs.Leaves.{IsLeafAt, WasLeaf, HasOldEntries, LeafBecomes, LeafIsHalved, LeafPagesStay}
-use Rattle.tree_acts.proofs.Removing.{leaf_is}
-use Rattle.tree_acts.specs.StepEffects.{NumbersStay}
-use Rattle.vacuum.specs.BulkDeletes.{IsGoingBack}
 use Rattle.vacuum.specs.Laws.{BulkDeletesAreUndisturbed, DueIsUndisturbed, AllIsToCome}
-use Rattle.vacuum.specs.Ops.{last_read}
-use Rattle.vacuum.specs.Vacuuming.{BlockIsToCome, ahead, sibling, led, WentBackFromLeaf}
-use Rattle.vacuum.specs.declared.steps.Backtrack.{Backtrack}
+use Rattle.vacuum.proofs.Imports.{cases_lt, Effect, is_among, Entry, entries_of, Page, State, stored_page, IsLeafAt, WasLeaf, HasOldEntries, LeafBecomes, LeafIsHalved, LeafPagesStay, leaf_is}
+use Rattle.vacuum.proofs.Imports.{NumbersStay, IsGoingBack, last_read, BlockIsToCome, ahead, sibling, led, WentBackFromLeaf, Backtrack}
 
 goes_back_still : (old new : State) (start : ℕ) (back : Option Backtrack) → NumbersStay start old new → IsGoingBack old start back → IsGoingBack new start back
 goes_back_still old new start None stay h = tt

@@ -1,3 +1,4 @@
+pub mod Imports
 pub mod Lasting
 pub mod Vacuuming
 pub mod Holding

@@ -1,44 +1,18 @@
 -- Steps of a bulk delete.
 use Rattle.std.proofs.Common.{◌≡◌, ◌≢◌, ℕ, zero, suc, ◌+◌, ◌<◌, ◌≤◌, nat_lt, inl, inr, Bool, true, false, if◌then◌else◌, Option, Some, None, Ok, Err, List, [], ◌∷◌, length, slice_get, slice_index, refl, sym, ap, subst, ◌∙◌, arith}
-use Rattle.std.proofs.lemmas.Bool.{cases_eq, lt-ltb}
-use Rattle.index_model.specs.Faults.{HasCause}
-use Rattle.index_model.specs.Order.{is_among}
-use Rattle.index_model.specs.Row.{Row}
-use Rattle.index_model.specs.declared.entry.Entry.{Entry}
-use Rattle.index_model.specs.declared.fault.Fault.{Fault}
-use Rattle.index_model.specs.declared.fault.Fault.TheVariants.{Stopped}
 use Rattle.index_model.specs.declared.stats.VacuumStats.{VacuumStats}
-use Rattle.latch_table.specs.Holdings.{Holding, Table, HasRoom, has_pin, holding_of, is_held_by_another}
-use Rattle.latch_table.specs.declared.mode.Mode.TheVariants.{Cleanup}
-use Rattle.page_codec.specs.Edits.{entries_of, HasEntries}
-use Rattle.page_codec.specs.declared.page.Page.{Page}
-use Rattle.page_codec.specs.declared.page.PageState.TheVariants.{Live}
-use Rattle.page_action.specs.Contents.{live_entries}
-use Rattle.page_action.specs.States.{State, Continues}
-use Rattle.page_action.specs.Stored.{IsStored}
 use Rattle.page_action.specs.declared.page_store.PageStore.{Ghosts}
-use Rattle.tree_shape.specs.Edits.{removed_from}
 use Rattle.tree_shape.specs.Nodes.{nodes_of}
 use Rattle.tree_shape.specs.Walks.{IsTrail, reached, over}
-use Rattle.tree_acts.specs.Acts.{EntriesAreRemoved}
-use Rattle.tree_acts.specs.Leaves.{IsLeafAt}
 use Rattle.tree_acts.specs.Trees.{HasTree, HasTrail}
 use Rattle.tree_acts.proofs.Lasting.{deleted_in_use}
-use Rattle.tree_acts.proofs.Overlays.{inside, page_there, page_other, page_length}
-use Rattle.tree_acts.proofs.Removing.{leaf_begins_trail, removing_lasts}
 use Rattle.tree_acts.proofs.Meanings.{trail_moves_right, trail_is_short_here}
-use Rattle.tree_acts.proofs.Words.{trail_in}
-use Rattle.tree_acts.specs.StepEffects.{IsInOrder, StepEffect, IsOneActAtMost}
-use Rattle.descent.proofs.Acting.{one_act, one_nothing, nothing_else}
-use Rattle.vacuum.specs.BulkDeletes.{IsGoingBack, BulkDeleteInvariant, BulkDeleteSteps, causes_of_deleting, removes, dead_of, dead_at, has_dead}
-use Rattle.vacuum.specs.Counts.{stats_of, IsBelow, IsCounted, entry_count}
-use Rattle.vacuum.specs.Ops.{lives, without_dead, dead_entries, next_block, last_read, moves_of, cursor_past}
-use Rattle.vacuum.specs.Vacuuming.{IsSibling, DueIsToCome}
-use Rattle.vacuum.specs.Turns.{LeadsBack, TurnsTo, TurnsNoMore, IsPruned, moved_beyond, written}
-use Rattle.vacuum.specs.Work.{bulk_delete_left}
-use Rattle.vacuum.specs.declared.leaf.PrunedLeaf.{PrunedLeaf}
-use Rattle.vacuum.specs.declared.steps.Backtrack.{Backtrack}
-use Rattle.vacuum.specs.declared.steps.BulkDeleteOp.{BulkDeleteOp}
+use Rattle.vacuum.proofs.Imports.{cases_eq, lt-ltb, HasCause, is_among, Row, Entry, Fault, Stopped, Holding, Table, HasRoom, has_pin, holding_of, is_held_by_another, Cleanup, entries_of}
+use Rattle.vacuum.proofs.Imports.{HasEntries, Page, Live, live_entries, State, Continues, IsStored, removed_from, EntriesAreRemoved, IsLeafAt, inside, page_there, page_other, page_length}
+use Rattle.vacuum.proofs.Imports.{leaf_begins_trail, removing_lasts, trail_in, IsInOrder, StepEffect, IsOneActAtMost, one_act, one_nothing, nothing_else, IsGoingBack, BulkDeleteInvariant}
+use Rattle.vacuum.proofs.Imports.{BulkDeleteSteps, causes_of_deleting, removes, dead_of, dead_at, has_dead, stats_of, IsBelow, IsCounted, entry_count, lives, without_dead, dead_entries}
+use Rattle.vacuum.proofs.Imports.{next_block, last_read, moves_of, cursor_past, IsSibling, DueIsToCome, LeadsBack, TurnsTo, TurnsNoMore, IsPruned, moved_beyond, written, bulk_delete_left}
+use Rattle.vacuum.proofs.Imports.{PrunedLeaf, Backtrack, BulkDeleteOp}
 use Rattle.vacuum.specs.declared.steps.BulkDeleteStep.TheVariants.{Going, Finished}
 use Rattle.vacuum.proofs.Counting.{counts_on, counted_beyond, leaves_less, no_leaf_count}
 use Rattle.vacuum.proofs.Holding.{pinned_is_held}

@@ -1,42 +1,19 @@
 -- A leaf that loses its dead entries, and the act by which it does.
 use Rattle.std.proofs.Common.{◌≡◌, ℕ, suc, ◌+◌, ◌<◌, ◌≤◌, inl, inr, Bool, true, false, not, ◌&&◌, if◌then◌else◌, Some, None, List, [], ◌∷◌, length, slice_get, refl, sym, ap, subst, ◌∙◌, arith}
-use Rattle.std.proofs.lemmas.Bool.{cases_Bool, and_parts}
 use Rattle.std.specs.List.{filter}
 use Rattle.std.specs.Prelude.{unwrap_or}
-use Rattle.index_model.specs.Actions.{Remove, said_of}
-use Rattle.index_model.specs.Order.{is_among, IsUpTo, IsAscending, IsEntry}
-use Rattle.index_model.specs.Row.{Row}
-use Rattle.index_model.specs.declared.entry.Entry.{Entry}
 use Rattle.index_model.specs.declared.format.Format.{Format}
 use Rattle.index_model.proofs.Ascending.{same_entry-self}
-use Rattle.latch_table.specs.Holdings.{is_held_by_another}
-use Rattle.latch_table.specs.declared.mode.Mode.TheVariants.{Exclusive, Cleanup}
-use Rattle.page_codec.specs.Edits.{entries_of, HasEntries, with_entries, renewed}
 use Rattle.page_codec.proofs.Renewed.{renewed_is_page}
 use Rattle.page_codec.specs.Grammar.{AreEntries, IsLeafIn, IsLiveLeaf, IsOfKind, IsPage}
 use Rattle.page_codec.specs.Spelling.{count_of}
-use Rattle.page_codec.specs.declared.page.Items.{Items}
-use Rattle.page_codec.specs.declared.page.Items.TheVariants.{Meta, Entries, Downlinks}
-use Rattle.page_codec.specs.declared.page.Page.{Page}
-use Rattle.page_codec.specs.declared.page.PageState.{PageState}
-use Rattle.page_codec.specs.declared.page.PageState.TheVariants.{Live}
-use Rattle.page_action.specs.Contents.{live_entries, entry_on_live_leaf}
-use Rattle.page_action.specs.States.{State, after_act}
-use Rattle.page_action.specs.Stored.{IsStored, AreActable}
-use Rattle.page_action.proofs.StoredPages.{stored_page}
 use Rattle.page_action.proofs.Writable.{writable}
-use Rattle.tree_shape.specs.Edits.{removed_from}
 use Rattle.tree_shape.proofs.Removal.{AscendsPast-filter, AllByRecursion-filter, is_among-filter}
-use Rattle.tree_acts.specs.Acts.{EntriesAreRemoved, TreeLasts, ContentsLose}
-use Rattle.tree_acts.proofs.Overlays.{node_there, inside}
 use Rattle.tree_acts.proofs.Leaving.{removing_leaves}
-use Rattle.tree_acts.proofs.Removing.{removing_lasts, removing_flags}
-use Rattle.tree_acts.proofs.Words.{contents_held}
-use Rattle.tree_acts.specs.StepEffects.{IsInOrder, StepEffect}
-use Rattle.descent.proofs.Acting.{others_rely}
-use Rattle.vacuum.specs.Ops.{lives, without_dead, dead_entries}
-use Rattle.vacuum.specs.Turns.{IsPruned}
-use Rattle.vacuum.specs.declared.leaf.PrunedLeaf.{PrunedLeaf}
+use Rattle.vacuum.proofs.Imports.{cases_Bool, and_parts, Remove, said_of, is_among, IsUpTo, IsAscending, IsEntry, Row, Entry, is_held_by_another, Exclusive, Cleanup, entries_of, HasEntries}
+use Rattle.vacuum.proofs.Imports.{with_entries, renewed, Items, Meta, Entries, Downlinks, Page, PageState, Live, live_entries, entry_on_live_leaf, State, after_act, IsStored, AreActable}
+use Rattle.vacuum.proofs.Imports.{stored_page, removed_from, EntriesAreRemoved, TreeLasts, ContentsLose, node_there, inside, removing_lasts, removing_flags, contents_held, IsInOrder, StepEffect}
+use Rattle.vacuum.proofs.Imports.{others_rely, lives, without_dead, dead_entries, IsPruned, PrunedLeaf}
 use Rattle.vacuum.proofs.Holding.{free_for_all}
 
 -- the entries that pass and those that don't are all

@@ -1,22 +1,8 @@
 -- What reading one page leaves of what is due: it is to come still, except for what stood on that page.
 use Rattle.std.proofs.Common.{◌≡◌, ◌≢◌, ◌⊎◌, ℕ, suc, ◌<◌, ◌≤◌, inl, inr, Bool, true, false, ◌||◌, Option, Some, None, List, [], ◌∷◌, length, slice_get, refl, sym, ap, subst, ◌∙◌, arith}
-use Rattle.std.proofs.lemmas.Bool.{cases_eq, cases_lt}
-use Rattle.index_model.specs.Order.{is_among}
-use Rattle.index_model.specs.declared.entry.Entry.{Entry}
-use Rattle.page_codec.specs.Edits.{entries_of}
-use Rattle.page_codec.specs.declared.page.Items.{Items}
-use Rattle.page_codec.specs.declared.page.Items.TheVariants.{Meta, Entries, Downlinks}
-use Rattle.page_codec.specs.declared.page.Page.{Page}
-use Rattle.page_codec.specs.declared.page.PageState.{PageState}
-use Rattle.page_codec.specs.declared.page.PageState.TheVariants.{Live, HalfDead, Deleted}
-use Rattle.page_action.specs.Contents.{live_entries, is_on, entry_on_live_leaf}
-use Rattle.page_action.specs.States.{State}
-use Rattle.tree_acts.specs.Leaves.{IsLeafAt, WasLeaf}
-use Rattle.tree_acts.proofs.Overlays.{inside}
-use Rattle.vacuum.specs.Ops.{next_block, last_read, cursor_past}
-use Rattle.vacuum.specs.Vacuuming.{IsSibling, BlockIsToCome, ahead, sibling, led, WentBackFromLeaf, DueIsToCome}
-use Rattle.vacuum.specs.Turns.{LeadsBack}
-use Rattle.vacuum.specs.declared.steps.Backtrack.{Backtrack}
+use Rattle.vacuum.proofs.Imports.{cases_eq, cases_lt, is_among, Entry, entries_of, Items, Meta, Entries, Downlinks, Page, PageState, Live, HalfDead, Deleted, live_entries, is_on}
+use Rattle.vacuum.proofs.Imports.{entry_on_live_leaf, State, IsLeafAt, WasLeaf, inside, next_block, last_read, cursor_past, IsSibling, BlockIsToCome, ahead, sibling, led, WentBackFromLeaf}
+use Rattle.vacuum.proofs.Imports.{DueIsToCome, LeadsBack, Backtrack}
 
 -- the page that was read leads on as it does, and no other page is changed
 pub record IsReadOn (st new : State) (cursor : ℕ) (back next_page : Option Backtrack) : Type 0 where

@@ -1,25 +1,13 @@
 -- Beginnings as runs of one event.
 use Rattle.std.proofs.Common.{◌≡◌, ℕ, Bool, Option, Some, None, List, [], ◌∷◌, slice_get, refl, sym, subst, arith, inl, inr, zero, suc, true, false, Ok, slice_set, ap, ◌∙◌, unwrap_or}
-use Rattle.page_codec.specs.declared.page.PageState.TheVariants.{HalfDead}
-use Rattle.tree_shape.specs.Nodes.{nodes_of}
 use Rattle.vacuum.specs.Laws.{NothingIsCounted}
-use Rattle.page_delete.specs.Counts.{deleted_in}
-use Rattle.page_delete.specs.Spares.{IsAlone}
 use Rattle.page_delete.proofs.Cleaning.{nothing_cleaned}
 use Rattle.page_delete.proofs.Sparing.{nothing_spared}
-use Rattle.page_delete.proofs.Tallying.{deleted_alike}
-use Rattle.session_calls.specs.Ops.{asks_bulk_delete}
-use Rattle.session_calls.specs.Sessions.{start_number, after_request}
-use Rattle.session_calls.specs.declared.request.Request.TheVariants.{Insert as ToInsert, Scan as ToScan, Bulk as ToBulk, Cleanup as ToCleanup}
-use Rattle.schedule.specs.declared.event.Event.{Event}
-use Rattle.schedule.specs.declared.event.Event.TheVariants.{Insert as InsertEvent, Scan as ScanEvent, Bulk as BulkEvent, Cleanup as CleanupEvent}
-use Rattle.schedule.proofs.Fitting.{fits_after, running_of}
-use Rattle.schedule.proofs.Standing.{slot_found}
-use Rattle.whole_calls.proofs.Words.{Entry, State, Ghosts, Page, op_before, set_at, Answer, Begun, Refused, Op, Request, StoreAndSlots, Moment, snapshot_of, Kind, BeginsCall, kind_of, EventDoes, EventEffect, IsOfSession, AnswersBeginning, MayBegin, slot_of, SlotRuns, Laws}
-use Rattle.whole_calls.specs.Going.{IsOutcomeOf, CallIsRun}
-use Rattle.whole_calls.specs.Stepping.{BeginIsRun}
-use Rattle.whole_calls.specs.Vacuuming.{Followed, of_bulk_delete, of_cleanup, of_deleted, of_leaves, FollowsFrom, IsCountedAs, BeginsToCount}
-use Rattle.whole_calls.specs.Meanings.{begun_of, begin_outcome}
+use Rattle.whole_calls.proofs.Imports.{HalfDead, nodes_of, deleted_in, IsAlone, deleted_alike, asks_bulk_delete, start_number, after_request, ToInsert, ToScan, ToBulk, ToCleanup, Event}
+use Rattle.whole_calls.proofs.Imports.{InsertEvent, ScanEvent, BulkEvent, CleanupEvent, fits_after, running_of, slot_found, Entry, State, Ghosts, Page, op_before, set_at, Answer, Begun, Refused}
+use Rattle.whole_calls.proofs.Imports.{Op, Request, StoreAndSlots, Moment, snapshot_of, Kind, BeginsCall, kind_of, EventDoes, EventEffect, IsOfSession, AnswersBeginning, MayBegin, slot_of}
+use Rattle.whole_calls.proofs.Imports.{SlotRuns, Laws, IsOutcomeOf, CallIsRun, BeginIsRun, Followed, of_bulk_delete, of_cleanup, of_deleted, of_leaves, FollowsFrom, IsCountedAs, BeginsToCount}
+use Rattle.whole_calls.proofs.Imports.{begun_of, begin_outcome}
 use Rattle.whole_calls.proofs.Composing.{goes_once, goes_told}
 use Rattle.whole_calls.proofs.Counting.{alone_on}
 use Rattle.whole_calls.proofs.Tellings.{begins_told}

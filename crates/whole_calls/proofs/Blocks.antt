@@ -1,16 +1,9 @@
 -- Which blocks are free: as told of another moment, at which the same pages are in use and the same calls run.
 use Rattle.std.specs.Prelude.{slice_index}
 use Rattle.std.proofs.Common.{◌≡◌, ◌⊎◌, ℕ, zero, suc, Bool, true, false, not, ◌&&◌, ◌||◌, nat_le, Option, Some, None, List, [], ◌∷◌, length, slice_get, slice_set, refl, sym, ap, subst, inl, inr, ◌∙◌, unwrap_or}
-use Rattle.page_action.specs.Reuse.{is_deleted, others_began_after, is_reusable}
-use Rattle.tree_acts.specs.StepEffects.{any_is_reusable, is_out_of_blocks}
-use Rattle.insert_split.specs.declared.insert.InsertOp.{InsertOp}
-use Rattle.session_calls.specs.Ops.{is_bulk_delete}
-use Rattle.session_calls.specs.Sessions.{start_number, op_after_call, after_slot, let_go}
-use Rattle.session_calls.specs.declared.op.Op.TheVariants.{Insert}
 use Rattle.session_calls.proofs.Freeing.{go_running}
-use Rattle.schedule.proofs.Fitting.{running_of}
-use Rattle.whole_calls.proofs.Words.{Entry, Format, State, Ghosts, Page, session_of, Op, Moment, Fits, slot_of, SlotRuns}
-use Rattle.whole_calls.specs.Refusing.{with_number, has_no_block}
+use Rattle.whole_calls.proofs.Imports.{is_deleted, others_began_after, is_reusable, any_is_reusable, is_out_of_blocks, InsertOp, is_bulk_delete, start_number, op_after_call, after_slot, let_go}
+use Rattle.whole_calls.proofs.Imports.{Insert, running_of, Entry, Format, State, Ghosts, Page, session_of, Op, Moment, Fits, slot_of, SlotRuns, with_number, has_no_block}
 
 -- one of the first so many blocks may be used again
 same_reusable : (a b : State) → a.pages ≡ b.pages → a.counted ≡ b.counted → a.running ≡ b.running → (n : ℕ) → any_is_reusable a n ≡ any_is_reusable b n

@@ -1,11 +1,8 @@
 -- Runs of one session's events, one after the other.
 use Rattle.std.proofs.Common.{◌≡◌, ℕ, Bool, true, Option, Some, None, List, [], ◌∷◌, ◌++◌, refl, subst, inl, inr}
-use Rattle.schedule.specs.declared.event.Event.{Event}
-use Rattle.schedule.proofs.Joining.{ran_then, are_of_both}
 use Rattle.schedule.proofs.Running.{none_ran, makes_runs}
-use Rattle.whole_calls.proofs.Words.{Action, Call, Entry, IsLater, Continues, Ghosts, Answer, StoreAndSlots, Moment, snapshot_of, EventDoes, EventEffect, Fits, here_at, kind_of, IsOf, EventIsRun, ForEachHistory, Runs, Laws}
-use Rattle.whole_calls.specs.Going.{IsAmong, IsOutcomeOf, CallRuns, CallIsRun, CallIsRunFrom}
-use Rattle.schedule.proofs.Fitting.{goes_does}
+use Rattle.whole_calls.proofs.Imports.{Event, ran_then, are_of_both, Action, Call, Entry, IsLater, Continues, Ghosts, Answer, StoreAndSlots, Moment, snapshot_of, EventDoes, EventEffect, Fits}
+use Rattle.whole_calls.proofs.Imports.{here_at, kind_of, IsOf, EventIsRun, ForEachHistory, Runs, Laws, IsAmong, IsOutcomeOf, CallRuns, CallIsRun, CallIsRunFrom, goes_does}
 
 pub among_left : (xs ys : List Answer) (answer : Answer) → IsAmong xs answer → IsAmong (xs ++ ys) answer
 among_left [] ys answer h = absurd h

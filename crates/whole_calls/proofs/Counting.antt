@@ -1,22 +1,12 @@
 -- What a bulk delete or a cleanup counts, step by step.
 use Rattle.std.proofs.Common.{◌≡◌, ℕ, ◌+◌, ◌<◌, Bool, true, false, Option, Some, None, Ok, List, [], length, slice_get, refl, sym, ap, subst, ◌∙◌, arith, unwrap_or}
-use Rattle.index_model.specs.declared.stats.VacuumStats.{VacuumStats}
-use Rattle.vacuum.specs.Counts.{entries_below}
-use Rattle.page_codec.specs.declared.page.PageState.TheVariants.{Live, HalfDead}
-use Rattle.tree_shape.specs.Nodes.{nodes_of}
 use Rattle.tree_shape.specs.Staying.{MustStay}
 use Rattle.tree_acts.specs.Deletions.{StartsAreBelow}
-use Rattle.page_delete.specs.Counts.{AllIsCleaned, deleted_in}
-use Rattle.page_delete.proofs.Tallying.{deleted_alike}
-use Rattle.page_delete.specs.Spares.{IsAlone, OnlyNeededStay}
-use Rattle.session_calls.specs.declared.op.Op.TheVariants.{Bulk, Cleanup}
-use Rattle.schedule.proofs.Lists.{get_set_same, get_within}
-use Rattle.schedule.proofs.Standing.{slot_found}
-use Rattle.whole_calls.proofs.Words.{Call, Entry, State, Ghosts, Page, DeadSets, asked_of, session_of, OpInvariant, CountsEntries, CountsPages, SparesLeaves, Answer, Going, Finished, Op, Moment, IsRunningCall, EventDoes, Fits, slot_of, SlotRuns, has_call, MovesCall, Steps, CallMoves, MovesOn}
-use Rattle.whole_calls.specs.Vacuuming.{Followed, of_bulk_delete, of_cleanup, of_deleted, of_leaves, IsCountedAs, StatsCountAs, CountsThrough}
-use Rattle.tree_acts.specs.StepEffects.{IsInOrder, OthersRely}
 use Rattle.whole_calls.proofs.Tellings.{runs_in_slot, one_runs}
-use Rattle.schedule.proofs.Fitting.{fits_after, running_of}
+use Rattle.whole_calls.proofs.Imports.{VacuumStats, entries_below, Live, HalfDead, nodes_of, AllIsCleaned, deleted_in, deleted_alike, IsAlone, OnlyNeededStay, Bulk, Cleanup, get_set_same}
+use Rattle.whole_calls.proofs.Imports.{get_within, slot_found, Call, Entry, State, Ghosts, Page, DeadSets, asked_of, session_of, OpInvariant, CountsEntries, CountsPages, SparesLeaves, Answer}
+use Rattle.whole_calls.proofs.Imports.{Going, Finished, Op, Moment, IsRunningCall, EventDoes, Fits, slot_of, SlotRuns, has_call, MovesCall, Steps, CallMoves, MovesOn, Followed, of_bulk_delete}
+use Rattle.whole_calls.proofs.Imports.{of_cleanup, of_deleted, of_leaves, IsCountedAs, StatsCountAs, CountsThrough, IsInOrder, OthersRely, fits_after, running_of}
 
 -- nobody else holds a page, after a step of the session's call
 pub alone_on : (session : ℕ) (old now : State) (one other : ℕ) → OthersRely session old now → one ≡ session → other ≡ session → IsAlone old one → IsAlone now other

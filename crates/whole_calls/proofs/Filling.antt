@@ -1,24 +1,12 @@
 -- The counts of a bulk delete and of a cleanup stay far from their end.
 use Rattle.std.proofs.Common.{◌≡◌, ℕ, ◌<◌, ◌≤◌, ◌||◌, Bool, true, false, Option, Some, None, List, [], ◌∷◌, ◌++◌, length, drop, refl, sym, ap, subst, arith, inl, inr, ◌∙◌, unwrap_or}
-use Rattle.std.proofs.lemmas.Bool.{or_cases, ltb-true, eqb-true}
 use Rattle.std.proofs.Math.Seq.{drop-append_seam}
-use Rattle.index_model.specs.Limits.{AreLimits}
-use Rattle.index_model.specs.Row.{Row}
-use Rattle.vacuum.specs.BulkDeletes.{is_counted_out, is_full_count}
-use Rattle.vacuum.specs.Counts.{entries_below}
-use Rattle.vacuum.specs.declared.steps.BulkDeleteOp.{BulkDeleteOp}
-use Rattle.page_delete.specs.Counts.{come_to}
-use Rattle.page_delete.specs.Ops.{is_last_number, cleanup_counted_out as is_cleanup_full}
 use Rattle.page_delete.specs.declared.steps.CleanupAt.{CleanupAt}
 use Rattle.page_delete.specs.declared.steps.CleanupAt.TheVariants.{Look}
-use Rattle.page_delete.specs.declared.steps.CleanupOp.{CleanupOp}
 use Rattle.session_calls.specs.BulkDeletions.{OpDeletions}
-use Rattle.session_calls.specs.declared.op.Op.TheVariants.{Bulk, Cleanup}
-use Rattle.whole_calls.proofs.Words.{Effect, Action, AskBulkDelete, Call, removed_by, Entry, Format, Ghosts, asked_of, noted, Op, Moment, IsRunningCall, Fits, slot_of, Laws}
-use Rattle.whole_calls.specs.Refusing.{is_full_vacuum}
-use Rattle.whole_calls.specs.Stepping.{HasReached}
-use Rattle.whole_calls.specs.Vacuuming.{of_cleanup, IsCountedAs, IsCountedIn, removed_of}
-use Rattle.whole_calls.specs.Meanings.{acts_by, noted_after}
+use Rattle.whole_calls.proofs.Imports.{or_cases, ltb-true, eqb-true, AreLimits, Row, is_counted_out, is_full_count, entries_below, BulkDeleteOp, come_to, is_last_number, is_cleanup_full}
+use Rattle.whole_calls.proofs.Imports.{CleanupOp, Bulk, Cleanup, Effect, Action, AskBulkDelete, Call, removed_by, Entry, Format, Ghosts, asked_of, noted, Op, Moment, IsRunningCall, Fits, slot_of}
+use Rattle.whole_calls.proofs.Imports.{Laws, is_full_vacuum, HasReached, of_cleanup, IsCountedAs, IsCountedIn, removed_of, acts_by, noted_after}
 use Rattle.whole_calls.proofs.Gone.{gone_runs, same_ask}
 use Rattle.whole_calls.proofs.Removing.{remove_there, all_once, all_were, all_counted, removed_few, entries_few}
 use Rattle.whole_calls.proofs.Tellings.{runs_in_slot, one_runs}

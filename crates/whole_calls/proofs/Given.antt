@@ -1,16 +1,10 @@
 -- What a scan gives tells.
 use Rattle.std.proofs.Common.{◌≡◌, ◌⊎◌, ℕ, ◌<◌, ◌≤◌, arith, Bool, Option, Some, None, Result, Ok, List, [], ◌∷◌, ◌++◌, length, slice_get, slice_set, refl, sym, ap, subst, inl, inr, ◌∙◌, IfErr}
-use Rattle.std.proofs.lemmas.List.{append-nil}
-use Rattle.std.proofs.lemmas.Bool.{cases_eq}
-use Rattle.index_model.specs.Calls.{Finished as EndsFinished}
-use Rattle.index_model.specs.declared.range.Range.{Range}
-use Rattle.session_calls.specs.declared.op.Op.TheVariants.{Bulk as Bulks, Cleanup as Cleanups}
-use Rattle.schedule.proofs.Lists.{get_set_same, get_set_other, get_within}
-use Rattle.whole_calls.proofs.Words.{Effect, Add, Remove, Shape, Action, AskScan, Running, Call, Circumstances, HasCause, Entry, Fault, State, Ghosts, IsCaused, OwesLess, work_in, noted, given_one, ended, Answer, Going, Ready, Done, Gave, Refused, Op, StoreAndSlots, Moment, IsRunningCall, Fits}
-use Rattle.whole_calls.specs.Going.{IsOutcomeOf}
-use Rattle.whole_calls.specs.Made.{IsMadeOf, Answered, ComesTo}
-use Rattle.whole_calls.specs.Giving.{LessIsLeft, AnswersSeek, given_of, given_outcome, Becomes, GivenMeans, SessionScanMeans, ScanIsUnanswered, SessionGivenMeans}
-use Rattle.whole_calls.specs.Meanings.{IsSameHistory, acts_by, noted_after, AreOwnEffects, IsOwnEffect, CallAnswers, StepMeans, SessionStepMeans, HasNone, EndMeans}
+use Rattle.whole_calls.proofs.Imports.{append-nil, cases_eq, EndsFinished, Range, Bulks, Cleanups, get_set_same, get_set_other, get_within, Effect, Add, Remove, Shape, Action, AskScan, Running}
+use Rattle.whole_calls.proofs.Imports.{Call, Circumstances, HasCause, Entry, Fault, State, Ghosts, IsCaused, OwesLess, work_in, noted, given_one, ended, Answer, Going, Ready, Done, Gave, Refused}
+use Rattle.whole_calls.proofs.Imports.{Op, StoreAndSlots, Moment, IsRunningCall, Fits, IsOutcomeOf, IsMadeOf, Answered, ComesTo, LessIsLeft, AnswersSeek, given_of, given_outcome, Becomes}
+use Rattle.whole_calls.proofs.Imports.{GivenMeans, SessionScanMeans, ScanIsUnanswered, SessionGivenMeans, IsSameHistory, acts_by, noted_after, AreOwnEffects, IsOwnEffect, CallAnswers, StepMeans}
+use Rattle.whole_calls.proofs.Imports.{SessionStepMeans, HasNone, EndMeans}
 use Rattle.whole_calls.proofs.Made.{made_told}
 use Rattle.whole_calls.proofs.Gone.{set_same, same_ask, gone_nowhere, gone_runs, gone_then, whole_told}
 use Rattle.whole_calls.proofs.Tellings.{one_runs, was_told}

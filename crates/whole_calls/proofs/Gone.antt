@@ -1,9 +1,7 @@
 -- A call that goes on over several events: what is told of the one and then of the other is told of both.
 use Rattle.std.proofs.Common.{◌≡◌, ℕ, zero, suc, ◌+◌, Option, Some, None, List, [], ◌∷◌, ◌++◌, length, slice_get, slice_set, refl, sym, ap, subst, arith, inl, inr, ◌∙◌, length-append, append_assoc}
-use Rattle.std.proofs.lemmas.List.{append-nil}
-use Rattle.schedule.proofs.Lists.{get_set_same, get_within}
-use Rattle.whole_calls.proofs.Words.{Effect, Action, Ask, Call, acts_of, AnswerMeans, noted, Answer, Going, Moment, IsRunningCall}
-use Rattle.whole_calls.specs.Meanings.{IsSameHistory, MayAnswer, acts_by, noted_after, AreOwnEffects, IsOwnEffect, HasContinued, HasRunSoFar, CallAnswers, StepMeans, SessionStepMeans}
+use Rattle.whole_calls.proofs.Imports.{append-nil, get_set_same, get_within, Effect, Action, Ask, Call, acts_of, AnswerMeans, noted, Answer, Going, Moment, IsRunningCall, IsSameHistory, MayAnswer}
+use Rattle.whole_calls.proofs.Imports.{acts_by, noted_after, AreOwnEffects, IsOwnEffect, HasContinued, HasRunSoFar, CallAnswers, StepMeans, SessionStepMeans}
 
 pub set_same : {X : Type 0} (xs : List X) (i : ℕ) (x : X) → slice_get xs i ≡ Some x → slice_set xs i x ≡ xs
 set_same [] i x h = refl

@@ -1,19 +1,12 @@
 -- What an insert tells that is run to its end.
 use Rattle.std.proofs.Common.{◌≡◌, ◌≢◌, ℕ, suc, ◌+◌, ◌⊎◌, Bool, true, false, if◌then◌else◌, Option, Some, None, List, [], ◌∷◌, ◌++◌, length, slice_get, slice_set, refl, sym, ap, subst, arith, inl, inr, ◌∙◌, length-append, append_assoc, unwrap_or}
-use Rattle.std.proofs.lemmas.Bool.{false≢true}
-use Rattle.std.proofs.lemmas.List.{append-nil}
-use Rattle.index_model.specs.Calls.{Added as EndsAdded}
-use Rattle.index_model.specs.Row.{Row}
-use Rattle.index_model.specs.declared.fault.Fault.TheVariants.{Blocked, Exists, KeyExists}
-use Rattle.session_calls.specs.declared.request.Request.TheVariants.{Insert as ToInsert}
-use Rattle.schedule.proofs.Lists.{get_append_new, get_append_cases}
-use Rattle.whole_calls.proofs.Words.{Effect, Add, Remove, Shape, Action, Ask, AskInsert, Ending, Running, GivenUp, Failed, AnswersRight, end_of, Meets, Call, HasCause, Entry, Fault, Ghosts, ends_call, IsCaused, acts_of, act_count, noted, ended, slot_add, once_added, Answer, Going, Added, Refused, Op, StoreAndSlots, Moment, snapshot_of, IsRunningCall, Fits, here_at, slot_of}
-use Rattle.whole_calls.specs.Made.{Answered, InsertComesTo}
-use Rattle.whole_calls.specs.Going.{CallIsRun, CallIsRunFrom}
 use Rattle.whole_calls.specs.Inserting.{InsertIsRun}
-use Rattle.whole_calls.specs.Refusing.{causes_of_inserted, causes_of_asked, has_no_block, is_tall, InsertCallIsCaused}
-use Rattle.whole_calls.specs.Stepping.{RequestIsRun}
-use Rattle.whole_calls.specs.Meanings.{MayAnswer, acts_by, noted_after, AreOwnEffects, CallAnswers, StepMeans, HasNone, EndMeans, with_one_call, first_call, NextMeans, NothingIsDone, left_behind, outcome_of, shapes, inserted_call, IsAddedNow, IsNotAdded, InsertMeans}
+use Rattle.whole_calls.proofs.Imports.{false≢true, append-nil, EndsAdded, Row, Blocked, Exists, KeyExists, ToInsert, get_append_new, get_append_cases, Effect, Add, Remove, Shape, Action, Ask}
+use Rattle.whole_calls.proofs.Imports.{AskInsert, Ending, Running, GivenUp, Failed, AnswersRight, end_of, Meets, Call, HasCause, Entry, Fault, Ghosts, ends_call, IsCaused, acts_of, act_count}
+use Rattle.whole_calls.proofs.Imports.{noted, ended, slot_add, once_added, Answer, Going, Added, Refused, Op, StoreAndSlots, Moment, snapshot_of, IsRunningCall, Fits, here_at, slot_of, Answered}
+use Rattle.whole_calls.proofs.Imports.{InsertComesTo, CallIsRun, CallIsRunFrom, causes_of_inserted, causes_of_asked, has_no_block, is_tall, InsertCallIsCaused, RequestIsRun, MayAnswer, acts_by}
+use Rattle.whole_calls.proofs.Imports.{noted_after, AreOwnEffects, CallAnswers, StepMeans, HasNone, EndMeans, with_one_call, first_call, NextMeans, NothingIsDone, left_behind, outcome_of, shapes}
+use Rattle.whole_calls.proofs.Imports.{inserted_call, IsAddedNow, IsNotAdded, InsertMeans}
 use Rattle.whole_calls.proofs.Composing.{goes_told}
 use Rattle.whole_calls.proofs.Refusing.{called_wider, begun_called, stopped_before}
 use Rattle.whole_calls.proofs.Gone.{same_ask, same_ending, same_session, whole_told}

@@ -1,17 +1,11 @@
 -- One moment after another, while a session's call goes on.
 use Rattle.std.proofs.Common.{◌≡◌, ◌≤◌, ◌⊎◌, ℕ, Bool, true, false, Option, Some, None, Result, Ok, List, [], refl, sym, ap, subst, inl, inr, ◌∙◌, unwrap_or}
-use Rattle.page_action.specs.Causes.{causes_of_forced}
-use Rattle.session_calls.specs.Ops.{is_last}
-use Rattle.session_calls.specs.Sessions.{start_number}
-use Rattle.whole_calls.proofs.Words.{Ask, AskScan, Call, HasCause, Entry, Fault, State, IsLater, Continues, Ghosts, DeadSets, IsCaused, asked_of, AnswersNext, Answer, Going, Ready, Gave, Refused, Op, StoreAndSlots, Moment, snapshot_of, IsRunningCall, Fits, MovesCall, Steps, Takes, EventDoes, EventEffect, here_at, slot_of, Laws}
-use Rattle.whole_calls.specs.Going.{CallIsRun}
-use Rattle.whole_calls.specs.Giving.{AnswersSeek, SessionScanMeans, ScanIsUnanswered, SessionGivenMeans, given_of, given_outcome}
-use Rattle.whole_calls.specs.Refusing.{another_runs, is_full_vacuum, causes_of_asked, ScanIsCaused}
-use Rattle.whole_calls.specs.Stepping.{RoomMeans, Lasts, StepIsRun, HasReached, ScanGivesNothing, ScanIsRun}
-use Rattle.whole_calls.specs.Vacuuming.{Followed, IsCountedAs}
-use Rattle.whole_calls.specs.Meanings.{SessionStepMeans, EndMeans}
 use Rattle.whole_calls.proofs.Composing.{is_later, goes_told, goes_once, joined_first}
-use Rattle.schedule.specs.declared.event.Event.TheVariants.{Next}
+use Rattle.whole_calls.proofs.Imports.{causes_of_forced, is_last, start_number, Ask, AskScan, Call, HasCause, Entry, Fault, State, IsLater, Continues, Ghosts, DeadSets, IsCaused, asked_of}
+use Rattle.whole_calls.proofs.Imports.{AnswersNext, Answer, Going, Ready, Gave, Refused, Op, StoreAndSlots, Moment, snapshot_of, IsRunningCall, Fits, MovesCall, Steps, Takes, EventDoes}
+use Rattle.whole_calls.proofs.Imports.{EventEffect, here_at, slot_of, Laws, CallIsRun, AnswersSeek, SessionScanMeans, ScanIsUnanswered, SessionGivenMeans, given_of, given_outcome, another_runs}
+use Rattle.whole_calls.proofs.Imports.{is_full_vacuum, causes_of_asked, ScanIsCaused, RoomMeans, Lasts, StepIsRun, HasReached, ScanGivesNothing, ScanIsRun, Followed, IsCountedAs, SessionStepMeans}
+use Rattle.whole_calls.proofs.Imports.{EndMeans, Next}
 use Rattle.whole_calls.proofs.Counting.{step_counts}
 use Rattle.whole_calls.proofs.Given.{give_comes, some_given, end_given, scan_told, scan_then, stays_then, going_stays, ready_stays, none_stays}
 use Rattle.whole_calls.proofs.Gone.{far_nowhere, far_then, gone_nowhere, silent_then}

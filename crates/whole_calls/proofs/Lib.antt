@@ -1,4 +1,4 @@
-pub mod Words
+pub mod Imports
 pub mod Blocks
 pub mod Gone
 pub mod Composing

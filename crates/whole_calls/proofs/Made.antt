@@ -1,10 +1,7 @@
 -- Calls as events, one after the other.
 use Rattle.std.proofs.Common.{◌≡◌, ℕ, ◌+◌, ◌-◌, ◌≤◌, arith, Option, Some, None, List, [], ◌∷◌, ◌++◌, length, refl, sym, subst, inl, inr, length-append}
-use Rattle.schedule.specs.declared.event.Event.{Event}
-use Rattle.schedule.proofs.Joining.{are_of_both}
-use Rattle.whole_calls.proofs.Words.{Ghosts, Answer, StoreAndSlots, Kind, kind_of, IsOfSession, EventEffect}
-use Rattle.whole_calls.specs.Going.{IsAmong, IsOutcomeOf}
-use Rattle.whole_calls.specs.Made.{HasItsRoom, AreMade, IsMadeOf, Answered, ComesTo}
+use Rattle.whole_calls.proofs.Imports.{Event, are_of_both, Ghosts, Answer, StoreAndSlots, Kind, kind_of, IsOfSession, EventEffect, IsAmong, IsOutcomeOf, HasItsRoom, AreMade, IsMadeOf, Answered}
+use Rattle.whole_calls.proofs.Imports.{ComesTo}
 use Rattle.whole_calls.proofs.Composing.{among_left, among_right}
 
 -- an answer that is among these is one of them

@@ -1,24 +1,13 @@
 -- One step of a session's call after the making of room for it, and a call that is given up since the room can't be made.
 use Rattle.std.proofs.Common.{◌≡◌, ◌⊎◌, ℕ, ◌≤◌, zero, suc, Bool, true, false, not, Option, Some, None, List, [], ◌∷◌, ◌++◌, length, slice_get, slice_set, refl, sym, ap, subst, arith, inl, inr, ◌∙◌, unwrap_or}
-use Rattle.index_model.specs.declared.fault.Fault.TheVariants.{Blocked, NoSession}
-use Rattle.index_model.specs.declared.stats.VacuumStats.{VacuumStats}
-use Rattle.page_action.specs.Causes.{causes_of_forced}
-use Rattle.session_calls.specs.Ops.{ends_call, is_last}
-use Rattle.session_calls.specs.Sessions.{start_number, after_slot, RefusalChangesNothing, RunsUntilLast}
-use Rattle.session_calls.specs.declared.op.Op.TheVariants.{Insert as Inserts, Scan as Scans, Bulk as Bulks, Cleanup as Cleanups}
-use Rattle.session_calls.proofs.RunningOn.{runs_over}
-use Rattle.schedule.specs.Events.{DoesOneAct}
-use Rattle.schedule.proofs.Lists.{same_some}
-use Rattle.schedule.specs.declared.event.Event.TheVariants.{Step}
-use Rattle.whole_calls.specs.Made.{IsMadeOf}
 use Rattle.whole_calls.proofs.Composing.{is_later, joined_second, goes_once}
 use Rattle.whole_calls.proofs.Made.{made_last, made_once}
-use Rattle.whole_calls.proofs.Words.{snapshot_of, Continues, Laws, Effect, contents_after, Ask, Call, Entry, Fault, HasCause, State, Backing, IsLater, Ghosts, DeadSets, acts_of, IsCaused, IsAsked, AnswerMeans, slot_add, AnswersStep, Answer, Going, Finished, Checkpointed, Refused, Op, StoreAndSlots, Moment, IsRunningCall, Fits, EventDoes, EventEffect, here_at, here_with, slot_of, has_call, MovesCall, Steps, CallMoves, MovesOn, OthersStay}
-use Rattle.whole_calls.specs.Going.{IsAmong, CallIsRun}
-use Rattle.whole_calls.specs.OneStep.{cut_short, HasStepped, IsGivenUpFor, OneStepIsRun, OneStepAlways, OneStepComesTo, IsStepMade, IsRoomTried, IsMadeAsStep}
-use Rattle.whole_calls.specs.Refusing.{is_full_vacuum, causes_of_asked}
-use Rattle.whole_calls.specs.Stepping.{RoomMeans, StepIsRun}
-use Rattle.whole_calls.specs.Meanings.{RoomIsMade, IsOwnEffect, IsSameHistory, HasNone, EndMeans}
+use Rattle.whole_calls.proofs.Imports.{Blocked, NoSession, VacuumStats, causes_of_forced, ends_call, is_last, start_number, after_slot, RefusalChangesNothing, RunsUntilLast, Inserts, Scans, Bulks}
+use Rattle.whole_calls.proofs.Imports.{Cleanups, runs_over, DoesOneAct, same_some, Step, IsMadeOf, snapshot_of, Continues, Laws, Effect, contents_after, Ask, Call, Entry, Fault, HasCause, State}
+use Rattle.whole_calls.proofs.Imports.{Backing, IsLater, Ghosts, DeadSets, acts_of, IsCaused, IsAsked, AnswerMeans, slot_add, AnswersStep, Answer, Going, Finished, Checkpointed, Refused, Op}
+use Rattle.whole_calls.proofs.Imports.{StoreAndSlots, Moment, IsRunningCall, Fits, EventDoes, EventEffect, here_at, here_with, slot_of, has_call, MovesCall, Steps, CallMoves, MovesOn, OthersStay}
+use Rattle.whole_calls.proofs.Imports.{IsAmong, CallIsRun, cut_short, HasStepped, IsGivenUpFor, OneStepIsRun, OneStepAlways, OneStepComesTo, IsStepMade, IsRoomTried, IsMadeAsStep, is_full_vacuum}
+use Rattle.whole_calls.proofs.Imports.{causes_of_asked, RoomMeans, StepIsRun, RoomIsMade, IsOwnEffect, IsSameHistory, HasNone, EndMeans}
 use Rattle.whole_calls.proofs.Lasting.{step_goes, room_then}
 use Rattle.whole_calls.proofs.Refusing.{cause_wider, forced_cause, asked_after}
 use Rattle.whole_calls.proofs.Tellings.{moves_tells, one_runs, runs_has_call, runs_in_slot, true_false}

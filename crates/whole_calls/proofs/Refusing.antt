@@ -1,43 +1,34 @@
 -- Why a running call is refused: the causes of its events, told from the moment before the call to the moment after it.
 use Rattle.std.proofs.Common.{◌≡◌, ◌≢◌, ◌⊎◌, ℕ, zero, suc, ◌+◌, ◌<◌, ◌≤◌, Bool, true, false, not, ◌&&◌, ◌||◌, ◌==◌, nat_lt, nat_le, Option, Some, None, List, [], ◌∷◌, ◌++◌, length, slice_get, refl, sym, ap, subst, arith, inl, inr, ◌∙◌, if◌then◌else◌, unwrap_or, is_none}
-use Rattle.std.proofs.lemmas.Bool.{or_cases, and_parts, ne_eqb, ltb-true, lt-ltb, ltb-false, leb-true, le-leb, eqb-true, eq-eqb}
-use Rattle.std.proofs.lemmas.List.{append-nil}
-use Rattle.index_model.specs.declared.fault.Fault.TheVariants.{Io, Stopped, Blocked, Exists, KeyTooLong, BadRow, IndexFull, LogFull, NoFrame, VacuumRunning, NoSession, SessionBusy, BadSuper, BadVersion, LogDamaged, BadLimits, TooTall, DeviceTooSmall, KeyExists}
-use Rattle.index_model.specs.Row.{Row}
-use Rattle.index_model.specs.declared.format.Format.{Format}
-use Rattle.index_model.specs.declared.range.Range.{Range}
 use Rattle.latch_table.specs.Holdings.{Holding, Table, nothing_held, holding_of, holding_excludes, is_held_by_another}
 use Rattle.latch_table.specs.declared.mode.Mode.{Mode}
 use Rattle.latch_table.specs.declared.mode.Mode.TheVariants.{Shared, Exclusive, Cleanup}
 use Rattle.latch_table.proofs.Tables.{is_held_by_another-by}
-use Rattle.page_action.specs.Contents.{entry_on_live_leaf}
-use Rattle.page_action.specs.Causes.{nothing_wrong, other_row_is_there, causes_of_forced, has_failed, is_at_end, pinned_blocks, count_apart}
-use Rattle.tree_acts.specs.StepEffects.{is_out_of_blocks, count_new, lacks_room, frames_for}
 use Rattle.tree_acts.specs.Levels.{root_level}
 use Rattle.split_finish.specs.Finishes.{frames_of}
 use Rattle.insert_split.specs.Inserts.{InsertInvariant, InsertStands, leaf_held, images_at, frames_at, takes_block_at, splits_root_at, causes_of_inserting}
 use Rattle.insert_split.specs.declared.insert.InsertAt.{InsertAt}
 use Rattle.insert_split.specs.declared.insert.InsertAt.TheVariants.{Coming, Finishing}
 use Rattle.insert_split.specs.declared.insert.Stage.TheVariants.{Start, At, Holding as Holds}
-use Rattle.insert_split.specs.declared.insert.InsertOp.{InsertOp}
 use Rattle.scan.specs.Scans.{ScanInvariant, leaf_pinned, pins_of, causes_of_scanning}
 use Rattle.scan.specs.declared.steps.ScanOp.{ScanOp}
 use Rattle.vacuum.specs.Ops.{next_block}
-use Rattle.vacuum.specs.BulkDeletes.{BulkDeleteInvariant, causes_of_deleting, is_counted_out, has_dead, block_if}
-use Rattle.vacuum.specs.declared.steps.BulkDeleteOp.{BulkDeleteOp}
 use Rattle.page_delete.specs.Cleanups.{CleanupInvariant, causes_of_cleaning}
 use Rattle.page_delete.specs.Needs.{blocks_written}
-use Rattle.page_delete.specs.Ops.{cleanup_counted_out as is_cleanup_full}
-use Rattle.page_delete.specs.declared.steps.CleanupOp.{CleanupOp}
-use Rattle.session_calls.specs.Sessions.{start_number, op_after_call, StepIsRefused, RefusalChangesNothing, IncompleteChangesNothing}
-use Rattle.session_calls.specs.declared.op.Op.TheVariants.{Insert, Scan, Bulk, Cleanup}
 use Rattle.session_calls.proofs.Meeting.{other_row_is}
-use Rattle.whole_calls.proofs.Words.{Effect, Ask, AskInsert, AskScan, AskBulkDelete, AskCleanup, Call, Circumstances, HasCause, Entry, Fault, State, Backing, IsLater, Ghosts, Page, DeadSets, acts_of, OpInvariant, IsCaused, once_added, causes_of_stepped, set_at, asked_of, session_of, AnswerMeans, is_busy, AnswersNext, Answer, Added, Gave, Refused, Op, Request, StoreAndSlots, Moment, IsRunningCall, EventDoes, Fits, here_at, slot_of, one_vacuums, MovesCall, Steps, CallMoves, MovesOn, causes_of_moving, causes_of_begun_at, is_of_sets, OthersStay, ends_call}
-use Rattle.whole_calls.specs.Refusing.{others_run, another_runs, is_full_vacuum, causes_of_gone, causes_of_inserted, is_tall, causes_of_asked, causes_of_called, has_no_block}
 use Rattle.whole_calls.proofs.Blocks.{LeavesAll, blocks_after, blocks_same}
 use Rattle.whole_calls.proofs.Tellings.{runs_in_slot, runs_has_call, one_runs, true_false}
 use Rattle.schedule.proofs.Causes.{insert_images_few, put_few, frames_few, written_few, frames_for_few, block_few}
-use Rattle.schedule.proofs.Fitting.{beyond_of, running_of}
+use Rattle.whole_calls.proofs.Imports.{or_cases, and_parts, ne_eqb, ltb-true, lt-ltb, ltb-false, leb-true, le-leb, eqb-true, eq-eqb, append-nil, Io, Stopped, Blocked, Exists, KeyTooLong, BadRow}
+use Rattle.whole_calls.proofs.Imports.{IndexFull, LogFull, NoFrame, VacuumRunning, NoSession, SessionBusy, BadSuper, BadVersion, LogDamaged, BadLimits, TooTall, DeviceTooSmall, KeyExists, Row}
+use Rattle.whole_calls.proofs.Imports.{Format, Range, entry_on_live_leaf, nothing_wrong, other_row_is_there, causes_of_forced, has_failed, is_at_end, pinned_blocks, count_apart, is_out_of_blocks}
+use Rattle.whole_calls.proofs.Imports.{count_new, lacks_room, frames_for, InsertOp, BulkDeleteInvariant, causes_of_deleting, is_counted_out, has_dead, block_if, BulkDeleteOp, is_cleanup_full}
+use Rattle.whole_calls.proofs.Imports.{CleanupOp, start_number, op_after_call, StepIsRefused, RefusalChangesNothing, IncompleteChangesNothing, Insert, Scan, Bulk, Cleanup, Effect, Ask, AskInsert}
+use Rattle.whole_calls.proofs.Imports.{AskScan, AskBulkDelete, AskCleanup, Call, Circumstances, HasCause, Entry, Fault, State, Backing, IsLater, Ghosts, Page, DeadSets, acts_of, OpInvariant}
+use Rattle.whole_calls.proofs.Imports.{IsCaused, once_added, causes_of_stepped, set_at, asked_of, session_of, AnswerMeans, is_busy, AnswersNext, Answer, Added, Gave, Refused, Op, Request}
+use Rattle.whole_calls.proofs.Imports.{StoreAndSlots, Moment, IsRunningCall, EventDoes, Fits, here_at, slot_of, one_vacuums, MovesCall, Steps, CallMoves, MovesOn, causes_of_moving}
+use Rattle.whole_calls.proofs.Imports.{causes_of_begun_at, is_of_sets, OthersStay, ends_call, others_run, another_runs, is_full_vacuum, causes_of_gone, causes_of_inserted, is_tall}
+use Rattle.whole_calls.proofs.Imports.{causes_of_asked, causes_of_called, has_no_block, beyond_of, running_of}
 
 pub or_left : (a b : Bool) → a ≡ true → (a || b) ≡ true
 or_left true b h = refl

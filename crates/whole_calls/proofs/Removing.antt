@@ -3,25 +3,18 @@ use Rattle.std.proofs.Common.{◌≡◌, ℕ, suc, zero, ◌+◌, ◌*◌, ◌�
 use Rattle.std.specs.Cmp.{IsEquivalence}
 use Rattle.std.specs.List.{AllByRecursion, IsDistinct}
 use Rattle.std.specs.Set.{is_member}
-use Rattle.std.proofs.lemmas.Bool.{or_cases, eq-eqb}
-use Rattle.std.proofs.lemmas.List.{append-nil, take_at}
 use Rattle.std.proofs.lemmas.Map.Made.{length-le_from_is_member}
 use Rattle.index_model.specs.Order.{IsAscending, AscendsPast, is_among, is_past, bound_of, same_entry}
-use Rattle.index_model.specs.Row.{Row}
 use Rattle.index_model.proofs.Ascending.{same_entry-is, same_entry-self, same_entry-sym, is_past-trans, is_past-not_same, is_among-append}
 use Rattle.index_model.proofs.Histories.{contents_after-append}
 use Rattle.page_codec.specs.Spelling.{count_of}
 use Rattle.page_codec.specs.declared.page.Items.{Items}
 use Rattle.page_codec.specs.declared.page.Items.TheVariants.{Meta, Entries, Downlinks}
 use Rattle.page_codec.specs.declared.page.PageState.{PageState}
-use Rattle.page_codec.specs.declared.page.PageState.TheVariants.{Live, HalfDead, Deleted}
-use Rattle.page_action.specs.Contents.{live_entries, is_on, entry_on_live_leaf}
 use Rattle.page_action.specs.Stored.{AreStored}
-use Rattle.vacuum.specs.Counts.{entry_count, entries_below}
-use Rattle.schedule.proofs.Lists.{get_append_new, get_append_some, get_within, same_some}
-use Rattle.whole_calls.proofs.Words.{Effect, Add, Remove, Shape, Action, contents_after, AskBulkDelete, Call, removed_count, removed_by, MayAct, ActionsAreOwned, Entry, Format, Page}
-use Rattle.whole_calls.specs.Vacuuming.{removed_of}
-use Rattle.whole_calls.specs.Meanings.{acts_by}
+use Rattle.whole_calls.proofs.Imports.{or_cases, eq-eqb, append-nil, take_at, Row, Live, HalfDead, Deleted, live_entries, is_on, entry_on_live_leaf, entry_count, entries_below, get_append_new}
+use Rattle.whole_calls.proofs.Imports.{get_append_some, get_within, same_some, Effect, Add, Remove, Shape, Action, contents_after, AskBulkDelete, Call, removed_count, removed_by, MayAct}
+use Rattle.whole_calls.proofs.Imports.{ActionsAreOwned, Entry, Format, Page, removed_of, acts_by}
 use Rattle.whole_calls.proofs.Refusing.{or_left, or_right, or_none}
 use Rattle.whole_calls.proofs.Tellings.{true_false}
 

@@ -1,17 +1,12 @@
 -- Each step of a call that goes on leaves fewer, and there are fewer than 2^64 - 1.
 use Rattle.std.proofs.Common.{◌≡◌, ℕ, zero, suc, ◌+◌, ◌*◌, ◌<◌, ◌≤◌, Bool, true, false, Option, Some, None, List, ◌++◌, length, slice_get, refl, sym, ap, subst, arith, ◌∙◌, unwrap_or}
-use Rattle.std.proofs.lemmas.List.{append-nil}
-use Rattle.tree_shape.specs.Nodes.{Node, nodes_of}
 use Rattle.tree_acts.specs.Weights.{weight_of, weight_up_to, weight}
-use Rattle.tree_acts.specs.StepEffects.{MovesFlags}
-use Rattle.session_calls.specs.declared.op.Op.TheVariants.{Insert, Scan, Bulk, Cleanup}
-use Rattle.schedule.proofs.Bounds.{work_bounded}
-use Rattle.schedule.proofs.Lists.{get_set_same, get_within}
-use Rattle.whole_calls.proofs.Words.{Effect, Add, Shape, Action, contents_after, Ask, AskInsert, AskScan, AskBulkDelete, AskCleanup, Call, Entry, Format, State, Ghosts, Page, DeadSets, acts_of, asked_of, add_of, IsAsked, MovesShape, add_after, work_in, OwesLess, Answer, Going, Op, Moment, IsRunningCall, EventDoes, Fits, slot_of, has_call, MovesCall, Steps, CallMoves, MovesOn, Laws}
-use Rattle.whole_calls.specs.Spending.{brought_by, acts_left, steps_left, TakesFewer}
 use Rattle.whole_calls.proofs.Given.{owes}
 use Rattle.whole_calls.proofs.Tellings.{runs_in_slot, one_runs}
-use Rattle.schedule.proofs.Fitting.{fits_after}
+use Rattle.whole_calls.proofs.Imports.{append-nil, Node, nodes_of, MovesFlags, Insert, Scan, Bulk, Cleanup, work_bounded, get_set_same, get_within, Effect, Add, Shape, Action, contents_after, Ask}
+use Rattle.whole_calls.proofs.Imports.{AskInsert, AskScan, AskBulkDelete, AskCleanup, Call, Entry, Format, State, Ghosts, Page, DeadSets, acts_of, asked_of, add_of, IsAsked, MovesShape, add_after}
+use Rattle.whole_calls.proofs.Imports.{work_in, OwesLess, Answer, Going, Op, Moment, IsRunningCall, EventDoes, Fits, slot_of, has_call, MovesCall, Steps, CallMoves, MovesOn, Laws, brought_by}
+use Rattle.whole_calls.proofs.Imports.{acts_left, steps_left, TakesFewer, fits_after}
 
 weight_low : (split : Bool) (level : ℕ) → weight_of split level ≤ 32
 weight_low true level = omega arith

@@ -1,13 +1,8 @@
 -- What a bulk delete or a cleanup that has finished tells of the pages.
 use Rattle.std.proofs.Common.{◌≡◌, ℕ, zero, suc, ◌+◌, Bool, Option, Some, None, List, length, refl, sym, ap, subst, ◌∙◌, if◌then◌else◌, unwrap_or}
-use Rattle.index_model.specs.declared.stats.VacuumStats.{VacuumStats}
-use Rattle.page_action.specs.Reuse.{is_deleted}
-use Rattle.vacuum.specs.Counts.{deleted_count}
-use Rattle.session_calls.specs.Sessions.{AnswersStep, CountsStats, CountsFree, RunsUntilLast, reusable_in}
-use Rattle.session_calls.specs.declared.op.Op.TheVariants.{Insert, Scan, Bulk, Cleanup}
-use Rattle.whole_calls.proofs.Words.{Ask, Call, Entry, State, Ghosts, Page, DeadSets, asked_of, AnswerMeans, Answer, Finished, Op, Moment, EventDoes, Fits, slot_of, MovesCall, Steps, CallMoves, MovesOn}
-use Rattle.whole_calls.specs.Stepping.{FinishCounts}
-use Rattle.whole_calls.specs.Vacuuming.{StatsCountPages, StatsCountFor}
+use Rattle.whole_calls.proofs.Imports.{VacuumStats, is_deleted, deleted_count, AnswersStep, CountsStats, CountsFree, RunsUntilLast, reusable_in, Insert, Scan, Bulk, Cleanup, Ask, Call, Entry}
+use Rattle.whole_calls.proofs.Imports.{State, Ghosts, Page, DeadSets, asked_of, AnswerMeans, Answer, Finished, Op, Moment, EventDoes, Fits, slot_of, MovesCall, Steps, CallMoves, MovesOn}
+use Rattle.whole_calls.proofs.Imports.{FinishCounts, StatsCountPages, StatsCountFor}
 use Rattle.whole_calls.proofs.Refusing.{quiet_pages}
 use Rattle.whole_calls.proofs.Tellings.{runs_in_slot, runs_has_call, one_runs}
 

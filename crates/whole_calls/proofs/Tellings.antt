@@ -1,18 +1,13 @@
 -- What each event of a session tells of its running call.
 use Rattle.std.proofs.Common.{◌≡◌, ◌≢◌, ℕ, ◌<◌, Bool, true, false, Option, Some, None, List, [], ◌∷◌, ◌++◌, length, slice_get, slice_set, refl, sym, ap, subst, arith, inl, inr, ◌∙◌, unwrap_or}
-use Rattle.std.proofs.lemmas.List.{append-nil}
-use Rattle.index_model.specs.declared.fault.Fault.TheVariants.{Exists, KeyExists}
-use Rattle.page_action.specs.Causes.{causes_of_forced}
-use Rattle.session_calls.specs.declared.op.Op.TheVariants.{Insert as Inserts, Scan as Scans, Bulk as Bulks, Cleanup as Cleanups}
-use Rattle.index_model.specs.Row.{Row}
-use Rattle.index_model.specs.declared.range.Range.{Range}
-use Rattle.session_calls.specs.Ops.{call_kind}
-use Rattle.session_calls.specs.declared.request.Request.TheVariants.{Insert as ToInsert, Scan as ToScan, Bulk as ToBulk, Cleanup as ToCleanup}
-use Rattle.schedule.proofs.Lists.{get_some, get_within, get_append_new, get_append_some, same_some}
-use Rattle.whole_calls.proofs.Words.{Effect, Action, contents_after, Ask, AskInsert, AskScan, AskBulkDelete, Entry, asked_by, op_before, set_at, RunsOn, GivenUp, Call, Circumstances, HasCause, Fault, Backing, Ghosts, DeadSets, acts_of, asked_of, IsCaused, AnswerMeans, IsAsked, ended, AnswersStep, AnswersNext, AnswersEnd, Answer, Going, Added, Ready, Done, Finished, Gave, Ended, Refused, Op, Request, Moment, IsRunningCall, EventDoes, Fits, slot_of, SlotRuns, SlotMatches, has_call, one_vacuums, Move, Steps, Takes, Upkeep, MaintainsStore, BeginsCall, MovesCall, GivesUp, CallMoves, CallBegins, Stays, MovesOn, MayBegin, causes_of_begun_at, AnswersMove}
-use Rattle.whole_calls.specs.Meanings.{IsSameHistory, MayAnswer, MayComeTo, IsOwnEffect, CallAnswers, StepMeans, SessionStepMeans, HasNone, HasBegun, begun_of, BeginMeans, EndMeans, with_one_call, first_call, NextMeans}
 use Rattle.whole_calls.proofs.Gone.{silent_then}
-use Rattle.schedule.proofs.Fitting.{running_of}
+use Rattle.whole_calls.proofs.Imports.{append-nil, Exists, KeyExists, causes_of_forced, Inserts, Scans, Bulks, Cleanups, Row, Range, call_kind, ToInsert, ToScan, ToBulk, ToCleanup, get_some}
+use Rattle.whole_calls.proofs.Imports.{get_within, get_append_new, get_append_some, same_some, Effect, Action, contents_after, Ask, AskInsert, AskScan, AskBulkDelete, Entry, asked_by, op_before}
+use Rattle.whole_calls.proofs.Imports.{set_at, RunsOn, GivenUp, Call, Circumstances, HasCause, Fault, Backing, Ghosts, DeadSets, acts_of, asked_of, IsCaused, AnswerMeans, IsAsked, ended}
+use Rattle.whole_calls.proofs.Imports.{AnswersStep, AnswersNext, AnswersEnd, Answer, Going, Added, Ready, Done, Finished, Gave, Ended, Refused, Op, Request, Moment, IsRunningCall, EventDoes, Fits}
+use Rattle.whole_calls.proofs.Imports.{slot_of, SlotRuns, SlotMatches, has_call, one_vacuums, Move, Steps, Takes, Upkeep, MaintainsStore, BeginsCall, MovesCall, GivesUp, CallMoves, CallBegins}
+use Rattle.whole_calls.proofs.Imports.{Stays, MovesOn, MayBegin, causes_of_begun_at, AnswersMove, IsSameHistory, MayAnswer, MayComeTo, IsOwnEffect, CallAnswers, StepMeans, SessionStepMeans}
+use Rattle.whole_calls.proofs.Imports.{HasNone, HasBegun, begun_of, BeginMeans, EndMeans, with_one_call, first_call, NextMeans, running_of}
 
 pub true_false : true ≡ false → ⊥
 true_false h = cc

@@ -1,15 +1,10 @@
 -- What a bulk delete or a cleanup tells that is run to its end.
 use Rattle.std.proofs.Common.{◌≡◌, ◌≢◌, ℕ, suc, Bool, true, false, Option, Some, Ok, List, [], ◌∷◌, ◌++◌, length, refl, sym, ap, subst, inl, inr, ◌∙◌, IfOk, IfErr}
-use Rattle.std.proofs.lemmas.List.{append-nil}
-use Rattle.index_model.specs.declared.stats.VacuumStats.{VacuumStats}
-use Rattle.session_calls.specs.declared.request.Request.TheVariants.{Insert as ToInsert, Scan as ToScan}
-use Rattle.whole_calls.proofs.Words.{Circumstances, HasCause, Effect, Add, Action, Vacuumed, Call, Fault, Entry, State, Ghosts, DeadSets, asked_by, asks_vacuum, IsCaused, MayDo, ended, Answer, Going, Finished, Refused, Request, StoreAndSlots, Moment, here_at}
-use Rattle.whole_calls.specs.Going.{IsOutcomeOf, CallIsRun, CallIsRunFrom}
-use Rattle.whole_calls.specs.Made.{IsMadeOf, Answered, ComesTo}
-use Rattle.whole_calls.specs.Refusing.{causes_of_gone, causes_of_asked, causes_of_called}
-use Rattle.whole_calls.specs.Stepping.{RequestIsRun}
-use Rattle.whole_calls.specs.Vacuuming.{StatsCountFor, Followed, of_bulk_delete, FollowsFrom, StatsCountAs, vacuum_result, vacuum_outcome, IsVacuumed, IsVacuumedSoFar, VacuumMeans}
-use Rattle.whole_calls.specs.Meanings.{MayAnswer, acts_by, noted_after, AreOwnEffects, CallAnswers, StepMeans, HasNone, EndMeans, with_one_call, first_call, NextMeans, NothingIsDone}
+use Rattle.whole_calls.proofs.Imports.{append-nil, VacuumStats, ToInsert, ToScan, Circumstances, HasCause, Effect, Add, Action, Vacuumed, Call, Fault, Entry, State, Ghosts, DeadSets, asked_by}
+use Rattle.whole_calls.proofs.Imports.{asks_vacuum, IsCaused, MayDo, ended, Answer, Going, Finished, Refused, Request, StoreAndSlots, Moment, here_at, IsOutcomeOf, CallIsRun, CallIsRunFrom}
+use Rattle.whole_calls.proofs.Imports.{IsMadeOf, Answered, ComesTo, causes_of_gone, causes_of_asked, causes_of_called, RequestIsRun, StatsCountFor, Followed, of_bulk_delete, FollowsFrom}
+use Rattle.whole_calls.proofs.Imports.{StatsCountAs, vacuum_result, vacuum_outcome, IsVacuumed, IsVacuumedSoFar, VacuumMeans, MayAnswer, acts_by, noted_after, AreOwnEffects, CallAnswers}
+use Rattle.whole_calls.proofs.Imports.{StepMeans, HasNone, EndMeans, with_one_call, first_call, NextMeans, NothingIsDone}
 use Rattle.whole_calls.proofs.Composing.{goes_told}
 use Rattle.whole_calls.proofs.Gone.{whole_told}
 use Rattle.whole_calls.proofs.Inserting.{ended_none}

@@ -1,14 +1,8 @@
 -- A call that is begun, run to its last answer and given up.
 use Rattle.std.proofs.Common.{◌≡◌, ℕ, Bool, true, false, Option, Some, None, Ok, List, length, slice_get, refl, sym, ap, subst, ◌∙◌, unwrap_or}
-use Rattle.index_model.specs.Limits.{AreLimits}
-use Rattle.index_model.specs.declared.stats.VacuumStats.{VacuumStats}
-use Rattle.session_calls.specs.Sessions.{start_number, after_slot}
-use Rattle.session_calls.specs.declared.request.Request.TheVariants.{Insert as ToInsert, Scan as ToScan, Bulk as ToBulk, Cleanup as ToCleanup}
-use Rattle.whole_calls.proofs.Words.{Action, Ask, Call, Entry, State, Ghosts, DeadSets, asked_by, IsCaused, set_at, slot_add, Answer, Finished, Op, Request, Moment, IsRunningCall, Fits, here_at, slot_of, Laws}
-use Rattle.whole_calls.specs.Refusing.{causes_of_asked, is_full_vacuum}
-use Rattle.whole_calls.specs.Stepping.{Lasts, FinishIsRun, BeginIsRun, HasCompleted}
-use Rattle.whole_calls.specs.Vacuuming.{Followed, of_bulk_delete, of_cleanup, FollowsFrom, IsCountedAs, CountsThrough, StatsCountFor}
-use Rattle.whole_calls.specs.Meanings.{noted_after, first_call, EndMeans}
+use Rattle.whole_calls.proofs.Imports.{AreLimits, VacuumStats, start_number, after_slot, ToInsert, ToScan, ToBulk, ToCleanup, Action, Ask, Call, Entry, State, Ghosts, DeadSets, asked_by, IsCaused}
+use Rattle.whole_calls.proofs.Imports.{set_at, slot_add, Answer, Finished, Op, Request, Moment, IsRunningCall, Fits, here_at, slot_of, Laws, causes_of_asked, is_full_vacuum, Lasts, FinishIsRun}
+use Rattle.whole_calls.proofs.Imports.{BeginIsRun, HasCompleted, Followed, of_bulk_delete, of_cleanup, FollowsFrom, IsCountedAs, CountsThrough, StatsCountFor, noted_after, first_call, EndMeans}
 use Rattle.whole_calls.proofs.Blocks.{LeavesAll}
 use Rattle.whole_calls.proofs.Counting.{tells_on}
 use Rattle.whole_calls.proofs.Filling.{bulk_fills, cleanup_fills}

@@ -1,12 +1,8 @@
 use Rattle.std.proofs.Common.{ℕ, List, sym, ap, subst, ◌∙◌}
 use Rattle.std.proofs.lemmas.Result.{IfErr-weaker, on_ok_weaker}
-use Rattle.device.specs.Disk.{MayCrashTo}
-use Rattle.index_model.specs.Actions.{Action}
-use Rattle.index_model.specs.declared.format.Format.{Format}
 use Rattle.page_store.specs.Crashing.{left_now}
 use Rattle.page_store.specs.Following.{follows_same}
-use Rattle.page_store.specs.Stores.{state_of, held_by}
-use Rattle.world.proofs.Leaving.{left_index}
+use Rattle.access_method.proofs.Imports.{MayCrashTo, Action, Format, state_of, held_by, left_index}
 use Rattle.world.specs.Reopening.{IsIndexAfterPrefix}
 use Rattle.access_method.proofs.Closing.{both_told}
 use Rattle.access_method.proofs.in_file.close.Goals as goal

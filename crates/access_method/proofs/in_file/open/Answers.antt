@@ -1,7 +1,6 @@
 use Rattle.std.specs.Prelude.{length}
 use Rattle.std.proofs.Common.{ap, sym, subst, ◌∙◌}
-use Rattle.device.specs.Disk.{Trace}
-use Rattle.recovery.specs.Index.{HasIndex}
+use Rattle.access_method.proofs.Imports.{Trace, HasIndex}
 use Rattle.access_method.proofs.Opened.{open_fault}
 use Rattle.access_method.proofs.in_file.open.Goals as goal
 

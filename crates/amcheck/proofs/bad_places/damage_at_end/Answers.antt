@@ -1,6 +1,5 @@
 use Rattle.std.proofs.Common.{length, subst}
-use Rattle.damages.specs.Damages.{index_of}
-use Rattle.amcheck.specs.Ends.{IsChainEnd}
+use Rattle.amcheck.proofs.Imports.{index_of, IsChainEnd}
 use Rattle.amcheck.proofs.Chained.{clear_whole, first_off, first_met}
 use Rattle.amcheck.proofs.bad_places.damage_at_end.Goals as goal
 

@@ -1,13 +1,9 @@
 use Rattle.std.proofs.Common.{◌≡◌, ◌<◌, ◌-◌, ℕ, length, ◌↔◌, IsTrue, sym, ap, subst, ◌∙◌, arith}
-use Rattle.std.specs.List.{AllZip, range_with_len}
 use Rattle.std.proofs.Crossing.{crosses}
 use denote.Param.Send.{sendable}
 use Rattle.rayon.proofs.ToStd.{nat_range-All}
 use Rattle.rayon.specs.Numbers.{nat_range}
-use Rattle.rayon.specs.Lists.{first_true}
-use Rattle.tree_shape.specs.Nodes.{nodes_of}
-use Rattle.amcheck.specs.Searching.{AreSearchable}
-use Rattle.amcheck.specs.Stops.{IsBad, IsFirstPlace}
+use Rattle.amcheck.proofs.Imports.{AllZip, range_with_len, first_true, nodes_of, AreSearchable, IsBad, IsFirstPlace}
 use Rattle.amcheck.proofs.Found.{bad_inside}
 use Rattle.amcheck.proofs.Searched.{first_in, first_place}
 use Rattle.amcheck.proofs.bad_places.find_bad.Goals as goal

@@ -1,6 +1,5 @@
 use Rattle.std.proofs.Common.{ℕ, ◌<◌}
-use Rattle.tree_shape.specs.Nodes.{nodes_of}
-use Rattle.amcheck.specs.Stops.{IsBad}
+use Rattle.amcheck.proofs.Imports.{nodes_of, IsBad}
 use Rattle.amcheck.proofs.bad_places.find_bad_one.Given as goal
 
 abbrev pub invariant-loop-place : goal.invariant-loop-place

@@ -1,12 +1,5 @@
 use Rattle.std.proofs.Common.{◌≤◌, ◌<◌, ℕ, Some, List, length, get_or, arith}
-use Rattle.std.proofs.lemmas.Option.{slice_get-get_or}
-use Rattle.page_codec.specs.declared.page.Page.{Page}
-use Rattle.tree_shape.specs.Nodes.{nodes_of}
-use Rattle.damages.specs.Damages.{index_of}
-use Rattle.amcheck.specs.Places.{StandAtTheirBlocks}
-use Rattle.amcheck.specs.Searching.{AreSearchable}
-use Rattle.amcheck.specs.Stops.{AreStops, IsBad, IsFirstPlace}
-use Rattle.amcheck.specs.declared.stops.Stop.{Stop}
+use Rattle.amcheck.proofs.Imports.{slice_get-get_or, Page, nodes_of, index_of, StandAtTheirBlocks, AreSearchable, AreStops, IsBad, IsFirstPlace, Stop}
 use Rattle.amcheck.proofs.Chained.{first_at}
 use Rattle.amcheck.proofs.Found.{bad_inside, no_stop}
 use Rattle.amcheck.proofs.bad_places.first_in_chain.Given.{Over}

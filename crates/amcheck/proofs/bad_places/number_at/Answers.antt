@@ -1,14 +1,7 @@
 use Rattle.std.proofs.Common.{◌≡◌, ◌<◌, Option, Some, length, slice_get, get_or, sym, ap, subst}
-use Rattle.std.proofs.lemmas.Option.{slice_get-get_or}
-use Rattle.index_model.specs.declared.bound.Bound.{Bound}
-use Rattle.tree_shape.specs.Nodes.{Node, nodes_of, node_of, node_from}
-use Rattle.amcheck.specs.Sketches.{IsSketch}
-use Rattle.amcheck.specs.Stops.{IsLeastNumber, IsWrong, spot_at}
-use Rattle.amcheck.specs.WrongSketches.{IsWrongSketch}
 use Rattle.amcheck.proofs.Beyond.{least_told}
 use Rattle.amcheck.proofs.Found.{no_stop, least_where}
-use Rattle.damages.proofs.Fitting.{page_there}
-use Rattle.amcheck.specs.declared.stops.Stop.{Stop}
+use Rattle.amcheck.proofs.Imports.{slice_get-get_or, Bound, Node, nodes_of, node_of, node_from, IsSketch, IsLeastNumber, IsWrong, spot_at, IsWrongSketch, page_there, Stop}
 use Rattle.amcheck.proofs.bad_places.number_at.Goals.{Start}
 use Rattle.amcheck.proofs.bad_places.number_at.Goals as goal
 

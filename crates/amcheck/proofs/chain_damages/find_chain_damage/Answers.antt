@@ -1,14 +1,6 @@
 use Rattle.std.proofs.Common.{◌≡◌, ◌++◌, ℕ, suc, ◌+◌, List, false, length, length-append, inl, inr, refl, sym, ap, subst, ◌∙◌, arith}
-use Rattle.std.proofs.lemmas.Bool.{cases_lt}
-use Rattle.std.proofs.lemmas.List.{length-replicate}
-use Rattle.tree_shape.specs.Nodes.{nodes_of}
-use Rattle.damages.specs.Damages.{index_of, start, first_child}
-use Rattle.amcheck.specs.AllStops.{AreAllStops}
-use Rattle.amcheck.specs.LevelDamages.{IsClearLevel, AreOfUpper}
-use Rattle.amcheck.specs.Stops.{stop_blocks}
-use Rattle.amcheck.specs.declared.stops.Stop.{Stop}
 use Rattle.amcheck.proofs.AllStops.{blocks_append}
-use Rattle.tree_shape.proofs.Few.{few_blocks}
+use Rattle.amcheck.proofs.Imports.{cases_lt, length-replicate, nodes_of, index_of, start, first_child, AreAllStops, IsClearLevel, AreOfUpper, stop_blocks, Stop, few_blocks}
 use Rattle.amcheck.proofs.Walked.{blocks_length}
 use Rattle.amcheck.proofs.ChainDamages.{first_level, sound_levels, none_of_upper}
 use Rattle.amcheck.proofs.chain_damages.find_chain_damage.Given.{Over}

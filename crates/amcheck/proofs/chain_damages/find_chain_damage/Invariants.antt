@@ -1,9 +1,5 @@
 use Rattle.std.proofs.Common.{◌≡◌, ◌<◌, ◌≤◌, suc, ℕ, length, vec_capacity}
-use Rattle.damages.specs.Damages.{index_of, start}
-use Rattle.amcheck.specs.LevelDamages.{IsClearLevel, AreOfUpper}
-use Rattle.amcheck.specs.AllStops.{AreAllStops}
-use Rattle.amcheck.specs.Marks.{IsMet}
-use Rattle.amcheck.specs.Stops.{stop_blocks}
+use Rattle.amcheck.proofs.Imports.{index_of, start, IsClearLevel, AreOfUpper, AreAllStops, IsMet, stop_blocks}
 use Rattle.amcheck.proofs.chain_damages.find_chain_damage.Given as goal
 
 abbrev pub invariant-loop-depth : goal.invariant-loop-depth

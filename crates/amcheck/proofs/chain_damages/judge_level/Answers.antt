@@ -1,7 +1,5 @@
 use Rattle.std.proofs.Common.{suc, ◌≤◌, List, length, inl, sym, subst, arith}
-use Rattle.damages.specs.Damages.{index_of}
-use Rattle.amcheck.specs.LevelDamages.{AreOfUpper}
-use Rattle.amcheck.specs.declared.stops.Stop.{Stop}
+use Rattle.amcheck.proofs.Imports.{index_of, AreOfUpper, Stop}
 use Rattle.amcheck.proofs.AllStops.{ends_clear}
 use Rattle.amcheck.proofs.ChainDamages.{seen_upper, met_on, stops_below}
 use Rattle.amcheck.proofs.chain_damages.judge_level.Given.{Over}

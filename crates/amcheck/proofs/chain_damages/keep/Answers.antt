@@ -1,7 +1,5 @@
 use Rattle.std.proofs.Common.{◌++◌, ◌∷◌, [], List, get_or, length, length-append, append_assoc, append-nil, take, refl, sym, ap, ◌∙◌, arith}
-use Rattle.std.proofs.lemmas.List.{take_all}
-use Rattle.std.proofs.lemmas.Option.{slice_get-get_or}
-use Rattle.amcheck.specs.declared.stops.Stop.{Stop}
+use Rattle.amcheck.proofs.Imports.{take_all, slice_get-get_or, Stop}
 use Rattle.amcheck.proofs.AllStops.{taken}
 use Rattle.amcheck.proofs.Found.{no_stop}
 use Rattle.amcheck.proofs.ReadOn.{take_get}

@@ -1,7 +1,5 @@
 use Rattle.std.proofs.Common.{◌≡◌, Some, slice_get, get_or, sym, ◌∙◌, ap}
-use Rattle.std.proofs.lemmas.Option.{slice_get-get_or}
-use Rattle.damages.proofs.Decided.{some_is}
-use Rattle.amcheck.specs.declared.stops.Stop.{Stop}
+use Rattle.amcheck.proofs.Imports.{slice_get-get_or, some_is, Stop}
 use Rattle.amcheck.proofs.Walked.{stop_inside}
 use Rattle.amcheck.proofs.Found.{no_stop}
 use Rattle.amcheck.proofs.chain_places.find_stop.Goals as goal

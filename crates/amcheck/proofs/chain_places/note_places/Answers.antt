@@ -1,6 +1,5 @@
 use Rattle.std.proofs.Common.{◌≡◌, ◌+◌, slice_get, get_or, Some, refl, arith, ◌∙◌}
-use Rattle.std.proofs.lemmas.List.{length-set}
-use Rattle.std.proofs.lemmas.Option.{slice_get-get_or}
+use Rattle.amcheck.proofs.Imports.{length-set, slice_get-get_or}
 use Rattle.amcheck.proofs.ChainPlaces.{no_places, all_places, places_more}
 use Rattle.amcheck.proofs.Found.{no_stop}
 use Rattle.amcheck.proofs.chain_places.note_places.Goals as goal

@@ -1,14 +1,7 @@
 use Rattle.std.proofs.Common.{Bool, ap, false, List, length, refl, subst}
-use Rattle.index_model.specs.declared.fault.Fault.TheVariants.{NoMemory}
-use Rattle.index_model.specs.declared.format.Format.{Format}
-use Rattle.page_codec.specs.declared.page.Page.{Page}
-use Rattle.latch_table.specs.Holdings.{pinned_blocks}
-use Rattle.page_action.proofs.Framing.{takes_none}
-use Rattle.amcheck.specs.Answers.{IsAnswer}
-use Rattle.amcheck.specs.Reading.{blocks_below}
 use Rattle.amcheck.proofs.Fetched.{rest_all}
 use Rattle.amcheck.proofs.FirstDamages.{answer_told, same_fault, never_refused}
-use Rattle.amcheck.specs.Places.{StandAtTheirBlocks}
+use Rattle.amcheck.proofs.Imports.{NoMemory, Format, Page, pinned_blocks, takes_none, IsAnswer, blocks_below, StandAtTheirBlocks}
 use Rattle.amcheck.proofs.KeysSeen.{levels_told, fault_told}
 use Rattle.amcheck.proofs.Judged.{they_stand, they_are_few}
 use Rattle.amcheck.proofs.checking.check_by.Given.{Over}

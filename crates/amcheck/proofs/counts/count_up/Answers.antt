@@ -1,7 +1,5 @@
 use Rattle.std.proofs.Common.{◌≡◌, ◌<◌, length, ap, ◌∙◌, arith}
-use Rattle.tree_shape.specs.Nodes.{Node, node_of, node_from, nodes_of}
-use Rattle.amcheck.specs.Reports.{count_entries_on, one_if_half_dead, one_if_deleted, one_if_incomplete}
-use Rattle.damages.proofs.Fitting.{page_there}
+use Rattle.amcheck.proofs.Imports.{Node, node_of, node_from, nodes_of, count_entries_on, one_if_half_dead, one_if_deleted, one_if_incomplete, page_there}
 use Rattle.amcheck.proofs.Kept.{total_drop, one_half_dead, one_deleted, one_incomplete}
 use Rattle.amcheck.proofs.counts.count_up.Goals as goal
 

@@ -1,7 +1,5 @@
 use Rattle.std.proofs.Common.{◌≡◌, ◌+◌, suc, true, false, refl, arith}
-use Rattle.page_codec.specs.declared.page.Downlink.{Downlink}
-use Rattle.tree_shape.specs.Chains.{from_low}
-use Rattle.damages.specs.Damages.{index_of, IsOnLevel}
+use Rattle.amcheck.proofs.Imports.{Downlink, from_low, index_of, IsOnLevel}
 use Rattle.amcheck.proofs.ItemsNoted.{off_here, one_more, item_inside}
 use Rattle.amcheck.proofs.downlinks.find_off.Goals as goal
 

@@ -1,7 +1,5 @@
 use Rattle.std.proofs.Common.{◌≡◌, ℕ, suc, ◌<◌, slice_get, Some}
-use Rattle.page_codec.specs.declared.page.Downlink.{Downlink}
-use Rattle.tree_shape.specs.Chains.{from_low}
-use Rattle.damages.specs.Damages.{index_of, IsOnLevel}
+use Rattle.amcheck.proofs.Imports.{Downlink, from_low, index_of, IsOnLevel}
 use Rattle.amcheck.proofs.downlinks.find_off.Given as goal
 
 abbrev pub invariant-loop-item : goal.invariant-loop-item

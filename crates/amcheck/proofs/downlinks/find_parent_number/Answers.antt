@@ -1,8 +1,5 @@
 use Rattle.std.proofs.Common.{◌≡◌, true, false, List, Some, get_or, slice_get, length, refl, sym, ap, subst}
-use Rattle.page_codec.specs.declared.page.Downlink.{Downlink}
-use Rattle.tree_shape.specs.Chains.{from_low}
-use Rattle.tree_shape.specs.Nodes.{nodes_of}
-use Rattle.amcheck.specs.Downlinks.{HasWrongBound, LacksLink, HasExtra, DownlinksAreNoted}
+use Rattle.amcheck.proofs.Imports.{Downlink, from_low, nodes_of, HasWrongBound, LacksLink, HasExtra, DownlinksAreNoted}
 use Rattle.amcheck.proofs.ItemsNoted.{least_nine, least_none}
 use Rattle.amcheck.proofs.downlinks.find_parent_number.Goals.{Else-lacks_link}
 use Rattle.amcheck.proofs.downlinks.find_parent_number.Goals as goal

@@ -1,7 +1,5 @@
 use Rattle.std.proofs.Common.{◌≡◌, ◌+◌, length, true, false, refl, sym, ◌∙◌, arith}
-use Rattle.std.proofs.lemmas.List.{length-set}
-use Rattle.tree_shape.specs.Chains.{from_low}
-use Rattle.tree_shape.specs.Nodes.{nodes_of}
+use Rattle.amcheck.proofs.Imports.{length-set, from_low, nodes_of}
 use Rattle.amcheck.proofs.ItemsNoted.{none_noted, extra_now, noted_more, none_extra, noted_all, length-from_low}
 use Rattle.amcheck.proofs.downlinks.has_extra.Goals as goal
 

@@ -1,6 +1,5 @@
 use Rattle.std.proofs.Common.{◌≡◌, length}
-use Rattle.tree_shape.specs.Chains.{from_low}
-use Rattle.tree_shape.specs.Nodes.{nodes_of}
+use Rattle.amcheck.proofs.Imports.{from_low, nodes_of}
 use Rattle.amcheck.proofs.ItemsNoted.{HasNotedTo}
 use Rattle.amcheck.proofs.downlinks.has_extra.Given as goal
 

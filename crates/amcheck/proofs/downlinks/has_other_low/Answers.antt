@@ -1,6 +1,5 @@
 use Rattle.std.proofs.Common.{◌≡◌, ◌↔◌, IsTrue, Option, subst}
-use Rattle.index_model.specs.declared.bound.Bound.{Bound}
-use Rattle.tree_shape.specs.Nodes.{nodes_of}
+use Rattle.amcheck.proofs.Imports.{Bound, nodes_of}
 use Rattle.amcheck.proofs.ItemsNoted.{other_low, no_other_low}
 use Rattle.amcheck.proofs.downlinks.has_other_low.Goals as goal
 

@@ -1,8 +1,5 @@
 use Rattle.std.proofs.Common.{◌≡◌, ◌+◌, true, false, refl, arith}
-use Rattle.page_codec.specs.declared.page.Downlink.{Downlink}
-use Rattle.tree_shape.specs.Chains.{from_low}
-use Rattle.tree_shape.specs.Nodes.{nodes_of}
-use Rattle.amcheck.specs.Downlinks.{HasOtherLow}
+use Rattle.amcheck.proofs.Imports.{Downlink, from_low, nodes_of, HasOtherLow}
 use Rattle.amcheck.proofs.ItemsNoted.{one_more, item_inside}
 use Rattle.amcheck.proofs.downlinks.has_wrong_bound.Goals as goal
 

@@ -1,6 +1,5 @@
 use Rattle.std.proofs.Common.{◌≡◌, ℕ, slice_get, Some, sym, subst, ◌∙◌, arith}
-use Rattle.tree_shape.specs.Chains.{from_low}
-use Rattle.page_action.proofs.StoredPages.{slice_get_at}
+use Rattle.amcheck.proofs.Imports.{from_low, slice_get_at}
 use Rattle.amcheck.proofs.ItemsNoted.{low_first, low_after}
 use Rattle.amcheck.proofs.downlinks.link_at.Goals as goal
 

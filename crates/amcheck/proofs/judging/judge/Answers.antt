@@ -1,9 +1,8 @@
 use Rattle.std.proofs.Common.{true, false}
-use Rattle.damages.proofs.KeysJudged.{without_keys}
 use Rattle.amcheck.proofs.FirstDamages.{no_pages, top_low, tree_back}
 use Rattle.amcheck.proofs.KeysSeen.{sound_both, first_both, unique_where}
 use Rattle.amcheck.proofs.ParentDamages.{with_parents}
-use Rattle.damages.specs.Damages.{IsSound}
+use Rattle.amcheck.proofs.Imports.{without_keys, IsSound}
 use Rattle.amcheck.proofs.judging.judge.Given.{Over}
 use Rattle.amcheck.proofs.judging.judge.Goals.{After-count_up-report}
 use Rattle.amcheck.proofs.judging.judge.Goals as goal

@@ -1,6 +1,5 @@
 use Rattle.std.proofs.Common.{◌≡◌, ◌≤◌, None, length, ap, ◌∙◌, arith}
-use Rattle.std.proofs.lemmas.List.{length-replicate}
-use Rattle.tree_shape.proofs.Few.{few_blocks}
+use Rattle.amcheck.proofs.Imports.{length-replicate, few_blocks}
 use Rattle.amcheck.proofs.ParentDamages.{stops_in_use, all_sound, first_stray}
 use Rattle.amcheck.proofs.Walked.{blocks_length}
 use Rattle.amcheck.proofs.judging.judge_parents.Goals.{Start}

@@ -1,14 +1,6 @@
 use Rattle.std.proofs.Common.{◌≡◌, ◌<◌, ◌≤◌, ◌+◌, ◌-◌, ℕ, List, Option, Some, None, slice_get, get_or, length, refl, subst, arith}
-use Rattle.std.proofs.lemmas.Option.{slice_get-get_or}
-use Rattle.index_model.specs.declared.bound.Bound.{Bound}
-use Rattle.page_codec.specs.declared.page.Downlink.{Downlink}
-use Rattle.tree_shape.specs.Chains.{from_low}
-use Rattle.tree_shape.specs.Nodes.{nodes_of}
-use Rattle.damages.specs.Damages.{index_of}
-use Rattle.amcheck.specs.Downlinks.{IsOff, AreBelow, DownlinksAreNoted, IsWrongAmong}
-use Rattle.amcheck.specs.ParentDamages.{AreChildrenBelow}
-use Rattle.amcheck.specs.Stops.{high_at, IsLeastNumber}
-use Rattle.amcheck.specs.declared.stops.Stop.{Stop}
+use Rattle.amcheck.proofs.Imports.{slice_get-get_or, Bound, Downlink, from_low, nodes_of, index_of, IsOff, AreBelow, DownlinksAreNoted, IsWrongAmong, AreChildrenBelow, high_at, IsLeastNumber}
+use Rattle.amcheck.proofs.Imports.{Stop}
 use Rattle.amcheck.proofs.Found.{no_stop}
 use Rattle.amcheck.proofs.ParentDamages.{blocks_once, stops_in_use, stop_low, children_below, child_off, page_first, page_clear, marked_more}
 use Rattle.amcheck.proofs.parent_damages.damage_at.Goals.{Start}

@@ -1,7 +1,5 @@
 use Rattle.std.proofs.Common.{◌≡◌, ◌+◌, ℕ, suc, inl, inr, sym, subst, ◌∙◌, arith}
-use Rattle.std.proofs.lemmas.Bool.{cases_eq}
-use Rattle.damages.specs.Damages.{index_of}
-use Rattle.amcheck.specs.ParentDamages.{IsClearAt, AreMarked}
+use Rattle.amcheck.proofs.Imports.{cases_eq, index_of, IsClearAt, AreMarked}
 use Rattle.amcheck.proofs.ParentDamages.{first_parent}
 use Rattle.amcheck.proofs.parent_damages.find_parent_damage.Goals as goal
 

@@ -1,6 +1,5 @@
 use Rattle.std.proofs.Common.{◌≡◌, ◌<◌, ℕ, length}
-use Rattle.damages.specs.Damages.{index_of}
-use Rattle.amcheck.specs.ParentDamages.{IsClearAt, AreMarked}
+use Rattle.amcheck.proofs.Imports.{index_of, IsClearAt, AreMarked}
 use Rattle.amcheck.proofs.parent_damages.find_parent_damage.Given as goal
 
 abbrev pub invariant-loop-place : goal.invariant-loop-place

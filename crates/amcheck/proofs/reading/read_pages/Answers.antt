@@ -1,17 +1,6 @@
 use Rattle.std.proofs.Common.{◌≡◌, ◌+◌, ◌++◌, ◌∷◌, [], ℕ, ◌<◌, List, length, slice_get, sym, ap, subst, ◌∙◌, arith, add-one, length-append}
-use Rattle.std.proofs.lemmas.Bool.{lt-leb}
-use Rattle.index_model.specs.Faults.{HasCause}
-use Rattle.page_codec.specs.declared.page.Page.{Page}
-use Rattle.latch_table.specs.Holdings.{pinned_blocks}
-use Rattle.page_action.proofs.Framing.{takes_next, takes_rest}
-use Rattle.page_action.proofs.StoredPages.{stored-add}
-use Rattle.page_action.specs.Frames.{TakesFrame, TakesFrames}
-use Rattle.page_action.specs.Causes.{causes_of_read}
-use Rattle.page_action.specs.Room.{KeepsRoom}
-use Rattle.page_action.specs.States.{State, IsLater}
-use Rattle.page_action.specs.Stored.{IsStored, AreStored}
-use Rattle.amcheck.specs.PageRooms.{HasPageRoom}
-use Rattle.amcheck.specs.Reading.{blocks_below}
+use Rattle.amcheck.proofs.Imports.{lt-leb, HasCause, Page, pinned_blocks, takes_next, takes_rest, stored-add, TakesFrame, TakesFrames, causes_of_read, KeepsRoom, State, IsLater, IsStored}
+use Rattle.amcheck.proofs.Imports.{AreStored, HasPageRoom, blocks_below}
 use Rattle.amcheck.proofs.Fetched.{below_next}
 use Rattle.amcheck.proofs.ReadOn.{kept_on, cause_on, never_memory, take_get}
 use Rattle.amcheck.proofs.reading.read_pages.Given.{Over}

@@ -1,11 +1,5 @@
 use Rattle.std.proofs.Common.{◌≡◌, true, length, take}
-use Rattle.latch_table.specs.Holdings.{pinned_blocks}
-use Rattle.page_action.specs.Frames.{TakesFrames}
-use Rattle.page_action.specs.Room.{KeepsRoom}
-use Rattle.page_action.specs.States.{Continues}
-use Rattle.page_action.specs.Stored.{AreStored}
-use Rattle.amcheck.specs.PageRooms.{HasPageRoom}
-use Rattle.amcheck.specs.Reading.{blocks_below}
+use Rattle.amcheck.proofs.Imports.{pinned_blocks, TakesFrames, KeepsRoom, Continues, AreStored, HasPageRoom, blocks_below}
 use Rattle.amcheck.proofs.reading.read_pages.Given as goal
 
 abbrev pub invariant-loop-block : goal.invariant-loop-block

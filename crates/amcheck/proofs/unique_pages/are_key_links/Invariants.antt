@@ -1,6 +1,5 @@
 use Rattle.std.proofs.Common.{◌↔◌, length}
-use Rattle.std.specs.List.{AllByRecursion}
-use Rattle.tree_shape.specs.KeyPages.{IsKeyLink}
+use Rattle.amcheck.proofs.Imports.{AllByRecursion, IsKeyLink}
 use Rattle.amcheck.proofs.unique_pages.are_key_links.Given as goal
 
 abbrev pub invariant-loop-rest : goal.invariant-loop-rest

@@ -1,6 +1,5 @@
 use Rattle.std.proofs.Common.{◌↔◌, length}
-use Rattle.page_codec.specs.Grammar.{Ascends}
-use Rattle.tree_shape.specs.KeyPages.{KeyBefore}
+use Rattle.amcheck.proofs.Imports.{Ascends, KeyBefore}
 use Rattle.amcheck.proofs.unique_pages.do_keys_ascend.Given as goal
 
 abbrev pub invariant-loop-rest : goal.invariant-loop-rest

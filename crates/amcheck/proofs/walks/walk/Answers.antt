@@ -1,6 +1,5 @@
 use Rattle.std.proofs.Common.{◌+◌, refl, sym, subst, ◌∙◌, arith}
-use Rattle.tree_shape.specs.Nodes.{nodes_of}
-use Rattle.amcheck.specs.Marks.{IsMet}
+use Rattle.amcheck.proofs.Imports.{nodes_of, IsMet}
 use Rattle.amcheck.proofs.Walked.{are_stops, ends_met, stops_few, walk_goes_on, ends_whole, are_stops_more, added_all}
 use Rattle.amcheck.proofs.WaysLeft.{level_there}
 use Rattle.amcheck.proofs.walks.walk.Goals as goal

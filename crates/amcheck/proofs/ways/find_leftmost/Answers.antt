@@ -1,7 +1,6 @@
 use Rattle.std.proofs.Common.{◌≡◌, ◌+◌, true, false, length, refl, sym, ◌∙◌, arith}
-use Rattle.damages.specs.Damages.{index_of, left_after_steps}
 use Rattle.damages.proofs.TreePlaces.{head_is}
-use Rattle.amcheck.specs.Ways.{IsClearPath}
+use Rattle.amcheck.proofs.Imports.{index_of, left_after_steps, IsClearPath}
 use Rattle.amcheck.proofs.WaysLeft.{begin_way, way_off, way_back, way_goes_on, way_ends, kept_more, kept_so_far, way_is_short, level_there, level_back}
 use Rattle.amcheck.proofs.ways.find_leftmost.Goals as goal
 

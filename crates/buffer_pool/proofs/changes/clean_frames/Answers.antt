@@ -1,6 +1,5 @@
 use Rattle.std.proofs.Common.{◌∙◌, ◌++◌, ◌<◌, length, ℕ, List, length-set, subst, arith}
-use Rattle.std.proofs.lemmas.List.{drop_all}
-use Rattle.buffer_pool.specs.Frames.{AreChanged}
+use Rattle.buffer_pool.proofs.Imports.{drop_all, AreChanged}
 use Rattle.buffer_pool.proofs.Changing.{clean_next, clean_kept}
 use Rattle.buffer_pool.proofs.changes.clean_frames.Goals as goal
 

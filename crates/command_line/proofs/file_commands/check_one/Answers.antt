@@ -1,7 +1,5 @@
 use Rattle.std.proofs.Common.{sym, subst}
-use Rattle.page_action.specs.States.{State}
-use Rattle.page_store.specs.Following.{follows_same}
-use Rattle.command_line.specs.Reporting.{AreSound}
+use Rattle.command_line.proofs.Imports.{State, follows_same, AreSound}
 use Rattle.command_line.proofs.Looked.{report_stays, damage_stays, check_refused}
 use Rattle.command_line.proofs.file_commands.check_one.Goals as goal
 

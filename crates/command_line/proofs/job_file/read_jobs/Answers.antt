@@ -1,6 +1,5 @@
 use Rattle.std.proofs.Common.{ℕ, List, ◌≡◌, ◌∷◌, ◌++◌, [], ◌∙◌, ap, sym, subst, append-nil}
-use Rattle.command_line.specs.JobFiles.{SpellJobs, SpellsJob, sets_with, sets_after}
-use Rattle.text_forms.specs.Spelling.{lines_of}
+use Rattle.command_line.proofs.Imports.{SpellJobs, SpellsJob, sets_with, sets_after, lines_of}
 use Rattle.command_line.proofs.JobsRead.{spelled_on, after_on, none_left, some_left}
 use Rattle.command_line.proofs.job_file.read_jobs.Goals as goal
 

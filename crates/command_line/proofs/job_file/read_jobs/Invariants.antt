@@ -1,9 +1,6 @@
 use Rattle.std.proofs.Common.{◌≡◌, ◌++◌, List, length}
-use Rattle.std.specs.Prelude.{vec_len}
-use Rattle.command_line.specs.JobFiles.{SpellJobs, sets_after}
-use Rattle.text_forms.specs.Spelling.{lines_of}
 use Rattle.command_line.proofs.job_file.read_jobs.Given as goal
-use Rattle.sessions.specs.declared.job.Job.{Job}
+use Rattle.command_line.proofs.Imports.{vec_len, SpellJobs, sets_after, lines_of, Job}
 
 abbrev pub decreases-loop-rest : goal.decreases-loop-rest
 decreases-loop-rest l = length l.rest

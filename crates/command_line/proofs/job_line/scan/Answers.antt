@@ -1,7 +1,6 @@
-use Rattle.std.proofs.Common.{◌≡◌, ◌∷◌, [], List, ℕ, Option, Some, Result, Ok, ap, sym, ◌∙◌}
+use Rattle.std.proofs.Common.{◌≡◌, ◌∷◌, [], List, ℕ, Some, Result, Ok}
 use Rattle.std.specs.Fmt.{decimal}
 use Rattle.index_model.specs.declared.range.Range.{Range}
-use Rattle.command_line.specs.declared.job_line.JobLine.{JobLine}
 use Rattle.command_line.specs.declared.job_line.JobLine.TheVariants.{Scan}
 use Rattle.command_line.proofs.job_line.scan.Goals as goal
 

@@ -1,6 +1,5 @@
 use Rattle.std.proofs.Common.{◌≡◌, take}
-use Rattle.page_action.specs.States.{Continues}
-use Rattle.command_line.specs.Listing.{PrintsPages}
+use Rattle.command_line.proofs.Imports.{Continues, PrintsPages}
 use Rattle.command_line.proofs.listing.list_pages.Given as goal
 
 abbrev pub invariant-loop-block : goal.invariant-loop-block

@@ -1,8 +1,5 @@
-use Rattle.std.specs.Prelude.{take, slice_index}
 use Rattle.std.proofs.Common.{subst}
-use Rattle.std.specs.Io.KnownBytes.{Appends}
-use Rattle.std.proofs.KnownBytes.{Appends-trans}
-use Rattle.command_line.specs.Receipts.{calls_text, worker_text}
+use Rattle.command_line.proofs.Imports.{take, slice_index, Appends, Appends-trans, calls_text, worker_text}
 use Rattle.command_line.proofs.Workers.{next_worker}
 use Rattle.command_line.proofs.receipts.print_calls.Goals as goal
 

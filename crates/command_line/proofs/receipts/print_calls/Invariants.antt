@@ -1,6 +1,4 @@
-use Rattle.std.specs.Prelude.{take}
-use Rattle.std.specs.Io.KnownBytes.{Appends}
-use Rattle.command_line.specs.Receipts.{calls_text}
+use Rattle.command_line.proofs.Imports.{take, Appends, calls_text}
 use Rattle.command_line.proofs.receipts.print_calls.Given as goal
 
 abbrev pub invariant-loop-worker : goal.invariant-loop-worker

@@ -1,6 +1,4 @@
-use Rattle.std.specs.Prelude.{take}
-use Rattle.std.specs.Io.KnownBytes.{Appends}
-use Rattle.command_line.specs.Receipts.{records_text}
+use Rattle.command_line.proofs.Imports.{take, Appends, records_text}
 use Rattle.command_line.proofs.receipts.print_records.Given as goal
 
 abbrev pub invariant-loop-receipt : goal.invariant-loop-receipt

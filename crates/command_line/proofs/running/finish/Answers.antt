@@ -1,8 +1,5 @@
 use Rattle.std.proofs.Common.{◌++◌}
-use Rattle.std.specs.Prelude.{OnOk}
-use Rattle.std.specs.Io.KnownBytes.{Appends}
-use Rattle.command_line.specs.Receipts.{run_text}
-use Rattle.command_line.specs.Running.{last_text}
+use Rattle.command_line.proofs.Imports.{OnOk, Appends, run_text, last_text}
 use Rattle.command_line.proofs.Finished.{prints_done}
 use Rattle.command_line.proofs.running.finish.Goals as goal
 

@@ -1,8 +1,5 @@
 use Rattle.std.proofs.Common.{◌++◌, ◌∷◌, [], List, ℕ, sym, subst}
-use Rattle.std.specs.Io.KnownBytes.{Appends}
-use Rattle.std.proofs.KnownBytes.{Appends-trans}
-use Rattle.text_forms.specs.Printing.{answer_text}
-use Rattle.command_line.specs.Receipts.{run_text}
+use Rattle.command_line.proofs.Imports.{Appends, Appends-trans, answer_text, run_text}
 use Rattle.command_line.proofs.Finished.{not_refused}
 use Rattle.command_line.proofs.running.print_done.Goals as goal
 

@@ -1,7 +1,6 @@
-use Rattle.std.proofs.lemmas.Result.{IfOk-weaker}
 use Rattle.std.proofs.Math.Logic.{∥∥₁_map₂}
 use Rattle.sessions.specs.Finishing.{IsFinished}
-use Rattle.command_line.specs.Running.{PrintsDone, PrintsRun}
+use Rattle.command_line.proofs.Imports.{IfOk-weaker, PrintsDone, PrintsRun}
 use Rattle.command_line.proofs.running.run_world.Goals as goal
 
 pub returns-in-Ok-clause-printed : goal.returns-in-Ok-clause-printed

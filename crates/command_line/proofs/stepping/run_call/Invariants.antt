@@ -1,7 +1,5 @@
 use Rattle.std.proofs.Common.{◌≡◌}
-use Rattle.page_action.specs.States.{Continues}
-use Rattle.world.specs.Worlds.{ForEachWorldHistory}
-use Rattle.command_line.specs.Stepping.{SameSizes}
+use Rattle.command_line.proofs.Imports.{Continues, ForEachWorldHistory, SameSizes}
 use Rattle.command_line.proofs.Stepped.{IsKeptFromReuse, IsWithin}
 use Rattle.command_line.proofs.stepping.run_call.Given as goal
 

@@ -1,8 +1,5 @@
 use Rattle.std.proofs.Common.{Some, slice_get, sym, ap, subst, ◌∙◌}
-use Rattle.index_model.specs.Faults.{HasCause}
-use Rattle.page_action.specs.Causes.{causes_of_read}
-use Rattle.page_action.specs.States.{State, Backing, IsLater}
-use Rattle.page_codec.specs.declared.page.Page.{Page}
+use Rattle.descent.proofs.Imports.{HasCause, causes_of_read, State, Backing, IsLater, Page}
 use Rattle.descent.proofs.Working.{read_cause, rooms_kept}
 use Rattle.descent.proofs.reading.read_both.Goals as goal
 

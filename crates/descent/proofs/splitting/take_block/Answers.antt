@@ -1,7 +1,5 @@
 use Rattle.std.proofs.Common.{arith, true, ◌<◌, ◌≤◌, sym, subst}
-use Rattle.index_model.specs.Faults.{HasCause}
-use Rattle.page_action.specs.States.{State}
-use Rattle.tree_acts.specs.StepEffects.{causes_of_working}
+use Rattle.descent.proofs.Imports.{HasCause, State, causes_of_working}
 use Rattle.descent.proofs.Blocks.{fresh_past_meta}
 use Rattle.descent.proofs.Working.{full_cause}
 use Rattle.descent.proofs.splitting.take_block.Goals as goal

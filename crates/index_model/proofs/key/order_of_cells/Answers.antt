@@ -1,9 +1,5 @@
 use Rattle.std.proofs.Common.{◌≡◌, true, false, ◌+◌, ◌*◌, drop, take, refl, sym, ◌∙◌, arith}
-use Rattle.std.specs.Cmp.Lexicographic.{slice_cmp}
-use Rattle.std.specs.Ordering.{nat_cmp, ordering_then, is_ne}
-use Rattle.std.specs.declared.cmp.Ordering.{Ordering}
-use Rattle.std.specs.declared.cmp.Ordering.TheVariants.{Less, Equal, Greater}
-use Rattle.index_model.specs.Padded.{spelled}
+use Rattle.index_model.proofs.Imports.{slice_cmp, nat_cmp, ordering_then, is_ne, Ordering, Less, Equal, Greater, spelled}
 use Rattle.index_model.proofs.Words.{next_word}
 use Rattle.index_model.proofs.key.order_of_cells.Goals.{After-cmp-found}
 use Rattle.index_model.proofs.key.order_of_cells.Goals as goal

@@ -1,6 +1,5 @@
 use Rattle.std.proofs.Common.{◌≡◌, ◌*◌, drop}
-use Rattle.std.specs.Cmp.Lexicographic.{slice_cmp}
-use Rattle.std.specs.Ordering.{nat_cmp}
+use Rattle.index_model.proofs.Imports.{slice_cmp, nat_cmp}
 use Rattle.index_model.proofs.key.order_of_cells.Given as goal
 
 abbrev pub invariant-loop-at : goal.invariant-loop-at

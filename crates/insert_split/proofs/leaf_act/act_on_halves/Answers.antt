@@ -1,8 +1,5 @@
 use Rattle.std.proofs.Common.{rules, ◌≡◌, List, ◌∷◌, length, take, slice_set, subst}
-use Rattle.std.specs.Prelude.{OnOk}
-use Rattle.page_codec.specs.declared.page.Page.{Page}
-use Rattle.page_action.specs.Stored.{AreActable}
-use Rattle.descent.specs.Splitting.{if_read, mended_to}
+use Rattle.insert_split.proofs.Imports.{OnOk, Page, AreActable, if_read, mended_to}
 use Rattle.insert_split.proofs.leaf_act.act_on_halves.Goals as goal
 
 pub returns-then-not-is_beside-clause-may : goal.returns-then-not-is_beside-clause-may

@@ -1,10 +1,5 @@
 use Rattle.std.proofs.Common.{◌≡◌, ◌+◌, ◌++◌, List, [], ◌∷◌, take, drop, length, slice_set, ap, ap₂, subst, ◌∙◌}
-use Rattle.std.specs.Prelude.{slice_index_or}
-use Rattle.page_codec.specs.Edits.{entries_of}
-use Rattle.page_codec.specs.declared.page.Page.{Page}
-use Rattle.tree_shape.specs.Edits.{LeafHalves}
-use Rattle.tree_shape.specs.Halves.{left_count}
-use Rattle.tree_shape.specs.Nodes.{node_of}
+use Rattle.insert_split.proofs.Imports.{slice_index_or, entries_of, Page, LeafHalves, left_count, node_of}
 use Rattle.insert_split.proofs.leaf_act.part.Goals as goal
 
 pub returns : goal.returns

@@ -1,10 +1,5 @@
 use Rattle.std.proofs.Common.{ℕ, List, sym, subst, ◌∙◌}
-use Rattle.index_model.specs.Actions.{Action}
-use Rattle.page_store.specs.Crashing.{left_now}
-use Rattle.page_store.specs.Following.{follows_same}
-use Rattle.page_store.specs.Stores.{state_of, held_by}
-use Rattle.world.proofs.Leaving.{left_index}
-use Rattle.world.specs.Reopening.{IsIndexAfterPrefix}
+use Rattle.ledger_lines.proofs.Imports.{Action, left_now, follows_same, state_of, held_by, left_index, IsIndexAfterPrefix}
 use Rattle.ledger_lines.proofs.calls.checkpoint.Goals as goal
 
 -- nothing was done but to make durable, so a crash leaves a prefix of the same actions

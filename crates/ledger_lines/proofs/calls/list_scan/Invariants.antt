@@ -1,6 +1,4 @@
-use Rattle.std.specs.Prelude.{◌≡◌, false}
-use Rattle.access_method.specs.Indexes.{seat_with}
-use Rattle.access_method.specs.Tokens.{seat_of}
+use Rattle.ledger_lines.proofs.Imports.{◌≡◌, false, seat_with, seat_of}
 use Rattle.ledger_lines.proofs.Given.{HasGiven}
 use Rattle.ledger_lines.proofs.calls.list_scan.Given as goal
 

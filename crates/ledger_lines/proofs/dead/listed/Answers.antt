@@ -1,8 +1,6 @@
 use Rattle.std.proofs.Common.{◌≡◌, ◌∷◌, ◌++◌, ◌∙◌, [], ℕ, List, length, suc, refl, ap, sym, subst, arith}
 use Rattle.std.specs.Prelude.{map}
-use Rattle.index_model.specs.Row.{Row}
-use Rattle.text_forms.specs.Spelling.{row_text}
-use Rattle.text_forms.specs.Values.{AreRows}
+use Rattle.ledger_lines.proofs.Imports.{Row, row_text, AreRows}
 use Rattle.ledger_lines.proofs.dead.listed.Goals as goal
 
 joined : (rows : List Row) (row : Row) (new : List (List ℕ)) → map row_text rows ++ (row_text row ∷ new) ≡ map row_text (rows ++ row ∷ []) ++ new

@@ -1,7 +1,6 @@
 use Rattle.std.proofs.Common.{◌≡◌, ◌++◌, length}
 use Rattle.std.specs.Prelude.{map}
-use Rattle.text_forms.specs.Spelling.{row_text}
-use Rattle.text_forms.specs.Values.{AreRows}
+use Rattle.ledger_lines.proofs.Imports.{row_text, AreRows}
 use Rattle.ledger_lines.proofs.dead.listed.Given as goal
 
 abbrev pub decreases-loop-row : goal.decreases-loop-row

@@ -1,8 +1,6 @@
 use Rattle.std.proofs.Common.{◌≡◌, ℕ, ◌+◌, List, [], ◌∷◌, ◌++◌, length, ap, subst, arith, vec_len, Option, IfSome}
-use Rattle.std.specs.Prelude.{◌≢◌}
-use Rattle.std.specs.Io.BufRead.{take_through}
 use Rattle.page_store.specs.contracts.store.StorePageStore.TheImpl as store
-use Rattle.text_forms.specs.Spelling.{lines_of}
+use Rattle.ledger_lines.proofs.Imports.{◌≢◌, take_through, lines_of}
 use Rattle.ledger_lines.specs.contracts.dead.DeadDeadRows.TheImpl as dead
 use Rattle.ledger_lines.proofs.Answered.{answered_more}
 use Rattle.ledger_lines.proofs.session.answer_lines.Goals as goal

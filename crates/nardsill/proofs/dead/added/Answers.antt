@@ -1,7 +1,6 @@
 use Rattle.std.proofs.Common.{◌≡◌, ◌||◌, Bool, true, false, cond, refl, ◌∙◌}
 use Rattle.std.specs.BTreeSet.{contains}
 use Rattle.index_model.specs.Order.{row_cmp}
-use Rattle.index_model.specs.Row.{Row}
 use Rattle.nardsill.specs.Naming.{same_row}
 use Rattle.nardsill.proofs.dead.added.Goals as goal
 

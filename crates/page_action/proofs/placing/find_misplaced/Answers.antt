@@ -1,7 +1,6 @@
 use Rattle.std.proofs.Common.{◌≡◌, ◌+◌, ◌-◌, true, List, length, take, drop, sym, subst, arith}
 use Rattle.std.proofs.lemmas.Grind.{common_steps}
-use Rattle.page_codec.specs.declared.page.Page.{Page}
-use Rattle.page_action.specs.Stored.{IsActableBeside, IsApartFrom}
+use Rattle.page_action.proofs.Imports.{Page, IsActableBeside, IsApartFrom}
 use Rattle.page_action.proofs.Misplaced.{first_here}
 use Rattle.page_action.proofs.placing.find_misplaced.Goals.{then-not-is_writable-via-then-not-is_writable, then-not-is_writable-via-else-not-is_writable+then-not-is_placeable, then-not-is_writable-via-else-not-is_writable+else-not-is_placeable+then-not-is_apart}
 use Rattle.page_action.proofs.placing.find_misplaced.Goals as goal

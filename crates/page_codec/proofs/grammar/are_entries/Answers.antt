@@ -1,6 +1,5 @@
 use Rattle.std.proofs.Common.{List, sym, subst}
-use Rattle.index_model.specs.declared.entry.Entry.{Entry}
-use Rattle.page_codec.specs.Grammar.{AreEntries}
+use Rattle.page_codec.proofs.Imports.{Entry, AreEntries}
 use Rattle.page_codec.proofs.Pieces.{behind, first_and_after}
 use Rattle.page_codec.proofs.Runs.{entries_more, entries_rest}
 use Rattle.page_codec.proofs.grammar.are_entries.Goals as goal

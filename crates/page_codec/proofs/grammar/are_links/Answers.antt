@@ -1,6 +1,5 @@
 use Rattle.std.proofs.Common.{List, sym, subst}
-use Rattle.page_codec.specs.declared.page.Downlink.{Downlink}
-use Rattle.page_codec.specs.Grammar.{AreLinks}
+use Rattle.page_codec.proofs.Imports.{Downlink, AreLinks}
 use Rattle.page_codec.proofs.Pieces.{behind, first_and_after}
 use Rattle.page_codec.proofs.Runs.{links_more, links_rest}
 use Rattle.page_codec.proofs.grammar.are_links.Goals as goal

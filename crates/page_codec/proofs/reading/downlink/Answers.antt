@@ -1,8 +1,5 @@
 use Rattle.std.proofs.Common.{◌≡◌, ◌∙◌, ◌+◌, ◌<◌, Some, ℕ, take, drop, get_or, sym, ap, subst, arith, length-drop}
-use Rattle.std.proofs.lemmas.List.{get_or-drop}
-use Rattle.std.proofs.lemmas.Option.{same_Some}
-use Rattle.byteorder.specs.Endian.{little_bytes}
-use Rattle.page_codec.specs.declared.page.Downlink.{Downlink}
+use Rattle.page_codec.proofs.Imports.{get_or-drop, same_Some, little_bytes, Downlink}
 use Rattle.page_codec.proofs.Numbers.{four_again}
 use Rattle.page_codec.proofs.Slots.{downlink_of_parts, slot_of_downlink, child_of_downlink}
 use Rattle.page_codec.proofs.reading.downlink.Goals as goal

@@ -1,9 +1,5 @@
 use Rattle.std.proofs.Common.{◌∙◌, List, ℕ, drop, sym, subst, Some}
-use Rattle.std.proofs.lemmas.Option.{same_Some}
-use Rattle.index_model.specs.Order.{IsEntry}
-use Rattle.index_model.specs.declared.entry.Entry.{Entry}
-use Rattle.page_codec.specs.Begins.{Begins}
-use Rattle.page_codec.specs.Spelling.{row_bytes}
+use Rattle.page_codec.proofs.Imports.{same_Some, IsEntry, Entry, Begins, row_bytes}
 use Rattle.page_codec.proofs.Slots.{entry_of_parts, key_of_entry, row_of_entry}
 use Rattle.page_codec.proofs.reading.entry.Goals as goal
 

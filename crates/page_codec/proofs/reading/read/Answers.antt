@@ -1,9 +1,6 @@
 use Rattle.std.proofs.Common.{◌≡◌, ◌∙◌, refl, sym}
-use Rattle.std.proofs.lemmas.Option.{same_Some}
-use Rattle.std.specs.Prelude.{IsTrue}
-use Rattle.page_codec.specs.Grammar.{IsPage}
 use Rattle.page_codec.specs.Spelling.{page_bytes}
-use Rattle.page_codec.specs.declared.page.Page.{Page}
+use Rattle.page_codec.proofs.Imports.{same_Some, IsTrue, IsPage, Page}
 use Rattle.page_codec.proofs.Again.{slot_widens}
 use Rattle.page_codec.proofs.PageAgain.{has_fields, are_items}
 use Rattle.page_codec.proofs.Whole.{has_each}

@@ -1,7 +1,5 @@
 use Rattle.std.proofs.Common.{◌≡◌, ◌∙◌, ◌+◌, ◌<◌, ap, sym, subst, ℕ, take, drop, get_or, arith, length-drop}
-use Rattle.std.proofs.lemmas.List.{get_or-drop}
-use Rattle.index_model.specs.Row.{Row}
-use Rattle.byteorder.specs.Endian.{little_bytes}
+use Rattle.page_codec.proofs.Imports.{get_or-drop, Row, little_bytes}
 use Rattle.page_codec.proofs.Pieces.{begins_row}
 use Rattle.page_codec.proofs.Numbers.{two_again, four_again}
 use Rattle.page_codec.proofs.reading.row_at.Goals as goal

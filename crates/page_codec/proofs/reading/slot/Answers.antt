@@ -1,9 +1,5 @@
 use Rattle.std.proofs.Common.{◌≡◌, ◌∙◌, false, List, Option, None, Some, ℕ, drop, sym, ap, subst, replicate}
-use Rattle.std.proofs.lemmas.Option.{same_Some}
-use Rattle.index_model.specs.Row.{Row, IsRow}
-use Rattle.index_model.specs.declared.bound.Bound.{Bound}
-use Rattle.page_codec.specs.Begins.{Begins}
-use Rattle.page_codec.specs.Spelling.{row_bytes}
+use Rattle.page_codec.proofs.Imports.{same_Some, Row, IsRow, Bound, Begins, row_bytes}
 use Rattle.page_codec.proofs.Slots.{no_slot, IsBoundAt, bound_of_parts, none_there, some_there, no_row_there, row_there, key_is_some}
 use Rattle.page_codec.proofs.reading.slot.Goals.{After-begins_with, After-tail-behind}
 use Rattle.page_codec.proofs.reading.slot.Goals as goal

@@ -1,8 +1,6 @@
 use Rattle.std.proofs.Common.{◌≡◌, ◌≢◌, ℕ, suc, ◌<◌, true, false, List, length, sym, subst, arith}
 use Rattle.std.proofs.Common.{take, All}
-use Rattle.page_codec.specs.declared.page.Downlink.{Downlink}
-use Rattle.tree_shape.specs.LinkPlaces.{child_at}
-use Rattle.tree_shape.specs.Nodes.{links_of}
+use Rattle.page_delete.proofs.Imports.{Downlink, child_at, links_of}
 use Rattle.page_delete.proofs.Dying.{same_place}
 use Rattle.page_delete.proofs.judging.handing_place.Goals as goal
 

@@ -1,7 +1,5 @@
 use Rattle.std.proofs.Common.{ap, ◌∙◌}
-use Rattle.page_codec.specs.declared.page.Page.{Page}
-use Rattle.tree_acts.proofs.Overlays.{inside}
-use Rattle.vacuum.proofs.Lasting.{same_page}
+use Rattle.page_delete.proofs.Imports.{Page, inside, same_page}
 use Rattle.page_delete.proofs.Trying.{same_link}
 use Rattle.page_delete.proofs.judging.left_is_whole.Goals as goal
 

@@ -1,13 +1,8 @@
 use Rattle.std.proofs.Common.{◌≡◌, ℕ, ◌<◌, Bool, true, false, length, refl, sym, ap, subst, ◌∙◌, arith}
-use Rattle.page_codec.specs.declared.page.Page.{Page}
-use Rattle.page_action.specs.States.{State, IsLater}
 use Rattle.std.proofs.Common.{[], ◌∷◌, ◌≤◌}
 use Rattle.page_codec.specs.Spelling.{count_of}
-use Rattle.page_action.specs.Stored.{AreActable}
-use Rattle.tree_shape.specs.Nodes.{links_of}
-use Rattle.descent.proofs.Working.{act_cause_of, two_are}
-use Rattle.page_delete.specs.Needs.{blocks_judged}
-use Rattle.page_delete.specs.Parts.{DeletesOn, IsCandidate, IsTakenToChange, BlocksAreInUse, LeafDies, IsSpared, PinnedLeafPagesStay}
+use Rattle.page_delete.proofs.Imports.{Page, State, IsLater, AreActable, links_of, act_cause_of, two_are, blocks_judged, DeletesOn, IsCandidate, IsTakenToChange, BlocksAreInUse, LeafDies}
+use Rattle.page_delete.proofs.Imports.{IsSpared, PinnedLeafPagesStay}
 use Rattle.page_delete.proofs.Moving.{dying_moves}
 use Rattle.page_delete.proofs.Pinned.{pinned_dying}
 use Rattle.page_delete.proofs.Trying.{tried_acted, tried_refused}

@@ -1,7 +1,5 @@
 use Rattle.std.proofs.Common.{◌≡◌, [], ◌∷◌, true, false, sym, subst, ◌∙◌}
-use Rattle.latch_table.specs.Holdings.{HasRoom}
-use Rattle.page_action.specs.States.{State, IsLater}
-use Rattle.page_delete.specs.Parts.{IsLiveAt, LinksLeft}
+use Rattle.page_delete.proofs.Imports.{HasRoom, State, IsLater, IsLiveAt, LinksLeft}
 use Rattle.page_delete.proofs.Trying.{read_on, cause_later}
 use Rattle.page_delete.proofs.judging.siblings_allow.Given.{Over}
 use Rattle.page_delete.proofs.judging.siblings_allow.Goals.{After-right_is_live}

@@ -1,9 +1,5 @@
 use Rattle.std.proofs.Common.{◌≡◌, Bool, true, subst}
-use Rattle.page_codec.specs.declared.page.Page.{Page}
-use Rattle.page_action.specs.States.{IsLater}
-use Rattle.vacuum.proofs.Lasting.{same_page}
-use Rattle.page_delete.specs.Needs.{blocks_judged}
-use Rattle.page_delete.specs.Parts.{IsCandidate, SiblingsAllow, SiblingsAnswer, BlocksAreInUse, LeafDies, IsSpared}
+use Rattle.page_delete.proofs.Imports.{Page, IsLater, same_page, blocks_judged, IsCandidate, SiblingsAllow, SiblingsAnswer, BlocksAreInUse, LeafDies, IsSpared}
 use Rattle.page_delete.proofs.Dying.{leaf_links}
 use Rattle.page_delete.proofs.Trying.{HasRead, read_on, tried_later, tried_refused, tried_nothing, candidate_later}
 use Rattle.page_delete.proofs.judging.try_beside.Given.{Over}

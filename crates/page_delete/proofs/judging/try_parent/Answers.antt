@@ -1,10 +1,5 @@
 use Rattle.std.proofs.Common.{◌≡◌, ℕ, [], ◌∷◌, true, false, sym, ap, subst, ◌∙◌, arith}
-use Rattle.page_codec.specs.declared.page.Page.{Page}
-use Rattle.page_action.specs.States.{State, IsLater}
-use Rattle.vacuum.proofs.Lasting.{same_page}
-use Rattle.page_delete.specs.Judging.{IsHandingOn}
-use Rattle.page_delete.specs.Needs.{blocks_judged}
-use Rattle.page_delete.specs.Parts.{SiblingsAllow, BlocksAreInUse, LeafDies, IsSpared, IsTried}
+use Rattle.page_delete.proofs.Imports.{Page, State, IsLater, same_page, IsHandingOn, blocks_judged, SiblingsAllow, BlocksAreInUse, LeafDies, IsSpared, IsTried}
 use Rattle.page_delete.proofs.Siblings.{some_is}
 use Rattle.page_delete.proofs.Trying.{HasRead, read_on, tried_later, tried_refused, tried_nothing, candidate_later}
 use Rattle.page_delete.proofs.judging.try_parent.Given.{Over}

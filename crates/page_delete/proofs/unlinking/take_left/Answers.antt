@@ -1,9 +1,5 @@
 use Rattle.std.proofs.Common.{false, ap, ◌∙◌}
-use Rattle.page_codec.specs.declared.page.Page.{Page}
-use Rattle.tree_acts.proofs.Overlays.{inside}
-use Rattle.tree_acts.specs.StepEffects.{frames_for}
-use Rattle.descent.proofs.Working.{frames_some}
-use Rattle.vacuum.proofs.Lasting.{same_page}
+use Rattle.page_delete.proofs.Imports.{Page, inside, frames_for, frames_some, same_page}
 use Rattle.page_delete.proofs.Trying.{same_link}
 use Rattle.page_delete.proofs.unlinking.take_left.Goals as goal
 

@@ -1,7 +1,5 @@
 use Rattle.std.proofs.Common.{false}
-use Rattle.tree_acts.proofs.Overlays.{inside}
-use Rattle.tree_acts.specs.StepEffects.{frames_for}
-use Rattle.descent.proofs.Working.{frames_some}
+use Rattle.page_delete.proofs.Imports.{inside, frames_for, frames_some}
 use Rattle.page_delete.proofs.unlinking.take_right.Goals as goal
 
 pub returns-in-Err-clause-cause : goal.returns-in-Err-clause-cause

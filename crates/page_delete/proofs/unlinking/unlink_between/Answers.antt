@@ -1,10 +1,6 @@
 use Rattle.std.proofs.Common.{◌≡◌, ℕ, Bool, true, false, map, length, refl, sym, ap, subst, ◌∙◌, arith}
-use Rattle.page_codec.specs.declared.page.Page.{Page}
-use Rattle.page_action.specs.States.{State, IsLater, after_act}
-use Rattle.page_action.specs.Stored.{AreActable}
-use Rattle.descent.proofs.Working.{act_cause_of}
-use Rattle.page_delete.specs.Needs.{blocks_unlinked_at}
-use Rattle.page_delete.specs.Parts.{DeletesOn, IsTakenToChange, IsTakenLeft, IsTakenRight, IsInUse, PageIsDeleted, IsNotDead, PinnedLeafPagesStay, unlinked}
+use Rattle.page_delete.proofs.Imports.{Page, State, IsLater, after_act, AreActable, act_cause_of, blocks_unlinked_at, DeletesOn, IsTakenToChange, IsTakenLeft, IsTakenRight, IsInUse, PageIsDeleted}
+use Rattle.page_delete.proofs.Imports.{IsNotDead, PinnedLeafPagesStay, unlinked}
 use Rattle.page_delete.proofs.Moving.{unlinking_moves}
 use Rattle.page_delete.proofs.Pinned.{pinned_unlinking}
 use Rattle.page_delete.proofs.Trying.{tried_acted, tried_refused}

@@ -1,7 +1,5 @@
 use Rattle.std.proofs.Common.{◌≡◌, Bool, true, subst}
-use Rattle.page_action.specs.States.{IsLater}
-use Rattle.page_delete.specs.Needs.{blocks_unlinked_at}
-use Rattle.page_delete.specs.Parts.{IsTakenToChange, IsInUse, PageIsDeleted, IsNotDead}
+use Rattle.page_delete.proofs.Imports.{IsLater, blocks_unlinked_at, IsTakenToChange, IsInUse, PageIsDeleted, IsNotDead}
 use Rattle.page_delete.proofs.Trying.{HasRead, read_on, tried_later, tried_refused, taken_later, left_later}
 use Rattle.page_delete.proofs.Deleting.{dead_links}
 use Rattle.page_delete.proofs.unlinking.unlink_right.Given.{Over}

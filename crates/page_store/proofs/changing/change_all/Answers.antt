@@ -1,9 +1,6 @@
 use Rattle.std.proofs.Common.{◌≡◌, ◌+◌, Some, take, suc, slice_get, ap, subst, ◌∙◌, arith}
-use Rattle.std.specs.Prelude.{is_some, IsSome}
 use Rattle.buffer_pool.specs.Pools.{frame_of}
-use Rattle.page_codec.specs.declared.page.Page.{Page}
-use Rattle.page_action.proofs.StoredPages.{slice_get_at}
-use Rattle.page_store.specs.Changing.{AreActed}
+use Rattle.page_store.proofs.Imports.{is_some, IsSome, Page, slice_get_at, AreActed}
 use Rattle.page_store.proofs.Acts.{acted_next}
 use Rattle.page_store.proofs.Frames.{all_at}
 use Rattle.page_store.proofs.changing.change_all.Goals.{After-page-item}

@@ -1,6 +1,5 @@
 use Rattle.std.proofs.Common.{◌++◌, ◌∷◌, [], ◌+◌, List, map, drop, sym, ap, ◌∙◌, append_assoc, arith}
-use Rattle.page_codec.specs.declared.page.Page.{Page}
-use Rattle.page_action.proofs.StoredPages.{drop_at_item}
+use Rattle.page_store.proofs.Imports.{Page, drop_at_item}
 use Rattle.page_store.proofs.store.with_blocks.Goals as goal
 
 pub loop-page-preserved : goal.loop-page-preserved

@@ -1,8 +1,6 @@
 use Rattle.std.proofs.Common.{ℕ, ◌+◌, sym, ◌∙◌, ap}
-use Rattle.std.specs.Prelude.{◌≡◌, Bool, false, IsTrue, slice_range}
 use Rattle.page_codec.specs.Spelling.{page_bytes}
-use Rattle.page_codec.proofs.Laws.{length-page, one_page}
-use Rattle.page_codec.specs.Places.{place}
+use Rattle.page_store.proofs.Imports.{◌≡◌, Bool, false, IsTrue, slice_range, length-page, one_page, place}
 use Rattle.page_store.proofs.Places.{range_has}
 use Rattle.page_store.proofs.writing.read_page.Goals as goal
 

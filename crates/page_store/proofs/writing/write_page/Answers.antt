@@ -1,7 +1,6 @@
 use Rattle.std.proofs.Common.{ℕ, subst}
-use Rattle.device.specs.Disk.{Writes}
 use Rattle.page_codec.specs.Spelling.{page_bytes}
-use Rattle.page_codec.specs.Places.{place}
+use Rattle.page_store.proofs.Imports.{Writes, place}
 use Rattle.page_store.proofs.Places.{block_goes, block_has}
 use Rattle.page_store.proofs.writing.write_page.Given.{Over}
 use Rattle.page_store.proofs.writing.write_page.Goals.{After-put_page}

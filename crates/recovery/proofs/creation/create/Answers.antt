@@ -1,7 +1,5 @@
-use Rattle.std.specs.Prelude.{OnOk}
 use Rattle.std.proofs.Common.{subst}
-use Rattle.index_model.specs.declared.format.Format.{Format}
-use Rattle.recovery.specs.Fresh.{CrashesToEmpty}
+use Rattle.recovery.proofs.Imports.{OnOk, Format, CrashesToEmpty}
 use Rattle.recovery.proofs.Creating.{on_ok}
 use Rattle.recovery.proofs.Emptying.{fresh_leaves}
 use Rattle.recovery.proofs.creation.create.Goals as goal

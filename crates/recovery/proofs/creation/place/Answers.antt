@@ -1,8 +1,5 @@
 use Rattle.std.proofs.Common.{ℕ, subst, arith}
-use Rattle.device.specs.Disk.{wrote}
-use Rattle.device.specs.Places.{ChangesOnly}
-use Rattle.device.proofs.Going.{writes_goes}
-use Rattle.device.proofs.Standing.{wrote_only}
+use Rattle.recovery.proofs.Imports.{wrote, ChangesOnly, writes_goes, wrote_only}
 use Rattle.recovery.proofs.creation.place.Goals as goal
 
 pub returns-clause-moments : goal.returns-clause-moments

@@ -1,12 +1,8 @@
 use Rattle.std.proofs.Common.{ℕ, ◌+◌, ◌-◌, ◌*◌, arith}
-use Rattle.device.specs.Moments.{AtEachMoment}
-use Rattle.device.specs.Places.{ChangesOnly}
-use Rattle.page_codec.specs.Places.{place}
-use Rattle.index_model.specs.declared.format.Format.{Format}
 use Rattle.recovery.proofs.Creating.{only_now, wider_goes, more_goes, synced_goes, body_made}
 use Rattle.recovery.proofs.creation.place_body.Given.{Over}
 use Rattle.recovery.proofs.creation.place_body.Goals.{After-place, After-place_pages}
-use Rattle.recovery.specs.Outside.{SameLogBytes}
+use Rattle.recovery.proofs.Imports.{AtEachMoment, ChangesOnly, place, Format, SameLogBytes}
 use Rattle.recovery.proofs.Outside.{untouched_on, sync_untouched, gate_keeps, pages_keep}
 use Rattle.recovery.proofs.creation.place_body.Goals as goal
 

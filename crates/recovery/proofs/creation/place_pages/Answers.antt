@@ -1,9 +1,5 @@
 use Rattle.std.proofs.Common.{ℕ, ◌-◌, ◌*◌, ◌<◌, ◌≤◌, arith}
-use Rattle.device.specs.Disk.{Trace}
-use Rattle.device.specs.Moments.{AtEachMoment}
-use Rattle.device.specs.Places.{ChangesOnly}
-use Rattle.page_codec.specs.Places.{place}
-use Rattle.index_model.specs.declared.format.Format.{Format}
+use Rattle.recovery.proofs.Imports.{Trace, AtEachMoment, ChangesOnly, place, Format}
 use Rattle.recovery.proofs.Creating.{on_ok, only_now, wider_goes, more_goes, pages_made}
 use Rattle.recovery.proofs.creation.place_pages.Given.{Over}
 use Rattle.recovery.proofs.creation.place_pages.Goals.{After-place_zeros, After-place_page}

@@ -1,7 +1,5 @@
 use Rattle.std.proofs.Common.{ℕ, ◌∙◌, ◌-◌, ◌*◌, replicate, subst, arith}
-use Rattle.device.specs.Moments.{AtEachMoment}
-use Rattle.device.specs.Places.{Has, ChangesOnly}
-use Rattle.page_codec.specs.Places.{place}
+use Rattle.recovery.proofs.Imports.{AtEachMoment, Has, ChangesOnly, place}
 use Rattle.recovery.proofs.Creating.{only_now, more_goes, zeros_more}
 use Rattle.recovery.proofs.creation.place_zeros.Given.{Over}
 use Rattle.recovery.proofs.creation.place_zeros.Goals.{After-place}

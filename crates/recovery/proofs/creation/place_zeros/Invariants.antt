@@ -1,8 +1,5 @@
 use Rattle.std.proofs.Common.{◌≡◌, ◌-◌, ◌*◌, length}
-use Rattle.device.specs.Moments.{AtEachMoment}
-use Rattle.device.specs.Places.{ChangesOnly}
-use Rattle.page_codec.specs.Places.{place}
-use Rattle.recovery.specs.Fresh.{AreZero}
+use Rattle.recovery.proofs.Imports.{AtEachMoment, ChangesOnly, place, AreZero}
 use Rattle.recovery.proofs.creation.place_zeros.Given as goal
 
 abbrev pub invariant-loop-block : goal.invariant-loop-block

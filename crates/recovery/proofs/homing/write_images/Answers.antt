@@ -1,7 +1,5 @@
 use Rattle.std.proofs.Common.{◌≡◌, ◌∙◌, ◌+◌, length, sym, subst}
-use Rattle.device.specs.Moments.{AtEachMoment}
-use Rattle.device.proofs.Going.{goes_on, goes_now}
-use Rattle.recovery.specs.Homing.{ChangesNamed}
+use Rattle.recovery.proofs.Imports.{AtEachMoment, goes_on, goes_now, ChangesNamed}
 use Rattle.recovery.proofs.Named.{HomedBelow, named_goes, one_homed, none_homed}
 use Rattle.recovery.proofs.homing.write_images.Given.{Over}
 use Rattle.recovery.proofs.homing.write_images.Goals.{Joined-image, in-Some+in_ok-place, in_default}

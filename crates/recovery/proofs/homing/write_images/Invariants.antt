@@ -1,6 +1,5 @@
 use Rattle.std.proofs.Common.{◌≡◌, length}
-use Rattle.device.specs.Moments.{AtEachMoment}
-use Rattle.recovery.specs.Homing.{ChangesNamed}
+use Rattle.recovery.proofs.Imports.{AtEachMoment, ChangesNamed}
 use Rattle.recovery.proofs.Named.{HomedBelow}
 use Rattle.recovery.proofs.homing.write_images.Given as goal
 

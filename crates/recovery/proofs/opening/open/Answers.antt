@@ -1,16 +1,8 @@
 use Rattle.std.proofs.Common.{◌≡◌, ◌∙◌, ℕ, Bool, true, IsTrue, List, sym, ap, subst}
-use Rattle.index_model.specs.declared.format.Format.{Format}
 use Rattle.page_action.specs.States.{State}
-use Rattle.page_codec.specs.declared.page.Page.{Page}
-use Rattle.page_store.specs.Logged.{StandsOpened}
-use Rattle.page_store.specs.Rooms.{limits_of_room, pages_of_room}
 use Rattle.page_store.specs.Stores.{state_of}
-use Rattle.page_store.specs.Writing.{AreSeen}
-use Rattle.device.specs.Disk.{DiskMoment}
 use Rattle.recovery.proofs.Blocks.{seen_of}
-use Rattle.recovery.specs.Opening.{IsFound, IsFront, HasGroups, StandsOnDevice}
-use Rattle.recovery.specs.Reading.{AreInUse}
-use Rattle.recovery.specs.declared.opening.Parts.{Parts}
+use Rattle.recovery.proofs.Imports.{Format, Page, StandsOpened, limits_of_room, pages_of_room, AreSeen, DiskMoment, IsFound, IsFront, HasGroups, StandsOnDevice, AreInUse, Parts}
 use Rattle.recovery.proofs.opening.open.Goals as goal
 
 pub returns-in-Ok-clause-same : goal.returns-in-Ok-clause-same

@@ -1,11 +1,5 @@
 use Rattle.std.proofs.Common.{◌≡◌, ◌≤◌, List, ⊎_elim, inl, inr, length, sym, ap, subst, arith}
-use Rattle.device.specs.Disk.{Trace}
-use Rattle.device.specs.Moments.{AtEachMoment}
-use Rattle.index_model.specs.declared.format.Format.{Format}
-use Rattle.page_codec.specs.Places.{place}
-use Rattle.page_store.specs.Restart.{CrashesToPages, RestartsTo}
-use Rattle.page_codec.specs.declared.page.Page.{Page}
-use Rattle.recovery.specs.Index.{HasIndex}
+use Rattle.recovery.proofs.Imports.{Trace, AtEachMoment, Format, place, CrashesToPages, RestartsTo, Page, HasIndex}
 use Rattle.recovery.proofs.Blocks.{refused}
 use Rattle.recovery.proofs.Answering.{front_of, one_front, found_same, found_index, fails_after, restore_refuses}
 use Rattle.recovery.proofs.opening.read_index.Given.{Over}

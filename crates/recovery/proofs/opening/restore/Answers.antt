@@ -1,18 +1,10 @@
 use Rattle.std.proofs.Common.{IsTrue, List, sym, ap, subst}
-use Rattle.device.specs.Disk.{Trace}
-use Rattle.device.specs.Moments.{AtEachMoment}
-use Rattle.device.proofs.Going.{goes_on}
-use Rattle.page_codec.specs.declared.page.Page.{Page}
-use Rattle.page_store.specs.Logged.{StandsOpened}
-use Rattle.page_store.specs.Restart.{RestartsTo, CrashesToPages}
 use Rattle.recovery.proofs.Restoring.{sync_leaves}
-use Rattle.recovery.specs.Calls.{IsIoOr}
-use Rattle.recovery.specs.Opening.{HasGroups, IsSynced, IsRestoreRefusal}
 use Rattle.recovery.proofs.Blocks.{refused}
 use Rattle.recovery.proofs.Answering.{firm_then, restarts_then, log_refuses, opened_in_use, pages_refuse, same_pages}
 use Rattle.recovery.proofs.opening.restore.Given.{Over}
-use Rattle.recovery.proofs.opening.restore.Goals.{After-restore_log, In_ok-log, After-read_pages}
-use Rattle.recovery.specs.Outside.{ChangesAfterFront}
+use Rattle.recovery.proofs.opening.restore.Goals.{After-restore_log, After-read_pages}
+use Rattle.recovery.proofs.Imports.{Trace, AtEachMoment, goes_on, Page, StandsOpened, RestartsTo, CrashesToPages, IsIoOr, HasGroups, IsSynced, IsRestoreRefusal, ChangesAfterFront}
 use Rattle.recovery.proofs.Outside.{after_on, sync_inside}
 use Rattle.recovery.proofs.opening.restore.Goals as goal
 

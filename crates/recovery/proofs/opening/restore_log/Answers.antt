@@ -1,17 +1,8 @@
 use Rattle.std.proofs.Common.{◌∙◌, IsTrue, Err, List, length, ap, subst, arith}
-use Rattle.device.specs.Disk.{Trace}
-use Rattle.device.specs.Moments.{AtEachMoment}
-use Rattle.device.proofs.Going.{goes_on, goes_weaker}
-use Rattle.index_model.specs.declared.format.Format.{Format}
-use Rattle.page_codec.specs.declared.page.Page.{Page}
-use Rattle.page_store.specs.Restart.{RestartsTo, CrashesToPages}
-use Rattle.recovery.specs.Homing.{ChangesNamed, AreHomed}
-use Rattle.recovery.specs.Opening.{IsSynced}
 use Rattle.recovery.proofs.Restoring.{IsReplayed, named_from, written_leaves, closed_goes, closed_stands, replay_refuses}
 use Rattle.recovery.proofs.opening.restore_log.Given.{Over}
-use Rattle.recovery.proofs.opening.restore_log.Goals.{After-bring_home, After-reset, In_ok-bring_home}
-use Rattle.redo_log.specs.Kept.{ChangesItsRange}
-use Rattle.recovery.specs.Outside.{ChangesAfterFront}
+use Rattle.recovery.proofs.opening.restore_log.Goals.{After-bring_home, After-reset}
+use Rattle.recovery.proofs.Imports.{Trace, AtEachMoment, goes_on, goes_weaker, Format, Page, RestartsTo, CrashesToPages, ChangesNamed, AreHomed, IsSynced, ChangesItsRange, ChangesAfterFront}
 use Rattle.recovery.proofs.Outside.{named_inside, log_inside, after_on, same_inside}
 use Rattle.recovery.proofs.opening.restore_log.Goals as goal
 

@@ -1,13 +1,5 @@
 use Rattle.std.proofs.Common.{◌≡◌, ◌⊎◌, ◌<◌, ◌≤◌, ◌∙◌, ℕ, Bool, IsTrue, List, Some, length, inl, inr, sym, ap, subst, arith, length-append, [], ◌∷◌}
-use Rattle.index_model.specs.declared.fault.Fault.{Fault}
-use Rattle.index_model.specs.declared.fault.Fault.TheVariants.{IndexFull, PageDamaged}
-use Rattle.index_model.specs.declared.format.Format.{Format}
-use Rattle.page_action.specs.Stored.{IsStored}
-use Rattle.page_codec.specs.declared.page.Page.{Page}
-use Rattle.page_store.specs.Rooms.{limits_of_room, pages_of_room}
-use Rattle.recovery.specs.Calls.{IsIoOr}
-use Rattle.recovery.specs.Reading.{block_bytes, AreBytesOf, HasReadPages, IsDamagedBlock}
-use Rattle.recovery.specs.declared.reading.Found.{Found}
+use Rattle.recovery.proofs.Imports.{Fault, IndexFull, PageDamaged, Format, IsStored, Page, limits_of_room, pages_of_room, IsIoOr, block_bytes, AreBytesOf, HasReadPages, IsDamagedBlock, Found}
 use Rattle.recovery.proofs.Blocks.{read_more, damaged_here, refused}
 use Rattle.recovery.proofs.reading.add_pages.Given.{Over}
 use Rattle.recovery.proofs.reading.add_pages.Goals.{In-Some}

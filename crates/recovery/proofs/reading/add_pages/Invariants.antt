@@ -1,6 +1,5 @@
 use Rattle.std.proofs.Common.{◌≡◌, IsTrue, length}
-use Rattle.page_store.specs.Rooms.{frames_of_room, pages_of_room}
-use Rattle.recovery.specs.Reading.{HasReadPages}
+use Rattle.recovery.proofs.Imports.{frames_of_room, pages_of_room, HasReadPages}
 use Rattle.recovery.proofs.reading.add_pages.Given as goal
 
 abbrev pub invariant-loop-block : goal.invariant-loop-block

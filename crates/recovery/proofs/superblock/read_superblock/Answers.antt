@@ -1,7 +1,5 @@
 use Rattle.std.proofs.Common.{rules, ◌≡◌, ◌∙◌, take, sym, ap, subst, Ok}
-use Rattle.index_model.specs.Limits.{AreLimits}
-use Rattle.index_model.specs.declared.format.Format.{Format}
-use Rattle.recovery.specs.Superblock.{spelled_number, layout_of, is_unique, IsLayout}
+use Rattle.recovery.proofs.Imports.{AreLimits, Format, spelled_number, layout_of, is_unique, IsLayout}
 use Rattle.page_codec.specs.Places.{magic, superblock}
 use Rattle.recovery.proofs.Spelling.{layout_spelled, is_layout, sizes_read, magic_spelled}
 use Rattle.recovery.proofs.superblock.read_superblock.Goals.{After-number_at-5}

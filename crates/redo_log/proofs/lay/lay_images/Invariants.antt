@@ -1,8 +1,5 @@
 use Rattle.std.proofs.Common.{◌≡◌, List, length, vec_capacity}
-use Rattle.index_model.specs.declared.format.Format.{Format}
-use Rattle.page_codec.specs.declared.page.Page.{Page}
-use Rattle.redo_log.specs.Groups.{AreImages}
-use Rattle.redo_log.specs.Blocks.{with_blocks, with_images, AreInside, AreLaid}
+use Rattle.redo_log.proofs.Imports.{Format, Page, AreImages, with_blocks, with_images, AreInside, AreLaid}
 use Rattle.redo_log.proofs.lay.lay_images.Given as goal
 
 abbrev pub invariant-loop-rest : goal.invariant-loop-rest

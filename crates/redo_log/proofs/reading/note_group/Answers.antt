@@ -1,6 +1,5 @@
 use Rattle.std.proofs.Common.{◌≡◌, ◌∙◌, ◌*◌, ℕ, List, length, take, drop, Fits, w8, ◌+◌, ap, sym, subst, refl, arith, length-take-le}
-use Rattle.std.specs.Int.{w32, from_le_bytes}
-use Rattle.std.proofs.lemmas.List.{drop-drop, get_or-drop}
+use Rattle.redo_log.proofs.Imports.{w32, from_le_bytes, drop-drop, get_or-drop}
 use Rattle.redo_log.proofs.Parsing.{group_fits, group_images, group_noted, take_small}
 use Rattle.redo_log.proofs.reading.note_group.Goals.{After-from_le_bytes-count, then-count-eq0-via-then-count-eq0, then-count-eq0-via-else-count-eq0+then-bodies-count}
 use Rattle.redo_log.proofs.reading.note_group.Goals as goal

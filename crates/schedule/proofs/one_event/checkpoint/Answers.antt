@@ -1,6 +1,5 @@
 use Rattle.std.proofs.Common.{refl, sym, ◌∙◌}
-use Rattle.session_calls.specs.declared.answer.Answer.TheVariants.{Checkpointed, Refused}
-use Rattle.schedule.specs.TheoremKinds.{Checkpoints}
+use Rattle.schedule.proofs.Imports.{Checkpointed, Refused, Checkpoints}
 use Rattle.schedule.proofs.Making.{kept_makes, not_kept_makes}
 use Rattle.schedule.proofs.one_event.checkpoint.Goals as goal
 

@@ -1,6 +1,5 @@
 use Rattle.std.proofs.Common.{refl, sym, ◌∙◌}
-use Rattle.session_calls.specs.declared.answer.Answer.TheVariants.{Refused}
-use Rattle.schedule.specs.TheoremKinds.{Flushes}
+use Rattle.schedule.proofs.Imports.{Refused, Flushes}
 use Rattle.schedule.proofs.Making.{flush_makes, not_kept_makes}
 use Rattle.schedule.proofs.one_event.flush.Goals as goal
 

@@ -1,6 +1,5 @@
 use Rattle.std.proofs.Common.{refl, sym, ◌∙◌}
-use Rattle.session_calls.specs.declared.answer.Answer.TheVariants.{Forced, Refused}
-use Rattle.schedule.specs.TheoremKinds.{Forces}
+use Rattle.schedule.proofs.Imports.{Forced, Refused, Forces}
 use Rattle.schedule.proofs.Making.{kept_makes, not_kept_makes}
 use Rattle.schedule.proofs.one_event.force.Goals as goal
 

@@ -1,13 +1,7 @@
 use Rattle.std.specs.Prelude.{map}
 use Rattle.std.proofs.Common.{◌≡◌, ◌≤◌, ◌+◌, List, [], ◌∷◌, ◌++◌, length, take, arith, refl, sym, ap, subst, length-append, ◌∙◌}
-use Rattle.std.proofs.lemmas.List.{take_all, take_more, take-append-le, drop-append-le}
 use Rattle.std.proofs.Math.ListN.{drop_of_length-le}
-use Rattle.session_calls.specs.declared.answer.Answer.{Answer}
-use Rattle.schedule.specs.declared.event.Event.{Event}
-use Rattle.schedule.specs.TheoremMoments.{StoreAndSlots, Moment, snapshot_of}
-use Rattle.schedule.specs.MomentInvariants.{here_with}
-use Rattle.schedule.specs.Making.{EachAlways, answers_after}
-use Rattle.schedule.specs.TheoremRuns.{Ran}
+use Rattle.schedule.proofs.Imports.{take_all, take_more, take-append-le, drop-append-le, Answer, Event, StoreAndSlots, Moment, snapshot_of, here_with, EachAlways, answers_after, Ran}
 use Rattle.schedule.proofs.Running.{none_ran, makes_runs, ran_more, always_more}
 use Rattle.schedule.proofs.one_event.run.Goals as goal
 

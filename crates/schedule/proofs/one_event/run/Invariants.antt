@@ -1,9 +1,7 @@
 use Rattle.std.proofs.Common.{◌≡◌, ◌+◌, ◌≤◌, length, take}
 use Rattle.std.specs.Vec.{vec_capacity}
-use Rattle.page_action.specs.States.{Continues}
 use Rattle.schedule.specs.Sessions.{here}
-use Rattle.schedule.specs.Making.{EachAlways, answers_after}
-use Rattle.schedule.specs.TheoremRuns.{ForEachHistory, Runs}
+use Rattle.schedule.proofs.Imports.{Continues, EachAlways, answers_after, ForEachHistory, Runs}
 use Rattle.schedule.proofs.one_event.run.Given as goal
 
 abbrev pub invariant-loop-event : goal.invariant-loop-event

@@ -1,6 +1,5 @@
 use Rattle.std.proofs.Common.{Option, subst, ◌∙◌}
-use Rattle.session_calls.specs.Sessions.{SlotFits}
-use Rattle.session_calls.specs.declared.op.Op.{Op}
+use Rattle.session_calls.proofs.Imports.{SlotFits, Op}
 use Rattle.session_calls.proofs.Going.{event_of_end}
 use Rattle.session_calls.proofs.Slots.{shown}
 use Rattle.session_calls.proofs.moves.end.Goals as goal

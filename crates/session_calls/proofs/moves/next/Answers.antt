@@ -1,8 +1,5 @@
 use Rattle.std.proofs.Common.{rules, true, ap, subst, ◌≡◌, ◌∙◌, Option, Some}
-use Rattle.scan.specs.declared.steps.ScanOp.{ScanOp}
-use Rattle.session_calls.specs.Sessions.{SlotFits}
-use Rattle.session_calls.specs.declared.op.Op.{Op}
-use Rattle.session_calls.specs.declared.op.Op.TheVariants.{Scan}
+use Rattle.session_calls.proofs.Imports.{ScanOp, SlotFits, Op, Scan}
 use Rattle.session_calls.proofs.Scanning.{next_goes, next_refused}
 use Rattle.session_calls.proofs.Slots.{shown}
 use Rattle.session_calls.proofs.moves.next.Goals as goal

@@ -1,13 +1,8 @@
 use Rattle.std.specs.Prelude.{map}
 use Rattle.std.proofs.Common.{◌≡◌, ◌<◌, ℕ, Bool, true, Option, refl, sym, ap, subst, ◌∙◌}
-use Rattle.session_calls.specs.Ops.{session_of, is_bulk_delete}
-use Rattle.session_calls.specs.Sessions.{SlotFits, let_go}
-use Rattle.session_calls.specs.declared.op.Op.{Op}
 use Rattle.session_calls.proofs.Going.{event_of_last, event_of_more, low_of}
-use Rattle.std.specs.Prelude.{if◌then◌else◌, Some, None}
-use Rattle.page_action.specs.States.{State, Backing}
-use Rattle.session_calls.specs.Due.{DueCountsDown}
-use Rattle.session_calls.specs.Sessions.{LeavesOwnIncomplete, StandsByAnswer, KeepsBeforePins, CountsEntries, CountsPages, SparesLeaves}
+use Rattle.session_calls.proofs.Imports.{session_of, is_bulk_delete, SlotFits, let_go, Op, if◌then◌else◌, Some, None, State, Backing, DueCountsDown, LeavesOwnIncomplete, StandsByAnswer}
+use Rattle.session_calls.proofs.Imports.{KeepsBeforePins, CountsEntries, CountsPages, SparesLeaves}
 use Rattle.session_calls.proofs.Counting.{incomplete_on, counts_over}
 use Rattle.session_calls.proofs.Deleting.{tells_over, deletes_over, spares_over}
 use Rattle.session_calls.proofs.Effects.{go_pages}

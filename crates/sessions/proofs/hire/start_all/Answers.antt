@@ -1,11 +1,6 @@
 use Rattle.std.proofs.Common.{◌≡◌, ◌+◌, ◌++◌, ◌∷◌, [], List, Option, None, slice_get, IfSome, sym, ap, ◌∙◌, subst, arith}
 use Rattle.worker_seats.specs.declared.job_queue.QueueView.{QueueView}
-use Rattle.worker_seats.specs.declared.seating.SeatView.{SeatView}
-use Rattle.worker_seats.specs.Seats.{keeper_of}
-use Rattle.worker_seats.proofs.Queueing.{forks_of}
-use Rattle.worker_seats.proofs.Rows.{some_snoc}
-use Rattle.sessions.specs.declared.record.Pending.{Pending}
-use Rattle.sessions.specs.Notes.{jobs_of}
+use Rattle.sessions.proofs.Imports.{SeatView, keeper_of, forks_of, some_snoc, Pending, jobs_of}
 use Rattle.sessions.proofs.Hiring.{jobs_of_snoc, none_snoc}
 use Rattle.sessions.proofs.hire.start_all.Goals as goal
 

@@ -1,8 +1,6 @@
 use Rattle.std.proofs.Common.{◌≡◌, ◌+◌, [], ℕ, Some, IfSome, slice_get, vec_len, vec_capacity}
 use Rattle.crossbeam_queue.specs.Passes.{view, IsPassOf}
-use Rattle.worker_seats.specs.Seats.{keeper_of, known_by}
-use Rattle.sessions.specs.Notes.{jobs_of}
-use Rattle.sessions.specs.declared.record.Pending.{Pending}
+use Rattle.sessions.proofs.Imports.{keeper_of, known_by, jobs_of, Pending}
 use Rattle.sessions.proofs.hire.start_all.Given as goal
 
 abbrev pub invariant-loop-w : goal.invariant-loop-w

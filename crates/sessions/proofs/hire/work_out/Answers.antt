@@ -1,11 +1,6 @@
 use Rattle.std.proofs.Common.{◌≡◌, ◌+◌, ◌++◌, ◌∷◌, [], map, length, None, slice_get, vec_len, IfSome, sym, ap, ◌∙◌, subst, arith}
-use Rattle.std.proofs.lemmas.List.{length-map}
 use Rattle.crossbeam_queue.specs.Passes.{view}
-use Rattle.worker_seats.specs.Queue.{jobs_in, sum_over, weigh}
-use Rattle.worker_seats.specs.Seats.{known_by}
-use Rattle.worker_seats.proofs.Counting.{sum_over_snoc}
-use Rattle.worker_seats.proofs.Queueing.{weigh-append}
-use Rattle.worker_seats.proofs.Rows.{some_snoc}
+use Rattle.sessions.proofs.Imports.{length-map, jobs_in, sum_over, weigh, known_by, sum_over_snoc, weigh-append, some_snoc}
 use Rattle.sessions.proofs.Hiring.{mapped, each_mapped, sum_over_mapped, weigh_notes}
 use Rattle.sessions.proofs.hire.work_out.Goals as goal
 

@@ -1,6 +1,5 @@
 use Rattle.std.proofs.Common.{◌≡◌, ◌≤◌, ◌*◌, take}
-use Rattle.std.specs.List.{sum_by}
-use Rattle.sessions.specs.Jobs.{room_of}
+use Rattle.sessions.proofs.Imports.{sum_by, room_of}
 use Rattle.sessions.proofs.limits.all_room.Given as goal
 
 abbrev pub invariant-loop-job : goal.invariant-loop-job

@@ -1,11 +1,5 @@
 use Rattle.std.proofs.Common.{◌≡◌, ◌∙◌, ◌<◌, ℕ, List, length, Some, None, slice_get, vec_len, sym, ap, subst, arith}
-use Rattle.std.proofs.Math.Logic.{∥∥₁_map}
-use Rattle.worker_seats.specs.Seats.{known_by, notes_by}
-use Rattle.worker_seats.specs.declared.seating.SeatView.{SeatView}
-use Rattle.worker_seats.specs.Queue.{below, jobs_in, sum_below, weigh}
-use Rattle.worker_seats.proofs.Counting.{noted_within}
-use Rattle.world.specs.Worlds.{inside}
-use Rattle.sessions.specs.Notes.{note_of, notes_of, jobs_of}
+use Rattle.sessions.proofs.Imports.{∥∥₁_map, known_by, notes_by, SeatView, below, jobs_in, sum_below, weigh, noted_within, inside, note_of, notes_of, jobs_of}
 use Rattle.sessions.proofs.Acting.{acts_all_done}
 use Rattle.sessions.proofs.Ending.{jobs_noted, get_note, none_waits, all_idle, keeps_nothing_pending}
 use Rattle.sessions.proofs.opening.ended.Goals as goal

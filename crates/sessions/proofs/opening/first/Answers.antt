@@ -1,11 +1,6 @@
 use Rattle.std.proofs.Common.{◌∙◌, List, length, sym, ap, subst}
 use Rattle.std.proofs.lemmas.Grind.{merely}
-use Rattle.worker_seats.specs.Seats.{keeper_of}
-use Rattle.world.specs.Worlds.{inside}
-use Rattle.sessions.specs.declared.record.Record.{Record}
-use Rattle.sessions.specs.Acted.{HasActed}
-use Rattle.sessions.specs.Kept.{KeepsFitting}
-use Rattle.sessions.specs.Notes.{notes_of, jobs_of}
+use Rattle.sessions.proofs.Imports.{keeper_of, inside, Record, HasActed, KeepsFitting, notes_of, jobs_of}
 use Rattle.sessions.proofs.Acting.{acts_first}
 use Rattle.sessions.proofs.Handing.{comes_first}
 use Rattle.sessions.proofs.Keeping.{keeps_first}

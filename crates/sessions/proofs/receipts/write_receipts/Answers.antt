@@ -1,11 +1,6 @@
 use Rattle.std.proofs.Common.{◌≡◌, ◌<◌, ◌≤◌, ◌+◌, ◌==◌, ℕ, List, Option, Some, length, take, set, slice_get, vec_len, refl, ap, ◌∙◌, arith}
 use Rattle.std.specs.List.{sum}
-use Rattle.std.proofs.lemmas.List.{length-take-le}
-use Rattle.std.proofs.lemmas.List.Sums.{count_by-le-length}
-use Rattle.std.proofs.lemmas.Option.{slice_get_read}
-use Rattle.sessions.specs.Finishing.{records_of}
-use Rattle.sessions.specs.declared.record.Record.{Record}
-use Rattle.worker_seats.proofs.Rows.{get_within}
+use Rattle.sessions.proofs.Imports.{length-take-le, count_by-le-length, slice_get_read, records_of, Record, get_within}
 use Rattle.sessions.proofs.Receipting.{get_zero, sum_zero, sum_one_more, written_next, counted_next}
 use Rattle.sessions.proofs.receipts.write_receipts.Goals as goal
 

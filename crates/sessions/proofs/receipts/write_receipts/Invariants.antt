@@ -1,7 +1,6 @@
 use Rattle.std.proofs.Common.{◌≡◌, ◌<◌, ℕ, Some, slice_get, take, vec_len}
 use Rattle.std.specs.List.{sum}
-use Rattle.sessions.specs.Finishing.{receipt_of, records_of}
-use Rattle.sessions.specs.declared.record.Record.{Record}
+use Rattle.sessions.proofs.Imports.{receipt_of, records_of, Record}
 use Rattle.sessions.proofs.receipts.write_receipts.Given as goal
 
 abbrev pub invariant-loop-place : goal.invariant-loop-place

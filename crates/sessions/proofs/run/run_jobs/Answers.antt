@@ -1,10 +1,8 @@
 use Rattle.std.proofs.Common.{◌≡◌, map, length}
-use Rattle.std.proofs.Math.Logic.{∥∥₁_map}
 use Rattle.std.proofs.lemmas.Result.{IfOk-weaker}
 use mathlib.Core.Logic.{∥∥₁_elim}
 use Rattle.std.proofs.Math.Nat.{ℕ_set}
-use Rattle.page_action.specs.States.{IsLater}
-use Rattle.sessions.specs.Finishing.{IsFinished}
+use Rattle.sessions.proofs.Imports.{∥∥₁_map, IsLater, IsFinished}
 use Rattle.sessions.proofs.run.run_jobs.Goals as goal
 
 pub returns-clause-later : goal.returns-clause-later

@@ -1,5 +1,4 @@
-use Rattle.world.specs.Worlds.{WorldFits, WorldKeeps}
-use Rattle.sessions.specs.Finishing.{handed_of}
+use Rattle.sessions.proofs.Imports.{WorldFits, WorldKeeps, handed_of}
 use Rattle.sessions.proofs.run.run_listed.Given as goal
 
 abbrev pub ghosts-run_named-J-Jobs : goal.ghosts-run_named-J-Jobs

@@ -1,9 +1,5 @@
 use Rattle.std.proofs.Common.{◌≡◌, ◌∙◌, ℕ, List, Some, length, slice_get, vec_len, sym, ap, subst, arith, rules}
-use Rattle.world.specs.declared.world.World.{World}
-use Rattle.sessions.specs.declared.job.Job.{Job}
-use Rattle.sessions.specs.declared.record.Record.{Record}
-use Rattle.sessions.specs.Finishing.{HasRun, records_of}
-use Rattle.sessions.specs.Handed.{Handed}
+use Rattle.sessions.proofs.Imports.{World, Job, Record, HasRun, records_of, Handed}
 use Rattle.sessions.proofs.Finishing.{finished, job_below, job_once}
 use Rattle.sessions.proofs.run.run_named.Goals as goal
 

@@ -1,6 +1,5 @@
 use Rattle.std.proofs.Common.{◌≡◌}
-use Rattle.worker_seats.specs.Seats.{known_by}
-use Rattle.sessions.specs.Turns.{SeatMeans}
+use Rattle.sessions.proofs.Imports.{known_by, SeatMeans}
 use Rattle.sessions.proofs.worker.one_job.Given as goal
 
 abbrev pub invariant-loop : goal.invariant-loop

@@ -1,6 +1,5 @@
 use Rattle.std.proofs.Common.{◌≡◌}
-use Rattle.worker_seats.specs.Seats.{known_by}
-use Rattle.sessions.specs.Turns.{SitsOn}
+use Rattle.sessions.proofs.Imports.{known_by, SitsOn}
 use Rattle.sessions.proofs.worker.take_ready.Given as goal
 
 abbrev pub invariant-loop : goal.invariant-loop

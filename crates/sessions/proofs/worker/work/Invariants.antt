@@ -1,7 +1,6 @@
 use Rattle.std.proofs.Common.{◌≡◌, ◌++◌, ℕ, List, None}
 use Rattle.crossbeam_queue.specs.Passes.{view, IsPassOf}
-use Rattle.worker_seats.specs.Queue.{jobs_in}
-use Rattle.worker_seats.specs.Seats.{known_by}
+use Rattle.sessions.proofs.Imports.{jobs_in, known_by}
 use Rattle.sessions.proofs.worker.work.Given as goal
 
 abbrev pub invariant-loop : goal.invariant-loop

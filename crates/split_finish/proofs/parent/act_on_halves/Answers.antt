@@ -1,8 +1,5 @@
 use Rattle.std.proofs.Common.{Option, length, sym, subst}
-use Rattle.std.specs.Prelude.{OnOk}
-use Rattle.page_codec.specs.declared.page.Page.{Page}
-use Rattle.page_action.specs.Stored.{AreActable}
-use Rattle.split_finish.specs.Parting.{halves_and}
+use Rattle.split_finish.proofs.Imports.{OnOk, Page, AreActable, halves_and}
 use Rattle.split_finish.proofs.parent.act_on_halves.Goals as goal
 
 pub returns-in-None-clause-may : goal.returns-in-None-clause-may

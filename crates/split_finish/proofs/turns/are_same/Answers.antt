@@ -1,8 +1,7 @@
 use Rattle.std.proofs.Common.{◌≡◌, ◌==◌, true, refl, sym, ◌∙◌}
-use Rattle.std.specs.Ordering.{ordering_index}
 use Rattle.std.specs.declared.cmp.Ordering.{Ordering}
 use Rattle.std.specs.declared.cmp.Ordering.TheVariants.{Less, Equal, Greater}
-use Rattle.index_model.proofs.Order.{exact_bounds}
+use Rattle.split_finish.proofs.Imports.{ordering_index, exact_bounds}
 use Rattle.split_finish.proofs.turns.are_same.Goals as goal
 
 equal_is : (o : Ordering) → (ordering_index o == 1) ≡ true → o ≡ Equal

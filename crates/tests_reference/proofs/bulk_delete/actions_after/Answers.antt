@@ -1,6 +1,5 @@
 use Rattle.std.proofs.Common.{ap, ◌∙◌}
-use Rattle.std.proofs.lemmas.List.{take_rest}
-use Rattle.tests_reference.specs.Plain.{history_of}
+use Rattle.tests_reference.proofs.Imports.{take_rest, history_of}
 use Rattle.tests_reference.proofs.Moments.{drop_history_of}
 use Rattle.tests_reference.proofs.bulk_delete.actions_after.Goals as goal
 

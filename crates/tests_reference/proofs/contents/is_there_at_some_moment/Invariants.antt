@@ -1,7 +1,5 @@
 use Rattle.std.proofs.Common.{false}
-use Rattle.index_model.specs.Order.{is_among}
-use Rattle.index_model.specs.Actions.{is_there_after}
-use Rattle.tests_reference.specs.Plain.{history_of}
+use Rattle.tests_reference.proofs.Imports.{is_among, is_there_after, history_of}
 use Rattle.tests_reference.proofs.Moments.{IsSoFar}
 use Rattle.tests_reference.proofs.contents.is_there_at_some_moment.Given as goal
 

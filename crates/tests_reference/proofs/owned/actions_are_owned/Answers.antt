@@ -1,8 +1,6 @@
 use Rattle.std.proofs.Common.{ℕ, refl, arith}
 use borrow.Author.Count.{below_more}
-use Rattle.index_model.specs.Order.{is_among}
-use Rattle.tests_reference.specs.Plain.{history_of, meant_calls}
-use Rattle.tests_reference.specs.Named.{IsOwnedAt}
+use Rattle.tests_reference.proofs.Imports.{is_among, history_of, meant_calls, IsOwnedAt}
 use Rattle.tests_reference.proofs.Moments.{no_action}
 use Rattle.tests_reference.proofs.Owners.{all_owned}
 use Rattle.tests_reference.proofs.owned.actions_are_owned.Goals as goal

@@ -1,7 +1,5 @@
 use Rattle.std.proofs.Common.{ℕ, ◌<◌}
-use Rattle.index_model.specs.Order.{is_among}
-use Rattle.tests_reference.specs.Plain.{history_of, meant_calls}
-use Rattle.tests_reference.specs.Named.{IsOwnedAt}
+use Rattle.tests_reference.proofs.Imports.{is_among, history_of, meant_calls, IsOwnedAt}
 use Rattle.tests_reference.proofs.owned.actions_are_owned.Given as goal
 
 abbrev pub invariant-loop-before : goal.invariant-loop-before

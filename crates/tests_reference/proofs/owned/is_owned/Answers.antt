@@ -1,5 +1,4 @@
-use Rattle.index_model.specs.Order.{is_among}
-use Rattle.tests_reference.specs.Plain.{action_of, history_of, call_of, meant_calls}
+use Rattle.tests_reference.proofs.Imports.{is_among, action_of, history_of, call_of, meant_calls}
 use Rattle.tests_reference.proofs.Owners.{no_call, call_found, by_call, by_no_call}
 use Rattle.tests_reference.proofs.owned.is_owned.Goals as goal
 

@@ -1,5 +1,4 @@
-use Rattle.index_model.specs.Order.{is_among}
-use Rattle.tests_reference.specs.Plain.{action_of, history_of, meant_calls}
+use Rattle.tests_reference.proofs.Imports.{is_among, action_of, history_of, meant_calls}
 use Rattle.tests_reference.proofs.Moments.{no_action, action_found}
 use Rattle.tests_reference.proofs.Owners.{of_action, of_no_action}
 use Rattle.tests_reference.proofs.owned.is_owned_at.Goals as goal

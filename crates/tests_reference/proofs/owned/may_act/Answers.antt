@@ -1,7 +1,5 @@
 use Rattle.std.proofs.Common.{suc}
-use Rattle.index_model.specs.Order.{is_among}
-use Rattle.index_model.specs.Actions.{is_there_after}
-use Rattle.tests_reference.specs.Plain.{history_of}
+use Rattle.tests_reference.proofs.Imports.{is_among, is_there_after, history_of}
 use Rattle.tests_reference.proofs.owned.may_act.Goals as goal
 
 pub returns-in-Reshapes : goal.returns-in-Reshapes

@@ -1,4 +1,4 @@
-use Rattle.std.proofs.Common.{◌≡◌, ◌+◌, ◌++◌, ◌∷◌, [], List, Option, None, slice_get, sym, ap, ◌∙◌, arith}
+use Rattle.std.proofs.Common.{◌+◌, ◌++◌, ◌∷◌, [], List, Option, None, slice_get, sym, ap, ◌∙◌, arith}
 use Rattle.worker_seats.specs.declared.seating.SeatView.{SeatView}
 use Rattle.worker_seats.specs.Seats.{keeper_of}
 use Rattle.sessions.specs.declared.record.Pending.{Pending}

@@ -1,8 +1,7 @@
-use Rattle.std.proofs.Common.{◌≡◌, length, refl, sym, ap, ◌∙◌, Some}
+use Rattle.std.proofs.Common.{length, refl, sym, ◌∙◌}
 use Rattle.std.proofs.lemmas.Bool.Decides.{Decides-eqb}
 use Rattle.std.proofs.lemmas.Option.{slice_get_read}
 use Rattle.std.proofs.lemmas.Slice.Eq.{slice_eq-Decides}
-use Rattle.index_model.specs.declared.entry.Entry.{Entry}
 use Rattle.tree_shape.proofs.KeyPlaces.{row_there, some_key}
 use Rattle.tree_shape.proofs.leaf.row_at.Goals as goal
 

@@ -1,14 +1,7 @@
 use Rattle.std.proofs.Common.{length, ◌≡◌, ◌++◌, true, false, Some, List, take, drop, refl, ap, ap₂, sym, subst, ◌∙◌}
 use Rattle.std.specs.Prelude.{insert}
-use Rattle.index_model.specs.Order.{IsAscending}
-use Rattle.index_model.specs.declared.entry.Entry.{Entry}
-use Rattle.page_codec.specs.Grammar.{IsPage}
-use Rattle.page_codec.specs.declared.page.Page.{Page}
-use Rattle.page_codec.specs.Edits.{entries_of, renewed}
-use Rattle.page_codec.proofs.Renewed.{renewed_is_page}
 use Rattle.tree_shape.proofs.Puts.{may_still}
-use Rattle.tree_shape.specs.Edits.{AreUpTo}
-use Rattle.tree_shape.specs.Halves.{left_count, LiesBefore}
+use Rattle.tree_shape.proofs.Imports.{IsAscending, Entry, IsPage, Page, entries_of, renewed, renewed_is_page, AreUpTo, left_count, LiesBefore}
 use Rattle.tree_shape.proofs.LeafHalves.{left_leaf, right_leaf, left_page, right_page, leaf_halves, ascends, back_count}
 use Rattle.tree_shape.proofs.leaf_edits.split_leaf.Goals as goal
 use Rattle.tree_shape.proofs.leaf_edits.split_leaf.Goals.{After-end_at, After-entries_on-2}

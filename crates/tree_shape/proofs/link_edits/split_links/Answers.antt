@@ -1,15 +1,6 @@
 use Rattle.std.proofs.Common.{◌≡◌, ℕ, true, Some, None, suc, ◌+◌, List, length, take, drop, unwrap_or, ap, ap₂, sym, subst, ◌∙◌, add-one}
 use Rattle.std.specs.Prelude.{insert}
-use Rattle.index_model.specs.declared.bound.Bound.{Bound}
-use Rattle.page_codec.specs.Edits.{renewed}
-use Rattle.page_codec.proofs.Renewed.{renewed_is_page}
-use Rattle.page_codec.specs.Grammar.{IsPage}
-use Rattle.page_codec.specs.declared.page.Downlink.{Downlink}
-use Rattle.page_codec.specs.declared.page.Page.{Page}
-use Rattle.tree_shape.specs.Nodes.{links_of}
-use Rattle.tree_shape.specs.Chains.{from_low}
-use Rattle.tree_shape.specs.Halves.{left_count}
-use Rattle.tree_shape.specs.LinkPlaces.{with_downlinks, bound_at}
+use Rattle.tree_shape.proofs.Imports.{Bound, renewed, renewed_is_page, IsPage, Downlink, Page, links_of, from_low, left_count, with_downlinks, bound_at}
 use Rattle.tree_shape.proofs.LinkHalves.{link_to, left_inner, right_inner, back_count, left_page, right_page, link_split}
 use Rattle.tree_shape.proofs.link_edits.split_links.Goals as goal
 use Rattle.tree_shape.proofs.link_edits.split_links.Goals.{After-end_at}

@@ -1,7 +1,5 @@
 use Rattle.std.proofs.Common.{◌≡◌, None, false, refl, subst, sym, ◌∙◌}
-use Rattle.index_model.specs.Order.{bound_of, bound_cmp}
-use Rattle.std.specs.Ordering.{is_lt}
-use Rattle.tree_shape.specs.Separators.{IsKeyBefore}
+use Rattle.tree_shape.proofs.Imports.{bound_of, bound_cmp, is_lt, IsKeyBefore}
 use Rattle.tree_shape.proofs.Shortest.{lies_before, stands_before, never_itself, not_behind, not_after_itself}
 use Rattle.tree_shape.proofs.separators.part.Goals as goal
 

@@ -1,8 +1,6 @@
 use Rattle.std.proofs.Common.{◌≡◌, ◌≤◌, length, ap, ◌∙◌, arith}
 use Rattle.std.specs.List.{filter}
-use Rattle.page_codec.specs.Edits.{entries_of}
-use Rattle.page_codec.specs.declared.page.Page.{Page}
-use Rattle.vacuum.specs.Ops.{lives}
+use Rattle.vacuum.proofs.Imports.{entries_of, Page, lives}
 use Rattle.vacuum.proofs.Removing.{parted}
 use Rattle.vacuum.proofs.leaf.prune.Given.{Over}
 use Rattle.vacuum.proofs.leaf.prune.Goals.{After-entries_on-2}

@@ -1,6 +1,5 @@
 use Rattle.std.proofs.Common.{rules, ◌≡◌, None, refl}
-use Rattle.schedule.specs.declared.event.Event.TheVariants.{Next}
-use Rattle.whole_calls.proofs.Words.{Gave, MovesCall, Takes}
+use Rattle.whole_calls.proofs.Imports.{Next, Gave, MovesCall, Takes}
 use Rattle.whole_calls.proofs.Composing.{joined_second}
 use Rattle.whole_calls.proofs.Made.{made_last, made_once}
 use Rattle.whole_calls.proofs.Lasting.{scan_steps, scan_nexts, waits_after, waits_none}

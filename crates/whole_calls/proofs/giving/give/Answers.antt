@@ -1,7 +1,5 @@
 use Rattle.std.proofs.Common.{◌≡◌, false, Ok, Err, Option, None, Some, sym, ap, ◌∙◌}
-use Rattle.schedule.specs.Sessions.{here}
-use Rattle.whole_calls.proofs.Words.{Entry}
-use Rattle.whole_calls.specs.Giving.{given_of, given_outcome}
+use Rattle.whole_calls.proofs.Imports.{here, Entry, given_of, given_outcome}
 use Rattle.whole_calls.proofs.Composing.{is_later}
 use Rattle.whole_calls.proofs.Made.{made_first}
 use Rattle.whole_calls.proofs.Given.{give_made, given_caused}

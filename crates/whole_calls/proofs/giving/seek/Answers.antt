@@ -1,7 +1,5 @@
 use Rattle.std.proofs.Common.{arith, refl, inl, inr, ◌∙◌}
-use Rattle.session_calls.proofs.RunningOn.{runs_on_same, runs_on_then}
-use Rattle.schedule.proofs.Bounds.{work_bounded}
-use Rattle.whole_calls.proofs.Words.{snapshot_of, slot_of}
+use Rattle.whole_calls.proofs.Imports.{runs_on_same, runs_on_then, work_bounded, snapshot_of, slot_of}
 use Rattle.whole_calls.proofs.Composing.{is_later, joined, joined_second, goes_nowhere}
 use Rattle.whole_calls.proofs.Made.{made_nowhere, made_last, made_more, made_told}
 use Rattle.whole_calls.proofs.Given.{down_after, down_on}

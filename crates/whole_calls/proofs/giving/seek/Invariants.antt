@@ -1,9 +1,5 @@
 use Rattle.std.proofs.Common.{◌≡◌, ◌+◌, ◌≤◌, true, None, length}
-use Rattle.whole_calls.proofs.Words.{Continues, work_in, RunsOn, slot_of, OthersStay}
-use Rattle.schedule.specs.Sessions.{here}
-use Rattle.whole_calls.specs.Going.{CallIsRun}
-use Rattle.whole_calls.specs.Made.{IsMadeOf}
-use Rattle.whole_calls.specs.Stepping.{ScanGivesNothing}
+use Rattle.whole_calls.proofs.Imports.{Continues, work_in, RunsOn, slot_of, OthersStay, here, CallIsRun, IsMadeOf, ScanGivesNothing}
 use Rattle.whole_calls.proofs.giving.seek.Given as goal
 
 abbrev pub invariant-loop-left : goal.invariant-loop-left

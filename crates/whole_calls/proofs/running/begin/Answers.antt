@@ -1,5 +1,5 @@
 use Rattle.std.proofs.Common.{refl}
-use Rattle.whole_calls.proofs.Words.{BeginsCall}
+use Rattle.whole_calls.proofs.Imports.{BeginsCall}
 use Rattle.whole_calls.proofs.Beginning.{beginning, beginning_is, begun_by, goes_begun}
 use Rattle.whole_calls.proofs.Made.{made_told, made_once}
 use Rattle.whole_calls.proofs.running.begin.Goals as goal

@@ -1,7 +1,5 @@
 use Rattle.std.proofs.Common.{map, ◌≡◌, ◌≤◌, refl, sym, subst, arith, inl, inr, ◌∙◌, rules}
-use Rattle.session_calls.proofs.RunningOn.{runs_on_same, runs_on_then}
-use Rattle.index_model.specs.declared.fault.Fault.TheVariants.{PageDamaged}
-use Rattle.whole_calls.proofs.Words.{Format, Going, snapshot_of, slot_of}
+use Rattle.whole_calls.proofs.Imports.{runs_on_same, runs_on_then, PageDamaged, Format, Going, snapshot_of, slot_of}
 use Rattle.whole_calls.proofs.Composing.{is_later, joined, joined_second, goes_nowhere}
 use Rattle.whole_calls.proofs.Lasting.{reached_here, moved_beyond}
 use Rattle.whole_calls.proofs.Made.{made_nowhere, made_last, made_more, made_told}

@@ -1,10 +1,5 @@
 use Rattle.std.proofs.Common.{◌≡◌, ◌+◌, ◌≤◌, None, length}
-use Rattle.whole_calls.proofs.Words.{Continues, RunsOn, slot_of, OthersStay, ForEachHistory}
-use Rattle.schedule.specs.Sessions.{here}
-use Rattle.whole_calls.specs.Going.{CallIsRun}
-use Rattle.whole_calls.specs.Made.{IsMadeOf}
-use Rattle.whole_calls.specs.Spending.{steps_left}
-use Rattle.whole_calls.specs.Stepping.{HasReached}
+use Rattle.whole_calls.proofs.Imports.{Continues, RunsOn, slot_of, OthersStay, ForEachHistory, here, CallIsRun, IsMadeOf, steps_left, HasReached}
 use Rattle.whole_calls.proofs.running.finish.Given as goal
 
 abbrev pub invariant-loop-left : goal.invariant-loop-left

@@ -1,7 +1,5 @@
 use Rattle.std.proofs.Common.{refl}
-use Rattle.schedule.specs.declared.event.Event.TheVariants.{End}
-use Rattle.whole_calls.proofs.Words.{MovesCall, GivesUp}
-use Rattle.whole_calls.specs.Meanings.{EndMeans}
+use Rattle.whole_calls.proofs.Imports.{End, MovesCall, GivesUp, EndMeans}
 use Rattle.whole_calls.proofs.Composing.{goes_once, goes_told}
 use Rattle.whole_calls.proofs.Made.{made_told, made_once}
 use Rattle.whole_calls.proofs.Tellings.{ends_tells}

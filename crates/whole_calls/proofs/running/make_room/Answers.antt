@@ -1,10 +1,6 @@
 use Rattle.std.proofs.Common.{◌≡◌, ℕ, Option, Some, List, refl, subst, arith, inl, inr}
-use Rattle.schedule.specs.Events.{AnswersUpkeep}
-use Rattle.schedule.specs.declared.event.Event.TheVariants.{Checkpoint}
-use Rattle.whole_calls.proofs.Words.{DeadSets, Op, Answer, Fault, Refused, Checkpointed, Checkpoints, MaintainsStore, here_with}
-use Rattle.whole_calls.specs.Going.{IsOutcomeOf, CallIsRun}
-use Rattle.whole_calls.specs.OneStep.{IsRoomTried}
-use Rattle.whole_calls.specs.Stepping.{RoomMeans}
+use Rattle.whole_calls.proofs.Imports.{AnswersUpkeep, Checkpoint, DeadSets, Op, Answer, Fault, Refused, Checkpointed, Checkpoints, MaintainsStore, here_with, IsOutcomeOf, CallIsRun, IsRoomTried}
+use Rattle.whole_calls.proofs.Imports.{RoomMeans}
 use Rattle.whole_calls.proofs.Composing.{goes_nowhere, goes_once, goes_told}
 use Rattle.whole_calls.proofs.Tellings.{keeps_silent}
 use Rattle.whole_calls.proofs.Made.{made_nowhere, made_told, made_once}

@@ -1,7 +1,5 @@
 use Rattle.std.proofs.Common.{map, Option, Some, refl, sym, subst, inl, inr}
-use Rattle.index_model.specs.Limits.{AreLimits}
-use Rattle.whole_calls.proofs.Words.{Format, Ask, asked_by, Op, snapshot_of}
-use Rattle.whole_calls.specs.Meanings.{MayAnswer, MayComeTo}
+use Rattle.whole_calls.proofs.Imports.{AreLimits, Format, Ask, asked_by, Op, snapshot_of, MayAnswer, MayComeTo}
 use Rattle.whole_calls.proofs.Blocks.{leaves_all}
 use Rattle.whole_calls.proofs.Composing.{joined_first, joined_second, goes_told}
 use Rattle.whole_calls.proofs.Whole.{RunsOut, has_run}

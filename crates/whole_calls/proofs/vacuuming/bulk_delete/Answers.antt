@@ -1,6 +1,5 @@
 use Rattle.std.proofs.Common.{map, refl}
-use Rattle.session_calls.specs.declared.request.Request.TheVariants.{Bulk as ToBulk}
-use Rattle.whole_calls.specs.Vacuuming.{of_bulk_delete}
+use Rattle.whole_calls.proofs.Imports.{ToBulk, of_bulk_delete}
 use Rattle.whole_calls.proofs.VacuumSteps.{vacuum_goes, sweep_counts, sweep_caused, vacuum_tells, sweep_made}
 use Rattle.whole_calls.proofs.vacuuming.bulk_delete.Goals as goal
 

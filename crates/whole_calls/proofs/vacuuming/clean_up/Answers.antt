@@ -1,7 +1,5 @@
 use Rattle.std.proofs.Common.{map, refl}
-use Rattle.session_calls.specs.declared.request.Request.TheVariants.{Cleanup as ToCleanup}
-use Rattle.page_delete.specs.Counts.{deleted_in}
-use Rattle.whole_calls.specs.Vacuuming.{of_cleanup, of_deleted, of_leaves}
+use Rattle.whole_calls.proofs.Imports.{ToCleanup, deleted_in, of_cleanup, of_deleted, of_leaves}
 use Rattle.whole_calls.proofs.VacuumSteps.{vacuum_goes, sweep_counts, sweep_caused, vacuum_tells, sweep_made}
 use Rattle.whole_calls.proofs.vacuuming.clean_up.Goals as goal
 

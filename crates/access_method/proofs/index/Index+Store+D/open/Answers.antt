@@ -1,7 +1,5 @@
-use Rattle.page_action.specs.States.{State}
-use Rattle.std.proofs.Common.{◌≡◌, inl, inr, sym, ap, subst, ◌∙◌, IsTrue}
-use Rattle.page_store.specs.Stores.{state_of, device_of}
-use Rattle.schedule.specs.MomentInvariants.{IsUnused}
+use Rattle.std.proofs.Common.{◌≡◌, inl, inr, ap, subst, ◌∙◌, IsTrue}
+use Rattle.access_method.proofs.Imports.{State, state_of, device_of, IsUnused}
 use Rattle.world.proofs.Opened.{freshly_unused, tree_opened}
 use Rattle.access_method.proofs.Seats.{same_start, same_kept}
 use Rattle.access_method.proofs.index.Index+Store+D.open.Goals as goal

@@ -1,6 +1,5 @@
 use Rattle.std.proofs.Common.{rules, false, [], refl, sym, ap, ◌∙◌}
-use Rattle.page_action.specs.Causes.{is_at_end}
-use Rattle.session_calls.specs.Slots.{one_vacuums, slot_vacuums}
+use Rattle.access_method.proofs.Imports.{is_at_end, one_vacuums, slot_vacuums}
 use Rattle.access_method.proofs.Seats.{agree_taken, calm_still, may_begin}
 use Rattle.access_method.proofs.index.Index.ambeginscan.Goals as goal
 

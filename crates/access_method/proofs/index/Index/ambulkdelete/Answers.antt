@@ -1,24 +1,8 @@
 use Rattle.access_method.proofs.Refusals.{swept_cause, calm_slots, finishes, frames_stay}
-use Rattle.access_method.specs.Refusals.{causes_of_run}
-use Rattle.whole_calls.specs.Refusing.{causes_of_called, causes_of_gone}
-use Rattle.session_calls.specs.declared.request.Request.TheVariants.{Bulk as ToBulk}
-use Rattle.index_model.specs.Faults.{HasCause}
-use Rattle.std.specs.Prelude.{[], IfOk, IfErr}
 use Rattle.std.proofs.Common.{◌∷◌, Bool, List, refl, subst, ◌≡◌, false, length, rules}
-use Rattle.index_model.specs.Actions.{Action}
-use Rattle.index_model.specs.Calls.{Call}
-use Rattle.index_model.specs.Row.{Row}
-use Rattle.index_model.specs.declared.entry.Entry.{Entry}
-use Rattle.schedule.specs.TheoremMoments.{snapshot_of}
-use Rattle.schedule.specs.TheoremRuns.{Fits}
-use Rattle.schedule.specs.MomentInvariants.{here_with}
-use Rattle.schedule.specs.TheoremRuns.{ForEachHistory}
-use Rattle.schedule.proofs.Unused.{fits_with, no_set_runs}
-use Rattle.whole_calls.specs.Going.{CallIsRun}
 use Rattle.whole_calls.specs.Made.{IsMadeOf, ComesTo}
-use Rattle.whole_calls.specs.Vacuuming.{VacuumMeans, vacuum_outcome, StatsCountEntries, StatsCountPages}
-use Rattle.session_calls.specs.declared.request.Request.TheVariants.{Bulk as ToBulk}
-use Rattle.access_method.specs.Indexes.{slots_within, slots_with, IndexFits}
+use Rattle.access_method.proofs.Imports.{causes_of_run, causes_of_called, causes_of_gone, ToBulk, HasCause, [], IfOk, IfErr, Action, Call, Row, Entry, snapshot_of, Fits, here_with, ForEachHistory}
+use Rattle.access_method.proofs.Imports.{fits_with, no_set_runs, CallIsRun, VacuumMeans, vacuum_outcome, StatsCountEntries, StatsCountPages, slots_within, slots_with, IndexFits}
 use Rattle.access_method.proofs.BulkDeletions.{bulk_deleted_or_less, none_sweeps, safe_within}
 use Rattle.access_method.proofs.index.Index.ambulkdelete.Given.{Over}
 use Rattle.access_method.proofs.index.Index.ambulkdelete.Goals.{After-bulk_delete}

@@ -1,10 +1,6 @@
 use Rattle.access_method.proofs.Refusals.{give_cause, run_unhindered, frames_stay}
-use Rattle.std.specs.Prelude.{[]}
 use Rattle.std.proofs.Common.{true, false, Ok, Some, sym, ◌∙◌}
-use Rattle.schedule.specs.TheoremMoments.{snapshot_of}
-use Rattle.schedule.specs.MomentInvariants.{here_with}
-use Rattle.whole_calls.proofs.Tellings.{runs_has_call, true_false}
-use Rattle.access_method.specs.Indexes.{slots_within}
+use Rattle.access_method.proofs.Imports.{[], snapshot_of, here_with, runs_has_call, true_false, slots_within}
 use Rattle.access_method.proofs.Results.{gives_right}
 use Rattle.access_method.proofs.Seats.{agree_over, calm_on, not_refused}
 use Rattle.access_method.proofs.index.Index.amgettuple.Goals as goal

@@ -1,6 +1,4 @@
-use Rattle.std.specs.Prelude.{[]}
-use Rattle.schedule.specs.MomentInvariants.{here_with}
-use Rattle.access_method.specs.Indexes.{slots_within}
+use Rattle.access_method.proofs.Imports.{[], here_with, slots_within}
 use Rattle.std.proofs.Common.{rules}
 use Rattle.access_method.proofs.Results.{inserts_or_keeps}
 use Rattle.access_method.proofs.Refusals.{insert_cause, insert_unhindered, insert_frames, insert_limits}

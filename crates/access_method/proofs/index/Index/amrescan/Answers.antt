@@ -1,13 +1,5 @@
-use Rattle.std.specs.Prelude.{[]}
 use Rattle.std.proofs.Common.{None, Some, Ok, sym, ◌∙◌, rules}
-use Rattle.page_action.specs.Causes.{is_at_end}
-use Rattle.session_calls.specs.Slots.{one_vacuums}
-use Rattle.schedule.specs.MomentInvariants.{here_with}
-use Rattle.session_calls.specs.declared.answer.Answer.TheVariants.{Begun}
-use Rattle.session_calls.specs.declared.request.Request.TheVariants.{Scan as ToScan}
-use Rattle.whole_calls.specs.Meanings.{EndMeans, BeginMeans}
-use Rattle.whole_calls.proofs.Composing.{goes_then}
-use Rattle.access_method.specs.Indexes.{slots_within, RescanMeans}
+use Rattle.access_method.proofs.Imports.{[], is_at_end, one_vacuums, here_with, Begun, ToScan, EndMeans, BeginMeans, goes_then, slots_within, RescanMeans}
 use Rattle.access_method.proofs.Seats.{rescan_told, may_begin}
 use Rattle.access_method.proofs.index.Index.amrescan.Goals as goal
 

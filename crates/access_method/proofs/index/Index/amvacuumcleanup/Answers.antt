@@ -1,8 +1,5 @@
-use Rattle.std.specs.Prelude.{[]}
 use Rattle.std.proofs.Common.{rules}
-use Rattle.schedule.specs.TheoremMoments.{snapshot_of}
-use Rattle.schedule.specs.MomentInvariants.{here_with}
-use Rattle.access_method.specs.Indexes.{slots_within}
+use Rattle.access_method.proofs.Imports.{[], snapshot_of, here_with, slots_within}
 use Rattle.access_method.proofs.Cleanups.{cleaned_up}
 use Rattle.access_method.proofs.Refusals.{all_alone, calm_slots, cleaned_cause, finishes, frames_stay}
 use Rattle.access_method.proofs.index.Index.amvacuumcleanup.Goals as goal

@@ -1,7 +1,5 @@
 use Rattle.std.proofs.Common.{[], refl}
-use Rattle.schedule.specs.TheoremKinds.{Checkpoints}
-use Rattle.schedule.specs.declared.event.Event.TheVariants.{Checkpoint}
-use Rattle.schedule.proofs.Running.{makes_runs}
+use Rattle.access_method.proofs.Imports.{Checkpoints, Checkpoint, makes_runs}
 use Rattle.access_method.proofs.Results.{number_told, durable_told, cause_told, goes_told_kept, room_told}
 use Rattle.access_method.proofs.index.Index.checkpoint.Goals as goal
 

@@ -1,7 +1,5 @@
 use Rattle.std.proofs.Common.{[], refl}
-use Rattle.schedule.specs.TheoremKinds.{Forces}
-use Rattle.schedule.specs.declared.event.Event.TheVariants.{Force}
-use Rattle.schedule.proofs.Running.{makes_runs}
+use Rattle.access_method.proofs.Imports.{Forces, Force, makes_runs}
 use Rattle.access_method.proofs.Results.{number_told, durable_told, cause_told, goes_told_kept}
 use Rattle.access_method.proofs.index.Index.commit.Goals as goal
 

@@ -1,7 +1,5 @@
 use Rattle.std.proofs.Common.{Option, List, [], length, refl, ap}
-use Rattle.session_calls.specs.Slots.{slot_vacuums}
-use Rattle.session_calls.specs.declared.op.Op.{Op}
-use Rattle.schedule.proofs.Unused.{empty_at, unused_fits, unused_keeps}
+use Rattle.access_method.proofs.Imports.{slot_vacuums, Op, empty_at, unused_fits, unused_keeps}
 use Rattle.access_method.proofs.Seats.{closed_at}
 use Rattle.access_method.proofs.index.Index.new.Goals as goal
 

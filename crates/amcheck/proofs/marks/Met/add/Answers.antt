@@ -1,7 +1,5 @@
 use Rattle.std.proofs.Common.{◌≡◌, ◌↔◌, ℕ, ◌<◌, true, false, get_or, slice_set, List, ◌∷◌, [], ◌++◌, arith, subst, sym, ◌∙◌}
-use Rattle.std.proofs.lemmas.List.{length-set}
-use Rattle.tree_shape.specs.Chains.{IsIn, AreDistinct}
-use Rattle.tree_shape.proofs.Few.{few_blocks}
+use Rattle.amcheck.proofs.Imports.{length-set, IsIn, AreDistinct, few_blocks}
 use Rattle.amcheck.proofs.Blocks.{distinct_more, inside_more, marked_more}
 use Rattle.amcheck.proofs.marks.Met.add.Goals as goal
 

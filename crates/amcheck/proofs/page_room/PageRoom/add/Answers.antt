@@ -1,6 +1,5 @@
 use Rattle.std.proofs.Common.{◌≡◌, ◌++◌, ℕ, ◌<◌, Option, Some, List, length, ◌≤◌, sym, ap, subst, ◌∙◌}
-use Rattle.page_codec.specs.declared.page.Page.{Page}
-use Rattle.amcheck.specs.Sketches.{HoldsSketch, links_at}
+use Rattle.amcheck.proofs.Imports.{Page, HoldsSketch, links_at}
 use Rattle.amcheck.proofs.Kept.{kept_more, inside_of}
 use Rattle.amcheck.proofs.page_room.PageRoom.add.Goals as goal
 

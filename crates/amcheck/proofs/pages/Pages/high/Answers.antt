@@ -1,7 +1,5 @@
 use Rattle.std.proofs.Common.{◌≡◌, Some, List, slice_get, ap, ◌∙◌, arith}
-use Rattle.page_action.proofs.StoredPages.{slice_get_at}
-use Rattle.page_codec.specs.declared.page.Page.{Page}
-use Rattle.tree_shape.specs.Nodes.{nodes_of}
+use Rattle.amcheck.proofs.Imports.{slice_get_at, Page, nodes_of}
 use Rattle.amcheck.proofs.Kept.{high_is}
 use Rattle.amcheck.proofs.pages.Pages.high.Goals as goal
 

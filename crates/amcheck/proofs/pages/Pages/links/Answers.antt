@@ -1,8 +1,5 @@
 use Rattle.std.proofs.Common.{◌≡◌, ◌<◌, Option, Some, ℕ, List, length, slice_get, sym, ap, ◌∙◌, arith}
-use Rattle.page_action.proofs.StoredPages.{slice_get_at}
-use Rattle.page_codec.specs.declared.page.Page.{Page}
-use Rattle.tree_shape.specs.Nodes.{nodes_of, node_from}
-use Rattle.amcheck.specs.Sketches.{links_at}
+use Rattle.amcheck.proofs.Imports.{slice_get_at, Page, nodes_of, node_from, links_at}
 use Rattle.amcheck.proofs.Kept.{place_inside, links_are}
 use Rattle.amcheck.proofs.pages.Pages.links.Goals.{After-index}
 use Rattle.amcheck.proofs.pages.Pages.links.Goals as goal

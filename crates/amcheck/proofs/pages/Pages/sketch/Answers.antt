@@ -1,8 +1,5 @@
 use Rattle.std.proofs.Common.{◌≡◌, Some, List, length, slice_get, ap, subst, ◌∙◌, arith}
-use Rattle.page_action.proofs.StoredPages.{slice_get_at}
-use Rattle.page_codec.specs.declared.page.Page.{Page}
-use Rattle.tree_shape.specs.Nodes.{nodes_of}
-use Rattle.amcheck.specs.Sketches.{IsSketch}
+use Rattle.amcheck.proofs.Imports.{slice_get_at, Page, nodes_of, IsSketch}
 use Rattle.amcheck.proofs.Kept.{sketch_is, entries_are, entries_few}
 use Rattle.amcheck.proofs.pages.Pages.sketch.Goals.{After-index}
 use Rattle.amcheck.proofs.pages.Pages.sketch.Goals as goal

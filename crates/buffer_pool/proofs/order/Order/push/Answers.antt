@@ -1,6 +1,5 @@
 use Rattle.std.proofs.Common.{◌≡◌, ◌<◌, ℕ, List, [], ◌∷◌, ◌++◌, true, false, ltb, length, inl, inr, sym, ap, ◌∙◌, arith}
-use Rattle.std.proofs.lemmas.Bool.{cases_lt, lt-ltb}
-use Rattle.buffer_pool.specs.Frames.{has_block}
+use Rattle.buffer_pool.proofs.Imports.{cases_lt, lt-ltb, has_block}
 use Rattle.buffer_pool.specs.Orders.{waiting_in, width_of}
 use Rattle.buffer_pool.specs.declared.order.Order.{Order}
 use Rattle.buffer_pool.proofs.Waiting.{window_long, pushed, all_wait, contains_has}

@@ -1,7 +1,6 @@
 use Rattle.std.proofs.Common.{◌+◌, ◌++◌, ◌∷◌, ◌∙◌, ap, [], ℕ, List, set, length-set, refl, sym, subst, arith}
-use Rattle.page_codec.specs.declared.page.Page.{Page}
 use Rattle.buffer_pool.specs.Orders.{waiting_in}
-use Rattle.buffer_pool.specs.Frames.{blocks_in, ArePlaces, AreChanged}
+use Rattle.buffer_pool.proofs.Imports.{Page, blocks_in, ArePlaces, AreChanged}
 use Rattle.buffer_pool.specs.Pools.{pool_count, reach_of}
 use Rattle.buffer_pool.proofs.Putting.{pushed_placed, pushed_changed, pushed_put}
 use Rattle.buffer_pool.proofs.pool.Pool.add.Goals as goal

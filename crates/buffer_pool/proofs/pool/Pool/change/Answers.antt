@@ -1,8 +1,6 @@
 use Rattle.std.proofs.Common.{◌<◌, ◌∙◌, ℕ, ltb, List, sym, ap, refl, subst, set, length, length-set, arith}
-use Rattle.std.proofs.lemmas.List.{get_or_read}
-use Rattle.page_codec.specs.declared.page.Page.{Page}
 use Rattle.buffer_pool.specs.Orders.{waiting_in}
-use Rattle.buffer_pool.specs.Frames.{blocks_in, ArePlaces, AreChanged}
+use Rattle.buffer_pool.proofs.Imports.{get_or_read, Page, blocks_in, ArePlaces, AreChanged}
 use Rattle.buffer_pool.proofs.Changing.{act_at}
 use Rattle.buffer_pool.proofs.Noting.{frame_within, frame_plain, block_there, frame_below, same_blocks, changed_either, changed_is}
 use Rattle.buffer_pool.proofs.pool.Pool.change.Goals as goal

@@ -1,7 +1,6 @@
 use Rattle.std.proofs.Common.{◌∙◌, sym, ap, arith}
-use Rattle.std.proofs.lemmas.Option.{slice_get_past, get_or_from_slice_get}
 use Rattle.buffer_pool.specs.Orders.{waiting_in}
-use Rattle.buffer_pool.specs.Frames.{has_block}
+use Rattle.buffer_pool.proofs.Imports.{slice_get_past, get_or_from_slice_get, has_block}
 use Rattle.buffer_pool.specs.Pools.{changed_of}
 use Rattle.buffer_pool.proofs.Changing.{has_block-at}
 use Rattle.buffer_pool.proofs.pool.Pool.changed_at.Goals as goal

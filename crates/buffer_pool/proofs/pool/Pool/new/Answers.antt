@@ -1,6 +1,5 @@
 use Rattle.std.proofs.Common.{List, ℕ, [], refl, sym, subst, arith}
-use Rattle.page_codec.specs.declared.page.Page.{Page}
-use Rattle.buffer_pool.specs.Frames.{blocks_in, AreChanged}
+use Rattle.buffer_pool.proofs.Imports.{Page, blocks_in, AreChanged}
 use Rattle.buffer_pool.proofs.pool.Pool.new.Goals as goal
 
 -- where nothing is held, nothing is changed

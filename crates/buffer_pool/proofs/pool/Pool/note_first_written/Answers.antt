@@ -1,7 +1,6 @@
 use Rattle.std.proofs.Common.{◌≡◌, ◌<◌, ◌≤◌, ◌∙◌, ◌++◌, ℕ, List, sym, ap, refl, subst, take, drop, length, get_or, arith}
-use Rattle.std.proofs.lemmas.List.{take-append-drop, with_items_is}
 use Rattle.buffer_pool.specs.Orders.{waiting_in}
-use Rattle.buffer_pool.specs.Frames.{blocks_in, ArePlaces, AreChanged}
+use Rattle.buffer_pool.proofs.Imports.{take-append-drop, with_items_is, blocks_in, ArePlaces, AreChanged}
 use Rattle.buffer_pool.specs.Pools.{changed_of}
 use Rattle.buffer_pool.proofs.Noting.{first_placed, many_written}
 use Rattle.buffer_pool.proofs.pool.Pool.note_first_written.Goals as goal

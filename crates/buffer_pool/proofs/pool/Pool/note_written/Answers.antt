@@ -1,7 +1,6 @@
 use Rattle.std.proofs.Common.{◌≡◌, ◌∙◌, ℕ, List, Some, sym, ap, refl, subst, set, length-set, get_or, arith}
-use Rattle.std.proofs.lemmas.Option.{get_or_from_slice_get}
 use Rattle.buffer_pool.specs.Orders.{waiting_in}
-use Rattle.buffer_pool.specs.Frames.{blocks_in, has_block, AreChanged}
+use Rattle.buffer_pool.proofs.Imports.{get_or_from_slice_get, blocks_in, has_block, AreChanged}
 use Rattle.buffer_pool.specs.Pools.{changed_of, frame_of}
 use Rattle.buffer_pool.proofs.Changing.{has_block-at, changed_less}
 use Rattle.buffer_pool.proofs.Noting.{frame_within, frame_plain, changed_held, written_is}

@@ -1,9 +1,5 @@
 use Rattle.std.proofs.Common.{◌≡◌, length, take, refl, sym, ap, ◌∙◌, length-take-le, arith}
-use Rattle.std.specs.Cmp.Lexicographic.{slice_cmp}
-use Rattle.std.specs.Ordering.{nat_cmp, ordering_then}
-use Rattle.std.specs.declared.cmp.Ordering.{Ordering}
-use Rattle.std.specs.declared.cmp.Ordering.TheVariants.{Less, Equal, Greater}
-use Rattle.index_model.specs.Padded.{padded_again}
+use Rattle.index_model.proofs.Imports.{slice_cmp, nat_cmp, ordering_then, Ordering, Less, Equal, Greater, padded_again}
 use Rattle.index_model.proofs.Zeros.{with_zeros}
 use Rattle.index_model.proofs.key.KeyOrd.cmp.Goals.{After-order_of_cells}
 use Rattle.index_model.proofs.key.KeyOrd.cmp.Goals as goal

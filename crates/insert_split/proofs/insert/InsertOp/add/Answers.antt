@@ -1,13 +1,6 @@
 use Rattle.std.proofs.Common.{arith, ◌≡◌, ◌≤◌, ◌<◌, ℕ, Bool, true, false, Some, length, slice_get, ap, sym, subst, ◌∙◌}
-use Rattle.index_model.specs.declared.format.Format.{Format}
-use Rattle.index_model.specs.declared.limits.Limits.{Limits}
-use Rattle.index_model.specs.Order.{is_among}
-use Rattle.page_codec.specs.Edits.{entries_of}
-use Rattle.page_codec.specs.declared.page.Page.{Page}
-use Rattle.page_action.specs.States.{State, IsLater}
 use Rattle.tree_shape.specs.KeyPages.{IsKeyFree}
-use Rattle.page_action.specs.Stored.{IsStored}
-use Rattle.insert_split.specs.Turns.{PlaceRefused}
+use Rattle.insert_split.proofs.Imports.{Format, Limits, is_among, entries_of, Page, State, IsLater, IsStored, PlaceRefused}
 use Rattle.insert_split.proofs.Adding.{puts, reads_leaf, no_place}
 use Rattle.insert_split.proofs.Splitting.{splits}
 use Rattle.insert_split.proofs.Steps.{refuses}

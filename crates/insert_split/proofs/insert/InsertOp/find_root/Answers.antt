@@ -1,13 +1,5 @@
 use Rattle.std.proofs.Common.{arith, ◌≡◌, ℕ, suc, ◌≤◌, ◌+◌, Some, true, slice_get, refl, sym, subst, ◌∙◌}
-use Rattle.page_codec.specs.declared.page.Page.{Page}
-use Rattle.page_action.specs.States.{State}
-use Rattle.page_action.specs.Stored.{IsStored}
-use Rattle.tree_shape.specs.Walks.{entry_aim}
-use Rattle.split_finish.specs.Targets.{OnlyTargetsAreIncomplete}
-use Rattle.descent.proofs.Shortening.{walk_is_long}
-use Rattle.insert_split.specs.Inserts.{InsertStands, IsToCome, targets_at}
-use Rattle.insert_split.specs.Straight.{straight_steps}
-use Rattle.insert_split.specs.declared.insert.InsertAt.{InsertAt}
+use Rattle.insert_split.proofs.Imports.{Page, State, IsStored, entry_aim, OnlyTargetsAreIncomplete, walk_is_long, InsertStands, IsToCome, targets_at, straight_steps, InsertAt}
 use Rattle.insert_split.proofs.Steps.{goes_on}
 use Rattle.insert_split.proofs.Ways.{on_way_from_root, level_low, root_covers_there}
 use Rattle.insert_split.proofs.insert.InsertOp.find_root.Goals as goal

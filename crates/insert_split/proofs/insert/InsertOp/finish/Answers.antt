@@ -1,6 +1,5 @@
 use Rattle.std.proofs.Common.{Result, Ok, ap, subst, ◌∙◌}
-use Rattle.index_model.specs.declared.fault.Fault.{Fault}
-use Rattle.split_finish.specs.Finishes.{FinishSteps}
+use Rattle.insert_split.proofs.Imports.{Fault, FinishSteps}
 use Rattle.split_finish.specs.declared.finish.FinishStep.{FinishStep}
 use Rattle.insert_split.proofs.Ending.{finish_goes, finish_done, finish_refused, refused_rightly, has_splits}
 use Rattle.insert_split.proofs.insert.InsertOp.finish.Goals as goal

@@ -1,7 +1,5 @@
 use Rattle.std.proofs.Common.{arith, List, length, refl, ap, sym, subst, ◌∙◌}
-use Rattle.page_codec.specs.Edits.{HasEntries}
-use Rattle.page_codec.specs.declared.page.Page.{Page}
-use Rattle.page_action.specs.States.{after_act}
+use Rattle.insert_split.proofs.Imports.{HasEntries, Page, after_act}
 use Rattle.insert_split.proofs.Halving.{put_may}
 use Rattle.insert_split.proofs.insert.InsertOp.put.Goals as goal
 

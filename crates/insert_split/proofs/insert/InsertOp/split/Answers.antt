@@ -1,20 +1,7 @@
 use Rattle.std.proofs.Common.{arith, None, ◌≡◌, ◌<◌, true, false, Option, ℕ, Some, List, ◌∷◌, map, length, suc, ap, sym, subst, ◌∙◌}
-use Rattle.index_model.specs.Faults.{HasCause}
-use Rattle.latch_table.specs.Holdings.{HasRoom, released, unpinned, is_held_by_another}
-use Rattle.page_codec.specs.declared.page.Page.{Page}
-use Rattle.page_action.specs.States.{State, Backing, IsLater, with_table, after_act}
-use Rattle.page_action.specs.Stored.{AreActable}
-use Rattle.page_action.specs.Reuse.{IsFresh}
-use Rattle.page_codec.specs.Grammar.{IsBlock}
-use Rattle.latch_table.specs.declared.mode.Mode.TheVariants.{Exclusive}
-use Rattle.tree_shape.specs.Edits.{LeafHalves}
-use Rattle.tree_shape.specs.Nodes.{Node, node_of}
-use Rattle.insert_split.specs.declared.insert.InsertAt.TheVariants.{Finishing}
-use Rattle.insert_split.specs.declared.insert.InsertOp.{InsertOp}
-use Rattle.tree_acts.specs.StepEffects.{fresh_block, causes_of_acting, causes_of_working}
-use Rattle.descent.specs.Splitting.{if_read, mended_to}
-use Rattle.descent.proofs.Working.{working_later, act_cause, fresh_is}
-use Rattle.insert_split.specs.Inserts.{blocks_halved}
+use Rattle.insert_split.proofs.Imports.{HasCause, HasRoom, released, unpinned, is_held_by_another, Page, State, Backing, IsLater, with_table, after_act, AreActable, IsFresh, IsBlock, Exclusive}
+use Rattle.insert_split.proofs.Imports.{LeafHalves, Node, node_of, Finishing, InsertOp, fresh_block, causes_of_acting, causes_of_working, if_read, mended_to, working_later, act_cause, fresh_is}
+use Rattle.insert_split.proofs.Imports.{blocks_halved}
 use Rattle.insert_split.proofs.Halving.{halves_may, halved_are, frames_beside, third_put}
 use Rattle.insert_split.proofs.insert.InsertOp.split.Goals as goal
 

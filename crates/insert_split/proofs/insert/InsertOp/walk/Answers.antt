@@ -1,27 +1,8 @@
 use Rattle.std.proofs.Common.{[], arith, ◌≡◌, ℕ, suc, ◌+◌, ◌≤◌, ◌<◌, Some, Ok, true, false, refl, sym, ap, subst, ◌∙◌, length, slice_get}
-use Rattle.page_action.specs.States.{State, IsLater, with_table}
-use Rattle.page_action.specs.Stored.{IsStored}
-use Rattle.descent.specs.NextPage.{LeadsToNext, DescentIsShorter, way_left}
-use Rattle.tree_shape.specs.Walks.{entry_aim, bound_aim, is_within}
-use Rattle.index_model.specs.declared.bound.Bound.{Bound}
-use Rattle.index_model.specs.declared.limits.Limits.{Limits}
-use Rattle.latch_table.specs.Holdings.{HasRoom, latched, pinned}
-use Rattle.latch_table.specs.declared.mode.Mode.TheVariants.{Exclusive}
-use Rattle.insert_split.specs.Turns.{Takes}
-use Rattle.descent.specs.NextPage.{IsShorter, LeadsStraight}
-use Rattle.tree_shape.specs.Leaf.{MayHold}
-use Rattle.tree_acts.specs.Trees.{HasCover}
-use Rattle.insert_split.specs.Straight.{IsStraight, straight_steps}
-use Rattle.descent.specs.declared.way.Position.{Position}
 use Rattle.descent.specs.declared.way.NextPage.TheVariants.{Going, Here}
-use Rattle.split_finish.specs.Targets.{OnlyTargetsAreIncomplete}
-use Rattle.insert_split.specs.declared.insert.InsertOp.{InsertOp}
-use Rattle.insert_split.specs.declared.insert.InsertStep.TheVariants.{Going as InsertGoing}
-use Rattle.insert_split.specs.Inserts.{InsertSteps, insert_left, targets_at}
-use Rattle.insert_split.specs.declared.insert.InsertAt.{InsertAt}
-use Rattle.insert_split.specs.declared.insert.InsertAt.TheVariants.{Coming}
-use Rattle.insert_split.specs.declared.insert.Stage.TheVariants.{At, Holding as Holds}
-use Rattle.descent.proofs.Shortening.{way_shortens}
+use Rattle.insert_split.proofs.Imports.{State, IsLater, with_table, IsStored, LeadsToNext, DescentIsShorter, way_left, entry_aim, bound_aim, is_within, Bound, Limits, HasRoom, latched, pinned}
+use Rattle.insert_split.proofs.Imports.{Exclusive, Takes, IsShorter, LeadsStraight, MayHold, HasCover, IsStraight, straight_steps, Position, OnlyTargetsAreIncomplete, InsertOp, InsertGoing}
+use Rattle.insert_split.proofs.Imports.{InsertSteps, insert_left, targets_at, InsertAt, Coming, At, Holds, way_shortens}
 use Rattle.insert_split.proofs.Steps.{refuses, goes_on, on_ok, on_err, only_going}
 use Rattle.insert_split.proofs.Walking.{led, on_way, to_come_there, reading_cause, room_free, place_in_use}
 use Rattle.insert_split.proofs.Meeting.{meets}

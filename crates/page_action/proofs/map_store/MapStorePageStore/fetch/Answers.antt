@@ -1,6 +1,5 @@
 use Rattle.std.proofs.Common.{inl, inr, ap, sym, ◌∙◌, arith}
-use Rattle.std.proofs.lemmas.Option.{slice_get_cases}
-use Rattle.page_action.specs.Frames.{is_block_among, blocks_of}
+use Rattle.page_action.proofs.Imports.{slice_get_cases, is_block_among, blocks_of}
 use Rattle.page_action.proofs.StoredPages.{stored_page}
 use Rattle.page_action.proofs.Framing.{among_own}
 use Rattle.page_action.proofs.map_store.MapStorePageStore.fetch.Goals as goal

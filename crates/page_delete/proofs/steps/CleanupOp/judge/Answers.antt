@@ -1,10 +1,5 @@
 use Rattle.std.proofs.Common.{◌≡◌, Bool, [], ◌∷◌, Ok, refl, sym, subst}
-use Rattle.page_delete.specs.Cleanups.{CleanupSteps}
-use Rattle.page_delete.specs.Needs.{blocks_judged, blocks_written}
-use Rattle.page_delete.specs.Parts.{BlocksAreInUse, LeafDies, IsSpared, IsTried}
-use Rattle.page_delete.specs.declared.steps.CleanupAt.{CleanupAt}
-use Rattle.page_delete.specs.declared.steps.CleanupOp.{CleanupOp}
-use Rattle.page_delete.specs.declared.steps.CleanupStep.TheVariants.{Going}
+use Rattle.page_delete.proofs.Imports.{CleanupSteps, blocks_judged, blocks_written, BlocksAreInUse, LeafDies, IsSpared, IsTried, CleanupAt, CleanupOp, Going}
 use Rattle.page_delete.proofs.Stepping.{leaf_dies, leaf_spared, judge_in_use, try_refused}
 use Rattle.page_delete.proofs.steps.CleanupOp.judge.Goals as goal
 

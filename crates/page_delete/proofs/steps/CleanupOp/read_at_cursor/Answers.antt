@@ -1,6 +1,5 @@
 use Rattle.std.proofs.Common.{◌≡◌, Some, slice_get, subst}
-use Rattle.page_action.specs.States.{State}
-use Rattle.page_action.specs.Stored.{IsStored}
+use Rattle.page_delete.proofs.Imports.{State, IsStored}
 use Rattle.page_delete.proofs.Stepping.{looks}
 use Rattle.page_delete.proofs.steps.CleanupOp.read_at_cursor.Goals as goal
 

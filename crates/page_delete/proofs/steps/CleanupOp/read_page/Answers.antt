@@ -1,11 +1,6 @@
 use Rattle.std.proofs.Common.{◌≡◌, ℕ, List, [], ◌≤◌, true, false, Some, length, slice_get, sym, ap, subst, ◌∙◌, arith}
 use Rattle.index_model.specs.declared.limits.Limits.{Limits}
-use Rattle.page_action.specs.States.{State}
-use Rattle.descent.specs.NextPage.{DescentIsShorter}
-use Rattle.index_model.specs.Faults.{HasCause}
-use Rattle.page_delete.specs.Cleanups.{CleanupIsUnderway}
-use Rattle.page_delete.specs.Needs.{blocks_written, causes_of_trying}
-use Rattle.page_delete.specs.declared.steps.CleanupAt.{CleanupAt}
+use Rattle.page_delete.proofs.Imports.{State, DescentIsShorter, HasCause, CleanupIsUnderway, blocks_written, causes_of_trying, CleanupAt}
 use Rattle.page_delete.proofs.Siblings.{trail_in_use}
 use Rattle.page_delete.proofs.Stepping.{descends, refuses, working_cause, has_room}
 use Rattle.page_delete.proofs.steps.CleanupOp.read_page.Goals as goal

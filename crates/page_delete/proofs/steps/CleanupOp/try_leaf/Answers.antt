@@ -1,7 +1,5 @@
 use Rattle.std.proofs.Common.{◌≡◌, ℕ, true, subst}
-use Rattle.page_action.specs.States.{IsLater}
-use Rattle.page_delete.specs.Needs.{blocks_judged}
-use Rattle.page_delete.specs.Parts.{CandidateAnswers, BlocksAreInUse, LeafDies, IsSpared, IsTried}
+use Rattle.page_delete.proofs.Imports.{IsLater, blocks_judged, CandidateAnswers, BlocksAreInUse, LeafDies, IsSpared, IsTried}
 use Rattle.page_delete.proofs.Trying.{HasRead, read_on, tried_later, tried_refused}
 use Rattle.page_delete.proofs.steps.CleanupOp.try_leaf.Given.{Over}
 use Rattle.page_delete.proofs.steps.CleanupOp.try_leaf.Goals.{After-candidate}

@@ -1,9 +1,5 @@
 use Rattle.std.proofs.Common.{◌≡◌, ℕ, true, false, subst}
-use Rattle.page_action.specs.States.{IsLater}
-use Rattle.page_delete.specs.Needs.{blocks_unlinked_at}
-use Rattle.tree_acts.specs.StepEffects.{frames_for}
-use Rattle.descent.proofs.Working.{frames_some}
-use Rattle.page_delete.specs.Parts.{IsInUse, PageIsDeleted, IsNotDead, IsTried}
+use Rattle.page_delete.proofs.Imports.{IsLater, blocks_unlinked_at, frames_for, frames_some, IsInUse, PageIsDeleted, IsNotDead, IsTried}
 use Rattle.page_delete.proofs.Trying.{HasRead, read_on, tried_later, tried_refused}
 use Rattle.page_delete.proofs.steps.CleanupOp.try_unlink.Given.{Over}
 use Rattle.page_delete.proofs.steps.CleanupOp.try_unlink.Goals.{After-read_exclusive}

@@ -1,11 +1,6 @@
 use Rattle.std.proofs.Common.{◌≡◌, Bool, Ok, refl, sym, subst}
-use Rattle.page_delete.specs.Needs.{blocks_unlinked_at, blocks_written}
-use Rattle.page_delete.specs.Parts.{IsInUse, PageIsDeleted, IsNotDead, IsTried}
 use Rattle.page_delete.proofs.Stepping.{page_goes, page_stays, unlink_in_use, try_refused}
-use Rattle.page_delete.specs.Cleanups.{CleanupSteps}
-use Rattle.page_delete.specs.declared.steps.CleanupAt.{CleanupAt}
-use Rattle.page_delete.specs.declared.steps.CleanupOp.{CleanupOp}
-use Rattle.page_delete.specs.declared.steps.CleanupStep.TheVariants.{Going}
+use Rattle.page_delete.proofs.Imports.{blocks_unlinked_at, blocks_written, IsInUse, PageIsDeleted, IsNotDead, IsTried, CleanupSteps, CleanupAt, CleanupOp, Going}
 use Rattle.page_delete.proofs.steps.CleanupOp.unlink.Goals as goal
 
 pub returns-in-Err-clause-all : goal.returns-in-Err-clause-all

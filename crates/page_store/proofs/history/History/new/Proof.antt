@@ -1,7 +1,6 @@
 -- It makes a value of no bytes, at no pages and no acts.
-use Rattle.device.proofs.Steps.{[], ◌∷◌, refl, proved, Val, vstruct, vcons, vnil, raw, ◌$◌, ◌∵◌, !, qed, keep, join, suffices, done, enter, no_more, and_then, returns, agg, alloc_all, pass_all, free_all, look_at, get, sets, pure_i, nothing, on_entry, says, ends_at}
-use Rattle.page_store.specs.declared.history.History.{History}
-use Rattle.page_store.specs.contracts.history.History.{the_row as R}
+use Rattle.page_store.proofs.Imports.{[], ◌∷◌, refl, proved, Val, vstruct, vcons, vnil, raw, ◌$◌, ◌∵◌, !, qed, keep, join, suffices, done, enter, no_more, and_then, returns, agg, alloc_all}
+use Rattle.page_store.proofs.Imports.{pass_all, free_all, look_at, get, sets, pure_i, nothing, on_entry, says, ends_at, History, R}
 use Rattle.page_store.specs.contracts.history.History.new as f
 use Rattle.page_store.proofs.history.History.new.Statement.{statement}
 use Rattle.page_store.proofs.history.History.new.Code as code

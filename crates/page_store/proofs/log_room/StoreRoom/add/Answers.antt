@@ -1,10 +1,5 @@
 use Rattle.std.proofs.Common.{◌≡◌, ◌+◌, sym, subst, ap, ◌∙◌, ◌∷◌, ◌++◌, [], length, length-set, arith, List}
-use Rattle.page_codec.specs.declared.page.Page.{Page}
-use Rattle.page_action.specs.Stored.{AreStored}
-use Rattle.page_action.specs.Waiting.{Numbers, AreWaiting, waiting_number}
-use Rattle.page_action.proofs.Waiting.{add_waits}
-use Rattle.page_action.proofs.StoredPages.{stored-add, stored_at}
-use Rattle.page_store.specs.declared.history.History.{History}
+use Rattle.page_store.proofs.Imports.{Page, AreStored, Numbers, AreWaiting, waiting_number, add_waits, stored-add, stored_at, History}
 use Rattle.page_store.proofs.log_room.StoreRoom.add.Goals.{After-begin}
 use Rattle.page_store.proofs.log_room.StoreRoom.add.Goals as goal
 

@@ -1,8 +1,5 @@
 use Rattle.std.proofs.Common.{[], List, sym, subst}
-use Rattle.page_codec.specs.declared.page.Page.{Page}
-use Rattle.page_action.specs.Stored.{AreStored}
-use Rattle.page_action.specs.Waiting.{AreWaiting, Numbers}
-use Rattle.page_action.proofs.Waiting.{none_wait}
+use Rattle.page_store.proofs.Imports.{Page, AreStored, AreWaiting, Numbers, none_wait}
 use Rattle.page_store.proofs.log_room.StoreRoom.new.Goals as goal
 
 pub invariant_of-result-clause-stored : goal.invariant_of-result-clause-stored

@@ -1,11 +1,6 @@
 use Rattle.std.proofs.Common.{◌∙◌, sym, ap, subst}
 use Rattle.buffer_pool.specs.Pools.{changed_of}
-use Rattle.buffer_pool.specs.declared.pool.Pool.{Pool}
-use Rattle.page_action.specs.Order.{IsRestOf}
-use Rattle.page_action.specs.Room.{WaitsOn}
-use Rattle.redo_log.specs.Kept.{waiting_blocks}
-use Rattle.page_store.specs.Following.{Follows}
-use Rattle.page_store.specs.Logged.{held_of, backing_of}
+use Rattle.page_store.proofs.Imports.{Pool, IsRestOf, WaitsOn, waiting_blocks, Follows, held_of, backing_of}
 use Rattle.page_store.proofs.FollowLaws.{follows_both}
 use Rattle.page_store.proofs.Logging.{waits_same}
 use Rattle.page_store.proofs.logged_pages.LoggedPages.checkpoint.Given.{Over}

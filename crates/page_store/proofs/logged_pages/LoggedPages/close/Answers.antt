@@ -1,14 +1,5 @@
 use Rattle.std.proofs.Common.{rules, ◌≡◌, ◌≤◌, ◌∙◌, true, false, subst, sym, ap, arith}
-use Rattle.std.specs.Result.{is_err}
-use Rattle.device.specs.Places.{ChangesOnly}
-use Rattle.device.proofs.Going.{goes_now}
-use Rattle.device.proofs.Standing.{same_only}
-use Rattle.index_model.specs.declared.format.Format.{Format}
-use Rattle.page_action.specs.Room.{whole_room}
-use Rattle.redo_log.specs.Kept.{is_stopped, limits_of}
-use Rattle.redo_log.proofs.Keeping.{forgets_all}
-use Rattle.page_store.specs.Histories.{pages_now}
-use Rattle.page_store.specs.Logged.{held_of}
+use Rattle.page_store.proofs.Imports.{is_err, ChangesOnly, goes_now, same_only, Format, whole_room, is_stopped, limits_of, forgets_all, pages_now, held_of}
 use Rattle.page_store.proofs.Misfits.{whole_left}
 use Rattle.page_store.proofs.Acting.{failures_rise, stop_fails}
 use Rattle.page_store.proofs.CloseFollows.{IsClosing, follows_closed, home_firm}

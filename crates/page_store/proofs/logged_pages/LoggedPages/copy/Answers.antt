@@ -1,7 +1,6 @@
 use Rattle.std.proofs.Common.{refl}
 use Rattle.buffer_pool.specs.Pools.{changed_of}
-use Rattle.page_store.specs.Following.{follows_same}
-use Rattle.page_store.specs.Logged.{held_of}
+use Rattle.page_store.proofs.Imports.{follows_same, held_of}
 use Rattle.page_store.proofs.Ordering.{part_same}
 use Rattle.page_store.proofs.Quieting.{quiet_noted}
 use Rattle.page_store.proofs.logged_pages.LoggedPages.copy.Goals as goal

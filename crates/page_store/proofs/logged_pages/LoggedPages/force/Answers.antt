@@ -1,18 +1,9 @@
 use Rattle.std.proofs.Common.{rules, ◌≡◌, ◌∙◌, ◌+◌, ◌<◌, [], inl, inr, refl, ap, subst, sym, arith}
-use Rattle.std.specs.Result.{is_err}
-use Rattle.index_model.specs.declared.format.Format.{Format}
-use Rattle.page_action.specs.Room.{WaitsOn}
-use Rattle.redo_log.specs.Kept.{end_with, waiting_blocks}
-use Rattle.page_store.specs.Logged.{held_of, backing_of}
-use Rattle.page_store.specs.declared.logged_pages.LoggedPages.{LoggedPages}
 use Rattle.page_store.proofs.Logging.{none_waits}
-use Rattle.page_store.specs.Following.{Follows, follows_same}
 use Rattle.page_store.proofs.Misfits.{misfit, promise_left}
 use Rattle.page_store.proofs.Acting.{failures_rise, stop_fails}
 use Rattle.page_store.proofs.ForceFollows.{follows_failed_force, follows_force}
-use Rattle.device.specs.Places.{ChangesOnly}
-use Rattle.device.proofs.Going.{goes_now}
-use Rattle.device.proofs.Standing.{same_only}
+use Rattle.page_store.proofs.Imports.{is_err, Format, WaitsOn, end_with, waiting_blocks, held_of, backing_of, LoggedPages, Follows, follows_same, ChangesOnly, goes_now, same_only}
 use Rattle.page_store.proofs.Keeping.{holds_logged}
 use Rattle.page_store.proofs.logged_pages.LoggedPages.force.Given.{Over}
 use Rattle.page_store.proofs.logged_pages.LoggedPages.force.Goals.{After-force, then-self+in_ok-force, else-self}

@@ -1,11 +1,6 @@
 use Rattle.std.proofs.Common.{◌≡◌, ◌<◌, ◌≤◌, ◌∙◌, ℕ, true, false, sym, ap, subst}
-use Rattle.buffer_pool.specs.Frames.{has_block}
 use Rattle.buffer_pool.specs.Pools.{act_of, changed_of}
-use Rattle.buffer_pool.specs.declared.pool.Pool.{Pool}
-use Rattle.page_store.specs.Quiet.{IsSameButWritten}
-use Rattle.page_action.specs.Frames.{LogStays}
-use Rattle.page_store.specs.Logged.{held_of, backing_of}
-use Rattle.page_store.specs.Taking.{CostsFrame}
+use Rattle.page_store.proofs.Imports.{has_block, Pool, IsSameButWritten, LogStays, held_of, backing_of, CostsFrame}
 use Rattle.page_store.proofs.Costing.{stays, stays_both, over_failed, over_written}
 use Rattle.page_store.proofs.Pooling.{changed_at, same_block}
 use Rattle.page_store.proofs.Quieting.{quiet_both}

@@ -1,7 +1,6 @@
 use Rattle.std.proofs.Common.{◌≡◌, ◌<◌, ℕ, Some, slice_get}
-use Rattle.std.specs.Prelude.{IsSome}
 use Rattle.buffer_pool.specs.Pools.{frame_of}
-use Rattle.page_codec.specs.declared.page.Page.{Page}
+use Rattle.page_store.proofs.Imports.{IsSome, Page}
 use Rattle.page_store.proofs.logged_pages.LoggedPages.holds_all.Given as goal
 
 abbrev pub invariant-loop-page : goal.invariant-loop-page

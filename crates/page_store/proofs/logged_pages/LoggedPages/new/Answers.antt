@@ -1,10 +1,5 @@
 use Rattle.std.proofs.Common.{◌<◌, ◌≤◌, ◌∙◌, ℕ, List, length, refl, subst, sym, ap, arith}
-use Rattle.redo_log.specs.Kept.{end_with, waiting_count}
-use Rattle.index_model.specs.declared.format.Format.{Format}
-use Rattle.page_codec.specs.declared.page.Page.{Page}
-use Rattle.page_action.specs.Stored.{AreStored}
-use Rattle.page_codec.specs.Places.{place}
-use Rattle.page_store.specs.Writing.{HoldsPages}
+use Rattle.page_store.proofs.Imports.{end_with, waiting_count, Format, Page, AreStored, place, HoldsPages}
 use Rattle.page_store.proofs.Opened.{is_own, room_is}
 use Rattle.page_store.proofs.Keeping.{holds_opened, none_changed, pages_opened}
 use Rattle.page_store.proofs.logged_pages.LoggedPages.new.Goals as goal

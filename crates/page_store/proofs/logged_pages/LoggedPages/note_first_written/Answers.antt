@@ -1,5 +1,4 @@
-use Rattle.page_store.specs.Histories.{pages_now}
-use Rattle.page_store.specs.Logged.{held_of}
+use Rattle.page_store.proofs.Imports.{pages_now, held_of}
 use Rattle.page_store.proofs.Keeping.{holds_noted, first_noted, all_clean}
 use Rattle.page_store.proofs.WriteFollows.{follows_noted}
 use Rattle.page_store.proofs.logged_pages.LoggedPages.note_first_written.Goals as goal

@@ -1,6 +1,5 @@
 use Rattle.std.proofs.Common.{inl, refl}
-use Rattle.page_store.specs.Histories.{pages_now}
-use Rattle.page_store.specs.Logged.{held_of}
+use Rattle.page_store.proofs.Imports.{pages_now, held_of}
 use Rattle.page_store.proofs.Keeping.{holds_same}
 use Rattle.page_store.proofs.Ordering.{part_is}
 use Rattle.page_store.proofs.Quieting.{quiet_noted}

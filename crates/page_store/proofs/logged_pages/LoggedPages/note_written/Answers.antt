@@ -1,9 +1,7 @@
 use Rattle.std.proofs.Common.{sym, subst}
-use Rattle.page_action.specs.Order.{IsPartOf}
 use Rattle.buffer_pool.specs.Pools.{changed_of}
 use Rattle.std.proofs.Common.{refl}
-use Rattle.page_store.specs.Histories.{pages_now}
-use Rattle.page_store.specs.Logged.{held_of}
+use Rattle.page_store.proofs.Imports.{IsPartOf, pages_now, held_of}
 use Rattle.page_store.proofs.Keeping.{holds_noted, written_noted}
 use Rattle.page_store.proofs.Ordering.{part_remove}
 use Rattle.page_store.proofs.Quieting.{quiet_noted}

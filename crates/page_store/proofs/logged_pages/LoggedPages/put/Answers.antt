@@ -1,8 +1,5 @@
 use Rattle.std.proofs.Common.{inl, refl, subst}
-use Rattle.buffer_pool.specs.Pools.{IsPut}
-use Rattle.page_codec.specs.declared.page.Page.{Page}
-use Rattle.page_store.specs.Histories.{pages_now}
-use Rattle.page_store.specs.Logged.{held_of}
+use Rattle.page_store.proofs.Imports.{IsPut, Page, pages_now, held_of}
 use Rattle.page_store.proofs.Keeping.{holds_put}
 use Rattle.page_store.proofs.Pooling.{clean_of_absent}
 use Rattle.page_store.proofs.Ordering.{part_is}

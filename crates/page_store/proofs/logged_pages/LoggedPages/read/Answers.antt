@@ -1,9 +1,6 @@
 use Rattle.buffer_pool.specs.Pools.{changed_of}
 use Rattle.std.proofs.Common.{◌≡◌, ◌<◌, ℕ, true, Some, slice_get, refl, subst}
-use Rattle.page_codec.specs.declared.page.Page.{Page}
-use Rattle.page_store.specs.Histories.{pages_now}
-use Rattle.page_store.specs.Logged.{held_of}
-use Rattle.page_store.specs.Writing.{GivesPage}
+use Rattle.page_store.proofs.Imports.{Page, pages_now, held_of, GivesPage}
 use Rattle.page_store.proofs.Pooling.{clean_of_absent}
 use Rattle.page_store.proofs.Ordering.{part_same}
 use Rattle.page_store.proofs.Quieting.{quiet_noted}

@@ -1,9 +1,5 @@
 use Rattle.std.proofs.Common.{◌≡◌, Result, Ok, Err, ℕ, ap, sym, ◌∙◌, arith}
-use Rattle.std.specs.Prelude.{OnErr}
-use Rattle.std.proofs.lemmas.Option.{slice_get_within}
-use Rattle.index_model.specs.declared.fault.Fault.{Fault}
-use Rattle.index_model.specs.declared.fault.Fault.TheVariants.{Io, PageDamaged}
-use Rattle.page_store.specs.Histories.{pages_now}
+use Rattle.page_store.proofs.Imports.{OnErr, slice_get_within, Fault, Io, PageDamaged, pages_now}
 use Rattle.page_store.proofs.Quieting.{quiet_both}
 use Rattle.page_store.proofs.logged_pages.LoggedPages.read_or_copy.Goals as goal
 

@@ -1,6 +1,5 @@
 use Rattle.std.proofs.Common.{refl}
-use Rattle.device.proofs.Going.{syncs_goes}
-use Rattle.page_store.specs.Logged.{held_of}
+use Rattle.page_store.proofs.Imports.{syncs_goes, held_of}
 use Rattle.page_store.proofs.Acting.{counts_rise}
 use Rattle.page_store.proofs.WriteFollows.{follows_synced}
 use Rattle.page_store.proofs.logged_pages.LoggedPages.sync.Goals as goal

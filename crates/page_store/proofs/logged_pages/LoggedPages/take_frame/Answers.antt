@@ -1,8 +1,6 @@
 use Rattle.std.proofs.Common.{◌≡◌, ℕ, None, subst, ap, ◌∙◌}
 use Rattle.buffer_pool.specs.Pools.{IsPut, frame_of, pool_blocks}
-use Rattle.buffer_pool.specs.declared.pool.Pool.{Pool}
-use Rattle.page_store.specs.Quiet.{IsSameButWritten}
-use Rattle.page_store.specs.Taking.{CostsFrame, GetsFrame}
+use Rattle.page_store.proofs.Imports.{Pool, IsSameButWritten, CostsFrame, GetsFrame}
 use Rattle.page_store.proofs.Costing.{changes_same, none_of, costs_on, gets_none, gets_one}
 use Rattle.page_store.proofs.Frames.{kept_put}
 use Rattle.page_store.proofs.Quieting.{quiet_same, quiet_both}

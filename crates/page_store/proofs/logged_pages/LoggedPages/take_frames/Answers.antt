@@ -1,16 +1,7 @@
 use Rattle.std.proofs.Common.{refl, ◌≡◌, ◌<◌, ℕ, inl, inr, true, Some, List, [], ◌∷◌, ◌++◌, map, take, slice_get, sym, ap, subst, ◌∙◌, arith}
-use Rattle.std.proofs.lemmas.Bool.{cases_lt}
-use Rattle.std.proofs.lemmas.Option.{slice_get_within}
-use Rattle.std.specs.Prelude.{IsSome}
-use Rattle.buffer_pool.specs.Frames.{has_block}
 use Rattle.buffer_pool.specs.Pools.{frame_of}
-use Rattle.index_model.specs.declared.format.Format.{Format}
-use Rattle.page_codec.specs.declared.page.Page.{Page}
-use Rattle.page_action.specs.Stored.{IsStored}
-use Rattle.page_action.proofs.StoredPages.{slice_get_at}
-use Rattle.page_store.specs.Taking.{GetFrames}
 use Rattle.page_store.proofs.Costing.{blocks_next, blocks_split, gets_next, gets_rest}
-use Rattle.std.proofs.lemmas.List.{take_all}
+use Rattle.page_store.proofs.Imports.{cases_lt, slice_get_within, IsSome, has_block, Format, Page, IsStored, slice_get_at, GetFrames, take_all}
 use Rattle.page_store.proofs.Frames.{actable_at, all_at, all_of}
 use Rattle.page_store.proofs.Quieting.{quiet_same, quiet_both}
 use Rattle.page_store.proofs.logged_pages.LoggedPages.take_frames.Given.{Over}

@@ -1,10 +1,6 @@
 use Rattle.std.proofs.Common.{◌≡◌, ◌<◌, ℕ, true, Some, map, take, slice_get}
-use Rattle.std.specs.Prelude.{IsSome}
 use Rattle.buffer_pool.specs.Pools.{most_of, frame_of}
-use Rattle.page_codec.specs.declared.page.Page.{Page}
-use Rattle.redo_log.specs.Kept.{is_stopped}
-use Rattle.page_store.specs.Quiet.{IsSameButWritten}
-use Rattle.page_store.specs.Taking.{GetFrames}
+use Rattle.page_store.proofs.Imports.{IsSome, Page, is_stopped, IsSameButWritten, GetFrames}
 use Rattle.page_store.proofs.logged_pages.LoggedPages.take_frames.Given as goal
 
 abbrev pub invariant-loop-page : goal.invariant-loop-page

@@ -1,9 +1,6 @@
 use Rattle.std.proofs.Common.{ℕ, refl, sym, subst, ◌∙◌, arith}
-use Rattle.buffer_pool.specs.Pools.{HasSamePages}
-use Rattle.buffer_pool.specs.declared.pool.Pool.{Pool}
 use Rattle.buffer_pool.proofs.Noting.{pages_both}
-use Rattle.page_store.specs.Quiet.{IsSameButWritten}
-use Rattle.page_store.specs.Taking.{IsWrittenNext, AreWrittenAhead}
+use Rattle.page_store.proofs.Imports.{HasSamePages, Pool, IsSameButWritten, IsWrittenNext, AreWrittenAhead}
 use Rattle.page_store.proofs.Evicting.{goes_none, goes_next, ahead_of}
 use Rattle.page_store.proofs.Quieting.{quiet_same, quiet_both}
 use Rattle.page_store.proofs.logged_pages.LoggedPages.write_ahead.Given.{Over}

@@ -1,8 +1,6 @@
 use Rattle.std.proofs.Common.{◌∙◌, drop, sym, ap, subst}
 use Rattle.buffer_pool.specs.Pools.{changed_of}
-use Rattle.buffer_pool.specs.declared.pool.Pool.{Pool}
-use Rattle.page_action.specs.Order.{IsRestOf}
-use Rattle.page_store.specs.Logged.{held_of}
+use Rattle.page_store.proofs.Imports.{Pool, IsRestOf, held_of}
 use Rattle.page_store.proofs.FollowLaws.{follows_both}
 use Rattle.page_store.proofs.logged_pages.LoggedPages.write_all.Given.{Over}
 use Rattle.page_store.proofs.logged_pages.LoggedPages.write_all.Goals.{After-note_first_written}

@@ -1,11 +1,5 @@
 use Rattle.std.proofs.Common.{sym, subst}
-use Rattle.device.specs.Moments.{AtEachMoment}
-use Rattle.device.specs.Places.{ChangesOnly}
-use Rattle.device.proofs.Going.{goes_now}
-use Rattle.device.proofs.Standing.{same_only}
-use Rattle.page_codec.specs.Places.{place}
-use Rattle.index_model.specs.declared.format.Format.{Format}
-use Rattle.page_store.specs.Logged.{held_of}
+use Rattle.page_store.proofs.Imports.{AtEachMoment, ChangesOnly, goes_now, same_only, place, Format, held_of}
 use Rattle.page_store.proofs.Acting.{counts_rise}
 use Rattle.page_store.proofs.Keeping.{holds_written}
 use Rattle.page_store.proofs.WriteFollows.{follows_written}

@@ -1,14 +1,6 @@
 use Rattle.std.proofs.Common.{◌≡◌, ◌<◌, ◌+◌, ℕ, suc, true, Some, None, List, [], length, take, slice_get, get_or, refl, sym, ap, subst, ◌∙◌, arith}
-use Rattle.std.proofs.lemmas.Option.{slice_get-get_or}
-use Rattle.buffer_pool.specs.Frames.{has_block}
 use Rattle.buffer_pool.specs.Pools.{changed_of, IsPool}
-use Rattle.buffer_pool.specs.declared.pool.Pool.{Pool}
-use Rattle.device.specs.Disk.{DiskMoment}
-use Rattle.index_model.specs.declared.format.Format.{Format}
-use Rattle.page_store.specs.Following.{follows_same}
-use Rattle.page_store.specs.Histories.{pages_now}
-use Rattle.page_store.specs.Logged.{held_of}
-use Rattle.page_store.specs.Writing.{AreWrittenUpTo}
+use Rattle.page_store.proofs.Imports.{slice_get-get_or, has_block, Pool, DiskMoment, Format, follows_same, pages_now, held_of, AreWrittenUpTo}
 use Rattle.page_store.proofs.FollowLaws.{follows_both}
 use Rattle.page_store.proofs.Keeping.{up_to_next, up_to_same}
 use Rattle.page_store.proofs.logged_pages.LoggedPages.write_pages.Given.{Over}

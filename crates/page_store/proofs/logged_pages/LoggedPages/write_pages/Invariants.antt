@@ -1,8 +1,6 @@
 use Rattle.std.proofs.Common.{◌≡◌, ◌≤◌, ◌-◌, length}
 use Rattle.buffer_pool.specs.Pools.{changed_of}
-use Rattle.page_store.specs.Following.{Follows}
-use Rattle.page_store.specs.Logged.{held_of, SameButDevice}
-use Rattle.page_store.specs.Writing.{AreWrittenUpTo}
+use Rattle.page_store.proofs.Imports.{Follows, held_of, SameButDevice, AreWrittenUpTo}
 use Rattle.page_store.proofs.logged_pages.LoggedPages.write_pages.Given as goal
 
 abbrev pub invariant-loop-written : goal.invariant-loop-written

@@ -1,5 +1,4 @@
-use Rattle.page_store.specs.Stores.{held_by}
-use Rattle.page_store.specs.Crashing.{crash_restarts, pages_were, left_now}
+use Rattle.page_store.proofs.Imports.{held_by, crash_restarts, pages_were, left_now}
 use Rattle.page_store.proofs.store.Store.crash_law.Goals as goal
 
 pub returns-clause-restarts : goal.returns-clause-restarts

@@ -1,10 +1,6 @@
 use Rattle.std.proofs.Common.{ℕ, List, ◌++◌, ap, subst, ◌∙◌}
-use Rattle.latch_table.specs.Holdings.{pinned_blocks}
 use Rattle.buffer_pool.specs.Pools.{most_of}
-use Rattle.page_action.specs.Frames.{blocks_of}
-use Rattle.page_action.proofs.Framing.{takes_none}
-use Rattle.page_store.specs.Logged.{held_of, backing_of, memory_in}
-use Rattle.page_store.specs.Taking.{GetFrames}
+use Rattle.page_store.proofs.Imports.{pinned_blocks, blocks_of, takes_none, held_of, backing_of, memory_in, GetFrames}
 use Rattle.page_store.proofs.Frames.{own_pinned}
 use Rattle.page_store.proofs.Quieting.{quiet_same}
 use Rattle.page_store.proofs.store.Store.take_frames.Goals as goal

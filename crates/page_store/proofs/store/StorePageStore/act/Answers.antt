@@ -1,21 +1,7 @@
 use Rattle.std.proofs.Common.{◌≡◌, ◌∙◌, ◌++◌, inl, Result, Ok, Err, suc, List, length, refl, ap, sym, subst, arith}
-use Rattle.std.specs.Prelude.{OnErr}
-use Rattle.index_model.specs.declared.fault.Fault.{Fault}
-use Rattle.index_model.specs.declared.format.Format.{Format}
-use Rattle.page_codec.specs.declared.page.Page.{Page}
-use Rattle.page_action.specs.CallTables.{TableOfCalls}
-use Rattle.latch_table.specs.Holdings.{pinned_blocks}
-use Rattle.page_action.specs.Frames.{Memory, TakesFrames, blocks_of}
-use Rattle.page_action.specs.States.{Backing, with_pages, with_counts}
-use Rattle.page_action.proofs.Framing.{takes_none}
 use Rattle.page_store.proofs.Costing.{backing_same}
-use Rattle.page_action.specs.Waiting.{AreWaiting, with_all_waiting}
-use Rattle.page_action.proofs.Waiting.{write_waits, length-with_all_waiting}
-use Rattle.page_action.proofs.StoredPages.{length-with_counts}
-use Rattle.page_store.specs.Following.{Follows}
-use Rattle.page_store.specs.Histories.{pages_now}
-use Rattle.page_store.specs.Logged.{backing_of, held_of, memory_in}
-use Rattle.page_store.specs.Stores.{state_of, held_by}
+use Rattle.page_store.proofs.Imports.{OnErr, Fault, Format, Page, TableOfCalls, pinned_blocks, Memory, TakesFrames, blocks_of, Backing, with_pages, with_counts, takes_none, AreWaiting}
+use Rattle.page_store.proofs.Imports.{with_all_waiting, write_waits, length-with_all_waiting, length-with_counts, Follows, pages_now, backing_of, held_of, memory_in, state_of, held_by}
 use Rattle.page_store.proofs.Causes.{taking_cause}
 use Rattle.page_store.proofs.FollowLaws.{follows_both}
 use Rattle.page_store.proofs.Stating.{state_alike}

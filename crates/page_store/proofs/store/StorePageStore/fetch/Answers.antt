@@ -1,10 +1,5 @@
 use Rattle.std.proofs.Common.{◌≡◌, Bool, List, ℕ, sym, ap, subst, ◌∙◌}
-use Rattle.redo_log.specs.Kept.{is_stopped}
-use Rattle.page_store.specs.Logged.{backing_of, held_of, memory_in}
-use Rattle.page_store.specs.Stores.{state_of, held_by}
-use Rattle.page_store.specs.Taking.{FetchFails, GetsFrame}
-use Rattle.latch_table.specs.Holdings.{pinned_blocks}
-use Rattle.buffer_pool.specs.Frames.{has_block}
+use Rattle.page_store.proofs.Imports.{is_stopped, backing_of, held_of, memory_in, state_of, held_by, FetchFails, GetsFrame, pinned_blocks, has_block}
 use Rattle.page_store.proofs.Costing.{same_memory, backing_same, gets_from, gets_there}
 use Rattle.page_store.proofs.Causes.{fetch_cause}
 use Rattle.page_store.proofs.FollowLaws.{follows_both}

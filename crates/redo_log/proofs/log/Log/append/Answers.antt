@@ -1,8 +1,5 @@
 use Rattle.std.proofs.Common.{◌+◌, ◌*◌, ◌≤◌, ◌<◌, List, ℕ, length, inr, refl, sym, ap, subst, ◌∙◌, arith}
-use Rattle.std.proofs.lemmas.Bool.{OnTrue_at, OnFalse_at}
-use Rattle.std.proofs.lemmas.List.{with_items_is}
-use Rattle.redo_log.specs.Blocks.{with_images, AreInside, AreLaid}
-use Rattle.redo_log.specs.Kept.{waiting_blocks}
+use Rattle.redo_log.proofs.Imports.{OnTrue_at, OnFalse_at, with_items_is, with_images, AreInside, AreLaid, waiting_blocks}
 use Rattle.redo_log.proofs.BlockLists.{images_inside, length-with_blocks, new_count-most}
 use Rattle.redo_log.proofs.Appending.{keeps_more, fits_with, fits_now, fits_listed}
 use Rattle.redo_log.proofs.log.Log.append.Goals as goal

@@ -1,7 +1,5 @@
 use Rattle.std.proofs.Common.{◌<◌, arith}
-use Rattle.std.proofs.lemmas.Bool.{OnTrue_from}
-use Rattle.redo_log.specs.Blocks.{new_count}
-use Rattle.redo_log.specs.Kept.{ImagesFit, waiting_blocks}
+use Rattle.redo_log.proofs.Imports.{OnTrue_from, new_count, ImagesFit, waiting_blocks}
 use Rattle.redo_log.proofs.BlockLists.{new_count-most}
 use Rattle.redo_log.proofs.log.Log.fits.Goals as goal
 

@@ -1,7 +1,5 @@
 use Rattle.std.proofs.Common.{◌≡◌, ◌+◌, ◌*◌, ◌<◌, ◌++◌, [], ◌∷◌, List, ℕ, take, drop, refl, sym, ◌∙◌, ap, arith, length-take-le}
-use Rattle.page_codec.specs.declared.page.Page.{Page}
-use Rattle.redo_log.specs.Groups.{body}
-use Rattle.redo_log.specs.Kept.{LogHolds, RestartsThroughout, ChangesItsRange, limits_of, waiting_count}
+use Rattle.redo_log.proofs.Imports.{Page, body, LogHolds, RestartsThroughout, ChangesItsRange, limits_of, waiting_count}
 use Rattle.redo_log.proofs.Forcing.{all_forced, sealed_piece, forced_goes, forced_keeps, publish_only}
 use Rattle.redo_log.proofs.log.Log.force.Given.{Over}
 use Rattle.redo_log.proofs.log.Log.force.Goals.{After-publish}

@@ -1,6 +1,5 @@
 use Rattle.std.proofs.Common.{◌≡◌, ◌∙◌, ◌+◌, ◌≤◌, IsTrue, List, ℕ, length, get_or, refl, sym, subst, ap, arith, rules}
-use Rattle.std.proofs.lemmas.List.{with_items_is}
-use Rattle.redo_log.specs.Groups.{SpellsGroups, log_range}
+use Rattle.redo_log.proofs.Imports.{with_items_is, SpellsGroups, log_range}
 use Rattle.redo_log.proofs.Replaying.{range_read, replay_found}
 use Rattle.redo_log.proofs.log.Log.replay.Given.{Over}
 use Rattle.redo_log.proofs.log.Log.replay.Goals.{After-note_groups}

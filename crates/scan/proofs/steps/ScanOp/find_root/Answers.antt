@@ -1,16 +1,6 @@
 use Rattle.std.proofs.Common.{rules, ◌≡◌, ◌<◌, false, Some, slice_get, sym, ap, subst, ◌∙◌, arith, Ok, suc}
-use Rattle.page_codec.specs.declared.page.Page.{Page}
-use Rattle.page_action.specs.States.{State, IsLater, with_table}
-use Rattle.tree_shape.specs.Walks.{frontier_aim}
-use Rattle.descent.specs.NextPage.{IsOnDescent, way_from}
-use Rattle.descent.specs.declared.way.Position.{Position}
-use Rattle.scan.specs.declared.steps.ScanAt.{ScanAt}
-use Rattle.scan.specs.Scans.{without_leaf, ScanInvariant, ScanWaits, IsUnderway}
-use Rattle.scan.specs.Straight.{scan_straight_steps, ScanCountsDown}
-use Rattle.scan.specs.Work.{scan_left}
-use Rattle.scan.specs.declared.steps.ScanStep.TheVariants.{Going}
-use Rattle.tree_acts.specs.Trees.{HasCover}
-use Rattle.scan.specs.declared.steps.ScanOp.{ScanOp}
+use Rattle.scan.proofs.Imports.{Page, State, IsLater, with_table, frontier_aim, IsOnDescent, way_from, Position, ScanAt, without_leaf, ScanInvariant, ScanWaits, IsUnderway, scan_straight_steps}
+use Rattle.scan.proofs.Imports.{ScanCountsDown, scan_left, Going, HasCover, ScanOp}
 use Rattle.scan.proofs.Moving.{going_does, going_fits, first_less}
 use Rattle.scan.proofs.Resting.{quiet_by, rests}
 use Rattle.scan.proofs.Rooting.{root_way, straight_root}

@@ -1,31 +1,12 @@
 use Rattle.std.proofs.Common.{rules, ◌≡◌, suc, Ok, ℕ, ◌<◌, ◌≤◌, false, true, Some, List, length, slice_get, inr, refl, sym, ap, subst, ◌∙◌, arith}
 use Rattle.std.specs.Prelude.{IfErr}
-use Rattle.std.proofs.lemmas.Bool.{and_parts}
-use Rattle.index_model.specs.Faults.{HasCause}
-use Rattle.index_model.specs.Order.{is_among, IsAscending}
-use Rattle.index_model.specs.declared.entry.Entry.{Entry}
-use Rattle.index_model.specs.Formats.{sizes_of}
-use Rattle.index_model.specs.declared.limits.Limits.{Limits}
-use Rattle.latch_table.specs.Holdings.{pinned}
-use Rattle.page_codec.specs.Edits.{entries_of}
-use Rattle.page_codec.specs.declared.page.Page.{Page}
-use Rattle.page_action.specs.States.{State, IsLater, with_table}
 use Rattle.page_action.specs.Stored.{IsStored}
-use Rattle.tree_shape.specs.Leaf.{IsCopiedFrom}
-use Rattle.tree_shape.specs.Walks.{frontier_aim}
-use Rattle.tree_acts.specs.Leaves.{IsLeafAt}
-use Rattle.tree_acts.specs.Trees.{LeadsTo, HasCover}
-use Rattle.tree_acts.proofs.Meanings.{place_inside}
 use Rattle.descent.proofs.Looking.{if_err}
-use Rattle.descent.specs.NextPage.{IsOnDescent, LeadsToNext, LeadsStraight, DescentIsShorter, IsShorter, IsArrived}
-use Rattle.descent.specs.declared.way.Position.{Position}
 use Rattle.descent.specs.declared.way.NextPage.TheVariants.{Going, Here}
-use Rattle.scan.specs.declared.steps.ScanAt.{ScanAt}
-use Rattle.scan.specs.Scans.{waiting, behind, without_leaf, causes_of_scanning, ScanStands, ScanInvariant, ScanWaits, IsUnderway, LeafIsRead}
-use Rattle.scan.specs.Straight.{scan_straight_steps, ScanIsStraight, ScanCountsDown}
-use Rattle.scan.specs.Work.{scan_left}
-use Rattle.scan.specs.declared.steps.ScanStep.TheVariants.{Going as AtEachMoment, Ready}
-use Rattle.scan.specs.declared.steps.ScanOp.{ScanOp}
+use Rattle.scan.proofs.Imports.{and_parts, HasCause, is_among, IsAscending, Entry, sizes_of, Limits, pinned, entries_of, Page, State, IsLater, with_table, IsCopiedFrom, frontier_aim, IsLeafAt}
+use Rattle.scan.proofs.Imports.{LeadsTo, HasCover, place_inside, IsOnDescent, LeadsToNext, LeadsStraight, DescentIsShorter, IsShorter, IsArrived, Position, ScanAt, waiting, behind, without_leaf}
+use Rattle.scan.proofs.Imports.{causes_of_scanning, ScanStands, ScanInvariant, ScanWaits, IsUnderway, LeafIsRead, scan_straight_steps, ScanIsStraight, ScanCountsDown, scan_left, AtEachMoment}
+use Rattle.scan.proofs.Imports.{Ready, ScanOp}
 use Rattle.scan.proofs.Arriving.{leaf_has_entries, other_items, live_leaf, scan_has_room}
 use Rattle.scan.proofs.Causes.{scanning_cause}
 use Rattle.scan.proofs.Leaf.{reads_leaf}

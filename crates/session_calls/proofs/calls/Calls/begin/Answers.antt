@@ -1,9 +1,5 @@
 use Rattle.std.proofs.Common.{rules, ◌≡◌, ◌&&◌, ℕ, Bool, Some, None, Option, List, slice_get, sym, ap, subst, ◌∙◌}
-use Rattle.std.proofs.lemmas.Option.{slice_get-get_or}
-use Rattle.session_calls.specs.Ops.{asks_vacuum}
-use Rattle.session_calls.specs.Sessions.{BeginsBy}
-use Rattle.session_calls.specs.Slots.{one_vacuums}
-use Rattle.session_calls.specs.declared.op.Op.{Op}
+use Rattle.session_calls.proofs.Imports.{slice_get-get_or, asks_vacuum, BeginsBy, one_vacuums, Op}
 use Rattle.session_calls.proofs.Slots.{found, read_within}
 use Rattle.session_calls.proofs.calls.Calls.begin.Goals as goal
 

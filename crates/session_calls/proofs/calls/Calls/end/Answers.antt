@@ -1,6 +1,5 @@
 use Rattle.std.proofs.Common.{Some, Option, sym, ap, ◌∙◌, refl}
-use Rattle.std.proofs.lemmas.Option.{slice_get-get_or}
-use Rattle.session_calls.specs.declared.op.Op.{Op}
+use Rattle.session_calls.proofs.Imports.{slice_get-get_or, Op}
 use Rattle.session_calls.proofs.calls.Calls.end.Goals as goal
 
 pub returns-clause-changes : goal.returns-clause-changes

@@ -1,28 +1,15 @@
 use Rattle.std.specs.Prelude.{map}
 use Rattle.std.proofs.Common.{subst, sym, Some, suc}
-use Rattle.session_calls.specs.Due.{IsDueIn}
-use Rattle.session_calls.specs.Ops.{OpInvariant}
-use Rattle.session_calls.specs.Sessions.{CallFits, OpSteps}
-use Rattle.session_calls.specs.declared.op.Op.{Op}
 use Rattle.session_calls.proofs.Counting.{insert_counts, scan_counts}
 use Rattle.session_calls.proofs.Hindering.{insert_hindered}
 use Rattle.session_calls.proofs.Inserting.{insert_goes_on, insert_ends, insert_is_refused}
 use Rattle.session_calls.proofs.Scanning.{moving_goes, ready_goes, done_goes, moving_stands, ready_stands}
 use Rattle.std.proofs.Common.{Bool}
-use Rattle.index_model.specs.Faults.{HasCause}
-use Rattle.index_model.specs.Row.{Row}
-use Rattle.vacuum.specs.BulkDeletes.{BulkDeleteContinues, IsDueOf, causes_of_deleting}
 use Rattle.std.proofs.Common.{ap, refl}
-use Rattle.index_model.specs.Calls.{AskScan}
-use Rattle.scan.specs.declared.steps.ScanOp.{ScanOp}
-use Rattle.session_calls.specs.declared.op.Op.TheVariants.{Insert, Scan, Bulk, Cleanup}
-use Rattle.session_calls.specs.declared.answer.Answer.TheVariants.{Refused}
-use Rattle.insert_split.specs.declared.insert.InsertOp.{InsertOp}
-use Rattle.vacuum.specs.declared.steps.BulkDeleteOp.{BulkDeleteOp}
-use Rattle.page_delete.specs.declared.steps.CleanupOp.{CleanupOp}
 use Rattle.session_calls.proofs.Refusing.{refused_steps, told_stopped, insert_told_stopped, insert_told_logged, scan_told_waiting, bulk_cause}
 use Rattle.session_calls.proofs.Going.{step_is_refused, scans_insert_none}
-use Rattle.vacuum.specs.Counts.{IsCounted}
+use Rattle.session_calls.proofs.Imports.{IsDueIn, OpInvariant, CallFits, OpSteps, Op, HasCause, Row, BulkDeleteContinues, IsDueOf, causes_of_deleting, AskScan, ScanOp, Insert, Scan, Bulk, Cleanup}
+use Rattle.session_calls.proofs.Imports.{Refused, InsertOp, BulkDeleteOp, CleanupOp, IsCounted}
 use Rattle.session_calls.proofs.Deleting.{counted_on, counted_still, set_found, bulk_goes_on, bulk_finishes, bulk_is_refused}
 use Rattle.session_calls.proofs.Cleaning.{cleaned_still, cleanup_goes_on, cleanup_finishes, cleanup_is_refused}
 use Rattle.session_calls.proofs.op.Op.step.Goals as goal

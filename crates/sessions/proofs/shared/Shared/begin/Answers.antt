@@ -1,12 +1,5 @@
 use Rattle.std.proofs.Common.{◌++◌, ◌∷◌, [], Some, None, slice_set, refl, sym, ap, ◌∙◌, subst}
-use Rattle.schedule.specs.declared.event.Event.{Event}
-use Rattle.worker_seats.specs.Seats.{keeper_of}
-use Rattle.world.specs.Worlds.{inside}
-use Rattle.sessions.specs.declared.record.Pending.{Pending}
-use Rattle.sessions.specs.declared.record.Record.{Record}
-use Rattle.sessions.specs.Doing.{IsEventDone}
-use Rattle.sessions.specs.Kept.{record_of}
-use Rattle.sessions.specs.Notes.{notes_of, jobs_of}
+use Rattle.sessions.proofs.Imports.{Event, keeper_of, inside, Pending, Record, IsEventDone, record_of, notes_of, jobs_of}
 use Rattle.sessions.proofs.Handing.{is_next}
 use Rattle.sessions.proofs.Noting.{jobs_of_set, set_same, begun_is, not_begun}
 use Rattle.sessions.proofs.Sharing.{idle_at, in_order, in_order_recorded}

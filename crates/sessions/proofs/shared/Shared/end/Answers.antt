@@ -1,10 +1,5 @@
 use Rattle.std.proofs.Common.{ℕ, Option, None, slice_set, refl, ap, ◌∙◌, subst}
-use Rattle.session_calls.specs.declared.answer.Answer.{Answer}
-use Rattle.schedule.specs.declared.event.Event.TheVariants.{End}
-use Rattle.world.specs.Worlds.{inside}
-use Rattle.sessions.specs.declared.record.Pending.{Pending}
-use Rattle.sessions.specs.Doing.{IsEventDone, IsFullScan}
-use Rattle.sessions.specs.Kept.{record_of}
+use Rattle.sessions.proofs.Imports.{Answer, End, inside, Pending, IsEventDone, IsFullScan, record_of}
 use Rattle.sessions.proofs.Handing.{is_next}
 use Rattle.sessions.proofs.Noting.{jobs_of_set}
 use Rattle.sessions.proofs.Sharing.{running_at, read_here, taken_out, some_taken, turn_recorded, seat_noted, in_order_recorded}

@@ -1,7 +1,5 @@
 use Rattle.std.proofs.Common.{List, Option, Some, slice_set, sym, ap, ◌∙◌, subst}
-use Rattle.worker_seats.specs.Seats.{keeper_of}
-use Rattle.sessions.specs.declared.record.Pending.{Pending}
-use Rattle.sessions.specs.Notes.{notes_of, jobs_of}
+use Rattle.sessions.proofs.Imports.{keeper_of, Pending, notes_of, jobs_of}
 use Rattle.sessions.proofs.Handing.{is_next}
 use Rattle.sessions.proofs.Noting.{jobs_of_set, set_same, set_twice}
 use Rattle.sessions.proofs.Sharing.{CarriesOn, running_at, taken_out, some_taken, in_order}

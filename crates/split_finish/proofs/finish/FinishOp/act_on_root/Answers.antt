@@ -1,9 +1,5 @@
 use Rattle.std.proofs.Common.{◌≤◌, map, sym, ap, subst, ◌∙◌}
-use Rattle.page_codec.specs.declared.page.Page.{Page}
-use Rattle.page_action.specs.States.{State, IsLater}
-use Rattle.tree_acts.specs.StepEffects.{fresh_block}
-use Rattle.descent.proofs.Working.{fresh_is}
-use Rattle.split_finish.specs.Finishes.{finish_blocks}
+use Rattle.split_finish.proofs.Imports.{Page, State, IsLater, fresh_block, fresh_is, finish_blocks}
 use Rattle.split_finish.proofs.Needs.{root_takes, three_are}
 use Rattle.split_finish.proofs.Doing.{acts_done, act_refused, popped_session}
 use Rattle.split_finish.proofs.Growing.{grows, may_grow_all}

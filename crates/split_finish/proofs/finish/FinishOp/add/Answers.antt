@@ -1,8 +1,5 @@
 use Rattle.std.proofs.Common.{List, map, take, slice_set, sym, ap, ◌∙◌}
-use Rattle.page_codec.specs.declared.page.Page.{Page}
-use Rattle.page_action.specs.States.{State, IsLater}
-use Rattle.split_finish.specs.Finishes.{finish_blocks}
-use Rattle.descent.proofs.Working.{two_are}
+use Rattle.split_finish.proofs.Imports.{Page, State, IsLater, finish_blocks, two_are}
 use Rattle.split_finish.proofs.Doing.{acts_done, act_refused, popped_session}
 use Rattle.split_finish.proofs.InPlace.{linked_there}
 use Rattle.split_finish.proofs.Needs.{roomy_link}

@@ -1,8 +1,5 @@
 use Rattle.std.proofs.Common.{true, sym, ◌∙◌}
-use Rattle.page_action.specs.States.{IsLater}
-use Rattle.tree_acts.proofs.Meanings.{place_inside}
-use Rattle.split_finish.specs.Finishes.{finish_blocks, frames_of, takes_block_of}
-use Rattle.split_finish.specs.Turns.{splits_root_of}
+use Rattle.split_finish.proofs.Imports.{IsLater, place_inside, finish_blocks, frames_of, takes_block_of, splits_root_of}
 use Rattle.split_finish.proofs.Needs.{needs_frame}
 use Rattle.split_finish.proofs.Standing.{meta_inside, has_room}
 use Rattle.split_finish.proofs.Stepping.{refuses, behind}

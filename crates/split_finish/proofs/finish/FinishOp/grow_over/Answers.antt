@@ -1,6 +1,5 @@
 use Rattle.std.proofs.Common.{Option, Ok, subst}
-use Rattle.split_finish.specs.Turns.{TurnedOrReady}
-use Rattle.split_finish.specs.declared.finish.FinishStep.{FinishStep}
+use Rattle.split_finish.proofs.Imports.{TurnedOrReady, FinishStep}
 use Rattle.split_finish.proofs.Stepping.{turns_after}
 use Rattle.split_finish.proofs.finish.FinishOp.grow_over.Goals as goal
 

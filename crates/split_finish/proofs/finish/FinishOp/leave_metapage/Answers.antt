@@ -1,9 +1,5 @@
 use Rattle.std.proofs.Common.{◌≤◌, sym, ap, subst, ◌∙◌, arith, eq-eqb}
-use Rattle.tree_shape.specs.Nodes.{Node, nodes_of}
-use Rattle.tree_acts.proofs.Overlays.{node_there}
-use Rattle.split_finish.specs.Turns.{TurnContinues}
-use Rattle.split_finish.specs.declared.finish.FinishAt.{FinishAt}
-use Rattle.split_finish.specs.declared.finish.FinishAt.TheVariants.{Start, Down, Root}
+use Rattle.split_finish.proofs.Imports.{Node, nodes_of, node_there, TurnContinues, FinishAt, Start, Down, Root}
 use Rattle.split_finish.proofs.Counting.{less_root, less_down}
 use Rattle.split_finish.proofs.Standing.{starts_down}
 use Rattle.split_finish.proofs.Turning.{turn_moved}

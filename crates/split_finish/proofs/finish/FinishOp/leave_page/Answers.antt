@@ -1,11 +1,7 @@
 use Rattle.std.proofs.Common.{◌≡◌, ◌+◌, ℕ, suc, true, Option, Some, subst, sym, ap, ◌∙◌, arith}
-use Rattle.tree_shape.specs.Nodes.{nodes_of}
-use Rattle.tree_shape.specs.Walks.{bound_aim}
-use Rattle.descent.specs.NextPage.{IsOnDescent, LeadsToNext, DescentIsShorter}
 use Rattle.descent.specs.declared.way.NextPage.{NextPage}
 use Rattle.descent.specs.declared.way.NextPage.TheVariants.{Going, Here}
-use Rattle.split_finish.specs.Targets.{FinishStands}
-use Rattle.split_finish.specs.declared.finish.FinishAt.TheVariants.{Down, Link}
+use Rattle.split_finish.proofs.Imports.{nodes_of, bound_aim, IsOnDescent, LeadsToNext, DescentIsShorter, FinishStands, Down, Link}
 use Rattle.split_finish.proofs.Counting.{less_onward, less_link}
 use Rattle.split_finish.proofs.Standing.{not_incomplete}
 use Rattle.split_finish.proofs.Turning.{turn_moved, ready_page}

@@ -1,11 +1,5 @@
 use Rattle.std.proofs.Common.{arith, ◌≡◌, true, List, length, sym, subst, ◌∙◌}
-use Rattle.page_codec.specs.declared.page.Page.{Page}
-use Rattle.page_action.specs.States.{State, IsLater}
-use Rattle.tree_acts.proofs.Meanings.{place_inside}
-use Rattle.split_finish.specs.Targets.{FinishStands}
-use Rattle.split_finish.specs.Finishes.{finish_blocks, frames_of, takes_block_of}
-use Rattle.split_finish.specs.Turns.{splits_root_of}
-use Rattle.split_finish.specs.Acting.{IsReadToChange}
+use Rattle.split_finish.proofs.Imports.{Page, State, IsLater, place_inside, FinishStands, finish_blocks, frames_of, takes_block_of, splits_root_of, IsReadToChange}
 use Rattle.split_finish.proofs.InPlace.{two_put}
 use Rattle.split_finish.proofs.Needs.{needs_frame}
 use Rattle.split_finish.proofs.Standing.{has_room}

@@ -1,6 +1,5 @@
 use Rattle.std.proofs.Common.{Option, Some, Ok, sym, ap, subst, ◌∙◌}
-use Rattle.split_finish.specs.Turns.{TurnedOrReady}
-use Rattle.split_finish.specs.declared.finish.FinishStep.{FinishStep}
+use Rattle.split_finish.proofs.Imports.{TurnedOrReady, FinishStep}
 use Rattle.split_finish.proofs.InPlace.{first_is, second_is}
 use Rattle.split_finish.proofs.Stepping.{turns_after}
 use Rattle.split_finish.proofs.finish.FinishOp.link_to.Goals as goal

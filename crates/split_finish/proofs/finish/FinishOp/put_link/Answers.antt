@@ -1,9 +1,5 @@
 use Rattle.std.proofs.Common.{rules, ◌≡◌, ◌<◌, Some, length, refl, sym, ap, subst, ◌∙◌}
-use Rattle.std.specs.Prelude.{slice_index_or}
-use Rattle.page_codec.specs.declared.page.Page.{Page}
-use Rattle.page_action.specs.States.{State}
-use Rattle.tree_shape.specs.Nodes.{links_of}
-use Rattle.split_finish.specs.Acting.{IsLinkPlace, NoLinkPlace}
+use Rattle.split_finish.proofs.Imports.{slice_index_or, Page, State, links_of, IsLinkPlace, NoLinkPlace}
 use Rattle.split_finish.proofs.InPlace.{first_is, second_is}
 use Rattle.split_finish.proofs.Linking.{unfinished, parent_found, parent_covers}
 use Rattle.split_finish.proofs.Placing.{there_is_a_place}

@@ -1,9 +1,5 @@
 use Rattle.std.proofs.Common.{◌≡◌, Bool, true, sym, ap, subst, ◌∙◌}
-use Rattle.index_model.specs.Faults.{HasCause}
-use Rattle.page_action.specs.States.{Backing}
-use Rattle.tree_acts.specs.StepEffects.{causes_of_working}
-use Rattle.split_finish.specs.Finishes.{finish_blocks, frames_of, takes_block_of}
-use Rattle.split_finish.specs.Turns.{splits_root_of}
+use Rattle.split_finish.proofs.Imports.{HasCause, Backing, causes_of_working, finish_blocks, frames_of, takes_block_of, splits_root_of}
 use Rattle.split_finish.proofs.Needs.{to_grow}
 use Rattle.split_finish.proofs.Standing.{has_room}
 use Rattle.split_finish.proofs.Stepping.{acts_not}

@@ -1,10 +1,5 @@
 use Rattle.std.proofs.Common.{[], ◌≤◌, ℕ, true, false, length, slice_get, sym, ap, subst, ◌∙◌, arith}
-use Rattle.index_model.specs.Faults.{HasCause}
-use Rattle.page_action.specs.States.{State}
-use Rattle.tree_acts.proofs.Meanings.{place_inside}
-use Rattle.split_finish.specs.Targets.{FinishStands}
-use Rattle.split_finish.specs.Finishes.{causes_of_finishing}
-use Rattle.split_finish.specs.declared.finish.FinishAt.{FinishAt}
+use Rattle.split_finish.proofs.Imports.{HasCause, State, place_inside, FinishStands, causes_of_finishing, FinishAt}
 use Rattle.split_finish.proofs.Standing.{has_room}
 use Rattle.split_finish.proofs.Stepping.{refuses, turns}
 use Rattle.split_finish.proofs.finish.FinishOp.read_page.Goals as goal

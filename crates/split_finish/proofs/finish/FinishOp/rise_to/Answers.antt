@@ -1,9 +1,6 @@
 use Rattle.std.proofs.Common.{◌≡◌, ◌<◌, ◌≤◌, ◌==◌, ℕ, true, false, length, subst, sym, ◌∙◌, arith}
-use Rattle.std.proofs.lemmas.Bool.{eqb-true}
-use Rattle.std.proofs.lemmas.Bool.Decides.{eqb_tells}
 use Rattle.std.proofs.Common.{inl, inr}
-use Rattle.tree_acts.proofs.Sizes.{low_level}
-use Rattle.split_finish.specs.Targets.{FinishStands}
+use Rattle.split_finish.proofs.Imports.{eqb-true, eqb_tells, low_level, FinishStands}
 use Rattle.split_finish.proofs.Standing.{live_level, incomplete_in}
 use Rattle.split_finish.proofs.Turning.{turn_risen}
 use Rattle.split_finish.proofs.finish.FinishOp.rise_to.Goals as goal

@@ -1,21 +1,6 @@
 use Rattle.std.proofs.Common.{arith, ◌≡◌, ◌<◌, ◌≤◌, Bool, true, false, ℕ, map, length, ap, sym, subst, ◌∙◌, refl}
-use Rattle.index_model.specs.Faults.{HasCause}
-use Rattle.latch_table.specs.Holdings.{is_held_by_another}
-use Rattle.latch_table.specs.declared.mode.Mode.TheVariants.{Exclusive}
-use Rattle.page_codec.specs.Grammar.{IsBlock}
-use Rattle.page_codec.specs.Spelling.{count_of}
-use Rattle.page_codec.specs.declared.page.Page.{Page}
-use Rattle.page_action.specs.Reuse.{IsFresh}
-use Rattle.page_action.specs.States.{State, Backing, IsLater, after_act}
-use Rattle.page_action.specs.Stored.{AreActable}
-use Rattle.tree_acts.proofs.Overlays.{inside}
-use Rattle.descent.proofs.Working.{act_cause_of, fresh_is}
-use Rattle.tree_acts.specs.StepEffects.{fresh_block, causes_of_acting, causes_of_working}
-use Rattle.split_finish.specs.Finishes.{finish_blocks, frames_of, takes_block_of, causes_of_finishing}
-use Rattle.split_finish.specs.Parting.{halves_and}
-use Rattle.split_finish.specs.Turns.{splits_root_of}
-use Rattle.split_finish.specs.declared.finish.FinishAt.{FinishAt}
-use Rattle.split_finish.specs.declared.finish.FinishAt.TheVariants.{Link}
+use Rattle.split_finish.proofs.Imports.{HasCause, is_held_by_another, Exclusive, IsBlock, count_of, Page, IsFresh, State, Backing, IsLater, after_act, AreActable, inside, act_cause_of, fresh_is}
+use Rattle.split_finish.proofs.Imports.{fresh_block, causes_of_acting, causes_of_working, finish_blocks, frames_of, takes_block_of, causes_of_finishing, halves_and, splits_root_of, FinishAt, Link}
 use Rattle.split_finish.proofs.Needs.{full_link, parted_are}
 use Rattle.split_finish.proofs.Parting.{PartsParent, parts, parts_may, beside_parent, split_as_read}
 use Rattle.split_finish.proofs.Standing.{has_room}

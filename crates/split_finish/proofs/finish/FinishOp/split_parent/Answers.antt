@@ -1,9 +1,5 @@
 use Rattle.std.proofs.Common.{sym, subst}
-use Rattle.page_codec.specs.declared.page.Page.{Page}
-use Rattle.page_action.specs.States.{State, IsLater}
-use Rattle.split_finish.specs.Acting.{MeetsParent}
-use Rattle.split_finish.specs.Finishes.{finish_blocks, frames_of, takes_block_of}
-use Rattle.split_finish.specs.Turns.{splits_root_of}
+use Rattle.split_finish.proofs.Imports.{Page, State, IsLater, MeetsParent, finish_blocks, frames_of, takes_block_of, splits_root_of}
 use Rattle.split_finish.proofs.Needs.{needs_frame}
 use Rattle.split_finish.proofs.Parting.{beside_parent}
 use Rattle.split_finish.proofs.Standing.{has_room}

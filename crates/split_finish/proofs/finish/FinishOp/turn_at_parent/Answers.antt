@@ -1,9 +1,5 @@
 use Rattle.std.proofs.Common.{◌≡◌, suc, true, false, refl, sym, subst, ◌∙◌, arith}
-use Rattle.index_model.specs.declared.bound.Bound.{Bound}
-use Rattle.tree_shape.specs.Nodes.{Node, node_of, nodes_of}
-use Rattle.tree_acts.proofs.Overlays.{node_there}
-use Rattle.split_finish.specs.Targets.{is_ready}
-use Rattle.split_finish.specs.declared.finish.FinishAt.TheVariants.{Start, Down, Link}
+use Rattle.split_finish.proofs.Imports.{Bound, Node, node_of, nodes_of, node_there, is_ready, Start, Down, Link}
 use Rattle.split_finish.proofs.Counting.{less_back}
 use Rattle.split_finish.proofs.Standing.{live_level, incomplete_in}
 use Rattle.split_finish.proofs.Turning.{turn_moved, turn_popped, turn_retaken}

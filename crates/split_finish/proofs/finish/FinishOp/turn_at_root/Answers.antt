@@ -1,20 +1,7 @@
 use Rattle.std.proofs.Common.{◌≡◌, ◌≤◌, ◌&&◌, ◌==◌, ℕ, true, false, not, inl, inr, Bool, nat_eq, nat_le, eq-eqb, Option, Some, refl, sym, ap, subst, ◌∙◌, arith}
-use Rattle.std.proofs.lemmas.Bool.{and_from, le-leb}
-use Rattle.std.proofs.lemmas.Bool.Decides.{eqb_tells}
 use Rattle.std.specs.Option.{option_eq}
-use Rattle.page_codec.specs.declared.page.Items.TheVariants.{Meta}
-use Rattle.page_codec.specs.declared.page.Page.{Page}
-use Rattle.page_action.proofs.StoredPages.{stored_page}
-use Rattle.tree_shape.specs.Walks.{bound_aim}
-use Rattle.tree_acts.specs.Acts.{IsIncompleteSplit}
-use Rattle.tree_acts.proofs.Meanings.{root_shows}
-use Rattle.tree_shape.specs.Nodes.{Node, nodes_of}
-use Rattle.tree_acts.proofs.Overlays.{node_there}
-use Rattle.tree_acts.specs.StepEffects.{is_incomplete}
-use Rattle.tree_acts.specs.Levels.{root_level}
-use Rattle.split_finish.specs.Turns.{splits_root_of}
-use Rattle.split_finish.specs.declared.finish.FinishAt.{FinishAt}
-use Rattle.split_finish.specs.declared.finish.FinishAt.TheVariants.{Start, Root}
+use Rattle.split_finish.proofs.Imports.{and_from, le-leb, eqb_tells, Meta, Page, stored_page, bound_aim, IsIncompleteSplit, root_shows, Node, nodes_of, node_there, is_incomplete, root_level}
+use Rattle.split_finish.proofs.Imports.{splits_root_of, FinishAt, Start, Root}
 use Rattle.split_finish.proofs.Counting.{less_again}
 use Rattle.split_finish.proofs.Needs.{level_is}
 use Rattle.split_finish.proofs.Standing.{live_level, incomplete_in, to_finish}

@@ -1,14 +1,7 @@
 use Rattle.std.proofs.Common.{◌≡◌, ◌<◌, ℕ, List, [], ◌∷◌, Bool, true, false, nat_lt, Some, length, slice_get, refl, sym, ap, subst, ◌∙◌, arith}
-use Rattle.index_model.specs.Faults.{HasCause}
 use Rattle.index_model.specs.declared.limits.Limits.{Limits}
-use Rattle.latch_table.specs.Holdings.{HasRoom, is_held_by_another}
-use Rattle.latch_table.specs.declared.mode.Mode.TheVariants.{Cleanup}
-use Rattle.page_codec.specs.declared.page.Page.{Page}
-use Rattle.page_action.specs.States.{State, IsLater}
-use Rattle.page_action.specs.Stored.{IsStored, AreActable}
-use Rattle.vacuum.specs.BulkDeletes.{block_if, has_dead, causes_of_taking}
-use Rattle.vacuum.specs.Ops.{last_read, moves_of, next_block}
-use Rattle.vacuum.specs.Turns.{TurnsTo, TurnsNoMore, written}
+use Rattle.vacuum.proofs.Imports.{HasCause, HasRoom, is_held_by_another, Cleanup, Page, State, IsLater, IsStored, AreActable, block_if, has_dead, causes_of_taking, last_read, moves_of, next_block}
+use Rattle.vacuum.proofs.Imports.{TurnsTo, TurnsNoMore, written}
 use Rattle.vacuum.proofs.Causes.{reading_cause, taking_later}
 use Rattle.vacuum.proofs.Reading.{refuses, passes, takes, next_in_use, has_room, never_too_far, writes_dead}
 use Rattle.vacuum.proofs.Removing.{swept_may}
