@@ -1,14 +1,15 @@
-//! Runs the program `btidx` on a script, for the crates of tests. No product stands on it.
+//! Runs the program `btidx` on a script, and alters files, for the crates of tests. No product stands on it.
 #![tactic(auto)]
 
 use command_line::execute;
 use device::Unknown;
 use std::alloc::{AllocError, Global};
-use std::fs::File;
+use std::fs::{File, OpenOptions};
+use std::os::unix::fs::FileExt;
 use std::rt::Files;
-use std::str;
 use std::sync::Wait;
 use std::thread::Threads;
+use std::{io, str};
 
 /// What the program printed, and the status that it ended with.
 #[derive(Drop)]
@@ -36,6 +37,12 @@ pub fn played<R: AllocGlobal + Files<File = File> + Threads + Wait + Sync>(
         &mut err,
     ).status;
     Printed { out, err, status }
+}
+
+/// Writes bytes over those of a file.
+pub fn patch(rt: &impl Files<File = File>, path: &str, at: u64, bytes: &[u8]) -> io::Result<()> {
+    let file = OpenOptions::new().write(true).open(rt, path)?;
+    file.write_all_at(bytes, at)
 }
 
 /// The text of what was printed.

@@ -2,18 +2,12 @@
 
 mod both_forms;
 mod caller;
-mod commands;
 mod damaged;
 mod files;
-mod help;
-mod help_of_run;
 mod in_a_file;
-mod jobs;
 mod long_chains;
-mod many_jobs;
 mod old_files;
 mod plain;
-mod progress;
 mod unique;
 
 use std::fs::File;

@@ -1,10 +1,16 @@
-//! What no clause says: what a script prints, and how it ends.
+//! What no clause says: what scripts, jobs and commands print, and how they end.
 
+mod commands;
 mod crashes;
 mod deletes;
 mod examples;
+mod help;
+mod help_of_run;
 mod inserts;
+mod jobs;
 mod lines;
+mod many_jobs;
+mod progress;
 mod rows;
 mod scans;
 mod upkeep;

@@ -1,13 +1,14 @@
 //! Each damage that the verifier finds, by its number, in an index of two levels in a file, some of whose bytes are altered:
 //! with parents and children and without, in many threads and in one. The page of block b stands at 69632 + 4096 b.
 
-use super::files::{check_ends, checks, create, fill, patch};
+use super::files::{check_ends, checks, create, fill};
 use std::fs::{self, File};
 use std::process::Abort;
 use std::rt::Files;
 use std::sync::Wait;
 use std::test::*;
 use std::thread::Threads;
+use tests_player::patch;
 
 /// The entries of leaves 1 (61 to 63) and 2 (64 and 65), under the root 3.
 const FIVE: [u8; 5] = [0x61, 0x62, 0x63, 0x64, 0x65];

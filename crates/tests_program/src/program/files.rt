@@ -23,13 +23,6 @@ pub fn create(
     runs(rt, words.as_slice(), "", "created\n", "", 0)
 }
 
-/// Writes bytes over those of a file.
-pub fn patch(rt: &impl Files<File = File>, path: &str, at: u64, bytes: &[u8]) -> Result<(), Fail> {
-    let file = OpenOptions::new().write(true).open(rt, path)?;
-    file.write_all_at(bytes, at)?;
-    Ok(())
-}
-
 fn entry(key: u8) -> Entry {
     Entry {
         key: Key::new(&[key]).unwrap_or(Key::EMPTY),

@@ -1,7 +1,7 @@
 //! Damages of a long chain, which is judged in pieces: an index of 5,000 leaves, or 1,250, in a file, whose pages are written by
 //! their bytes. The leaf at place k is block k + 1, and has one entry.
 
-use super::files::{check_ends, patch};
+use super::files::check_ends;
 use super::runs;
 use std::fs::{self, File, OpenFile, OpenOptions};
 use std::os::unix::fs::FileExt;
@@ -10,6 +10,7 @@ use std::rt::Files;
 use std::sync::Wait;
 use std::test::*;
 use std::thread::Threads;
+use tests_player::patch;
 
 /// Pages of one level: these blocks, from the first on, and how many leaves are below each.
 #[derive(Clone, Copy)]

@@ -2,7 +2,7 @@
 //! index of the second may not have. The superblock's layout stands at 8, the page of block b at 69632 + 4096 b, its own in the
 //! fourth byte.
 
-use super::files::{checks, create, fill, patch};
+use super::files::{checks, create, fill};
 use super::{plain, runs};
 use device::{CrashImage, Device, MemDevice};
 use index_model::{Entry, Fault, Key, RowAddr};
@@ -13,6 +13,7 @@ use std::rt::Files;
 use std::sync::Wait;
 use std::test::*;
 use std::thread::Threads;
+use tests_player::patch;
 
 /// Where the layouts of the superblock and of pages 0 and 1 stand.
 const LAYOUTS: [(u64, &[u8]); 3] = [(8, &[1]), (69_635, b"1"), (73_731, b"1")];

@@ -1,6 +1,6 @@
 //! Unique indexes: an insert of a key that is there, in scripts and in jobs; the superblock says at 24 that an index is one.
 
-use super::files::{checks, patch};
+use super::files::checks;
 use super::{plays_with, runs};
 use std::alloc::{AllocError, Global};
 use std::fs::{self, File};
@@ -9,7 +9,7 @@ use std::rt::Files;
 use std::sync::Wait;
 use std::test::*;
 use std::thread::Threads;
-use tests_player::{played, text};
+use tests_player::{patch, played, text};
 
 /// A key that is there is refused with its row, whatever its own row is; the very entry is refused as that.
 const TWICE: &str = "> put 0 61 (0,1)

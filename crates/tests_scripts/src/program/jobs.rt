@@ -1,6 +1,5 @@
 //! Runs of jobs over indexes in files. Each test has files of its own.
 
-use super::files::patch;
 use super::runs;
 use std::fs::{self, File};
 use std::process::Abort;
@@ -8,7 +7,7 @@ use std::rt::Files;
 use std::sync::Wait;
 use std::test::*;
 use std::thread::Threads;
-use tests_player::{played, text};
+use tests_player::{patch, played, text};
 
 /// Makes an empty index of 64 blocks with a log of 65,536 bytes, and a file of these jobs.
 pub fn made(
