@@ -146,15 +146,22 @@ fn block_in<S: PageStore>(world: &mut World<S, Blocks>, block: u32) -> Result<u3
     Ok(page_in(world, block)?.block)
 }
 
+// Whether what is read of a world of 64 sessions is right, before a page of it is changed.
+fn reads<S: PageStore>(world: &mut World<S, Blocks>) -> [bool; 6] {
+    [
+        begins_and_abandons(world) == [false, true, true, true, false],
+        world.sessions() == 64,
+        !world.is_running(64),
+        (world.used(), world.actions(), world.room()) == (2, 0, 15),
+        block_in(world, 1) == Ok(1),
+        block_in(world, 2) == Err(Fault::PageDamaged(2)),
+    ]
+}
+
 #[test]
 fn readers_and_abandon(rt: HostRuntime) -> Result<(), Fail> {
     let mut world = world(rt.alloc(), 64)?;
-    assert!(rt; begins_and_abandons(&mut world) == [false, true, true, true, false]);
-    assert!(rt; world.sessions() == 64);
-    assert!(rt; !world.is_running(64));
-    assert!(rt; (world.used(), world.actions(), world.room()) == (2, 0, 15));
-    assert!(rt; block_in(&mut world, 1) == Ok(1));
-    assert!(rt; block_in(&mut world, 2) == Err(Fault::PageDamaged(2)));
+    assert_eq!(rt; reads(&mut world), [true; 6]);
     assert!(rt; world.into_store().begun() == 1);
     Ok(())
 }
@@ -283,19 +290,28 @@ fn opened_again(
     opened(alloc, left_by(alloc, world, CrashImage::Drop)?)
 }
 
-#[test]
-fn split_leaf_is_opened_again(rt: HostRuntime) -> Result<(), Fail> {
-    let mut world = opened(rt.alloc(), made(rt.alloc())?)?;
-    // A leaf has room for 4 entries. The fifth splits it, and the split is finished by a new root.
-    for key in 1..6u8 {
-        assert!(rt; adds(&mut world, key));
+// Whether session 0 adds the entries of the keys from 1 to below this one.
+fn adds_to<S: PageStore>(world: &mut World<S, Blocks>, end: u8) -> bool {
+    for key in 1..end {
+        if !adds(world, key) {
+            return false;
+        }
     }
-    assert!(rt; world.used() == 4);
-    assert!(rt; world.actions() == 6);
-    assert!(rt; matches!(one(&mut world, Event::Force), Answer::Forced(6)));
-    let mut again = opened_again(rt.alloc(), &world)?;
-    assert!(rt; again.used() == 4);
-    assert!(rt; counted(&mut again) == Some(5));
+    true
+}
+
+// A leaf has room for 4 entries. The fifth splits it, and the split is finished by a new root.
+fn splits<S: PageStore>(world: &mut World<S, Blocks>) -> [bool; 4] {
+    [
+        adds_to(world, 6),
+        world.used() == 4,
+        world.actions() == 6,
+        matches!(one(world, Event::Force), Answer::Forced(6)),
+    ]
+}
+
+// Whether one entry more is added to the two leaves, and all are there before and after it.
+fn goes_on<S: PageStore>(alloc: Global, again: &mut World<S, Blocks>) -> [bool; 4] {
     // The root is on level 1: the metapage, the root, the leaf, the entry.
     let rows = [
         (Event::Insert(0, entry(6, 6)), "begun", 0),
@@ -304,8 +320,20 @@ fn split_leaf_is_opened_again(rt: HostRuntime) -> Result<(), Fail> {
         (Event::Step(0), "going", 0),
         (Event::Step(0), "added", 1),
     ];
-    assert_eq!(rt; wrong(rt.alloc(), &mut again, &rows), 0);
-    assert!(rt; counted(&mut again) == Some(6));
+    [
+        again.used() == 4,
+        counted(again) == Some(5),
+        wrong(alloc, again, &rows) == 0,
+        counted(again) == Some(6),
+    ]
+}
+
+#[test]
+fn split_leaf_is_opened_again(rt: HostRuntime) -> Result<(), Fail> {
+    let mut world = opened(rt.alloc(), made(rt.alloc())?)?;
+    assert_eq!(rt; splits(&mut world), [true; 4]);
+    let mut again = opened_again(rt.alloc(), &world)?;
+    assert_eq!(rt; goes_on(rt.alloc(), &mut again), [true; 4]);
     Ok(())
 }
 
@@ -331,13 +359,19 @@ fn is_put<S: PageStore>(world: &mut World<S, Blocks>) -> bool {
     )
 }
 
+// An insert and a scan to their ends, and a step of none.
+fn runs_to_ends<S: PageStore>(world: &mut World<S, Blocks>) -> [bool; 3] {
+    [
+        is_put(world),
+        scanned(world) == Ok((Some(entry(0x61, 1)), true)),
+        matches!(finish(world, 1, 0), Ok(Answer::Refused(Fault::NoSession))),
+    ]
+}
+
 #[test]
 fn calls_run_to_their_ends(rt: HostRuntime) -> Result<(), Fail> {
     let mut world = opened(rt.alloc(), made(rt.alloc())?)?;
-    assert!(rt; is_put(&mut world));
-    assert!(rt; scanned(&mut world) == Ok((Some(entry(0x61, 1)), true)));
-    let over = finish(&mut world, 1, 0);
-    assert!(rt; matches!(over, Ok(Answer::Refused(Fault::NoSession))));
+    assert_eq!(rt; runs_to_ends(&mut world), [true; 3]);
     Ok(())
 }
 
@@ -353,14 +387,8 @@ fn takes<S: PageStore>(
     said.0 == word && said.1 == number
 }
 
-#[test]
-fn steps_are_taken_in_turns(rt: HostRuntime) -> Result<(), Fail> {
-    let mut world = opened(rt.alloc(), made(rt.alloc())?)?;
-    let rows = [
-        (Event::Insert(0, entry(0x61, 1)), "begun", 0),
-        (Event::Insert(1, entry(0x62, 2)), "begun", 0),
-    ];
-    assert_eq!(rt; wrong(rt.alloc(), &mut world, &rows), 0);
+// Two inserts into one leaf, a step after the other.
+fn takes_turns<S: PageStore>(world: &mut World<S, Blocks>) -> bool {
     // The metapage, the latch on the leaf, the entry. Who is blocked tries the latch again.
     let turns = [
         (0, "going", 0),
@@ -373,21 +401,41 @@ fn steps_are_taken_in_turns(rt: HostRuntime) -> Result<(), Fail> {
         (1, "refused", 12),
     ];
     for (session, word, number) in turns {
-        assert!(rt; takes(&mut world, session, 5, word, number));
+        if !takes(world, session, 5, word, number) {
+            return false;
+        }
     }
+    true
+}
+
+#[test]
+fn steps_are_taken_in_turns(rt: HostRuntime) -> Result<(), Fail> {
+    let mut world = opened(rt.alloc(), made(rt.alloc())?)?;
+    let rows = [
+        (Event::Insert(0, entry(0x61, 1)), "begun", 0),
+        (Event::Insert(1, entry(0x62, 2)), "begun", 0),
+    ];
+    assert_eq!(rt; wrong(rt.alloc(), &mut world, &rows), 0);
+    assert!(rt; takes_turns(&mut world));
     Ok(())
+}
+
+// No log has so much room, and the first action isn't durable: the call is given up.
+fn is_given_up<S: PageStore>(world: &mut World<S, Blocks>) -> [bool; 3] {
+    [
+        takes(world, 0, u32::MAX, "refused", 2),
+        !world.is_running(0),
+        takes(world, 0, u32::MAX, "refused", 3),
+    ]
 }
 
 #[test]
 fn call_is_given_up_for_its_checkpoint(rt: HostRuntime) -> Result<(), Fail> {
     let mut world = opened(rt.alloc(), made(rt.alloc())?)?;
-    assert!(rt; is_put(&mut world));
+    let is_put = is_put(&mut world);
     let begun = one(&mut world, Event::Insert(0, entry(0x62, 2)));
-    assert!(rt; matches!(begun, Answer::Begun));
-    // No log has so much room, and the first action isn't durable.
+    assert!(rt; is_put && matches!(begun, Answer::Begun));
     stop_at(&mut world, 1);
-    assert!(rt; takes(&mut world, 0, u32::MAX, "refused", 2));
-    assert!(rt; !world.is_running(0));
-    assert!(rt; takes(&mut world, 0, u32::MAX, "refused", 3));
+    assert_eq!(rt; is_given_up(&mut world), [true; 3]);
     Ok(())
 }

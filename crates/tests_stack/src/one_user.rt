@@ -98,40 +98,61 @@ fn scans_again<S: PageStore>(index: &mut Index<S>) -> Result<bool, Fault> {
     Ok(all && second)
 }
 
+// Three inserts and one of an entry that is there, a commit, scans and a checkpoint: whether each answers what is right.
+fn answer_in_turn<S: PageStore>(index: &mut Index<S>) -> [bool; 7] {
+    [
+        added(index, of(0x63)) == 1,
+        added(index, of(0x61)) == 2,
+        added(index, of(0x62)) == 3,
+        insert(index, of(0x61)) == Err(Fault::Exists),
+        commit(index) == Ok(3),
+        scans_again(index) == Ok(true),
+        checkpoint_of(index) == Ok(3),
+    ]
+}
+
 #[test]
 fn entries_are_given_in_order(rt: HostRuntime) -> Result<(), Fail> {
     let mut index = index(rt.alloc())?;
-    for (key, action) in [(0x63, 1), (0x61, 2), (0x62, 3)] {
-        assert!(rt; added(&mut index, of(key)) == action);
-    }
-    assert!(rt; insert(&mut index, of(0x61)) == Err(Fault::Exists));
-    assert!(rt; commit(&mut index) == Ok(3));
-    assert!(rt; scans_again(&mut index) == Ok(true));
-    assert!(rt; checkpoint_of(&mut index) == Ok(3));
+    assert_eq!(rt; answer_in_turn(&mut index), [true; 7]);
     law(&index);
     assert!(rt; index.into_device().len() == LEN);
     Ok(())
 }
 
+// A leaf has room for 4 entries. The fifth splits it, and one action more finishes the split.
+fn splits<S: PageStore>(index: &mut Index<S>) -> [bool; 3] {
+    [
+        adds_to(index, 8),
+        commit(index) == Ok(8),
+        scans(index, &[1, 2, 3, 4, 5, 6, 7, 0, 0]) == Ok(true),
+    ]
+}
+
 #[test]
 fn a_split_leaf_is_scanned(rt: HostRuntime) -> Result<(), Fail> {
     let mut index = index(rt.alloc())?;
-    // A leaf has room for 4 entries. The fifth splits it, and one action more finishes the split.
-    assert!(rt; adds_to(&mut index, 8));
-    assert!(rt; commit(&mut index) == Ok(8));
-    assert!(rt; scans(&mut index, &[1, 2, 3, 4, 5, 6, 7, 0, 0]) == Ok(true));
+    assert_eq!(rt; splits(&mut index), [true; 3]);
     Ok(())
+}
+
+// Whether an entry is added and forced.
+fn keeps_one<S: PageStore>(index: &mut Index<S>) -> bool {
+    added(index, entry(0x61, 1)) == 1 && commit(index) == Ok(1)
+}
+
+// Why the index on a device isn't opened.
+fn refusal(alloc: Global, device: MemDevice, frames: u32) -> Option<Fault> {
+    open_index(alloc, device, frames).err()
 }
 
 #[test]
 fn an_index_is_opened_again(rt: HostRuntime) -> Result<(), Fail> {
     let mut first = index(rt.alloc())?;
-    assert!(rt; added(&mut first, entry(0x61, 1)) == 1);
-    assert!(rt; commit(&mut first) == Ok(1));
+    assert!(rt; keeps_one(&mut first));
     let mut again = open_index(rt.alloc(), first.into_device(), 16)?;
     assert!(rt; scans(&mut again, &[1, 0]) == Ok(true));
-    let refused = open_index(rt.alloc(), again.into_device(), 15);
-    assert!(rt; refused.err() == Some(Fault::BadLimits));
+    assert!(rt; refusal(rt.alloc(), again.into_device(), 15) == Some(Fault::BadLimits));
     Ok(())
 }
 
@@ -143,28 +164,42 @@ fn tokens<S: PageStore>(index: &mut Index<S>) -> Result<(ScanToken, ScanToken), 
     Ok((first, second))
 }
 
+// What the token of a scan that has ended is answered, and then the other.
+fn answers_to_tokens<S: PageStore>(index: &mut Index<S>) -> Result<[bool; 5], Fault> {
+    let (first, second) = tokens(index)?;
+    Ok([
+        first != second,
+        given(index, first) == 112,
+        end_scan(index, first) == Err(Fault::NoSession),
+        rescan(index, first, ALL) == Err(Fault::NoSession),
+        given(index, second) == 0,
+    ])
+}
+
 #[test]
 fn closed_tokens_are_refused(rt: HostRuntime) -> Result<(), Fail> {
     let mut index = in_memory(rt.alloc())?;
-    let (first, second) = tokens(&mut index)?;
-    assert!(rt; first != second);
-    assert!(rt; given(&mut index, first) == 112);
-    assert!(rt; end_scan(&mut index, first) == Err(Fault::NoSession));
-    assert!(rt; rescan(&mut index, first, ALL) == Err(Fault::NoSession));
-    assert!(rt; given(&mut index, second) == 0);
+    assert!(rt; answers_to_tokens(&mut index) == Ok([true; 5]));
     Ok(())
+}
+
+// Begins 63 scans, one more, and that one again after the first has ended.
+fn begins_63_scans<S: PageStore>(index: &mut Index<S>) -> Result<[bool; 3], Fault> {
+    let first = begin_scan(index, ALL)?;
+    for _scan in 1..63 {
+        begin_scan(index, ALL)?;
+    }
+    Ok([
+        begin_scan(index, ALL) == Err(Fault::NoSession),
+        end_scan(index, first) == Ok(()),
+        begin_scan(index, ALL).is_ok(),
+    ])
 }
 
 #[test]
 fn at_most_63_scans(rt: HostRuntime) -> Result<(), Fail> {
     let mut index = in_memory(rt.alloc())?;
-    let first = begin_scan(&mut index, ALL)?;
-    for _scan in 1..63 {
-        assert!(rt; begin_scan(&mut index, ALL).is_ok());
-    }
-    assert!(rt; begin_scan(&mut index, ALL) == Err(Fault::NoSession));
-    assert!(rt; end_scan(&mut index, first) == Ok(()));
-    assert!(rt; begin_scan(&mut index, ALL).is_ok());
+    assert!(rt; begins_63_scans(&mut index) == Ok([true; 3]));
     Ok(())
 }
 
@@ -177,6 +212,20 @@ fn refusals<S: PageStore>(index: &mut Index<S>, token: ScanToken) -> [Option<Fau
     ]
 }
 
+// Two inserts with a commit each, of which the second fails, and what is answered then.
+fn stops<S: PageStore>(index: &mut Index<S>) -> Result<[bool; 7], Fault> {
+    let token = begin_scan(index, ALL)?;
+    Ok([
+        insert(index, of(0x61)).is_ok(),
+        commit(index) == Ok(1),
+        insert(index, of(0x62)).is_ok(),
+        commit(index) == Err(Fault::Io),
+        commit(index) == Err(Fault::Stopped),
+        refusals(index, token) == [Some(Fault::Stopped); 3],
+        end_scan(index, token).is_ok(),
+    ])
+}
+
 #[test]
 fn a_failed_device_stops_the_index(rt: HostRuntime) -> Result<(), Fail> {
     let mut device = made(rt.alloc())?;
@@ -184,14 +233,7 @@ fn a_failed_device_stops_the_index(rt: HostRuntime) -> Result<(), Fail> {
     // of the second commit.
     device.fail_at(14);
     let mut index = open_index(rt.alloc(), device, 16)?;
-    let token = begin_scan(&mut index, ALL)?;
-    for (key, wanted) in [(0x61, Ok(1)), (0x62, Err(Fault::Io))] {
-        assert!(rt; insert(&mut index, of(key)).is_ok());
-        assert!(rt; commit(&mut index) == wanted);
-    }
-    assert!(rt; commit(&mut index) == Err(Fault::Stopped));
-    assert!(rt; refusals(&mut index, token) == [Some(Fault::Stopped); 3]);
-    assert!(rt; end_scan(&mut index, token).is_ok());
+    assert!(rt; stops(&mut index) == Ok([true; 7]));
     Ok(())
 }
 
@@ -205,22 +247,32 @@ fn deletes_all<S: PageStore>(index: &mut Index<S>) -> Result<(VacuumStats, Vacuu
     Ok((removed, cleaned))
 }
 
+// Deletes all, and inserts it again: whether what the deletes count is right, and what a cleanup counts after it.
+fn uses_again<S: PageStore>(index: &mut Index<S>) -> Result<[bool; 9], Fault> {
+    let (removed, cleaned) = deletes_all(index)?;
+    let (is_added, is_scanned) = (
+        adds_to(index, 10),
+        scans(index, &[1, 2, 3, 4, 5, 6, 7, 8, 9, 0]) == Ok(true),
+    );
+    let again = clean_up(index)?;
+    Ok([
+        (removed.tuples_removed, removed.num_index_tuples) == (9, 0),
+        (cleaned.tuples_removed, cleaned.num_index_tuples) == (0, 0),
+        // The metapage, the root and its last child are left.
+        cleaned.num_pages == removed.num_pages,
+        cleaned.pages_newly_deleted.wrapping_add(3) == cleaned.num_pages,
+        cleaned.pages_deleted == cleaned.pages_newly_deleted,
+        is_added,
+        is_scanned,
+        again.num_index_tuples == 9,
+        (again.num_pages, again.pages_newly_deleted) == (cleaned.num_pages, 0),
+    ])
+}
+
 #[test]
 fn deleted_pages_are_used_again(rt: HostRuntime) -> Result<(), Fail> {
     let mut index = index(rt.alloc())?;
-    let (removed, cleaned) = deletes_all(&mut index)?;
-    assert!(rt; (removed.tuples_removed, removed.num_index_tuples) == (9, 0));
-    assert!(rt; (cleaned.tuples_removed, cleaned.num_index_tuples) == (0, 0));
-    // The metapage, the root and its last child are left.
-    assert!(rt; cleaned.num_pages == removed.num_pages);
-    assert!(rt; cleaned.pages_newly_deleted.wrapping_add(3) == cleaned.num_pages);
-    assert!(rt; cleaned.pages_deleted == cleaned.pages_newly_deleted);
-
-    assert!(rt; adds_to(&mut index, 10));
-    assert!(rt; scans(&mut index, &[1, 2, 3, 4, 5, 6, 7, 8, 9, 0]) == Ok(true));
-    let again = clean_up(&mut index)?;
-    assert!(rt; again.num_index_tuples == 9);
-    assert!(rt; (again.num_pages, again.pages_newly_deleted) == (cleaned.num_pages, 0));
+    assert!(rt; uses_again(&mut index) == Ok([true; 9]));
     Ok(())
 }
 
@@ -269,19 +321,22 @@ fn few_frames_answer_as_many_do(rt: HostRuntime) -> Result<(), Fail> {
     Ok(())
 }
 
-// Deletes the rows of block 1, which odd keys have, while even keys have rows of block 0.
-fn deletes_odd<S: PageStore>(index: &mut Index<S>) -> Result<VacuumStats, Fault> {
+// Deletes the rows of block 1, which odd keys have, while even keys have rows of block 0: whether it counts and leaves what is
+// right.
+fn deletes_odd<S: PageStore>(index: &mut Index<S>) -> Result<[bool; 2], Fault> {
     for key in 1..8u8 {
         insert(index, keyed(&[key], u32::from(key) % 2, u16::from(key)))?;
     }
-    bulk_delete(index, &Blocks { from: 1, to: 1 })
+    let stats = bulk_delete(index, &Blocks { from: 1, to: 1 })?;
+    Ok([
+        (stats.tuples_removed, stats.num_index_tuples) == (4, 3),
+        scans(index, &[2, 4, 6, 0]) == Ok(true),
+    ])
 }
 
 #[test]
 fn dead_rows_are_deleted(rt: HostRuntime) -> Result<(), Fail> {
     let mut index = index(rt.alloc())?;
-    let stats = deletes_odd(&mut index)?;
-    assert!(rt; (stats.tuples_removed, stats.num_index_tuples) == (4, 3));
-    assert!(rt; scans(&mut index, &[2, 4, 6, 0]) == Ok(true));
+    assert!(rt; deletes_odd(&mut index) == Ok([true; 2]));
     Ok(())
 }
