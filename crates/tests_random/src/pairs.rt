@@ -27,7 +27,7 @@ const FEW: u32 = 16;
 /// A world with few frames, whose device calls fail, and one with frames for all, whose don't. Each does the same events, so
 /// their pages are the same; whoever looks at those of the second moves none of the first to or from memory.
 #[derive(Drop)]
-struct Pair<S: PageStore> {
+struct Pair<S: PageStore + Drop> {
     few: World<S, Blocks>,
     all: World<S, Blocks>,
     past: Past,
@@ -100,7 +100,7 @@ fn watched<S: PageStore>(
     Ok((past, judge))
 }
 
-impl<S: PageStore> Pair<S> {
+impl<S: PageStore + Drop> Pair<S> {
     /// Of two worlds whose pages are the same, and which have no calls.
     fn new(run: Run, few: World<S, Blocks>, all: World<S, Blocks>) -> Result<Pair<S>, AllocError> {
         let mut few = few;
