@@ -3,13 +3,13 @@
 use super::{caller, plain, runs};
 use device::Unknown;
 use index_model::{Entry, Fault, Key, RowAddr};
-use std::fs::{self, File, OpenFile, OpenOptions};
-use std::os::unix::fs::FileExt;
+use std::fs::{self, File};
 use std::process::Abort;
 use std::rt::Files;
 use std::sync::Wait;
 use std::test::*;
 use std::thread::Threads;
+use tests_player::patch;
 
 /// Makes an empty index of 64 blocks with a log of 65,536 bytes in a new file.
 pub fn create(

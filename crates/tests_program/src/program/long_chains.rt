@@ -4,6 +4,7 @@
 use super::files::check_ends;
 use super::runs;
 use std::fs::{self, File, OpenFile, OpenOptions};
+use std::io;
 use std::os::unix::fs::FileExt;
 use std::process::Abort;
 use std::rt::Files;
@@ -162,13 +163,13 @@ fn make(
 }
 
 /// The left link of the leaf at this place leads to the leaf itself.
-fn damage(rt: &impl Files<File = File>, path: &str, place: u32) -> Result<(), Fail> {
+fn damage(rt: &impl Files<File = File>, path: &str, place: u32) -> io::Result<()> {
     let block = place.saturating_add(1);
     patch(rt, path, place_of(block, 12), &block.to_le_bytes())
 }
 
 /// It leads to the leaf before it again.
-fn mend(rt: &impl Files<File = File>, path: &str, place: u32) -> Result<(), Fail> {
+fn mend(rt: &impl Files<File = File>, path: &str, place: u32) -> io::Result<()> {
     let left = if place == 0 { u32::MAX } else { place };
     patch(
         rt,
@@ -217,7 +218,8 @@ fn make_damaged(
     make(rt, path, 5_000)?;
     damage(rt, path, 4_000)?;
     damage(rt, path, 1_500)?;
-    patch(rt, path, place_of(5_103, 186), &[0xff])
+    patch(rt, path, place_of(5_103, 186), &[0xff])?;
+    Ok(())
 }
 
 /// Of damages at several places that of the first leaf is found.
