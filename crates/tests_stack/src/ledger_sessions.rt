@@ -1,7 +1,7 @@
 //! What no clause says: sessions with their answers, over files and in memory.
 
 use access_method::Index;
-use device::{CrashImage, MemDevice, Unknown};
+use device::{CrashImage, Device, MemDevice, Unknown};
 use index_model::{Fault, Limits};
 use ledger_lines::{answer_lines, ledger};
 use page_store::Store;
@@ -84,9 +84,9 @@ fn left(alloc: Global, index: InMemory) -> Result<MemDevice, Fault> {
 }
 
 /// Has an index answer lines. What that promises ends here.
-fn answered(
+fn answered<D: Device>(
     alloc: Global,
-    index: &mut InMemory,
+    index: &mut Index<Store<D>>,
     input: &mut &[u8],
     out: &mut Vec<u8>,
 ) -> io::Result<()> {
@@ -94,11 +94,41 @@ fn answered(
 }
 
 /// What an index prints for these lines.
-fn answers(alloc: Global, index: &mut InMemory, lines: &[u8]) -> Result<Vec<u8>, Fail> {
+fn answers<D: Device>(
+    alloc: Global,
+    index: &mut Index<Store<D>>,
+    lines: &[u8],
+) -> Result<Vec<u8>, Fail> {
     let mut input = lines;
     let mut out = Vec::new(alloc);
     answered(alloc, index, &mut input, &mut out)?;
     Ok(out)
+}
+
+/// The first of these lines, counted from 1, that isn't answered so; 0 if all are.
+fn wrong<D: Device>(
+    alloc: Global,
+    index: &mut Index<Store<D>>,
+    rows: &[(&str, &str)],
+) -> Result<usize, Fail> {
+    for (place, (line, answer)) in rows.iter().enumerate() {
+        let printed = answers(alloc, index, line.as_bytes())?;
+        if text(&printed) != *answer {
+            return Ok(place + 1);
+        }
+    }
+    Ok(0)
+}
+
+/// Whether inserts of a key of 65 bytes are refused for that, the one with a bad row too.
+fn refuses_long_keys<D: Device>(alloc: Global, index: &mut Index<Store<D>>) -> Result<bool, Fail> {
+    let long = format!(in alloc; "insert {:0130} (0,1)", 0)?;
+    let long_first = format!(in alloc; "insert {:0130} (0,0)", 0)?;
+    let rows = [
+        (long.as_str(), "refused 6 KeyTooLong\n"),
+        (long_first.as_str(), "refused 6 KeyTooLong\n"),
+    ];
+    Ok(wrong(alloc, index, &rows)? == 0)
 }
 
 /// Each kind of line, over a new file, and again over the same one, which holds what the first run left. The last line has no
@@ -164,83 +194,98 @@ fn not_opened(rt: HostRuntime) -> Result<(), Fail> {
     Ok(())
 }
 
-/// Lines that are refused or are none, each with its answer: nothing is changed.
+/// Lines that are refused or are none, each with its answer.
+const REFUSED: [(&str, &str); 23] = [
+    ("insert 61 (0,0)", "refused 7 BadRow\n"),
+    ("insert 61 (4294967295,1)", "refused 7 BadRow\n"),
+    ("delete (0,1) (0,0)", "refused 7 BadRow\n"),
+    ("insert 61 (4294967296,1)", "not a line\n"),
+    ("insert 61 (0,65536)", "not a line\n"),
+    ("insert 61 (00,1)", "not a line\n"),
+    ("insert 61 (+0,1)", "not a line\n"),
+    ("insert 61 0,1", "not a line\n"),
+    ("insert 6 (0,1)", "not a line\n"),
+    ("insert 6A (0,1)", "not a line\n"),
+    ("insert 61", "not a line\n"),
+    ("insert 61 (0,1) ", "not a line\n"),
+    ("insert  61 (0,1)", "not a line\n"),
+    (" insert 61 (0,1)", "not a line\n"),
+    ("insert 61 (0,1)\r", "not a line\n"),
+    ("Insert 61 (0,1)", "not a line\n"),
+    ("put 61 (0,1)", "not a line\n"),
+    ("delete (0,1),", "not a line\n"),
+    ("list *", "not a line\n"),
+    ("list * * *", "not a line\n"),
+    ("commit 1", "not a line\n"),
+    ("# a comment", "not a line\n"),
+    ("\n", "not a line\n"),
+];
+
+/// Nothing is changed by them, nor by bytes that are no text.
 #[test]
 fn refusals(rt: HostRuntime) -> Result<(), Fail> {
     let mut index = opened(rt.alloc(), made(rt.alloc())?)?;
-    let long = format!(in rt.alloc(); "insert {:0130} (0,1)", 0)?;
-    let long_first = format!(in rt.alloc(); "insert {:0130} (0,0)", 0)?;
-    for (line, answer) in [
-        (long.as_str(), "refused 6 KeyTooLong\n"),
-        (long_first.as_str(), "refused 6 KeyTooLong\n"),
-        ("insert 61 (0,0)", "refused 7 BadRow\n"),
-        ("insert 61 (4294967295,1)", "refused 7 BadRow\n"),
-        ("delete (0,1) (0,0)", "refused 7 BadRow\n"),
-        ("insert 61 (4294967296,1)", "not a line\n"),
-        ("insert 61 (0,65536)", "not a line\n"),
-        ("insert 61 (00,1)", "not a line\n"),
-        ("insert 61 (+0,1)", "not a line\n"),
-        ("insert 61 0,1", "not a line\n"),
-        ("insert 6 (0,1)", "not a line\n"),
-        ("insert 6A (0,1)", "not a line\n"),
-        ("insert 61", "not a line\n"),
-        ("insert 61 (0,1) ", "not a line\n"),
-        ("insert  61 (0,1)", "not a line\n"),
-        (" insert 61 (0,1)", "not a line\n"),
-        ("insert 61 (0,1)\r", "not a line\n"),
-        ("Insert 61 (0,1)", "not a line\n"),
-        ("put 61 (0,1)", "not a line\n"),
-        ("delete (0,1),", "not a line\n"),
-        ("list *", "not a line\n"),
-        ("list * * *", "not a line\n"),
-        ("commit 1", "not a line\n"),
-        ("# a comment", "not a line\n"),
-        ("\n", "not a line\n"),
-    ] {
-        let printed = answers(rt.alloc(), &mut index, line.as_bytes())?;
-        assert_eq!(rt; text(&printed), answer, "{line}");
-    }
-    let printed = answers(
-        rt.alloc(),
-        &mut index,
-        b"\xff\0insert 61 (0,1)\nlist * *\ncommit\n",
-    )?;
+    assert!(rt; refuses_long_keys(rt.alloc(), &mut index)?);
+    assert_eq!(rt; wrong(rt.alloc(), &mut index, &REFUSED)?, 0);
+    let lines = b"\xff\0insert 61 (0,1)\nlist * *\ncommit\n";
+    let printed = answers(rt.alloc(), &mut index, lines)?;
     assert_eq!(rt; text(&printed), "not a line\ndone 0\ncommitted 0\n");
     Ok(())
+}
+
+/// How many commits such lines were told of, and what a list of all prints then; 3 for what isn't right.
+fn acknowledged(printed: &str) -> (usize, &'static str) {
+    match printed {
+        "refused 2 Io\ncommitted 0\nrefused 2 Io\ncommitted 0\n"
+        | "added 1\nrefused 2 Io\nrefused 3 Stopped\nrefused 3 Stopped\n" => (0, "done 0\n"),
+        "added 1\ncommitted 1\nadded 2\nrefused 2 Io\n" => (1, "entry 61 (0,1)\ndone 1\n"),
+        "added 1\ncommitted 1\nadded 2\ncommitted 2\n" => {
+            (2, "entry 61 (0,1)\nentry 62 (0,1)\ndone 2\n")
+        }
+        _ => (3, ""),
+    }
+}
+
+/// Whether a list of all, over the index on this device, prints this.
+fn lists(alloc: Global, device: MemDevice, wanted: &str) -> Result<bool, Fail> {
+    let mut index = opened(alloc, device)?;
+    let printed = answers(alloc, &mut index, b"list * *\n")?;
+    Ok(text(&printed) == wanted)
+}
+
+/// Answers two inserts with a commit each over a device that stops at this call, and opens what a crash leaves: how many commits
+/// were told of; 3 where what is told or left isn't right, None where the index isn't opened.
+fn stops_at(alloc: Global, call: u64) -> Result<Option<usize>, Fail> {
+    let mut device = made(alloc)?;
+    stop_at(&mut device, call);
+    let Ok(mut index) = opened(alloc, device) else {
+        return Ok(None);
+    };
+    let lines = b"insert 61 (0,1)\ncommit\ninsert 62 (0,1)\ncommit\n";
+    let printed = answers(alloc, &mut index, lines);
+    let found = left(alloc, index);
+    let (count, wanted) = acknowledged(text(&printed?));
+    Ok(Some(if lists(alloc, found?, wanted)? {
+        count
+    } else {
+        3
+    }))
 }
 
 /// The device stops at each call in turn. The lines before have their answers, those after are refused, but a commit that has
 /// nothing to make durable; and what was told to be committed is what a crash leaves.
 #[test]
 fn stopped(rt: HostRuntime) -> Result<(), Fail> {
-    let lines = b"insert 61 (0,1)\ncommit\ninsert 62 (0,1)\ncommit\n";
-    let mut device = made(rt.alloc())?;
     let mut seen = [false; 3];
     for call in 1..100 {
-        stop_at(&mut device, call);
-        let Ok(mut index) = opened(rt.alloc(), device) else {
-            device = made(rt.alloc())?;
+        let Some(count) = stops_at(rt.alloc(), call)? else {
             continue;
         };
-        let printed = answers(rt.alloc(), &mut index, lines)?;
-        let (acknowledged, left_behind) = match text(&printed) {
-            "refused 2 Io\ncommitted 0\nrefused 2 Io\ncommitted 0\n"
-            | "added 1\nrefused 2 Io\nrefused 3 Stopped\nrefused 3 Stopped\n" => (0, "done 0\n"),
-            "added 1\ncommitted 1\nadded 2\nrefused 2 Io\n" => { (1, "entry 61 (0,1)\ndone 1\n") }
-            "added 1\ncommitted 1\nadded 2\ncommitted 2\n" => {
-                (2, "entry 61 (0,1)\nentry 62 (0,1)\ndone 2\n")
-            }
-            _ => (3, ""),
-        };
-        assert!(rt; acknowledged < 3, "stopped at {call}");
-        seen[acknowledged] = true;
-        let mut again = opened(rt.alloc(), left(rt.alloc(), index)?)?;
-        let printed = answers(rt.alloc(), &mut again, b"list * *\n")?;
-        assert_eq!(rt; text(&printed), left_behind, "stopped at {call}");
-        if acknowledged == 2 {
+        assert!(rt; count < 3, "stopped at {call}");
+        seen[count] = true;
+        if count == 2 {
             break;
         }
-        device = made(rt.alloc())?;
     }
     assert!(rt; seen == [true, true, true]);
     Ok(())
