@@ -4,7 +4,7 @@ use crate::indexes::{InMemory, all_entries, made, opened};
 use crate::judge::{Addition, are_those_by, count, tells_of_failure};
 use crate::judged::ran;
 use crate::lists::{entry, range};
-use crate::plain::is_sound_to_all;
+use crate::plain::{actions, is_sound_to_all};
 use device::{CrashImage, MemDevice};
 use index_model::Limits;
 use session_calls::Answer;
@@ -14,6 +14,7 @@ use std::process::Abort;
 use std::sync::Wait;
 use std::test::{Fail, *};
 use std::thread::Threads;
+use tests_support::plain::{fail_at, left_by, stop_at};
 
 const LIMITS: Limits = Limits {
     items: 4,
@@ -52,8 +53,8 @@ enum Failing {
 /// The nth call of the device from now on fails.
 fn will_fail(world: &mut InMemory, how: Failing, n: u64) {
     match how {
-        Failing::Once => world.fail_at(n),
-        Failing::ForGood => world.stop_at(n),
+        Failing::Once => fail_at(world, n),
+        Failing::ForGood => stop_at(world, n),
     }
 }
 
@@ -122,9 +123,9 @@ fn fails_right(
     will_fail(&mut world, how, n);
     let (done, added) = ran(rt, world, jobs, workers, LIMITS.pages, true)?;
     let durable = last_forced(done.history.as_slice());
-    let last = done.world.actions();
+    let last = actions(&done.world);
     for image in [CrashImage::Keep, CrashImage::Drop, CrashImage::Tear] {
-        let found = done.world.crash(rt.alloc(), image)?;
+        let found = left_by(rt.alloc(), &done.world, image)?;
         opens_right(rt, found, added.as_slice(), durable, last, counted)?;
     }
     let has_told = done.history.as_slice().iter().any(tells_of_failure);

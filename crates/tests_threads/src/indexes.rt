@@ -11,7 +11,7 @@ use session_calls::Answer;
 use std::alloc::Global;
 use std::test::Fail;
 use tests_support::dead::Blocks;
-use tests_support::plain::{create, device, open_world};
+use tests_support::plain::{create, device, one, open_world};
 use world::World;
 
 /// An index on a device in memory.
@@ -48,13 +48,13 @@ pub fn all_entries<S: PageStore>(
     world: &mut World<S, Blocks>,
 ) -> Result<Vec<Entry>, Fail> {
     let mut entries = Vec::new(alloc);
-    if let Answer::Refused(fault) = world.one(Event::Scan(0, ALL)) {
+    if let Answer::Refused(fault) = one(world, Event::Scan(0, ALL)) {
         return Err(Fail::from(fault));
     }
     for _ in 0..1_000_000 {
-        match world.one(Event::Next(0)) {
+        match one(world, Event::Next(0)) {
             Answer::Gave(Some(entry)) => entries.push(entry)?,
-            Answer::Gave(None) => match world.one(Event::Step(0)) {
+            Answer::Gave(None) => match one(world, Event::Step(0)) {
                 Answer::Done => return Ok(entries),
                 Answer::Refused(fault) => return Err(Fail::from(fault)),
                 _ => {}

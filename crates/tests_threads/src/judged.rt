@@ -3,7 +3,7 @@
 use crate::indexes::{all_entries, made};
 use crate::judge::{Addition, Run, additions, are_those_left, count, first_wrong, has_each_once};
 use crate::lists::{Dice, entry, mixed, range, shuffled};
-use crate::plain::{is_sound, run};
+use crate::plain::{abandon, actions, is_sound, run};
 use device::MemDevice;
 use index_model::{DeadRows, Fault, Limits};
 use page_action::PageStore;
@@ -16,6 +16,7 @@ use std::sync::Wait;
 use std::test::{Fail, *};
 use std::thread::Threads;
 use tests_support::dead::Blocks;
+use tests_support::plain::one;
 use world::World;
 
 /// The keys of all jobs here have numbers below this.
@@ -122,7 +123,7 @@ fn one_leaf(rt: HostRuntime) -> Result<(), Fail> {
         let world = made(rt.alloc(), &limits, 8)?;
         let (done, added) = ran(&rt, world, jobs.as_slice(), 8, 8, false)?;
         assert_eq!(rt; count(added.as_slice()), 48);
-        assert_eq!(rt; done.world.actions(), 48);
+        assert_eq!(rt; actions(&done.world), 48);
     }
     Ok(())
 }
@@ -231,7 +232,12 @@ fn not_run(rt: HostRuntime) -> Result<(), Fail> {
             }
         }
     }
-    assert!(rt; matches!(world.one(Event::Insert(3, entry(2, 0))), Answer::Begun));
+    assert!(rt;
+        matches!(
+            one(&mut world, Event::Insert(3, entry(2, 0))),
+            Answer::Begun
+        )
+    );
     for (jobs, workers, fault) in [
         (&jobs, 5, Fault::BadLimits),
         (&wide, 1, Fault::BadLimits),
@@ -245,7 +251,7 @@ fn not_run(rt: HostRuntime) -> Result<(), Fail> {
             }
         }
     }
-    assert!(rt; matches!(world.abandon(3), Answer::Ended));
+    assert!(rt; matches!(abandon(&mut world, 3), Answer::Ended));
     let (done, _) = ran(&rt, world, &[], 2, LIMITS.pages, false)?;
     let (done, _) = ran(&rt, done.world, &jobs, 4, LIMITS.pages, false)?;
     assert_eq!(rt; done.history.len(), 1);

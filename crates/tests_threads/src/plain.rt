@@ -4,6 +4,7 @@ use amcheck::{check_parents, check_parents_one};
 use index_model::{DeadRows, Entry, Fault, Key, Layout, Limits, NoProgress, Range, RowAddr};
 use page_action::{MapStore, PageStore};
 use page_codec::{Items, Page, PageState};
+use session_calls::Answer;
 use sessions::{Finished, Gate, Job, NotRun, run_jobs};
 use std::alloc::Global;
 use std::sync::Wait;
@@ -40,6 +41,16 @@ pub fn run<
     gate: &G,
 ) -> Result<Finished<S, T>, NotRun<S, T>> {
     run_jobs(rt, alloc, world, jobs, workers, gate)
+}
+
+/// How many actions there are.
+pub fn actions<S: PageStore, T: DeadRows + Drop>(world: &World<S, T>) -> u64 {
+    world.actions()
+}
+
+/// Gives up the call of a session.
+pub fn abandon<S: PageStore, T: DeadRows + Drop>(world: &mut World<S, T>, session: u32) -> Answer {
+    world.abandon(session)
 }
 
 /// Whether the verifier finds no damage, in this thread alone.
