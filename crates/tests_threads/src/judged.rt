@@ -213,6 +213,56 @@ fn rooms_of_scans(rt: HostRuntime) -> Result<(), Fail> {
     Ok(())
 }
 
+/// Whether runs of these jobs by so many workers are each refused so, and the world, which comes back.
+fn are_refused<
+    R: Abort + AllocGlobal + Threads + Wait + Sync,
+    S: PageStore + Drop + Send,
+    T: DeadRows + Drop + Send,
+>(rt: &R, world: World<S, T>, rows: &[(&[Job], u32, Fault)]) -> Result<(bool, World<S, T>), Fault> {
+    let (mut are, mut world) = (true, world);
+    for (jobs, workers, fault) in rows {
+        match run(rt, rt.alloc(), world, jobs, *workers, &NoGate) {
+            Ok(_) => return Err(Fault::Exists),
+            Err(not_run) => {
+                are = are && not_run.fault == *fault;
+                world = not_run.world;
+            }
+        }
+    }
+    Ok((are, world))
+}
+
+/// What isn't run, without a call that runs and beside one: whether each is refused as is right.
+fn refuses<
+    R: Abort + AllocGlobal + Threads + Wait + Sync,
+    S: PageStore + Drop + Send,
+    T: DeadRows + Drop + Send,
+>(
+    rt: &R,
+    world: World<S, T>,
+    jobs: &[Job],
+    wide: &[Job],
+) -> Result<([bool; 4], World<S, T>), Fault> {
+    let idle = [
+        (jobs, 0, Fault::BadLimits),
+        (jobs, 5, Fault::BadLimits),
+        (jobs, 65, Fault::BadLimits),
+    ];
+    let (first, mut world) = are_refused(rt, world, &idle)?;
+    let has_begun = matches!(
+        one(&mut world, Event::Insert(3, entry(2, 0))),
+        Answer::Begun
+    );
+    let busy = [
+        (jobs, 5, Fault::BadLimits),
+        (wide, 1, Fault::BadLimits),
+        (jobs, 1, Fault::SessionBusy),
+    ];
+    let (second, mut world) = are_refused(rt, world, &busy)?;
+    let has_ended = matches!(abandon(&mut world, 3), Answer::Ended);
+    Ok(([first, has_begun, second, has_ended], world))
+}
+
 /// What isn't run: too many workers and too wide a scan before a call that runs; the world comes back as it was. Without a job
 /// nothing is recorded.
 #[test]
@@ -222,36 +272,9 @@ fn not_run(rt: HostRuntime) -> Result<(), Fail> {
         range: range(0, 1),
         room: 1_048_577,
     }];
-    let mut world = made(rt.alloc(), &LIMITS, 4)?;
-    for workers in [0, 5, 65] {
-        match run(&rt, rt.alloc(), world, &jobs, workers, &NoGate) {
-            Ok(_) => return Err(Fail::from(Fault::Exists)),
-            Err(not_run) => {
-                assert!(rt; not_run.fault == Fault::BadLimits);
-                world = not_run.world;
-            }
-        }
-    }
-    assert!(rt;
-        matches!(
-            one(&mut world, Event::Insert(3, entry(2, 0))),
-            Answer::Begun
-        )
-    );
-    for (jobs, workers, fault) in [
-        (&jobs, 5, Fault::BadLimits),
-        (&wide, 1, Fault::BadLimits),
-        (&jobs, 1, Fault::SessionBusy),
-    ] {
-        match run(&rt, rt.alloc(), world, jobs, workers, &NoGate) {
-            Ok(_) => return Err(Fail::from(Fault::Exists)),
-            Err(not_run) => {
-                assert!(rt; not_run.fault == fault);
-                world = not_run.world;
-            }
-        }
-    }
-    assert!(rt; matches!(abandon(&mut world, 3), Answer::Ended));
+    let world = made(rt.alloc(), &LIMITS, 4)?;
+    let (are_right, world) = refuses(&rt, world, &jobs, &wide)?;
+    assert_eq!(rt; are_right, [true; 4]);
     let (done, _) = ran(&rt, world, &[], 2, LIMITS.pages, false)?;
     let (done, _) = ran(&rt, done.world, &jobs, 4, LIMITS.pages, false)?;
     assert_eq!(rt; done.history.len(), 1);
