@@ -136,41 +136,16 @@ fn replays<S: PageStore>(
     Ok(has_failed)
 }
 
-/// Over an index of this world.
-fn is_right_once(
-    run: Run,
-    world: &mut OverDevice,
-    script: &Played,
-    n: u64,
-    counted: &mut Counted,
-) -> Result<bool, Fail> {
-    let mut judge = judge_of(run, world)?;
-    fail_at(world, n);
-    Ok(replays(run, world, &mut judge, script)? && opens_right(run, world, &mut judge, n, counted)?)
-}
-
 /// Whether the run in which the nth call fails, once, is right, and then what is opened after a crash of each kind.
 pub fn fails_once(run: Run, script: &Played, n: u64, counted: &mut Counted) -> Result<bool, Fail> {
     let mut world = on_a_device(run, FOR_ALL)?;
+    let mut judge = judge_of(run, &mut world)?;
+    fail_at(&mut world, n);
     counted.failed = counted.failed.saturating_add(1);
-    is_right_once(run, &mut world, script, n, counted)
-}
-
-/// Over an index of this world.
-fn is_right_for_good(
-    run: Run,
-    world: &mut OverDevice,
-    script: &Played,
-    n: u64,
-    counted: &mut Counted,
-) -> Result<bool, Fail> {
-    let mut judge = judge_of(run, world)?;
-    stop_at(world, n);
-    Ok(
-        replays(run, world, &mut judge, script)?
-            && opens_right(run, world, &mut judge, n, counted)?
-            && stops_opening(run, world, &mut judge, n, counted)?,
-    )
+    if !replays(run, &mut world, &mut judge, script)? {
+        return Ok(false);
+    }
+    opens_right(run, &world, &mut judge, n, counted)
 }
 
 /// The same for a run in which all calls from the nth on fail; and then an opening is stopped at some of its calls, and what is
@@ -182,6 +157,14 @@ pub fn fails_for_good(
     counted: &mut Counted,
 ) -> Result<bool, Fail> {
     let mut world = on_a_device(run, FOR_ALL)?;
+    let mut judge = judge_of(run, &mut world)?;
+    stop_at(&mut world, n);
     counted.failed = counted.failed.saturating_add(1);
-    is_right_for_good(run, &mut world, script, n, counted)
+    if !replays(run, &mut world, &mut judge, script)? {
+        return Ok(false);
+    }
+    if !opens_right(run, &world, &mut judge, n, counted)? {
+        return Ok(false);
+    }
+    stops_opening(run, &world, &mut judge, n, counted)
 }

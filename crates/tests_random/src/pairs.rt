@@ -56,8 +56,10 @@ fn filled(run: Run, few: OverDevice, dice: &mut Dice, entries: u32) -> Result<Ov
 
 /// Puts an entry, whatever that answers.
 fn puts<S: PageStore>(few: &mut World<S, Blocks>, entry: Entry) -> Result<(), Fault> {
-    put(few, 0, entry, 8)?;
-    Ok(())
+    match put(few, 0, entry, 8) {
+        Ok(_answer) => Ok(()),
+        Err(fault) => Err(fault),
+    }
 }
 
 /// Puts some entries.
