@@ -1,7 +1,7 @@
 -- The damages of a chain, and what is wrong at the stops of a walk along it.
 use Rattle.std.proofs.Common.{◌≡◌, ◌≢◌, ◌⊎◌, ℕ, ◌<◌, ◌≤◌, inl, inr, Bool, Option, Some, None, List, length, slice_get, get_or, refl, sym, ap, subst, ◌∙◌, arith}
-use Rattle.amcheck.proofs.Imports.{cases_lt, slice_get-get_or, LeftContext, Rises, IsUniqueNode, Index, Place, place_at, Here, node, spot, IsOnLevel, IsMetBefore, HasNotBeyond, IsAfterRoot}
-use Rattle.amcheck.proofs.Imports.{IsOfChain, no_link, some_is, has_before, IsClearChain, IsFirstOfChain, IsEarlier, spot_at, IsStop, AreStops, IsRootAt, IsTooMuch, IsWrong, IsWrongAt, IsBad}
+use Rattle.amcheck.proofs.Imports.{cases_lt, slice_get-get_or, LeftContext, Rises, IsUniqueNode, Index, Place, place_at, Here, node, context, IsOnLevel, IsMetBefore, HasNotBeyond, IsAfterRoot}
+use Rattle.amcheck.proofs.Imports.{IsOfChain, no_link, some_is, has_before, IsClearChain, IsFirstOfChain, IsEarlier, context_at, IsStop, AreStops, IsRootAt, IsTooMuch, IsWrong, IsWrongAt, IsBad}
 use Rattle.amcheck.proofs.Imports.{IsFirstPlace, IsLeastNumber, Stop}
 use Rattle.amcheck.proofs.Found.{no_stop, wrong_there}
 use Rattle.amcheck.proofs.Walked.{stop_inside}
@@ -19,7 +19,7 @@ number_some keys h n (inr (inr (inr (inr (inr (inr (inr (inl a)))))))) = (let k 
 number_some keys h n (inr (inr (inr (inr (inr (inr (inr (inr a)))))))) = (let k = a.0 in omega arith)
 
 -- ... that is 1 where the page isn't on the level, 2 where its left link is wrong, and else more
-number_cases : {ix : Index} (keys : Bool) (h : Here ix) (n : ℕ) → IsOfChain keys h n → ((n ≡ 1) × (IsOnLevel ix h.depth h.block → ⊥)) ⊎ ((n ≡ 2) × ((node h).left ≢ (spot h).left)) ⊎ (3 ≤ n)
+number_cases : {ix : Index} (keys : Bool) (h : Here ix) (n : ℕ) → IsOfChain keys h n → ((n ≡ 1) × (IsOnLevel ix h.depth h.block → ⊥)) ⊎ ((n ≡ 2) × ((node h).left ≢ (context h).left)) ⊎ (3 ≤ n)
 number_cases keys h n (inl a) = inl a
 number_cases keys h n (inr (inl a)) = inr (inl a)
 number_cases keys h n (inr (inr (inl a))) = inr (inr (let k = a.0 in omega arith))
@@ -44,18 +44,18 @@ too_many ix depth (Some r) s block is much = (is.0, λ same. much.0 (same ∙ sy
 
 -- a page at this place of the chain
 place_same : {ix : Index} (h : Here ix) (depth place : ℕ) (s : LeftContext) (b : ℕ) → h.depth ≡ depth → h.place ≡ place
-    → place_at ix depth place ≡ record { spot = s; block = Some b } → (h.block ≡ b) × (spot h ≡ s)
+    → place_at ix depth place ≡ record { context = s; block = Some b } → (h.block ≡ b) × (context h ≡ s)
 place_same {ix} h depth place s b deep there is =
-    let whole : place_at ix h.depth h.place ≡ record { spot = s; block = Some b } = (λ i. place_at ix (deep i) (there i)) ∙ is in
-    (some_is h.block b (sym h.is ∙ ap (λ (p : Place). p.block) whole), ap (λ (p : Place). p.spot) whole)
+    let whole : place_at ix h.depth h.place ≡ record { context = s; block = Some b } = (λ i. place_at ix (deep i) (there i)) ∙ is in
+    (some_is h.block b (sym h.is ∙ ap (λ (p : Place). p.block) whole), ap (λ (p : Place). p.context) whole)
 
 module _ (ix : Index) (keys : Bool) (depth : ℕ) (root : Option ℕ) (stops : List Stop) (deep : depth ≤ ix.top) (root_is : IsRootAt ix depth root) (are : AreStops ix depth stops) where
   -- a damage at a stop is wrong there
-  wrong_here : (h : Here ix) (n : ℕ) (s : Stop) → h.depth ≡ depth → slice_get stops h.place ≡ Some s → IsOfChain keys h n → IsWrong keys (ix.at s.block) root (spot_at ix.at s) s.block n
+  wrong_here : (h : Here ix) (n : ℕ) (s : Stop) → h.depth ≡ depth → slice_get stops h.place ≡ Some s → IsOfChain keys h n → IsWrong keys (ix.at s.block) root (context_at ix.at s) s.block n
   wrong_here h n s same there damage = by damage
     where
-      told : (h.block ≡ s.block) × (spot h ≡ spot_at ix.at s)
-      told = place_same h depth h.place (spot_at ix.at s) s.block same refl (are.placed h.place s there)
+      told : (h.block ≡ s.block) × (context h ≡ context_at ix.at s)
+      told = place_same h depth h.place (context_at ix.at s) s.block same refl (are.placed h.place s there)
 
       met : IsMetBefore h → ⊥
       met m =
@@ -67,7 +67,7 @@ module _ (ix : Index) (keys : Bool) (depth : ℕ) (root : Option ℕ) (stops : L
           some_is t.block h.block (sym (ap (λ (p : Place). p.block) (are.placed m.earlier t first)) ∙ subst (λ (d : ℕ). (place_at ix d m.earlier).block ≡ Some h.block) same m.same) in
           are.once m.earlier h.place t s m.before first there (block ∙ told.0)
 
-      by : IsOfChain keys h n → IsWrong keys (ix.at s.block) root (spot_at ix.at s) s.block n
+      by : IsOfChain keys h n → IsWrong keys (ix.at s.block) root (context_at ix.at s) s.block n
       by (inl a) = absurd (a.1 (subst (λ (d : ℕ). IsOnLevel ix d h.block) (sym same) (subst (IsOnLevel ix depth) (sym told.0) (are.on_level h.place s there))))
       by (inr (inl a)) = inl (a.0, subst (λ (b : ℕ). (ix.at b).left ≢ s.left) told.0 (subst (λ (t : LeftContext). (node h).left ≢ t.left) told.1 a.1))
       by (inr (inr (inl a))) = absurd (met a.1)
@@ -75,15 +75,15 @@ module _ (ix : Index) (keys : Bool) (depth : ℕ) (root : Option ℕ) (stops : L
       by (inr (inr (inr (inr (inl a))))) = inr (inr (inl (
         a.0,
         ap (λ (b : ℕ). (ix.at b).state) (sym told.0) ∙ a.1,
-        subst (λ (b : ℕ). Rises (spot_at ix.at s).low (ix.at b).high → ⊥) told.0 (subst (λ (t : LeftContext). Rises t.low (node h).high → ⊥) told.1 a.2),
+        subst (λ (b : ℕ). Rises (context_at ix.at s).low (ix.at b).high → ⊥) told.0 (subst (λ (t : LeftContext). Rises t.low (node h).high → ⊥) told.1 a.2),
       )))
       by (inr (inr (inr (inr (inr (inl a)))))) = inr (inr (inr (inl (
         a.0,
-        record { is = subst (λ (b : ℕ). HasNotBeyond (spot_at ix.at s).low (ix.at b)) told.0 (subst (λ (t : LeftContext). HasNotBeyond t.low (node h)) told.1 a.1) },
+        record { is = subst (λ (b : ℕ). HasNotBeyond (context_at ix.at s).low (ix.at b)) told.0 (subst (λ (t : LeftContext). HasNotBeyond t.low (node h)) told.1 a.1) },
       ))))
       by (inr (inr (inr (inr (inr (inr (inl a))))))) = inr (inr (inr (inr (inl (
         a.0,
-        subst (λ (b : ℕ). IsTooMuch root (spot_at ix.at s) b) told.0 (subst (λ (t : LeftContext). IsTooMuch root t h.block) told.1 (too_much ix depth root (spot h) h.block root_is (sym same ∙ a.1) a.2 a.3)),
+        subst (λ (b : ℕ). IsTooMuch root (context_at ix.at s) b) told.0 (subst (λ (t : LeftContext). IsTooMuch root t h.block) told.1 (too_much ix depth root (context h) h.block root_is (sym same ∙ a.1) a.2 a.3)),
       )))))
       by (inr (inr (inr (inr (inr (inr (inr (inl a)))))))) = inr (inr (inr (inr (inr (inl (
         a.0,
@@ -102,12 +102,12 @@ module _ (ix : Index) (keys : Bool) (depth : ℕ) (root : Option ℕ) (stops : L
       record { stop = get_or stops h.place no_stop; there = there; wrong = wrong_here h n (get_or stops h.place no_stop) same there damage }
 
   -- what is wrong at a stop is a damage there
-  is_damage : (h : Here ix) (n : ℕ) → h.depth ≡ depth → IsWrong keys (node h) root (spot h) h.block n → IsOfChain keys h n
+  is_damage : (h : Here ix) (n : ℕ) → h.depth ≡ depth → IsWrong keys (node h) root (context h) h.block n → IsOfChain keys h n
   is_damage h n same (inl a) = inr (inl a)
   is_damage h n same (inr (inl a)) = inr (inr (inr (inl a)))
   is_damage h n same (inr (inr (inl a))) = inr (inr (inr (inr (inl a))))
   is_damage h n same (inr (inr (inr (inl a)))) = inr (inr (inr (inr (inr (inl (a.0, a.1.is))))))
-  is_damage h n same (inr (inr (inr (inr (inl a))))) = (let m = too_many ix depth root (spot h) h.block root_is a.1 in inr (inr (inr (inr (inr (inr (inl (a.0, same ∙ m.0, m.1, m.2))))))))
+  is_damage h n same (inr (inr (inr (inr (inl a))))) = (let m = too_many ix depth root (context h) h.block root_is a.1 in inr (inr (inr (inr (inr (inr (inl (a.0, same ∙ m.0, m.1, m.2))))))))
   is_damage h n same (inr (inr (inr (inr (inr (inl a)))))) = inr (inr (inr (inr (inr (inr (inr (inl a)))))))
   is_damage h n same (inr (inr (inr (inr (inr (inr a)))))) = inr (inr (inr (inr (inr (inr (inr (inr a)))))))
 
@@ -119,7 +119,7 @@ module _ (ix : Index) (keys : Bool) (depth : ℕ) (root : Option ℕ) (stops : L
         here = record { depth = depth; place = k; block = s.block; deep = deep; is = ap (λ (p : Place). p.block) placed };
         deep = refl;
         is = is_damage (record { depth = depth; place = k; block = s.block; deep = deep; is = ap (λ (p : Place). p.block) placed }) n refl
-            (subst (λ (p : Place). IsWrong keys (ix.at s.block) root p.spot s.block n) (sym placed) (wrong_there ix.at keys root stops k s n there least.0));
+            (subst (λ (p : Place). IsWrong keys (ix.at s.block) root p.context s.block n) (sym placed) (wrong_there ix.at keys root stops k s n there least.0));
         block_is = refl;
         first = λ other m same damage earlier.
             let inside = stop_inside stops k s there in
@@ -155,14 +155,14 @@ module _ (ix : Index) (keys : Bool) (depth : ℕ) (root : Option ℕ) (stops : L
     module _ (s : Stop) (placed : IsStop ix depth (length stops) s) (on : IsOnLevel ix depth s.block) where
       on_it : (other : Here ix) → other.depth ≡ depth → other.place ≡ length stops → (IsOnLevel ix other.depth other.block → ⊥) → ⊥
       on_it other same there off =
-          let told = place_same other depth (length stops) (spot_at ix.at s) s.block same there placed in
+          let told = place_same other depth (length stops) (context_at ix.at s) s.block same there placed in
           off (subst (λ (d : ℕ). IsOnLevel ix d other.block) (sym same) (subst (IsOnLevel ix depth) (sym told.0) on))
 
       pub first_two : (ix.at s.block).left ≢ s.left → IsFirstOfChain ix keys depth 2 s.block
       first_two differs = record {
         here = record { depth = depth; place = length stops; block = s.block; deep = deep; is = ap (λ (p : Place). p.block) placed };
         deep = refl;
-        is = inr (inl (refl, subst (λ (p : Place). (ix.at s.block).left ≢ p.spot.left) (sym placed) differs));
+        is = inr (inl (refl, subst (λ (p : Place). (ix.at s.block).left ≢ p.context.left) (sym placed) differs));
         block_is = refl;
         first = λ other m same damage earlier. elim earlier [
           | inl lt ↦ clear_before other m same lt damage
@@ -185,7 +185,7 @@ module _ (ix : Index) (keys : Bool) (depth : ℕ) (root : Option ℕ) (stops : L
           | inr here ↦ elim (number_cases keys other m damage) [
             | inl one ↦ on_it other same here.0 one.1
             | inr (inl two) ↦
-                let told = place_same other depth (length stops) (spot_at ix.at s) s.block same here.0 placed in
+                let told = place_same other depth (length stops) (context_at ix.at s) s.block same here.0 placed in
                 two.1 (ap (λ (b : ℕ). (ix.at b).left) told.0 ∙ left ∙ ap (λ (t : LeftContext). t.left) (sym told.1))
             | inr (inr more) ↦ let lt = here.1 in absurd (omega arith)
           ]

@@ -1,6 +1,6 @@
 -- What is wrong at a stop.
 use Rattle.std.proofs.Common.{◌≡◌, ℕ, ◌<◌, Bool, Option, Some, None, is_some, List, length, slice_get, true, false, refl, subst}
-use Rattle.amcheck.proofs.Imports.{Node, spot_at, IsWrong, IsWrongAt, IsBad, IsLeastNumber, Stop}
+use Rattle.amcheck.proofs.Imports.{Node, context_at, IsWrong, IsWrongAt, IsBad, IsLeastNumber, Stop}
 use Rattle.amcheck.proofs.Walked.{stop_inside}
 
 abbrev pub no_stop : Stop
@@ -13,11 +13,11 @@ same_stop : (o : Option Stop) (s t : Stop) → o ≡ Some s → o ≡ Some t →
 same_stop o s t e f = cc
 
 pub wrong_there : (at : ℕ → Node) (keys : Bool) (root : Option ℕ) (stops : List Stop) (k : ℕ) (s : Stop) (n : ℕ) → slice_get stops k ≡ Some s → IsWrongAt at keys root stops k n
-    → IsWrong keys (at s.block) root (spot_at at s) s.block n
-wrong_there at keys root stops k s n there w = subst (λ (t : Stop). IsWrong keys (at t.block) root (spot_at at t) t.block n) (same_stop (slice_get stops k) w.stop s w.there there) w.wrong
+    → IsWrong keys (at s.block) root (context_at at s) s.block n
+wrong_there at keys root stops k s n there w = subst (λ (t : Stop). IsWrong keys (at t.block) root (context_at at t) t.block n) (same_stop (slice_get stops k) w.stop s w.there there) w.wrong
 
 pub least_where : (at : ℕ → Node) (keys : Bool) (root : Option ℕ) (stops : List Stop) (k : ℕ) (s : Stop) (o : Option ℕ) → slice_get stops k ≡ Some s
-    → IsLeastNumber (IsWrong keys (at s.block) root (spot_at at s) s.block) o → IsLeastNumber (IsWrongAt at keys root stops k) o
+    → IsLeastNumber (IsWrong keys (at s.block) root (context_at at s) s.block) o → IsLeastNumber (IsWrongAt at keys root stops k) o
 least_where at keys root stops k s None there least = λ n w. least n (wrong_there at keys root stops k s n there w)
 least_where at keys root stops k s (Some n) there least = (record { stop = s; there = there; wrong = least.0 }, λ m lt w. least.1 m lt (wrong_there at keys root stops k s m there w))
 

@@ -36,7 +36,7 @@ pub use Rattle.damages.proofs.Fitting.{page_there}
 pub use Rattle.damages.proofs.KeysJudged.{more, without_keys}
 pub use Rattle.damages.proofs.Walks.{has_before}
 pub use Rattle.damages.specs.Damages.{ComesBefore, HasNotBeyond, Here, Index, IsAfterRoot, IsDamage, IsFirstDamage, IsMetBefore, IsOfChain, IsOfParents, IsOfPath, IsOnChain, IsOnLevel, IsSecond}
-pub use Rattle.damages.specs.Damages.{IsSound, IsUnlinked, Item, Place, Site, first_child, index_of, left_after_steps, next_place, node, or_block, place_at, rank, spot, start}
+pub use Rattle.damages.specs.Damages.{IsSound, IsUnlinked, Item, Place, Site, first_child, index_of, left_after_steps, next_place, node, or_block, place_at, rank, context, start}
 pub use Rattle.damages.specs.Damages.Site.{at_child, at_page, nowhere, on_chain, on_way}
 pub use Rattle.amcheck.specs.AllStops.{AreAllStops, HasNoStop, HaveBlocksOnce, IsAt, IsStopOf, PlacesAreOfStops, StopsAreAll}
 pub use Rattle.amcheck.specs.Answers.{IsAnswer}
@@ -54,7 +54,7 @@ pub use Rattle.amcheck.specs.Reading.{IsRestBut, blocks_below, without_first}
 pub use Rattle.amcheck.specs.Reports.{IsReport, count_entries_on, one_if_deleted, one_if_half_dead, one_if_incomplete, report_of, sum_of_all}
 pub use Rattle.amcheck.specs.Searching.{AreSearchable}
 pub use Rattle.amcheck.specs.Sketches.{AreKept, HasGrown, HoldsSketch, IsSketch, least_bound, links_at, second_bound}
-pub use Rattle.amcheck.specs.Stops.{AreStops, HasWrongItem, IsBad, IsFirstPlace, IsLeastNumber, IsRootAt, IsStop, IsTooMuch, IsWrong, IsWrongAt, StopsAreInUse, high_at, spot_at, stop_blocks}
+pub use Rattle.amcheck.specs.Stops.{AreStops, HasWrongItem, IsBad, IsFirstPlace, IsLeastNumber, IsRootAt, IsStop, IsTooMuch, IsWrong, IsWrongAt, StopsAreInUse, high_at, context_at, stop_blocks}
 pub use Rattle.amcheck.specs.Ways.{IsClearPath, IsFirstOfPath}
 pub use Rattle.amcheck.specs.WrongSketches.{IsWrongSketch}
 pub use Rattle.amcheck.specs.declared.marks.Met.{Met}

@@ -1,11 +1,11 @@
 -- The damages of parents and children, and what is wrong at the stops of all chains.
 use Rattle.std.proofs.Common.{◌≡◌, ◌≢◌, ◌⊎◌, ℕ, zero, suc, ◌+◌, ◌<◌, ◌≤◌, inl, inr, Bool, true, false, Some, None, List, [], ◌∷◌, length, slice_get, get_or, refl, sym, ap, subst, ◌∙◌, arith}
 use Rattle.damages.specs.Damages as damages
-use Rattle.amcheck.proofs.Imports.{cases_eq, cases_lt, Downlink, Page, HalfDead, Node, nodes_of, LeftContext, from_low, IsIn, Index, index_of, Place, place_at, Here, Item, Site, node, spot}
+use Rattle.amcheck.proofs.Imports.{cases_eq, cases_lt, Downlink, Page, HalfDead, Node, nodes_of, LeftContext, from_low, IsIn, Index, index_of, Place, place_at, Here, Item, Site, node, context}
 use Rattle.amcheck.proofs.Imports.{IsOnLevel, IsOnChain, IsUnlinked, IsSecond, IsOfParents, IsDamage, IsSound, IsFirstDamage, ComesBefore, rank, on_way, on_chain, at_child, at_page, nowhere}
 use Rattle.amcheck.proofs.Imports.{no_link, some_is, bool_so, on_level_so, AreAllStops, IsAt, HaveBlocksOnce, IsStopOf, HasNoStop, IsOff, AreBelow, HasWrongBound, IsSkipped, LacksLink}
 use Rattle.amcheck.proofs.Imports.{IsSkippedStop, LeadsBefore, IsExtra, HasExtra, DownlinksAreNoted, IsWrongAmong, IsNotMet, AreChildrenBelow, IsClearAt, IsFirstChild, IsFirstOfPage, IsFirstAt}
-use Rattle.amcheck.proofs.Imports.{AreMarked, high_at, spot_at, stop_blocks, IsStop, IsLeastNumber, StopsAreInUse, Stop}
+use Rattle.amcheck.proofs.Imports.{AreMarked, high_at, context_at, stop_blocks, IsStop, IsLeastNumber, StopsAreInUse, Stop}
 use Rattle.amcheck.proofs.AllStops.{HasIndex, Indexed, indexed, stop_moved}
 use Rattle.amcheck.proofs.ItemsNoted.{item_inside}
 use Rattle.amcheck.proofs.Walked.{stop_inside, stop_of}
@@ -194,8 +194,8 @@ module _ (pages : List Page) (stops : List Stop) (all : AreAllStops (index_of pa
   stop_for : (h : Here ix) (b : ℕ) → b ≡ h.block → IsStopOf stops b (index h).stop
   stop_for h b same = record { place = (index h).index; there = (index h).there; is = sym (same ∙ block_at h (index h).index (at_of h)) }
 
-  spot_for : (h : Here ix) → spot h ≡ spot_at at (index h).stop
-  spot_for h = ap (λ (p : Place). p.spot) (at_of h).is
+  context_for : (h : Here ix) → context h ≡ context_at at (index h).stop
+  context_for h = ap (λ (p : Place). p.context) (at_of h).is
 
   -- a page is on a chain where it has a stop
   no_stop_off : (b : ℕ) → HasNoStop stops b → IsOnChain ix b → ⊥
@@ -220,19 +220,19 @@ module _ (pages : List Page) (stops : List Stop) (all : AreAllStops (index_of pa
     block_is : (h : Here ix) → IsAt stops k h → h.block ≡ s.block
     block_is h a = some_is h.block s.block (sym h.is ∙ ap (λ (p : Place). p.block) (is_stop h a))
 
-    spot_is : (h : Here ix) → IsAt stops k h → spot h ≡ spot_at at s
-    spot_is h a = ap (λ (p : Place). p.spot) (is_stop h a)
+    context_is : (h : Here ix) → IsAt stops k h → context h ≡ context_at at s
+    context_is h a = ap (λ (p : Place). p.context) (is_stop h a)
 
     item_get : (h : Here ix) → IsAt stops k h → (i : Item h) → slice_get links i.item ≡ Some i.link
     item_get h a i =
         subst (λ (b : ℕ). slice_get (from_low (high_at at s.low_at) (at b).links) i.item ≡ Some i.link) (block_is h a)
-        (subst (λ (t : LeftContext). slice_get (from_low t.low (node h).links) i.item ≡ Some i.link) (spot_is h a) i.is)
+        (subst (λ (t : LeftContext). slice_get (from_low t.low (node h).links) i.item ≡ Some i.link) (context_is h a) i.is)
 
     abbrev item_make : (h : Here ix) → IsAt stops k h → (n : ℕ) (link : Downlink) → slice_get links n ≡ Some link → Item h
     item_make h a n link found = record {
       item = n;
       link = link;
-      is = subst (λ (t : LeftContext). slice_get (from_low t.low (node h).links) n ≡ Some link) (sym (spot_is h a))
+      is = subst (λ (t : LeftContext). slice_get (from_low t.low (node h).links) n ≡ Some link) (sym (context_is h a))
           (subst (λ (b : ℕ). slice_get (from_low (high_at at s.low_at) (at b).links) n ≡ Some link) (sym (block_is h a)) found);
     }
 
@@ -267,16 +267,16 @@ module _ (pages : List Page) (stops : List Stop) (all : AreAllStops (index_of pa
           }
 
     -- bounds
-    bound_wrong : (h : Here ix) → IsAt stops k h → HasWrongBound at stops links → (i : Item h) × (child : Here ix) × (i.link.child ≡ child.block) × (i.link.bound ≢ (spot child).low)
+    bound_wrong : (h : Here ix) → IsAt stops k h → HasWrongBound at stops links → (i : Item h) × (child : Here ix) × (i.link.child ≡ child.block) × (i.link.bound ≢ (context child).low)
     bound_wrong h a w =
         let f = w.wrong.is in (
           item_make h a w.item w.link w.there,
           here_at f.place w.wrong.stop f.there,
           sym f.is,
-          λ same. w.wrong.differs (same ∙ ap (λ (p : Place). p.spot.low) (idx.is f.place w.wrong.stop f.there)),
+          λ same. w.wrong.differs (same ∙ ap (λ (p : Place). p.context.low) (idx.is f.place w.wrong.stop f.there)),
         )
 
-    wrong_bound : (h : Here ix) → IsAt stops k h → (i : Item h) (child : Here ix) → i.link.child ≡ child.block → i.link.bound ≢ (spot child).low → HasWrongBound at stops links
+    wrong_bound : (h : Here ix) → IsAt stops k h → (i : Item h) (child : Here ix) → i.link.child ≡ child.block → i.link.bound ≢ (context child).low → HasWrongBound at stops links
     wrong_bound h a i child leads differs = record {
       item = i.item;
       link = i.link;
@@ -284,20 +284,20 @@ module _ (pages : List Page) (stops : List Stop) (all : AreAllStops (index_of pa
       wrong = record {
         stop = (index child).stop;
         is = stop_for child i.link.child leads;
-        differs = λ same. differs (same ∙ sym (ap (λ (t : LeftContext). t.low) (spot_for child)));
+        differs = λ same. differs (same ∙ sym (ap (λ (t : LeftContext). t.low) (context_for child)));
       };
     }
 
     unlinked_skipped : (h : Here ix) → IsAt stops k h → IsUnlinked h → IsSkipped (at s.block) s.behind
     unlinked_skipped h a (inl dead) = record { is = inl (ap (λ (b : ℕ). (at b).state) (sym (block_is h a)) ∙ dead) }
-    unlinked_skipped h a (inr behind) = record { is = inr (ap (λ (t : LeftContext). t.behind) (sym (spot_is h a)) ∙ behind) }
+    unlinked_skipped h a (inr behind) = record { is = inr (ap (λ (t : LeftContext). t.behind) (sym (context_is h a)) ∙ behind) }
 
     skipped_unlinked : (h : Here ix) → IsAt stops k h → IsSkipped (at s.block) s.behind → IsUnlinked h
     skipped_unlinked h a w = by w.is
       where
         by : ((at s.block).state ≡ HalfDead) ⊎ (s.behind ≡ true) → IsUnlinked h
         by (inl dead) = inl (ap (λ (b : ℕ). (at b).state) (block_is h a) ∙ dead)
-        by (inr behind) = inr (ap (λ (t : LeftContext). t.behind) (spot_is h a) ∙ behind)
+        by (inr behind) = inr (ap (λ (t : LeftContext). t.behind) (context_is h a) ∙ behind)
 
     module _ (linked : List Bool) (marks : AreMarked ix stops k linked) (clear : (j : ℕ) → j < k → IsClearAt ix stops j) where
       -- a page that lacks its downlink
@@ -339,8 +339,8 @@ module _ (pages : List Page) (stops : List Stop) (all : AreAllStops (index_of pa
           told (inl none) = inl (no_stop_off w.link.child none)
           told (inr (inl sk)) =
               let child = here_at sk.is.place sk.stop sk.is.there in
-              let spot_there : spot child ≡ spot_at at sk.stop = ap (λ (p : Place). p.spot) (idx.is sk.is.place sk.stop sk.is.there) in
-              inr (inl (child, sym sk.is.is, elim sk.skipped.is [ inl dead ↦ inl dead | inr behind ↦ inr (ap (λ (t : LeftContext). t.behind) spot_there ∙ behind) ]))
+              let context_there : context child ≡ context_at at sk.stop = ap (λ (p : Place). p.context) (idx.is sk.is.place sk.stop sk.is.there) in
+              inr (inl (child, sym sk.is.is, elim sk.skipped.is [ inl dead ↦ inl dead | inr behind ↦ inr (ap (λ (t : LeftContext). t.behind) context_there ∙ behind) ]))
           told (inr (inr marked)) =
               let led = marks.from w.link.child marked in
               inr (inr (seconds (led.page, earlier led.page h led.index k led.at a led.before, led.item, led.leads)))
@@ -372,7 +372,7 @@ module _ (pages : List Page) (stops : List Stop) (all : AreAllStops (index_of pa
             where
               skipped : (child : Here ix) → IsUnlinked child → IsSkipped (at (index child).stop.block) (index child).stop.behind
               skipped child (inl dead) = record { is = inl (ap (λ (b : ℕ). (at b).state) (sym (block_at child (index child).index (at_of child))) ∙ dead) }
-              skipped child (inr behind) = record { is = inr (ap (λ (t : LeftContext). t.behind) (sym (spot_for child)) ∙ behind) }
+              skipped child (inr behind) = record { is = inr (ap (λ (t : LeftContext). t.behind) (sym (context_for child)) ∙ behind) }
           by (inr (inr q)) = second q.page q.first q.earlier q.same
 
       -- what is wrong at the stop is a damage there, and the other way round

@@ -2,7 +2,7 @@
 use Rattle.std.proofs.Common.{◌≡◌, ◌⊎◌, ℕ, zero, suc, ◌<◌, inl, inr, Some, None, List, [], ◌∷◌, ◌++◌, length, length-append, append_assoc, slice_get, refl, sym, ap, subst, ◌∙◌, arith}
 use Rattle.damages.proofs.Places.{one_place}
 use Rattle.amcheck.specs.declared.walks.End.TheVariants as ends
-use Rattle.amcheck.proofs.Imports.{Page, nodes_of, past, IsIn, AreDistinct, in_append_cases, apart_back, Index, index_of, Place, next_place, place_at, IsOnLevel, no_link, some_is, IsMet, spot_at}
+use Rattle.amcheck.proofs.Imports.{Page, nodes_of, past, IsIn, AreDistinct, in_append_cases, apart_back, Index, index_of, Place, next_place, place_at, IsOnLevel, no_link, some_is, IsMet, context_at}
 use Rattle.amcheck.proofs.Imports.{stop_blocks, IsStop, AreStops, IsChainEnd, IsEarlier, Met, Stop, few_blocks}
 
 pub blocks_more : (ss : List Stop) (s : Stop) → stop_blocks (ss ++ s ∷ []) ≡ stop_blocks ss ++ s.block ∷ []
@@ -69,7 +69,7 @@ module _ (pages : List Page) (depth : ℕ) (before : List ℕ) (met : Met) (stop
         absurd (omega (arith, one));
   }
 
-  at_end : place_at ix depth (length stops) ≡ record { spot = spot_at (nodes_of pages) stop; block = Some stop.block }
+  at_end : place_at ix depth (length stops) ≡ record { context = context_at (nodes_of pages) stop; block = Some stop.block }
   at_end = ap (place_at ix depth) far.count ∙ far.here
 
   pub ends_met : ((b : ℕ) → IsIn b before → IsOnLevel ix depth b → ⊥) → IsOnLevel ix depth stop.block → IsIn stop.block met.blocks.items → IsChainEnd ix depth (length stops) (ends.Met stop)
@@ -109,19 +109,19 @@ module _ (pages : List Page) (depth : ℕ) (before : List ℕ) (met : Met) (stop
     count_more : length more ≡ suc step
     count_more = omega (arith, ap length more_is, length-append stops (stop ∷ []), far.count)
 
-    next_place_is : place_at ix depth (suc step) ≡ record { spot = past stop.block (nodes_of pages stop.block) (spot_at (nodes_of pages) stop); block = (nodes_of pages stop.block).right }
-    next_place_is = ap (λ (p : Place). next_place (nodes_of pages) p.spot p.block) far.here
+    next_place_is : place_at ix depth (suc step) ≡ record { context = past stop.block (nodes_of pages stop.block) (context_at (nodes_of pages) stop); block = (nodes_of pages stop.block).right }
+    next_place_is = ap (λ (p : Place). next_place (nodes_of pages) p.context p.block) far.here
 
     pub walk_goes_on : (right : ℕ) (next : Stop) (n : ℕ) → (nodes_of pages stop.block).right ≡ Some right → next.block ≡ right
-        → spot_at (nodes_of pages) next ≡ past stop.block (nodes_of pages stop.block) (spot_at (nodes_of pages) stop) → n ≡ suc step → HasWalked pages depth before after more next n
-    walk_goes_on right next n right_is block_is spot_is n_is = subst (HasWalked pages depth before after more next) (sym n_is) (record {
+        → context_at (nodes_of pages) next ≡ past stop.block (nodes_of pages stop.block) (context_at (nodes_of pages) stop) → n ≡ suc step → HasWalked pages depth before after more next n
+    walk_goes_on right next n right_is block_is context_is n_is = subst (HasWalked pages depth before after more next) (sym n_is) (record {
       met_is = after_is;
       added = added_more;
       placed = placed_more;
       on_level = on_level_more;
       count = count_more;
       here = next_place_is ∙ (λ i. record {
-        spot = (sym spot_is) i;
+        context = (sym context_is) i;
         block = (right_is ∙ ap Some (sym block_is)) i;
       });
     })

@@ -14,8 +14,8 @@ high_at at None = None
 high_at at (Some block) = (at block).high
 
 -- what the walk knew before this stop
-abbrev pub spot_at : (ℕ → Node) → Stop → LeftContext
-spot_at at s = record { low = high_at at s.low_at; left = s.left; behind = s.behind }
+abbrev pub context_at : (ℕ → Node) → Stop → LeftContext
+context_at at s = record { low = high_at at s.low_at; left = s.left; behind = s.behind }
 
 -- the blocks of these stops
 abbrev pub stop_blocks : List Stop → List ℕ
@@ -24,7 +24,7 @@ stop_blocks (s ∷ ss) = s.block ∷ stop_blocks ss
 
 -- the stop is at this place of the chain of a level
 abbrev pub IsStop : Index → ℕ → ℕ → Stop → Type 0
-IsStop ix depth place s = place_at ix depth place ≡ record { spot = spot_at ix.at s; block = Some s.block }
+IsStop ix depth place s = place_at ix depth place ≡ record { context = context_at ix.at s; block = Some s.block }
 
 -- the stops are the first places of the chain of a level, each of another page of that level
 pub record AreStops (ix : Index) (depth : ℕ) (stops : List Stop) : Type 0 where
@@ -67,7 +67,7 @@ IsLeastNumber P (Some n) = P n × ((m : ℕ) → m < n → P m → ⊥)
 pub record IsWrongAt (at : ℕ → Node) (keys : Bool) (root : Option ℕ) (stops : List Stop) (k number : ℕ) : Type 0 where
   pub stop : Stop
   pub there : slice_get stops k ≡ Some stop
-  pub wrong : IsWrong keys (at stop.block) root (spot_at at stop) stop.block number
+  pub wrong : IsWrong keys (at stop.block) root (context_at at stop) stop.block number
 
 -- something is
 pub record IsBad (at : ℕ → Node) (keys : Bool) (root : Option ℕ) (stops : List Stop) (k : ℕ) : Type 0 where

@@ -6,7 +6,7 @@ ghost use Rattle.tree_shape.specs.Nodes.{nodes_of};
 ghost use Rattle.tree_shape.specs.Chains.{past, Rises};
 ghost use Rattle.amcheck.specs.Places.{IsNoneOrBeyond};
 ghost use Rattle.amcheck.specs.Sketches.{IsSketch};
-ghost use Rattle.amcheck.specs.Stops.{high_at, spot_at, IsTooMuch, IsLeastNumber};
+ghost use Rattle.amcheck.specs.Stops.{high_at, context_at, IsTooMuch, IsLeastNumber};
 ghost use Rattle.amcheck.specs.WrongSketches.{IsWrongSketch};
 
 use crate::pages::Pages;
@@ -39,8 +39,8 @@ pub(crate) fn low(pages: &Pages, low_at: Option<u32>) -> Option<Bound>
 /// The stop right of this one, of whose page this is the sketch.
 pub(crate) fn next_stop(stop: &Stop, sketch: &Sketch, right: u32) -> Stop
     ensures block { result.block ≡ right }
-    ensures spot { (at : _) → IsSketch (at stop.now.block) sketch.now
-        → spot_at at result ≡ past stop.now.block (at stop.now.block) (spot_at at stop.now) }
+    ensures context { (at : _) → IsSketch (at stop.now.block) sketch.now
+        → context_at at result ≡ past stop.now.block (at stop.now.block) (context_at at stop.now) }
 {
     let low_at = match sketch.state {
         PageState::Live => Some(stop.block),

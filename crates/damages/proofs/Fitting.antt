@@ -2,7 +2,7 @@
 use Rattle.std.proofs.Common.{◌≡◌, ◌≢◌, ℕ, zero, suc, ◌+◌, ◌<◌, inl, inr, true, false, Option, Some, None, is_some, List, [], ◌∷◌, length, slice_get, refl, sym, ap, subst, arith}
 use Rattle.damages.proofs.Decided.{link_so, beyond_so, rises_so, bool_so, on_level_so}
 use Rattle.damages.proofs.Imports.{Contains, bound_of, Bound, Entry, entries_of, IsPage, IsOfKind, LinkBefore, Ascends, Downlink, Items, Meta, Entries, Downlinks, Page, PageState, Live, HalfDead}
-use Rattle.damages.proofs.Imports.{Deleted, Node, links_of, node_of, node_from, nodes_of, LeftContext, IsBeyond, Rises, FitsState, IsPlaced, index_of, Here, node, spot, IsOnLevel, IsOfChain}
+use Rattle.damages.proofs.Imports.{Deleted, Node, links_of, node_of, node_from, nodes_of, LeftContext, IsBeyond, Rises, FitsState, IsPlaced, index_of, Here, node, context, IsOnLevel, IsOfChain}
 use Rattle.damages.proofs.Imports.{HasNotBeyond, StandAtTheirBlocks, IsFirstBeyond, IsSecondBeyond, IsBoundBeyond}
 use Rattle.damages.proofs.Items.{items_are, high_as_right, half_dead_is}
 
@@ -64,7 +64,7 @@ pub record IsRight (pages : List Page) (depth level : ℕ) (s : LeftContext) (bl
 
 pub right_here : (pages : List Page) (h : Here (index_of pages)) (level : ℕ) → StandAtTheirBlocks pages → level + h.depth ≡ (index_of pages).top
     → ((n : ℕ) → IsOfChain false h n → ⊥)
-    → IsRight pages h.depth level (spot h) h.block
+    → IsRight pages h.depth level (context h) h.block
 right_here pages h level stand sum none' =
     let on = on_level_so (index_of pages) h.depth h.block (λ fails. none' 1 (inl (refl, fails))) in
     let p = page_there pages h.block on.in_use in
@@ -76,14 +76,14 @@ right_here pages h level stand sum none' =
       on_level = on;
       placed = record {
         level_is = (let l = on.level_is in omega arith);
-        left_is = link_so (node h).left (spot h).left (λ differ. none' 2 (inr (inl (refl, differ))));
+        left_is = link_so (node h).left (context h).left (λ differ. none' 2 (inr (inl (refl, differ))));
         right_is = refl;
         high_is = subst (λ (n : Node). is_some n.high ≡ is_some n.right) (sym here) (high_as_right p.0 own.0 after_meta (subst (λ (n : Node). n.state ≢ Deleted) here stands));
-        fits = subst (λ (l : ℕ). FitsState (nodes_of pages h.block).state l (spot h) (nodes_of pages h.block)) (let l = on.level_is in omega arith)
-            (subst (λ (n : Node). FitsState n.state n.level (spot h) n) (sym here)
-            (fits_here p.0 own.0 after_meta (spot h) (subst (λ (n : Node). n.state ≢ Deleted) here stands)
-            (subst (λ (n : Node). n.state ≡ Live → (Rises (spot h).low n.high → ⊥) → ⊥) here (λ live fails. none' 5 (inr (inr (inr (inr (inl (refl, live, fails))))))))
-            (subst (λ (n : Node). HasNotBeyond (spot h).low n → ⊥) here (λ has. none' 6 (inr (inr (inr (inr (inr (inl (refl, has)))))))))
-            (subst (λ (n : Node). n.state ≡ HalfDead → (spot h).behind ≡ true → ⊥) here (λ dead behind. none' 12 (inr (inr (inr (inr (inr (inr (inr (inl (refl, dead, behind)))))))))))));
+        fits = subst (λ (l : ℕ). FitsState (nodes_of pages h.block).state l (context h) (nodes_of pages h.block)) (let l = on.level_is in omega arith)
+            (subst (λ (n : Node). FitsState n.state n.level (context h) n) (sym here)
+            (fits_here p.0 own.0 after_meta (context h) (subst (λ (n : Node). n.state ≢ Deleted) here stands)
+            (subst (λ (n : Node). n.state ≡ Live → (Rises (context h).low n.high → ⊥) → ⊥) here (λ live fails. none' 5 (inr (inr (inr (inr (inl (refl, live, fails))))))))
+            (subst (λ (n : Node). HasNotBeyond (context h).low n → ⊥) here (λ has. none' 6 (inr (inr (inr (inr (inr (inl (refl, has)))))))))
+            (subst (λ (n : Node). n.state ≡ HalfDead → (context h).behind ≡ true → ⊥) here (λ dead behind. none' 12 (inr (inr (inr (inr (inr (inr (inr (inl (refl, dead, behind)))))))))))));
       };
     }

@@ -16,12 +16,12 @@ pub use Rattle.page_codec.specs.declared.page.PageState.TheVariants.{Deleted, Ha
 pub use Rattle.tree_shape.proofs.Few.{few_blocks, is_in_or}
 pub use Rattle.tree_shape.proofs.Members.{not_in_apart, not_in_from}
 pub use Rattle.tree_shape.specs.Chains.{AreDistinct, AscendWithin, BoundsWithin, FitsState, HasItems, IsBeyond, IsBoundWithin, IsIn, IsNotIn, IsPlaced, IsRootLevel, IsRunOf, IsTreeOf, LeftContext}
-pub use Rattle.tree_shape.specs.Chains.{LinksWithin, Rises, downlinks, due_link, due_links, first_or, first_spot, from_low, low_past, past, spot_after}
+pub use Rattle.tree_shape.specs.Chains.{LinksWithin, Rises, downlinks, due_link, due_links, first_or, first_context, from_low, low_past, past, context_after}
 pub use Rattle.tree_shape.specs.KeyPages.{AreUnique, IsKeyLink, IsUniqueNode, IsUniquePage, KeyBefore}
 pub use Rattle.tree_shape.specs.Nodes.{Node, links_of, no_node, node_from, node_of, nodes_of}
 pub use Rattle.damages.specs.Damages.{ComesBefore, HasNotBeyond, Here, Index, IsAfterRoot, IsBack, IsDamage, IsFirstDamage, IsMetBefore, IsOfChain, IsOfParents, IsOfPath, IsOnChain, IsOnLevel}
 pub use Rattle.damages.specs.Damages.{IsSound, IsUnlinked, Item, Place, Site, first_child, head, index_of, left_after_steps, moved_left, next_place, node, or_block, place_at, place_from, rank}
-pub use Rattle.damages.specs.Damages.{site_block, spot, start}
+pub use Rattle.damages.specs.Damages.{site_block, context, start}
 pub use Rattle.damages.specs.Damages.Site.{at_child, at_page, nowhere, on_chain, on_way}
 pub use Rattle.damages.specs.Levels.{AreLevels, HasLevels, HasUniqueLevels, IsAbove, LevelsHaveTree, StandAtTheirBlocks}
 pub use Rattle.damages.specs.Lows.{IsBoundBeyond, IsFirstBeyond, IsSecondBeyond}

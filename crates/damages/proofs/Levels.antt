@@ -1,7 +1,7 @@
 -- Pages without a damage are an index of levels.
 use Rattle.std.proofs.Common.{◌≡◌, ◌≢◌, ◌⊎◌, ℕ, suc, ◌+◌, ◌-◌, ◌<◌, ◌≤◌, inl, inr, Bool, true, false, Option, Some, None, List, [], ◌∷◌, length, take, slice_get, refl, sym, ap, subst, ◌∙◌, arith}
 use Rattle.tree_shape.specs.Tree.{IsMetaOf}
-use Rattle.damages.proofs.Imports.{cases_eq, Page, Node, node_from, nodes_of, LeftContext, spot_after, first_spot, first_or, IsRunOf, IsRootLevel, IsIn, IsNotIn, AreDistinct, Index, index_of}
+use Rattle.damages.proofs.Imports.{cases_eq, Page, Node, node_from, nodes_of, LeftContext, context_after, first_context, first_or, IsRunOf, IsRootLevel, IsIn, IsNotIn, AreDistinct, Index, index_of}
 use Rattle.damages.proofs.Imports.{or_block, moved_left, first_child, head, Place, place_at, IsOnLevel, IsAfterRoot, IsSound, IsOfChain, on_way, on_chain, StandAtTheirBlocks, IsAbove, AreLevels}
 use Rattle.damages.proofs.Imports.{HasLevels}
 use Rattle.damages.proofs.Decided.{no_link, some_is, link_so, on_level_so}
@@ -27,7 +27,7 @@ after_so root s h = (link_so s.left (Some root) (λ differ. h (λ b. differ b.0)
 
 -- page by page, the root's level has the root alone, or the root with an incomplete split and one page
 root_told : (at : ℕ → Node) (root : ℕ) (xs : List ℕ) → (xs ≢ []) → AreDistinct xs
-    → ((n b : ℕ) → slice_get xs n ≡ Some b → (b ≡ root) ⊎ IsAfterRoot root (spot_after at first_spot (take n xs))) → IsRootLevel at root xs
+    → ((n b : ℕ) → slice_get xs n ≡ Some b → (b ≡ root) ⊎ IsAfterRoot root (context_after at first_context (take n xs))) → IsRootLevel at root xs
 root_told at root [] some d each = absurd (some refl)
 root_told at root (b ∷ []) some d each = elim (each 0 b refl) [
   | inl is ↦ is
@@ -41,7 +41,7 @@ root_told at root (b ∷ c ∷ rest) some d each = by rest d.0.1 (each 2)
     incomplete : (at b).split ≡ true
     incomplete = elim (each 1 c refl) [ inl is ↦ absurd (d.0.0 (is_root ∙ sym is)) | inr h ↦ h.1 ]
 
-    by : (rest : List ℕ) → IsNotIn b rest → ((e : ℕ) → slice_get rest 0 ≡ Some e → (e ≡ root) ⊎ IsAfterRoot root (spot_after at first_spot (b ∷ c ∷ [])))
+    by : (rest : List ℕ) → IsNotIn b rest → ((e : ℕ) → slice_get rest 0 ≡ Some e → (e ≡ root) ⊎ IsAfterRoot root (context_after at first_context (b ∷ c ∷ [])))
         → IsRootLevel at root (b ∷ c ∷ rest)
     by [] n third = (is_root, incomplete)
     by (e ∷ es) n third = elim (third e refl) [
@@ -91,20 +91,20 @@ module _ (parents : Bool) (pages : List Page) (stand : StandAtTheirBlocks pages)
         → IsOfChain {ix = ix} false (record { depth = depth; place = k; block = b; deep = deep; is = is }) n → ⊥
     no_damage k b is n damage = sound (on_chain (record { depth = depth; place = k; block = b; deep = deep; is = is })) n damage
 
-    pub right_at : (k b : ℕ) → (place_at ix depth k).block ≡ Some b → IsRight pages depth level (place_at ix depth k).spot b
+    pub right_at : (k b : ℕ) → (place_at ix depth k).block ≡ Some b → IsRight pages depth level (place_at ix depth k).context b
     right_at k b is = right_here pages (record { depth = depth; place = k; block = b; deep = deep; is = is }) level stand sum (no_damage k b is)
 
     once_at : (j k b : ℕ) → j < k → (place_at ix depth j).block ≡ Some b → (place_at ix depth k).block ≡ Some b → ⊥
     once_at j k b lt e f = no_damage k b f 3 (inr (inr (inl (refl, record { earlier = j; before = lt; same = e }))))
 
-    pub run_at : IsRunOf at level first_spot (chain_at pages depth) None
+    pub run_at : IsRunOf at level first_context (chain_at pages depth) None
     run_at = run pages depth level right_at once_at
 
     pub begins_at : first_or (chain_at pages depth) None ≡ Some (head ix depth)
     begins_at = begins pages depth level right_at once_at
 
     pub place_told : (n : ℕ)
-        → place_at ix depth n ≡ record { spot = spot_after at first_spot (take n (chain_at pages depth)); block = slice_get (chain_at pages depth) n }
+        → place_at ix depth n ≡ record { context = context_after at first_context (take n (chain_at pages depth)); block = slice_get (chain_at pages depth) n }
     place_told = place_is at level (head ix depth) (chain_at pages depth) run_at begins_at
 
     pub block_at : (n b : ℕ) → slice_get (chain_at pages depth) n ≡ Some b → (place_at ix depth n).block ≡ Some b
@@ -122,8 +122,8 @@ module _ (parents : Bool) (pages : List Page) (stand : StandAtTheirBlocks pages)
     pub rooted : depth ≡ 0 → IsRootLevel at ix.root (chain_at pages depth)
     rooted top = root_told at ix.root (chain_at pages depth) some_at distinct_at (λ n b e. elim (cases_eq b ix.root) [
       | inl is ↦ inl is
-      | inr differs ↦ inr (subst (IsAfterRoot ix.root) (ap (λ (p : Place). p.spot) (place_told n))
-          (after_so ix.root (place_at ix depth n).spot (λ fails.
+      | inr differs ↦ inr (subst (IsAfterRoot ix.root) (ap (λ (p : Place). p.context) (place_told n))
+          (after_so ix.root (place_at ix depth n).context (λ fails.
           no_damage n b (block_at n b e) 10 (inr (inr (inr (inr (inr (inr (inl (refl, top, differs, fails)))))))))))
     ])
 

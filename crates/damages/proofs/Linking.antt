@@ -1,7 +1,7 @@
 -- Downlinks of a level by the places of their pages, had and due.
 use Rattle.std.proofs.Common.{◌≡◌, ◌≢◌, ◌⊎◌, ℕ, zero, suc, ◌<◌, inl, inr, Bool, true, false, Some, List, [], ◌∷◌, take, slice_get, refl, sym, ap, subst, ◌∙◌, arith}
 use Rattle.damages.proofs.Ascending.{IsAmong, among_left, among_right, among_cases, Ascend, ascend_front, ascend_back, ascend_sides}
-use Rattle.damages.proofs.Imports.{cases_eq, Downlink, PageState, Live, HalfDead, Deleted, Node, LeftContext, past, spot_after, due_link, due_links, from_low, downlinks, IsBoundBeyond}
+use Rattle.damages.proofs.Imports.{cases_eq, Downlink, PageState, Live, HalfDead, Deleted, Node, LeftContext, past, context_after, due_link, due_links, from_low, downlinks, IsBoundBeyond}
 use Rattle.damages.proofs.Decided.{no_link, some_is}
 
 pub among_at : (d : Downlink) (xs : List Downlink) (n : ℕ) → slice_get xs n ≡ Some d → IsAmong d xs
@@ -31,7 +31,7 @@ pub record IsHad (at : ℕ → Node) (s : LeftContext) (xs : List ℕ) (d : Down
   pub block : ℕ
   pub there : slice_get xs place ≡ Some block
   pub item : ℕ
-  pub is : slice_get (from_low (spot_after at s (take place xs)).low (at block).links) item ≡ Some d
+  pub is : slice_get (from_low (context_after at s (take place xs)).low (at block).links) item ≡ Some d
 
 pub had : (at : ℕ → Node) (s : LeftContext) (xs : List ℕ) (d : Downlink) → IsAmong d (downlinks at s xs) → IsHad at s xs d
 had at s [] d i = absurd i
@@ -41,7 +41,7 @@ had at s (b ∷ bs) d i = elim (among_cases d (from_low s.low (at b).links) (dow
 ]
 
 pub has : (at : ℕ → Node) (s : LeftContext) (xs : List ℕ) (place block item : ℕ) (d : Downlink) → slice_get xs place ≡ Some block
-    → slice_get (from_low (spot_after at s (take place xs)).low (at block).links) item ≡ Some d → IsAmong d (downlinks at s xs)
+    → slice_get (from_low (context_after at s (take place xs)).low (at block).links) item ≡ Some d → IsAmong d (downlinks at s xs)
 has at s [] place block item d there is = absurd (no_link there)
 has at s (b ∷ bs) zero block item d there is =
     among_left d (from_low s.low (at b).links) _ (subst (λ (c : ℕ). IsAmong d (from_low s.low (at c).links)) (sym (some_is b block there)) (among_at d (from_low s.low (at block).links) item is))
@@ -51,9 +51,9 @@ has at s (b ∷ bs) (suc place) block item d there is = among_right d (from_low 
 pub record IsDue (at : ℕ → Node) (s : LeftContext) (xs : List ℕ) (d : Downlink) : Type 0 where
   pub place : ℕ
   pub there : slice_get xs place ≡ Some d.child
-  pub bound : d.bound ≡ (spot_after at s (take place xs)).low
+  pub bound : d.bound ≡ (context_after at s (take place xs)).low
   pub alive : (at d.child).state ≡ Live
-  pub clear : (spot_after at s (take place xs)).behind ≡ false
+  pub clear : (context_after at s (take place xs)).behind ≡ false
 
 pub due : (at : ℕ → Node) (s : LeftContext) (xs : List ℕ) (d : Downlink) → IsAmong d (due_links at s xs) → IsDue at s xs d
 due at s [] d i = absurd i
@@ -76,8 +76,8 @@ due at s (b ∷ bs) d i = elim (among_cases d (due_link (at b).state s.behind s.
     here Deleted behind is clear i = absurd i
 
 pub is_due : (at : ℕ → Node) (s : LeftContext) (xs : List ℕ) (place : ℕ) (d : Downlink) → slice_get xs place ≡ Some d.child
-    → d.bound ≡ (spot_after at s (take place xs)).low
-    → (at d.child).state ≡ Live → (spot_after at s (take place xs)).behind ≡ false → IsAmong d (due_links at s xs)
+    → d.bound ≡ (context_after at s (take place xs)).low
+    → (at d.child).state ≡ Live → (context_after at s (take place xs)).behind ≡ false → IsAmong d (due_links at s xs)
 is_due at s [] place d there bound alive clear = absurd (no_link there)
 is_due at s (b ∷ bs) zero d there bound alive clear =
     among_left d (due_link (at b).state s.behind s.low b) _
@@ -101,7 +101,7 @@ ascend_index (x ∷ xs) (suc i) zero d e a lt f g = absurd (omega arith)
 ascend_index (x ∷ xs) (suc i) (suc j) d e a lt f g = ascend_index xs i j d e a.1 (omega arith) f g
 
 pub ascend_items : (at : ℕ → Node) (s : LeftContext) (xs : List ℕ) (n b : ℕ) (i j : ℕ) (d e : Downlink) → Ascend (downlinks at s xs) → slice_get xs n ≡ Some b → i < j
-    → slice_get (from_low (spot_after at s (take n xs)).low (at b).links) i ≡ Some d → slice_get (from_low (spot_after at s (take n xs)).low (at b).links) j ≡ Some e → IsBoundBeyond d.bound e.bound
+    → slice_get (from_low (context_after at s (take n xs)).low (at b).links) i ≡ Some d → slice_get (from_low (context_after at s (take n xs)).low (at b).links) j ≡ Some e → IsBoundBeyond d.bound e.bound
 ascend_items at s [] n b i j d e a there lt f g = absurd (no_link there)
 ascend_items at s (x ∷ xs) zero b i j d e a there lt f g =
     ascend_index (from_low s.low (at b).links) i j d e
@@ -110,7 +110,7 @@ ascend_items at s (x ∷ xs) (suc n) b i j d e a there lt f g = ascend_items at 
 
 pub ascend_places : (at : ℕ → Node) (s : LeftContext) (xs : List ℕ) (n b m c : ℕ) (i j : ℕ) (d e : Downlink) → Ascend (downlinks at s xs) → n < m
     → slice_get xs n ≡ Some b → slice_get xs m ≡ Some c
-    → slice_get (from_low (spot_after at s (take n xs)).low (at b).links) i ≡ Some d → slice_get (from_low (spot_after at s (take m xs)).low (at c).links) j ≡ Some e → IsBoundBeyond d.bound e.bound
+    → slice_get (from_low (context_after at s (take n xs)).low (at b).links) i ≡ Some d → slice_get (from_low (context_after at s (take m xs)).low (at c).links) j ≡ Some e → IsBoundBeyond d.bound e.bound
 ascend_places at s [] n b m c i j d e a lt there then f g = absurd (no_link there)
 ascend_places at s (x ∷ xs) n b zero c i j d e a lt there then f g = absurd (omega arith)
 ascend_places at s (x ∷ xs) zero b (suc m) c i j d e a lt there then f g =

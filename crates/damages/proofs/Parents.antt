@@ -1,8 +1,8 @@
 -- Where neither a chain nor parents and children are damaged, each level has the downlinks that the level below is to have.
 use Rattle.std.proofs.Common.{◌≡◌, ◌≢◌, ◌⊎◌, ℕ, suc, ◌+◌, ◌-◌, ◌≤◌, inl, inr, true, false, Some, List, take, slice_get, refl, sym, ap, subst, ◌∙◌, arith}
 use Rattle.damages.proofs.Ascending.{IsAmong, same_list, due_ascend, down_ascend}
-use Rattle.damages.proofs.Imports.{Downlink, Page, PageState, Live, HalfDead, Deleted, Node, nodes_of, LeftContext, spot_after, first_spot, due_links, from_low, downlinks, FitsState, IsIn, Index}
-use Rattle.damages.proofs.Imports.{index_of, Place, place_at, Here, Item, spot, IsOnLevel, IsOnChain, IsUnlinked, IsSound, at_child, at_page, StandAtTheirBlocks, is_in_or}
+use Rattle.damages.proofs.Imports.{Downlink, Page, PageState, Live, HalfDead, Deleted, Node, nodes_of, LeftContext, context_after, first_context, due_links, from_low, downlinks, FitsState, IsIn, Index}
+use Rattle.damages.proofs.Imports.{index_of, Place, place_at, Here, Item, context, IsOnLevel, IsOnChain, IsUnlinked, IsSound, at_child, at_page, StandAtTheirBlocks, is_in_or}
 use Rattle.damages.proofs.Decided.{bound_so, bool_so, on_level_so}
 use Rattle.damages.proofs.Levels.{chain_at, right_at, place_told, block_at, distinct_at, run_at}
 use Rattle.damages.proofs.Linking.{leads_or, had, has, IsDue, due, is_due}
@@ -52,20 +52,20 @@ module _ (pages : List Page) (stand : StandAtTheirBlocks pages) (sound : IsSound
     abbrev lower : List ℕ
     lower = chain_at pages (suc depth)
 
-    upper_told : (n : ℕ) → place_at ix depth n ≡ record { spot = spot_after at first_spot (take n upper); block = slice_get upper n }
+    upper_told : (n : ℕ) → place_at ix depth n ≡ record { context = context_after at first_context (take n upper); block = slice_get upper n }
     upper_told = place_told true pages stand sound depth (suc level) (omega arith) (omega arith)
 
-    lower_told : (n : ℕ) → place_at ix (suc depth) n ≡ record { spot = spot_after at first_spot (take n lower); block = slice_get lower n }
+    lower_told : (n : ℕ) → place_at ix (suc depth) n ≡ record { context = context_after at first_context (take n lower); block = slice_get lower n }
     lower_told = place_told true pages stand sound (suc depth) level deep sum
 
     -- what an item leads to is due
-    item_due : (h : Here ix) (i : Item h) → h.depth ≡ depth → IsAmong i.link (due_links at first_spot lower)
+    item_due : (h : Here ix) (i : Item h) → h.depth ≡ depth → IsAmong i.link (due_links at first_context lower)
     item_due h i same = by (chain_or i.link.child)
       where
         on_level : IsOnLevel ix (suc h.depth) i.link.child
         on_level = on_level_so ix (suc h.depth) i.link.child (λ fails. sound (at_child h i) 1 (refl, refl, fails))
 
-        on_chain : IsOnChain ix i.link.child → IsAmong i.link (due_links at first_spot lower)
+        on_chain : IsOnChain ix i.link.child → IsAmong i.link (due_links at first_context lower)
         on_chain on = at_depth on.depth on.place on.deep on.is level_is
           where
             level_is : on.depth ≡ suc depth
@@ -77,53 +77,53 @@ module _ (pages : List Page) (stand : StandAtTheirBlocks pages) (sound : IsSound
                 omega (arith, l, m, same)
 
             at_depth : (d place : ℕ) → d ≤ ix.top → (place_at ix d place).block ≡ Some i.link.child → d ≡ suc depth
-                → IsAmong i.link (due_links at first_spot lower)
+                → IsAmong i.link (due_links at first_context lower)
             at_depth d place d_deep d_is d_same = at_place (subst (λ (n : ℕ). (place_at ix n place).block ≡ Some i.link.child) d_same d_is)
               where
-                at_place : (place_at ix (suc depth) place).block ≡ Some i.link.child → IsAmong i.link (due_links at first_spot lower)
+                at_place : (place_at ix (suc depth) place).block ≡ Some i.link.child → IsAmong i.link (due_links at first_context lower)
                 at_place is =
                     let child : Here ix = record { depth = suc depth; place = place; block = i.link.child; deep = deep; is = is } in
                     let right = right_at true pages stand sound (suc depth) level deep sum place i.link.child is in
                     let linked : IsUnlinked child → ⊥ = (λ u. sound (at_page h) 9 (refl, inr (inr (refl, i, inr (inl (child, refl, u)))))) in
                     let told = lower_told place in
-                    is_due at first_spot lower place i.link
+                    is_due at first_context lower place i.link
                     (sym (ap (λ (p : Place). p.block) told) ∙ is)
-                    (bound_so i.link.bound (spot child).low (λ differ. sound (at_page h) 7 (refl, inl (refl, i, child, refl, differ))) ∙ ap (λ (p : Place). p.spot.low) told)
-                    (live_so (at i.link.child).state level (place_at ix (suc depth) place).spot (at i.link.child) right.placed.fits (λ dead. linked (inl dead)))
-                    (sym (ap (λ (p : Place). p.spot.behind) told) ∙ bool_so (spot child).behind (λ behind. linked (inr behind)))
+                    (bound_so i.link.bound (context child).low (λ differ. sound (at_page h) 7 (refl, inl (refl, i, child, refl, differ))) ∙ ap (λ (p : Place). p.context.low) told)
+                    (live_so (at i.link.child).state level (place_at ix (suc depth) place).context (at i.link.child) right.placed.fits (λ dead. linked (inl dead)))
+                    (sym (ap (λ (p : Place). p.context.behind) told) ∙ bool_so (context child).behind (λ behind. linked (inr behind)))
 
-        by : IsOnChain ix i.link.child ⊎ (IsOnChain ix i.link.child → ⊥) → IsAmong i.link (due_links at first_spot lower)
+        by : IsOnChain ix i.link.child ⊎ (IsOnChain ix i.link.child → ⊥) → IsAmong i.link (due_links at first_context lower)
         by (inl on) = on_chain on
         by (inr off) = absurd (sound (at_page h) 9 (refl, inr (inr (refl, i, inl off))))
 
-    had_due : (d : Downlink) → IsAmong d (downlinks at first_spot upper) → IsAmong d (due_links at first_spot lower)
+    had_due : (d : Downlink) → IsAmong d (downlinks at first_context upper) → IsAmong d (due_links at first_context lower)
     had_due d among =
-        let a = had at first_spot upper d among in
+        let a = had at first_context upper d among in
         let told = upper_told a.place in
         let h : Here ix = record { depth = depth; place = a.place; block = a.block; deep = omega arith; is = ap (λ (p : Place). p.block) told ∙ a.there } in
-        let i : Item h = record { item = a.item; link = d; is = subst (λ (s : LeftContext). slice_get (from_low s.low (at a.block).links) a.item ≡ Some d) (sym (ap (λ (p : Place). p.spot) told)) a.is } in
+        let i : Item h = record { item = a.item; link = d; is = subst (λ (s : LeftContext). slice_get (from_low s.low (at a.block).links) a.item ≡ Some d) (sym (ap (λ (p : Place). p.context) told)) a.is } in
         item_due h i refl
 
     -- an item of a page on this level is one of the level's
-    item_had : (h : Here ix) (i : Item h) → h.depth ≡ depth → IsAmong i.link (downlinks at first_spot upper)
+    item_had : (h : Here ix) (i : Item h) → h.depth ≡ depth → IsAmong i.link (downlinks at first_context upper)
     item_had h i same = at_depth h.depth h.place h.block h.is i.is same
       where
         at_depth : (d place block : ℕ) → (place_at ix d place).block ≡ Some block
-            → slice_get (from_low (place_at ix d place).spot.low (at block).links) i.item ≡ Some i.link
-            → d ≡ depth → IsAmong i.link (downlinks at first_spot upper)
+            → slice_get (from_low (place_at ix d place).context.low (at block).links) i.item ≡ Some i.link
+            → d ≡ depth → IsAmong i.link (downlinks at first_context upper)
         at_depth d place block is found d_same =
             let told = upper_told place in
-            has at first_spot upper place block i.item i.link
+            has at first_context upper place block i.item i.link
             (sym (ap (λ (p : Place). p.block) told) ∙ subst (λ (n : ℕ). (place_at ix n place).block ≡ Some block) d_same is)
-            (subst (λ (s : LeftContext). slice_get (from_low s.low (at block).links) i.item ≡ Some i.link) (ap (λ (p : Place). p.spot) told)
-            (subst (λ (n : ℕ). slice_get (from_low (place_at ix n place).spot.low (at block).links) i.item ≡ Some i.link) d_same found))
+            (subst (λ (s : LeftContext). slice_get (from_low s.low (at block).links) i.item ≡ Some i.link) (ap (λ (p : Place). p.context) told)
+            (subst (λ (n : ℕ). slice_get (from_low (place_at ix n place).context.low (at block).links) i.item ≡ Some i.link) d_same found))
 
     -- what is due is there
-    due_had : (d : Downlink) → IsAmong d (due_links at first_spot lower) → IsAmong d (downlinks at first_spot upper)
-    due_had d among = by (leads_or d.child (downlinks at first_spot upper))
+    due_had : (d : Downlink) → IsAmong d (due_links at first_context lower) → IsAmong d (downlinks at first_context upper)
+    due_had d among = by (leads_or d.child (downlinks at first_context upper))
       where
-        a : IsDue at first_spot lower d
-        a = due at first_spot lower d among
+        a : IsDue at first_context lower d
+        a = due at first_context lower d among
 
         is : (place_at ix (suc depth) a.place).block ≡ Some d.child
         is = ap (λ (p : Place). p.block) (lower_told a.place) ∙ a.there
@@ -133,12 +133,12 @@ module _ (pages : List Page) (stand : StandAtTheirBlocks pages) (sound : IsSound
           where
             differ : Live ≡ HalfDead → ⊥
             differ e = cc
-        not_unlinked (inr behind) = differ (sym a.clear ∙ sym (ap (λ (p : Place). p.spot.behind) (lower_told a.place)) ∙ behind)
+        not_unlinked (inr behind) = differ (sym a.clear ∙ sym (ap (λ (p : Place). p.context.behind) (lower_told a.place)) ∙ behind)
           where
             differ : false ≡ true → ⊥
             differ e = cc
 
-        alone : ((e : Downlink) → IsAmong e (downlinks at first_spot upper) → e.child ≢ d.child) → ⊥
+        alone : ((e : Downlink) → IsAmong e (downlinks at first_context upper) → e.child ≢ d.child) → ⊥
         alone none' =
             sound (at_page (record { depth = suc depth; place = a.place; block = d.child; deep = deep; is = is })) 8 (
               refl,
@@ -156,20 +156,20 @@ module _ (pages : List Page) (stand : StandAtTheirBlocks pages) (sound : IsSound
               )),
             )
 
-        same_due : (e : Downlink) → IsAmong e (downlinks at first_spot upper) → e.child ≡ d.child → e ≡ d
+        same_due : (e : Downlink) → IsAmong e (downlinks at first_context upper) → e.child ≡ d.child → e ≡ d
         same_due e i child =
-            let b = due at first_spot lower e (had_due e i) in
+            let b = due at first_context lower e (had_due e i) in
             let place : b.place ≡ a.place = one_place lower b.place a.place d.child (distinct_at true pages stand sound (suc depth) level deep sum) (b.there ∙ ap Some child) a.there in
-            let bound : e.bound ≡ d.bound = b.bound ∙ ap (λ (n : ℕ). (spot_after at first_spot (take n lower)).low) place ∙ sym a.bound in
+            let bound : e.bound ≡ d.bound = b.bound ∙ ap (λ (n : ℕ). (context_after at first_context (take n lower)).low) place ∙ sym a.bound in
             λ j. record { bound = bound j; child = child j }
 
-        by : ((e : Downlink) × IsAmong e (downlinks at first_spot upper) × (e.child ≡ d.child)) ⊎ ((e : Downlink) → IsAmong e (downlinks at first_spot upper) → e.child ≢ d.child)
-            → IsAmong d (downlinks at first_spot upper)
-        by (inl found) = subst (λ (z : Downlink). IsAmong z (downlinks at first_spot upper)) (same_due found.0 found.1 found.2) found.1
+        by : ((e : Downlink) × IsAmong e (downlinks at first_context upper) × (e.child ≡ d.child)) ⊎ ((e : Downlink) → IsAmong e (downlinks at first_context upper) → e.child ≢ d.child)
+            → IsAmong d (downlinks at first_context upper)
+        by (inl found) = subst (λ (z : Downlink). IsAmong z (downlinks at first_context upper)) (same_due found.0 found.1 found.2) found.1
         by (inr none') = absurd (alone none')
 
-    pub parents_are : downlinks at first_spot upper ≡ due_links at first_spot lower
-    parents_are = same_list (downlinks at first_spot upper) (due_links at first_spot lower)
-        (down_ascend at level first_spot upper (run_at true pages stand sound depth (suc level) (omega arith) (omega arith)))
-        (due_ascend at level first_spot lower (run_at true pages stand sound (suc depth) level deep sum))
+    pub parents_are : downlinks at first_context upper ≡ due_links at first_context lower
+    parents_are = same_list (downlinks at first_context upper) (due_links at first_context lower)
+        (down_ascend at level first_context upper (run_at true pages stand sound depth (suc level) (omega arith) (omega arith)))
+        (due_ascend at level first_context lower (run_at true pages stand sound (suc depth) level deep sum))
         had_due due_had

@@ -1,6 +1,6 @@
 -- The places of a level whose pages are a chain.
 use Rattle.std.proofs.Common.{◌≡◌, ℕ, zero, suc, ◌+◌, ◌<◌, inl, inr, Option, Some, None, List, [], ◌∷◌, take, slice_get, refl, sym, ap, subst, ◌∙◌, arith}
-use Rattle.damages.proofs.Imports.{Node, LeftContext, past, spot_after, first_spot, first_or, IsPlaced, IsRunOf, IsIn, AreDistinct, not_in_apart, not_in_from, Place, next_place, place_from}
+use Rattle.damages.proofs.Imports.{Node, LeftContext, past, context_after, first_context, first_or, IsPlaced, IsRunOf, IsIn, AreDistinct, not_in_apart, not_in_from, Place, next_place, place_from}
 use Rattle.damages.proofs.Decided.{no_link, some_is}
 
 -- a block of the list, with its place there
@@ -36,7 +36,7 @@ distinct_from (x ∷ xs) h = (
 
 -- each page of a chain is placed, with those before it for its spot
 pub placed_at : (at : ℕ → Node) (level : ℕ) (s : LeftContext) (xs : List ℕ) (n b : ℕ) → IsRunOf at level s xs None → slice_get xs n ≡ Some b
-    → IsPlaced (at b) level (spot_after at s (take n xs)) (slice_get xs (suc n))
+    → IsPlaced (at b) level (context_after at s (take n xs)) (slice_get xs (suc n))
 placed_at at level s [] n b run e = absurd (no_link e)
 placed_at at level s (x ∷ xs) zero b run e = subst (λ (c : ℕ). IsPlaced (at c) level s (slice_get xs 0)) (some_is x b e) (subst (IsPlaced (at x) level s) (first_at xs) run.0)
   where
@@ -47,21 +47,21 @@ placed_at at level s (x ∷ xs) (suc n) b run e = placed_at at level (past x (at
 
 -- a walk along right links comes to the pages of the chain
 places_from : (at : ℕ → Node) (level start : ℕ) (n k : ℕ) (s : LeftContext) (xs : List ℕ) → IsRunOf at level s xs None
-    → place_from at start k ≡ record { spot = s; block = first_or xs None }
-    → (j : ℕ) → j ≡ n + k → place_from at start j ≡ record { spot = spot_after at s (take n xs); block = slice_get xs n }
-places_from at level start zero k s [] run is j sum = subst (λ (i : ℕ). place_from at start i ≡ record { spot = s; block = None }) (let e : k ≡ j = omega arith in e) is
-places_from at level start zero k s (x ∷ xs) run is j sum = subst (λ (i : ℕ). place_from at start i ≡ record { spot = s; block = Some x }) (let e : k ≡ j = omega arith in e) is
-places_from at level start (suc n) k s [] run is j sum = nowhere n (suc k) (ap (λ (p : Place). next_place at p.spot p.block) is) j (omega arith)
+    → place_from at start k ≡ record { context = s; block = first_or xs None }
+    → (j : ℕ) → j ≡ n + k → place_from at start j ≡ record { context = context_after at s (take n xs); block = slice_get xs n }
+places_from at level start zero k s [] run is j sum = subst (λ (i : ℕ). place_from at start i ≡ record { context = s; block = None }) (let e : k ≡ j = omega arith in e) is
+places_from at level start zero k s (x ∷ xs) run is j sum = subst (λ (i : ℕ). place_from at start i ≡ record { context = s; block = Some x }) (let e : k ≡ j = omega arith in e) is
+places_from at level start (suc n) k s [] run is j sum = nowhere n (suc k) (ap (λ (p : Place). next_place at p.context p.block) is) j (omega arith)
   where
-    nowhere : (n k : ℕ) → place_from at start k ≡ record { spot = s; block = None } → (j : ℕ) → j ≡ n + k
-        → place_from at start j ≡ record { spot = s; block = None }
-    nowhere zero k is j sum = subst (λ (i : ℕ). place_from at start i ≡ record { spot = s; block = None }) (let e : k ≡ j = omega arith in e) is
-    nowhere (suc n) k is j sum = nowhere n (suc k) (ap (λ (p : Place). next_place at p.spot p.block) is) j (omega arith)
+    nowhere : (n k : ℕ) → place_from at start k ≡ record { context = s; block = None } → (j : ℕ) → j ≡ n + k
+        → place_from at start j ≡ record { context = s; block = None }
+    nowhere zero k is j sum = subst (λ (i : ℕ). place_from at start i ≡ record { context = s; block = None }) (let e : k ≡ j = omega arith in e) is
+    nowhere (suc n) k is j sum = nowhere n (suc k) (ap (λ (p : Place). next_place at p.context p.block) is) j (omega arith)
 places_from at level start (suc n) k s (x ∷ xs) run is j sum =
     places_from at level start n (suc k) (past x (at x) s) xs run.1
-    (ap (λ (p : Place). next_place at p.spot p.block) is ∙ ap (λ (o : Option ℕ). let p : Place = record { spot = past x (at x) s; block = o } in p) run.0.right_is) j (omega arith)
+    (ap (λ (p : Place). next_place at p.context p.block) is ∙ ap (λ (o : Option ℕ). let p : Place = record { context = past x (at x) s; block = o } in p) run.0.right_is) j (omega arith)
 
-pub place_is : (at : ℕ → Node) (level start : ℕ) (xs : List ℕ) → IsRunOf at level first_spot xs None → first_or xs None ≡ Some start
-    → (n : ℕ) → place_from at start n ≡ record { spot = spot_after at first_spot (take n xs); block = slice_get xs n }
+pub place_is : (at : ℕ → Node) (level start : ℕ) (xs : List ℕ) → IsRunOf at level first_context xs None → first_or xs None ≡ Some start
+    → (n : ℕ) → place_from at start n ≡ record { context = context_after at first_context (take n xs); block = slice_get xs n }
 place_is at level start xs run begins n =
-    places_from at level start n 0 first_spot xs run (ap (λ (o : Option ℕ). let p : Place = record { spot = first_spot; block = o } in p) (sym begins)) n (omega arith)
+    places_from at level start n 0 first_context xs run (ap (λ (o : Option ℕ). let p : Place = record { context = first_context; block = o } in p) (sym begins)) n (omega arith)

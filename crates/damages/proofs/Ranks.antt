@@ -47,7 +47,7 @@ numbered h n (inr (inr a)) e = let k = a.0 in omega arith
 same_child : {ix : Index} (h k : Here ix) (i : Item h) (j : Item k) → h.depth ≡ k.depth → h.place ≡ k.place → i.item ≡ j.item → i.link.child ≡ j.link.child
 same_child {ix} h k i j d p t =
     let b = same_block h k d p in
-    ap (λ (l : Downlink). l.child) (some_link _ _ i.link j.link (λ s. slice_get (from_low (place_at ix (d s) (p s)).spot.low (ix.at (b s)).links) (t s)) i.is j.is)
+    ap (λ (l : Downlink). l.child) (some_link _ _ i.link j.link (λ s. slice_get (from_low (place_at ix (d s) (p s)).context.low (ix.at (b s)).links) (t s)) i.is j.is)
 
 -- two damages of which neither comes first have one number, and one block
 one : (parents keys : Bool) (ix : Index) (s t : Site ix) (n m : ℕ) → IsDamage parents keys s n → IsDamage parents keys t m → Level (rank s n) (rank t m)

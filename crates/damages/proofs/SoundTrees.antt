@@ -1,6 +1,6 @@
 -- Pages without a damage, parents and children seen, are a B-link tree.
 use Rattle.std.proofs.Common.{◌≡◌, ◌≢◌, ◌⊎◌, ℕ, suc, ◌-◌, ◌<◌, ◌≤◌, inl, inr, true, false, List, length, sym, ap, subst, ◌∙◌, refl, arith}
-use Rattle.damages.proofs.Imports.{Page, Deleted, Node, nodes_of, IsTreeOf, first_spot, due_links, downlinks, IsIn, Index, index_of, Place, IsOnChain, IsSound, nowhere, StandAtTheirBlocks}
+use Rattle.damages.proofs.Imports.{Page, Deleted, Node, nodes_of, IsTreeOf, first_context, due_links, downlinks, IsIn, Index, index_of, Place, IsOnChain, IsSound, nowhere, StandAtTheirBlocks}
 use Rattle.damages.proofs.Imports.{LevelsHaveTree}
 use Rattle.damages.proofs.Levels.{chain_at, chain_of, right_at, place_told, run_at, distinct_at, on_level_at, rooted, has_meta}
 use Rattle.damages.proofs.Parents.{chain_or, parents_are}
@@ -27,11 +27,11 @@ module _ (pages : List Page) (stand : StandAtTheirBlocks pages) (sound : IsSound
           (omega arith, subst (λ (d : ℕ). IsIn b (chain_at pages d)) same i)
       by (inr off) = absurd (sound (nowhere b) 11 (refl, refl, (after_meta, in_use, stands, off)))
 
-  parents : (level : ℕ) → level < ix.top → downlinks at first_spot (chain_of pages (suc level)) ≡ due_links at first_spot (chain_of pages level)
+  parents : (level : ℕ) → level < ix.top → downlinks at first_context (chain_of pages (suc level)) ≡ due_links at first_context (chain_of pages level)
   parents level lt =
       let deeper : suc (ix.top - suc level) ≡ ix.top - level = omega arith in
       parents_are pages stand sound (ix.top - suc level) level (omega arith) (omega arith)
-      ∙ ap (λ (d : ℕ). due_links at first_spot (chain_at pages d)) deeper
+      ∙ ap (λ (d : ℕ). due_links at first_context (chain_at pages d)) deeper
 
   tree_is : IsTreeOf at (length pages) ix.root ix.top (chain_of pages)
   tree_is = record {

@@ -1,8 +1,8 @@
 -- In a B-link tree a level's places are the pages of its chain.
 use Rattle.std.proofs.Common.{◌≡◌, ℕ, zero, suc, ◌-◌, ◌<◌, ◌≤◌, inl, Some, None, List, [], ◌∷◌, ◌++◌, length, take, slice_get, refl, sym, ap, subst, ◌∙◌, arith}
 use Rattle.damages.proofs.Ascending.{IsAmong, upper_fits}
-use Rattle.damages.proofs.Imports.{Downlink, Page, Node, nodes_of, LeftContext, past, spot_after, first_spot, first_or, LinksWithin, IsPlaced, IsRunOf, IsRootLevel, IsTreeOf, from_low, downlinks}
-use Rattle.damages.proofs.Imports.{Index, index_of, moved_left, first_child, head, start, left_after_steps, Place, place_at, Here, node, spot, IsOnLevel, IsBack, few_blocks}
+use Rattle.damages.proofs.Imports.{Downlink, Page, Node, nodes_of, LeftContext, past, context_after, first_context, first_or, LinksWithin, IsPlaced, IsRunOf, IsRootLevel, IsTreeOf, from_low, downlinks}
+use Rattle.damages.proofs.Imports.{Index, index_of, moved_left, first_child, head, start, left_after_steps, Place, place_at, Here, node, context, IsOnLevel, IsBack, few_blocks}
 use Rattle.damages.proofs.Decided.{no_link, some_is}
 use Rattle.damages.proofs.Linking.{due}
 use Rattle.damages.proofs.Places.{in_from, one_place, placed_at, place_is}
@@ -23,13 +23,13 @@ first_is [] b e = e
 first_is (x ∷ xs) b e = e
 
 -- the first child of the leftmost page of a level is due
-first_among : (at : ℕ → Node) (level : ℕ) (xs : List ℕ) (b : ℕ) → IsRunOf at (suc level) first_spot xs None → slice_get xs 0 ≡ Some b
-    → (d : Downlink) × IsAmong d (downlinks at first_spot xs) × (d.child ≡ first_child (at b).links)
+first_among : (at : ℕ → Node) (level : ℕ) (xs : List ℕ) (b : ℕ) → IsRunOf at (suc level) first_context xs None → slice_get xs 0 ≡ Some b
+    → (d : Downlink) × IsAmong d (downlinks at first_context xs) × (d.child ≡ first_child (at b).links)
 first_among at level [] b run e = absurd (no_link e)
-first_among at level (x ∷ xs) b run e = by (at x).links (upper_fits (at x).state level first_spot (at x) run.0.fits).2 (ap (λ (c : ℕ). first_child (at c).links) (some_is x b e))
+first_among at level (x ∷ xs) b run e = by (at x).links (upper_fits (at x).state level first_context (at x) run.0.fits).2 (ap (λ (c : ℕ). first_child (at c).links) (some_is x b e))
   where
     by : (links : List Downlink) → LinksWithin None links (at x).high → first_child links ≡ first_child (at b).links
-        → (d : Downlink) × IsAmong d (from_low None links ++ downlinks at (past x (at x) first_spot) xs) × (d.child ≡ first_child (at b).links)
+        → (d : Downlink) × IsAmong d (from_low None links ++ downlinks at (past x (at x) first_context) xs) × (d.child ≡ first_child (at b).links)
     by [] w same = absurd w
     by (i ∷ is) w same = (record { bound = None; child = i.child }, inl refl, same)
 
@@ -65,7 +65,7 @@ module _ (pages : List Page) (chain : ℕ → List ℕ) (t : IsTreeOf (nodes_of 
   starts_below depth deep first =
       let d = first_among at (ix.top - suc depth) (chain (suc (ix.top - suc depth))) (head ix depth)
       (t.runs (suc (ix.top - suc depth)) (omega arith)) first in
-      let a = due at first_spot (chain (ix.top - suc depth)) d.0 (subst (IsAmong d.0) (t.parents (ix.top - suc depth) (omega arith)) d.1) in
+      let a = due at first_context (chain (ix.top - suc depth)) d.0 (subst (IsAmong d.0) (t.parents (ix.top - suc depth) (omega arith)) d.1) in
       record { place = a.place; is = subst (λ (b : ℕ). slice_get (chain (ix.top - suc depth)) a.place ≡ Some b) d.2 a.there }
 
   starts : (depth : ℕ) → depth ≤ ix.top → StartsOn depth
@@ -82,7 +82,7 @@ module _ (pages : List Page) (chain : ℕ → List ℕ) (t : IsTreeOf (nodes_of 
   head_first depth deep = head_from depth deep (starts depth deep)
 
   pub place_told : (depth : ℕ) → depth ≤ ix.top → (n : ℕ)
-      → place_at ix depth n ≡ record { spot = spot_after at first_spot (take n (chain (ix.top - depth))); block = slice_get (chain (ix.top - depth)) n }
+      → place_at ix depth n ≡ record { context = context_after at first_context (take n (chain (ix.top - depth))); block = slice_get (chain (ix.top - depth)) n }
   place_told depth deep n = place_is at (ix.top - depth) (head ix depth) (chain (ix.top - depth))
       (t.runs (ix.top - depth) (omega arith)) (first_is (chain (ix.top - depth)) (head ix depth) (head_first depth deep)) n
 
@@ -90,7 +90,7 @@ module _ (pages : List Page) (chain : ℕ → List ℕ) (t : IsTreeOf (nodes_of 
   pub on_level_from : (depth n b : ℕ) → depth ≤ ix.top → slice_get (chain (ix.top - depth)) n ≡ Some b → IsOnLevel ix depth b
   on_level_from depth n b deep e =
       let inside = t.in_use (ix.top - depth) b (omega arith) (in_from b (chain (ix.top - depth)) n e) in
-      let l = (placed_at at (ix.top - depth) first_spot (chain (ix.top - depth)) n b (t.runs (ix.top - depth) (omega arith)) e).level_is in
+      let l = (placed_at at (ix.top - depth) first_context (chain (ix.top - depth)) n b (t.runs (ix.top - depth) (omega arith)) e).level_is in
       record { after_meta = inside.0; in_use = inside.1; level_is = omega arith }
 
   -- the ways to the leftmost pages stay on their levels, and never come back
@@ -111,24 +111,24 @@ module _ (pages : List Page) (chain : ℕ → List ℕ) (t : IsTreeOf (nodes_of 
     pub there : slice_get (chain (ix.top - h.depth)) h.place ≡ Some h.block
     there = sym (ap (λ (p : Place). p.block) (place_told h.depth h.deep h.place)) ∙ h.is
 
-    pub spot_is : spot h ≡ spot_after at first_spot (take h.place (chain (ix.top - h.depth)))
-    spot_is = ap (λ (p : Place). p.spot) (place_told h.depth h.deep h.place)
+    pub context_is : context h ≡ context_after at first_context (take h.place (chain (ix.top - h.depth)))
+    context_is = ap (λ (p : Place). p.context) (place_told h.depth h.deep h.place)
 
-    pub placed : IsPlaced (node h) (ix.top - h.depth) (spot h) (slice_get (chain (ix.top - h.depth)) (suc h.place))
-    placed = subst (λ (s : LeftContext). IsPlaced (node h) (ix.top - h.depth) s (slice_get (chain (ix.top - h.depth)) (suc h.place))) (sym spot_is)
-        (placed_at at (ix.top - h.depth) first_spot (chain (ix.top - h.depth)) h.place h.block (t.runs (ix.top - h.depth) (let deep = h.deep in omega arith)) there)
+    pub placed : IsPlaced (node h) (ix.top - h.depth) (context h) (slice_get (chain (ix.top - h.depth)) (suc h.place))
+    placed = subst (λ (s : LeftContext). IsPlaced (node h) (ix.top - h.depth) s (slice_get (chain (ix.top - h.depth)) (suc h.place))) (sym context_is)
+        (placed_at at (ix.top - h.depth) first_context (chain (ix.top - h.depth)) h.place h.block (t.runs (ix.top - h.depth) (let deep = h.deep in omega arith)) there)
 
     pub on_level : IsOnLevel ix h.depth h.block
     on_level = on_level_from h.depth h.place h.block h.deep there
 
     -- the page there is on no other place
-    pub same_spot : (level place : ℕ) → level ≤ ix.top → slice_get (chain level) place ≡ Some h.block
-        → spot h ≡ spot_after at first_spot (take place (chain level))
-    same_spot level place le e =
+    pub same_context : (level place : ℕ) → level ≤ ix.top → slice_get (chain level) place ≡ Some h.block
+        → context h ≡ context_after at first_context (take place (chain level))
+    same_context level place le e =
         let deep = h.deep in
-        let l = (placed_at at level first_spot (chain level) place h.block (t.runs level le) e).level_is in
+        let l = (placed_at at level first_context (chain level) place h.block (t.runs level le) e).level_is in
         let m = on_level.level_is in
         let same : ix.top - h.depth ≡ level = omega arith in
         let own = subst (λ (n : ℕ). slice_get (chain n) h.place ≡ Some h.block) same there in
         let one = one_place (chain level) h.place place h.block (t.distinct level le) own e in
-        spot_is ∙ ap (λ (n : ℕ). spot_after at first_spot (take h.place (chain n))) same ∙ ap (λ (n : ℕ). spot_after at first_spot (take n (chain level))) one
+        context_is ∙ ap (λ (n : ℕ). context_after at first_context (take h.place (chain n))) same ∙ ap (λ (n : ℕ). context_after at first_context (take n (chain level))) one

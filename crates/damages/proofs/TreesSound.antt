@@ -4,14 +4,14 @@ use Rattle.damages.proofs.Ascending.{IsAmong, Ascend, beyond_not, beyond_trans, 
 use Rattle.damages.proofs.Decided.{no_link, some_is, bool_so}
 use Rattle.damages.proofs.Fitting.{page_there}
 use Rattle.damages.proofs.Imports.{Contains, cases_lt, bound_of, Bound, Entry, Downlink, Page, PageState, Live, HalfDead, Deleted, AreUnique, Node, node_of, node_from, nodes_of, LeftContext}
-use Rattle.damages.proofs.Imports.{spot_after, first_spot, IsBeyond, Rises, AscendWithin, LinksWithin, FitsState, IsRootLevel, IsTreeOf, from_low, downlinks, Index, index_of, or_block}
-use Rattle.damages.proofs.Imports.{ComesBefore, Place, Here, Item, Site, node, spot, IsOnLevel, IsOnChain, IsMetBefore, HasNotBeyond, IsAfterRoot, IsUnlinked, IsOfPath, IsOfChain, IsOfParents}
+use Rattle.damages.proofs.Imports.{context_after, first_context, IsBeyond, Rises, AscendWithin, LinksWithin, FitsState, IsRootLevel, IsTreeOf, from_low, downlinks, Index, index_of, or_block}
+use Rattle.damages.proofs.Imports.{ComesBefore, Place, Here, Item, Site, node, context, IsOnLevel, IsOnChain, IsMetBefore, HasNotBeyond, IsAfterRoot, IsUnlinked, IsOfPath, IsOfChain, IsOfParents}
 use Rattle.damages.proofs.Imports.{IsDamage, IsSound, on_way, on_chain, at_child, at_page, nowhere, StandAtTheirBlocks, LevelsHaveTree, IsBoundBeyond}
 use Rattle.damages.proofs.Items.{leaf_links, upper_entries}
 use Rattle.damages.proofs.KeysJudged.{unique_at}
 use Rattle.damages.proofs.Linking.{among_at, had, has, IsHad, due, IsDue, is_due, ascend_items, ascend_places}
 use Rattle.damages.proofs.Places.{at_from, one_place}
-use Rattle.damages.proofs.TreePlaces.{place_told, way_on, way_not_back, there, spot_is, placed, on_level, on_level_from, same_spot}
+use Rattle.damages.proofs.TreePlaces.{place_told, way_on, way_not_back, there, context_is, placed, on_level, on_level_from, same_context}
 use Rattle.damages.proofs.Parents.{live_so}
 
 -- what a page that stands in its place says of the numbers of damages
@@ -70,7 +70,7 @@ module _ (level : ℕ) (s : LeftContext) (n : Node) (leaf : level ≡ 0 → n.li
 
 -- each page of the root's level is the root, or right after the root with an incomplete split
 root_part : (at : ℕ → Node) (root : ℕ) (xs : List ℕ) (n b : ℕ) → IsRootLevel at root xs → slice_get xs n ≡ Some b
-    → (b ≡ root) ⊎ IsAfterRoot root (spot_after at first_spot (take n xs))
+    → (b ≡ root) ⊎ IsAfterRoot root (context_after at first_context (take n xs))
 root_part at root [] n b h e = absurd h
 root_part at root (x ∷ []) zero b h e = inl (sym (some_is x b e) ∙ h)
 root_part at root (x ∷ []) (suc n) b h e = absurd (no_link e)
@@ -114,9 +114,9 @@ module _ (pages : List Page) (stand : StandAtTheirBlocks pages) (chain : ℕ →
 
     -- the downlink that is due to the page
     abbrev own : Downlink
-    own = record { bound = (spot_after at first_spot (take h.place xs)).low; child = h.block }
+    own = record { bound = (context_after at first_context (take h.place xs)).low; child = h.block }
 
-    place_fits : FitsState (node h).state (ix.top - h.depth) (spot h) (node h)
+    place_fits : FitsState (node h).state (ix.top - h.depth) (context h) (node h)
     place_fits = (placed pages chain t h).fits
 
     not_met : IsMetBefore h → ⊥
@@ -126,17 +126,17 @@ module _ (pages : List Page) (stand : StandAtTheirBlocks pages) (chain : ℕ →
         let before = m.before in
         absurd (omega (arith, one, before))
 
-    within : HasNotBeyond (spot h).low (node h) → ⊥
+    within : HasNotBeyond (context h).low (node h) → ⊥
     within has' =
         let on = on_level pages chain t h in
         let l = on.level_is in
-        beyond (ix.top - h.depth) (spot h) (node h)
+        beyond (ix.top - h.depth) (context h) (node h)
         (λ leaf. page_links h.block on.after_meta on.in_use (omega arith)) (λ upper. page_entries h.block on.after_meta on.in_use (omega arith)) (node h).state place_fits has'
 
-    not_more : h.depth ≡ 0 → h.block ≢ ix.root → (IsAfterRoot ix.root (spot h) → ⊥) → ⊥
+    not_more : h.depth ≡ 0 → h.block ≢ ix.root → (IsAfterRoot ix.root (context h) → ⊥) → ⊥
     not_more top not_root not_behind = elim (root_part at ix.root xs h.place h.block root_level (there pages chain t h)) [
       | inl is ↦ not_root is
-      | inr b ↦ not_behind (subst (IsAfterRoot ix.root) (sym (spot_is pages chain t h)) b)
+      | inr b ↦ not_behind (subst (IsAfterRoot ix.root) (sym (context_is pages chain t h)) b)
     ]
       where
         root_level : IsRootLevel at ix.root xs
@@ -149,11 +149,11 @@ module _ (pages : List Page) (stand : StandAtTheirBlocks pages) (chain : ℕ →
     chain_sound keys unique number (inl a) = a.1 (on_level pages chain t h)
     chain_sound keys unique number (inr (inl a)) = a.1 (placed pages chain t h).left_is
     chain_sound keys unique number (inr (inr (inl a))) = not_met a.1
-    chain_sound keys unique number (inr (inr (inr (inl a)))) = not_deleted (node h).state (ix.top - h.depth) (spot h) (node h) place_fits a.1
-    chain_sound keys unique number (inr (inr (inr (inr (inl a))))) = a.2 (live_rises (node h).state (ix.top - h.depth) (spot h) (node h) place_fits a.1)
+    chain_sound keys unique number (inr (inr (inr (inl a)))) = not_deleted (node h).state (ix.top - h.depth) (context h) (node h) place_fits a.1
+    chain_sound keys unique number (inr (inr (inr (inr (inl a))))) = a.2 (live_rises (node h).state (ix.top - h.depth) (context h) (node h) place_fits a.1)
     chain_sound keys unique number (inr (inr (inr (inr (inr (inl a)))))) = within a.1
     chain_sound keys unique number (inr (inr (inr (inr (inr (inr (inl a))))))) = not_more a.1 a.2 a.3
-    chain_sound keys unique number (inr (inr (inr (inr (inr (inr (inr (inl a)))))))) = not_false (sym a.2 ∙ dead_clear (node h).state (ix.top - h.depth) (spot h) (node h) place_fits a.1)
+    chain_sound keys unique number (inr (inr (inr (inr (inr (inr (inr (inl a)))))))) = not_false (sym a.2 ∙ dead_clear (node h).state (ix.top - h.depth) (context h) (node h) place_fits a.1)
     chain_sound keys unique number (inr (inr (inr (inr (inr (inr (inr (inr a)))))))) = a.2 (unique_at pages h.block (unique a.1))
 
     -- items stand above the leaves, and each is due on the level below
@@ -164,53 +164,53 @@ module _ (pages : List Page) (stand : StandAtTheirBlocks pages) (chain : ℕ →
           let on = on_level pages chain t h in
           let l = on.level_is in
           let none' = page_links h.block on.after_meta on.in_use (omega arith) in
-          absurd (no_link (sym (ap (λ (ds : List Downlink). slice_get (from_low (spot h).low ds) i.item) none') ∙ i.is))
+          absurd (no_link (sym (ap (λ (ds : List Downlink). slice_get (from_low (context h).low ds) i.item) none') ∙ i.is))
     ]
 
-    item_at : (i : Item h) → slice_get (from_low (spot_after at first_spot (take h.place xs)).low (at h.block).links) i.item ≡ Some i.link
-    item_at i = subst (λ (s : LeftContext). slice_get (from_low s.low (at h.block).links) i.item ≡ Some i.link) (spot_is pages chain t h) i.is
+    item_at : (i : Item h) → slice_get (from_low (context_after at first_context (take h.place xs)).low (at h.block).links) i.item ≡ Some i.link
+    item_at i = subst (λ (s : LeftContext). slice_get (from_low s.low (at h.block).links) i.item ≡ Some i.link) (context_is pages chain t h) i.is
 
-    item_due : (i : Item h) → IsDue at first_spot ys i.link
+    item_due : (i : Item h) → IsDue at first_context ys i.link
     item_due i =
         let lt = below i in
         let upper : ix.top - h.depth ≡ suc (ix.top - suc h.depth) = omega arith in
-        let among = has at first_spot xs h.place h.block i.item i.link (there pages chain t h) (item_at i) in
-        due at first_spot ys i.link
+        let among = has at first_context xs h.place h.block i.item i.link (there pages chain t h) (item_at i) in
+        due at first_context ys i.link
         (subst (IsAmong i.link) (t.parents (ix.top - suc h.depth) (omega arith))
-        (subst (λ (l : ℕ). IsAmong i.link (downlinks at first_spot (chain l))) upper among))
+        (subst (λ (l : ℕ). IsAmong i.link (downlinks at first_context (chain l))) upper among))
 
-    ascending : Item h → Ascend (downlinks at first_spot xs)
+    ascending : Item h → Ascend (downlinks at first_context xs)
     ascending i =
         let lt = below i in
         let upper : suc (ix.top - suc h.depth) ≡ ix.top - h.depth = omega arith in
-        subst (λ (l : ℕ). Ascend (downlinks at first_spot (chain l))) upper
-        (down_ascend at (ix.top - suc h.depth) first_spot (chain (suc (ix.top - suc h.depth))) (t.runs (suc (ix.top - suc h.depth)) (omega arith)))
+        subst (λ (l : ℕ). Ascend (downlinks at first_context (chain l))) upper
+        (down_ascend at (ix.top - suc h.depth) first_context (chain (suc (ix.top - suc h.depth))) (t.runs (suc (ix.top - suc h.depth)) (omega arith)))
 
     child_on : (i : Item h) → IsOnLevel ix (suc h.depth) i.link.child
     child_on i = (let lt = below i in let d = item_due i in on_level_from pages chain t (suc h.depth) d.place i.link.child (omega arith) d.there)
 
     -- the spot of the page to which an item leads
-    child_spot : (i : Item h) (child : Here ix) → i.link.child ≡ child.block → spot child ≡ spot_after at first_spot (take (item_due i).place ys)
-    child_spot i child same = same_spot pages chain t child (ix.top - suc h.depth) (item_due i).place (omega arith) ((item_due i).there ∙ ap Some same)
+    child_context : (i : Item h) (child : Here ix) → i.link.child ≡ child.block → context child ≡ context_after at first_context (take (item_due i).place ys)
+    child_context i child same = same_context pages chain t child (ix.top - suc h.depth) (item_due i).place (omega arith) ((item_due i).there ∙ ap Some same)
 
-    bound_right : (i : Item h) (child : Here ix) → i.link.child ≡ child.block → i.link.bound ≡ (spot child).low
-    bound_right i child same = (item_due i).bound ∙ ap (λ (s : LeftContext). s.low) (sym (child_spot i child same))
+    bound_right : (i : Item h) (child : Here ix) → i.link.child ≡ child.block → i.link.bound ≡ (context child).low
+    bound_right i child same = (item_due i).bound ∙ ap (λ (s : LeftContext). s.low) (sym (child_context i child same))
 
     -- a page that is to have a downlink has one
     linked : 0 < h.depth → (IsUnlinked h → ⊥) → ((above : Here ix) (i : Item above) → above.depth < h.depth → i.link.child ≢ h.block) → ⊥
     linked pos not_unlinked none' =
         let deep = h.deep in
         let upper : suc (ix.top - h.depth) ≡ ix.top - (h.depth - 1) = omega arith in
-        let spot_told = spot_is pages chain t h in
-        let alive = live_so (node h).state (ix.top - h.depth) (spot h) (node h) place_fits (λ dead. not_unlinked (inl dead)) in
-        let clear = bool_so (spot h).behind (λ behind. not_unlinked (inr behind)) in
-        let among = is_due at first_spot xs h.place own
-        (there pages chain t h) refl alive (ap (λ (s : LeftContext). s.behind) (sym spot_told) ∙ clear) in
-        had_none (had at first_spot (chain (ix.top - (h.depth - 1))) own
-        (subst (λ (l : ℕ). IsAmong own (downlinks at first_spot (chain l))) upper
+        let context_told = context_is pages chain t h in
+        let alive = live_so (node h).state (ix.top - h.depth) (context h) (node h) place_fits (λ dead. not_unlinked (inl dead)) in
+        let clear = bool_so (context h).behind (λ behind. not_unlinked (inr behind)) in
+        let among = is_due at first_context xs h.place own
+        (there pages chain t h) refl alive (ap (λ (s : LeftContext). s.behind) (sym context_told) ∙ clear) in
+        had_none (had at first_context (chain (ix.top - (h.depth - 1))) own
+        (subst (λ (l : ℕ). IsAmong own (downlinks at first_context (chain l))) upper
         (subst (IsAmong own) (sym (t.parents (ix.top - h.depth) (omega arith))) among)))
       where
-        had_none : IsHad at first_spot (chain (ix.top - (h.depth - 1))) own → ⊥
+        had_none : IsHad at first_context (chain (ix.top - (h.depth - 1))) own → ⊥
         had_none a =
             let deep = h.deep in
             let told = place_told pages chain t (h.depth - 1) (omega arith) a.place in
@@ -219,7 +219,7 @@ module _ (pages : List Page) (stand : StandAtTheirBlocks pages) (chain : ℕ →
               item = a.item;
               link = own;
               is = subst (λ (s : LeftContext). slice_get (from_low s.low (at a.block).links) a.item ≡ Some own)
-                  (sym (ap (λ (p : Place). p.spot) told)) a.is;
+                  (sym (ap (λ (p : Place). p.context) told)) a.is;
             } in
             none' above i (omega arith) refl
 
@@ -239,7 +239,7 @@ module _ (pages : List Page) (stand : StandAtTheirBlocks pages) (chain : ℕ →
       where
         differ : Live ≡ HalfDead → ⊥
         differ e = cc
-    leads_to_linked i child same (inr behind) = not_false (sym behind ∙ ap (λ (s : LeftContext). s.behind) (child_spot i child same) ∙ (item_due i).clear)
+    leads_to_linked i child same (inr behind) = not_false (sym behind ∙ ap (λ (s : LeftContext). s.behind) (child_context i child same) ∙ (item_due i).clear)
 
   -- no page has two downlinks
   module _ (h : Here ix) (i : Item h) (page : Here ix) (first : Item page) (same : first.link.child ≡ i.link.child) where
@@ -259,24 +259,24 @@ module _ (pages : List Page) (stand : StandAtTheirBlocks pages) (chain : ℕ →
     first_there : slice_get upper page.place ≡ Some page.block
     first_there = subst (λ (d : ℕ). slice_get (chain (ix.top - d)) page.place ≡ Some page.block) one_depth (there pages chain t page)
 
-    first_at : slice_get (from_low (spot_after at first_spot (take page.place upper)).low (at page.block).links) first.item ≡ Some first.link
+    first_at : slice_get (from_low (context_after at first_context (take page.place upper)).low (at page.block).links) first.item ≡ Some first.link
     first_at = subst (λ (d : ℕ).
-        slice_get (from_low (spot_after at first_spot (take page.place (chain (ix.top - d)))).low (at page.block).links) first.item ≡ Some first.link) one_depth (item_at page first)
+        slice_get (from_low (context_after at first_context (take page.place (chain (ix.top - d)))).low (at page.block).links) first.item ≡ Some first.link) one_depth (item_at page first)
 
     one_bound : first.link.bound ≡ i.link.bound
     one_bound =
         let d = item_due h i in
-        let e : IsDue at first_spot lower first.link = subst (λ (n : ℕ). IsDue at first_spot (chain (ix.top - suc n)) first.link) one_depth (item_due page first) in
+        let e : IsDue at first_context lower first.link = subst (λ (n : ℕ). IsDue at first_context (chain (ix.top - suc n)) first.link) one_depth (item_due page first) in
         let one = one_place lower e.place d.place i.link.child (t.distinct (ix.top - suc h.depth) (omega arith)) (e.there ∙ ap Some same) d.there in
-        e.bound ∙ ap (λ (n : ℕ). (spot_after at first_spot (take n lower)).low) one ∙ sym d.bound
+        e.bound ∙ ap (λ (n : ℕ). (context_after at first_context (take n lower)).low) one ∙ sym d.bound
 
     ordered : ComesBefore (page.depth ∷ page.place ∷ first.item ∷ []) (h.depth ∷ h.place ∷ i.item ∷ []) → IsBoundBeyond first.link.bound i.link.bound
     ordered (inl lt) = absurd (let d = one_depth in omega arith)
     ordered (inr (d, inl lt)) =
-        ascend_places at first_spot upper page.place page.block h.place h.block first.item i.item first.link i.link (ascending h i) lt first_there (there pages chain t h) first_at (item_at h i)
-    ordered (inr (d, inr (p, inl lt))) = ascend_items at first_spot upper h.place h.block first.item i.item first.link i.link (ascending h i) (there pages chain t h) lt
-        (subst (λ (b : ℕ). slice_get (from_low (spot_after at first_spot (take h.place upper)).low (at b).links) first.item ≡ Some first.link) block
-        (subst (λ (n : ℕ). slice_get (from_low (spot_after at first_spot (take n upper)).low (at page.block).links) first.item ≡ Some first.link) p first_at))
+        ascend_places at first_context upper page.place page.block h.place h.block first.item i.item first.link i.link (ascending h i) lt first_there (there pages chain t h) first_at (item_at h i)
+    ordered (inr (d, inr (p, inl lt))) = ascend_items at first_context upper h.place h.block first.item i.item first.link i.link (ascending h i) (there pages chain t h) lt
+        (subst (λ (b : ℕ). slice_get (from_low (context_after at first_context (take h.place upper)).low (at b).links) first.item ≡ Some first.link) block
+        (subst (λ (n : ℕ). slice_get (from_low (context_after at first_context (take n upper)).low (at page.block).links) first.item ≡ Some first.link) p first_at))
         (item_at h i)
       where
         block : page.block ≡ h.block

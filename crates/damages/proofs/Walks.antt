@@ -1,6 +1,6 @@
 -- A walk along the right links of a level without damage: it ends, and what it came to is a chain.
 use Rattle.std.proofs.Common.{◌≡◌, ℕ, zero, suc, ◌+◌, ◌<◌, ◌≤◌, inl, inr, Option, Some, None, List, [], ◌∷◌, length, refl, sym, ap, subst, ◌∙◌, arith}
-use Rattle.damages.proofs.Imports.{cases_eq, Page, Node, nodes_of, LeftContext, past, first_spot, first_or, IsPlaced, IsRunOf, IsIn, IsNotIn, AreDistinct, not_in_from, Index, index_of, or_block}
+use Rattle.damages.proofs.Imports.{cases_eq, Page, Node, nodes_of, LeftContext, past, first_context, first_or, IsPlaced, IsRunOf, IsIn, IsNotIn, AreDistinct, not_in_from, Index, index_of, or_block}
 use Rattle.damages.proofs.Imports.{head, Place, next_place, place_at, few_blocks}
 use Rattle.damages.proofs.Decided.{no_link}
 use Rattle.damages.proofs.Fitting.{IsRight}
@@ -35,7 +35,7 @@ before_last : (ix : Index) (depth k b : ℕ) → (place_at ix depth (suc k)).blo
 before_last ix depth k b is = by (place_at ix depth k).block refl
   where
     by : (o : Option ℕ) → (place_at ix depth k).block ≡ o → (c : ℕ) × ((place_at ix depth k).block ≡ Some c)
-    by None e = absurd (no_link (sym (ap (λ (o : Option ℕ). (next_place ix.at (place_at ix depth k).spot o).block) e) ∙ is))
+    by None e = absurd (no_link (sym (ap (λ (o : Option ℕ). (next_place ix.at (place_at ix depth k).context o).block) e) ∙ is))
     by (Some c) e = (c, e)
 
 pub has_before : (ix : Index) (depth k b : ℕ) → (place_at ix depth k).block ≡ Some b → (j : ℕ) → j ≤ k → (c : ℕ) × ((place_at ix depth j).block ≡ Some c)
@@ -46,7 +46,7 @@ has_before ix depth (suc k) b is j le = elim (cases_eq j (suc k)) [
 ]
 
 module _ (pages : List Page) (depth level : ℕ)
-    (right : (k b : ℕ) → (place_at (index_of pages) depth k).block ≡ Some b → IsRight pages depth level (place_at (index_of pages) depth k).spot b)
+    (right : (k b : ℕ) → (place_at (index_of pages) depth k).block ≡ Some b → IsRight pages depth level (place_at (index_of pages) depth k).context b)
     (once : (j k b : ℕ) → j < k → (place_at (index_of pages) depth j).block ≡ Some b → (place_at (index_of pages) depth k).block ≡ Some b → ⊥) where
   new_here : (k b : ℕ) → (place_at (index_of pages) depth k).block ≡ Some b
       → IsNotIn (or_block (place_at (index_of pages) depth k).block 0) (passed (index_of pages) depth k)
@@ -76,24 +76,24 @@ module _ (pages : List Page) (depth level : ℕ)
       omega (arith, r, size (index_of pages) depth (suc k))
 
   -- from a place on, the walk is a chain
-  run_from : (n k : ℕ) (s : LeftContext) (o : Option ℕ) → place_at (index_of pages) depth k ≡ record { spot = s; block = o } → k + n ≡ length pages
+  run_from : (n k : ℕ) (s : LeftContext) (o : Option ℕ) → place_at (index_of pages) depth k ≡ record { context = s; block = o } → k + n ≡ length pages
       → IsRunOf (nodes_of pages) level s (follow (nodes_of pages) n o) None × (first_or (follow (nodes_of pages) n o) None ≡ o)
   run_from zero k s None is sum = (tt, refl)
   run_from zero k s (Some b) is sum = absurd (let lt = few k b (ap (λ (p : Place). p.block) is) in omega arith)
   run_from (suc n) k s None is sum = (tt, refl)
   run_from (suc n) k s (Some b) is sum =
-      let r = run_from n (suc k) (past b (nodes_of pages b) s) (nodes_of pages b).right (ap (λ (p : Place). next_place (nodes_of pages) p.spot p.block) is) (omega arith) in
+      let r = run_from n (suc k) (past b (nodes_of pages b) s) (nodes_of pages b).right (ap (λ (p : Place). next_place (nodes_of pages) p.context p.block) is) (omega arith) in
       let here = (right k b (ap (λ (p : Place). p.block) is)).placed in (
         (
           subst (λ (o : Option ℕ). IsPlaced (nodes_of pages b) level s o) (sym r.1)
-              (subst (λ (t : LeftContext). IsPlaced (nodes_of pages b) level t (nodes_of pages b).right) (ap (λ (p : Place). p.spot) is) here),
+              (subst (λ (t : LeftContext). IsPlaced (nodes_of pages b) level t (nodes_of pages b).right) (ap (λ (p : Place). p.context) is) here),
           r.0,
         ),
         refl,
       )
 
-  pub run : IsRunOf (nodes_of pages) level first_spot (follow (nodes_of pages) (length pages) (Some (head (index_of pages) depth))) None
-  run = (run_from (length pages) 0 first_spot (Some (head (index_of pages) depth)) refl (omega arith)).0
+  pub run : IsRunOf (nodes_of pages) level first_context (follow (nodes_of pages) (length pages) (Some (head (index_of pages) depth))) None
+  run = (run_from (length pages) 0 first_context (Some (head (index_of pages) depth)) refl (omega arith)).0
 
   pub begins : first_or (follow (nodes_of pages) (length pages) (Some (head (index_of pages) depth))) None ≡ Some (head (index_of pages) depth)
-  begins = (run_from (length pages) 0 first_spot (Some (head (index_of pages) depth)) refl (omega arith)).1
+  begins = (run_from (length pages) 0 first_context (Some (head (index_of pages) depth)) refl (omega arith)).1

@@ -1,6 +1,6 @@
 -- A way along left links from a page of a chain: it stays on the chain, comes to its first page and never back.
 use Rattle.std.proofs.Common.{◌≡◌, ◌≢◌, ℕ, zero, suc, ◌-◌, ◌<◌, ◌≤◌, inl, inr, Option, Some, None, List, [], ◌∷◌, length, take, slice_get, refl, sym, ap, subst, ◌∙◌, arith}
-use Rattle.damages.proofs.Imports.{cases_lt, Node, LeftContext, past, spot_after, first_spot, IsRunOf, AreDistinct, or_block, moved_left}
+use Rattle.damages.proofs.Imports.{cases_lt, Node, LeftContext, past, context_after, first_context, IsRunOf, AreDistinct, or_block, moved_left}
 use Rattle.damages.proofs.Decided.{no_link}
 use Rattle.damages.proofs.Places.{one_place, placed_at}
 
@@ -11,17 +11,17 @@ place_below (x ∷ xs) (suc n) b e = (let r = place_below xs n b e in omega arit
 
 -- before each place but the first there is one, whose page stands left of it
 left_at : (at : ℕ → Node) (s : LeftContext) (xs : List ℕ) (q b : ℕ) → slice_get xs (suc q) ≡ Some b
-    → (c : ℕ) × (slice_get xs q ≡ Some c) × ((spot_after at s (take (suc q) xs)).left ≡ Some c)
+    → (c : ℕ) × (slice_get xs q ≡ Some c) × ((context_after at s (take (suc q) xs)).left ≡ Some c)
 left_at at s [] q b e = absurd (no_link e)
 left_at at s (x ∷ xs) zero b e = (x, refl, refl)
 left_at at s (x ∷ xs) (suc q) b e = left_at at (past x (at x) s) xs q b e
 
-module _ (at : ℕ → Node) (level : ℕ) (xs : List ℕ) (run : IsRunOf at level first_spot xs None) (start p : ℕ) (there : slice_get xs p ≡ Some start) where
+module _ (at : ℕ → Node) (level : ℕ) (xs : List ℕ) (run : IsRunOf at level first_context xs None) (start p : ℕ) (there : slice_get xs p ≡ Some start) where
   step : (q b : ℕ) → slice_get xs q ≡ Some b → slice_get xs (q - 1) ≡ Some (or_block (at b).left b)
-  step zero b e = e ∙ ap (λ (o : Option ℕ). Some (or_block o b)) (sym (placed_at at level first_spot xs 0 b run e).left_is)
+  step zero b e = e ∙ ap (λ (o : Option ℕ). Some (or_block o b)) (sym (placed_at at level first_context xs 0 b run e).left_is)
   step (suc q) b e =
-      let l = left_at at first_spot xs q b e in
-      let left : (at b).left ≡ Some l.0 = (placed_at at level first_spot xs (suc q) b run e).left_is ∙ l.2 in
+      let l = left_at at first_context xs q b e in
+      let left : (at b).left ≡ Some l.0 = (placed_at at level first_context xs (suc q) b run e).left_is ∙ l.2 in
       subst (λ (n : ℕ). slice_get xs n ≡ Some (or_block (at b).left b)) (let k : q ≡ suc q - 1 = omega arith in k) (l.1 ∙ ap (λ (o : Option ℕ). Some (or_block o b)) (sym left))
 
   pub moved_to : (n : ℕ) → slice_get xs (p - n) ≡ Some (moved_left at start n)
@@ -41,4 +41,4 @@ module _ (at : ℕ → Node) (level : ℕ) (xs : List ℕ) (run : IsRunOf at lev
       ]
     where
       ended : p - before ≡ 0 → (at (moved_left at start before)).left ≡ None
-      ended e = (placed_at at level first_spot xs 0 (moved_left at start before) run (subst (λ (k : ℕ). slice_get xs k ≡ Some (moved_left at start before)) e (moved_to before))).left_is
+      ended e = (placed_at at level first_context xs 0 (moved_left at start before) run (subst (λ (k : ℕ). slice_get xs k ≡ Some (moved_left at start before)) e (moved_to before))).left_is

@@ -9,7 +9,7 @@ use Rattle.page_codec.specs.declared.page.Page.{Page}
 use Rattle.page_codec.specs.declared.page.PageState.TheVariants.{Live, HalfDead, Deleted}
 use Rattle.tree_shape.specs.KeyPages.{IsUniqueNode}
 use Rattle.tree_shape.specs.Nodes.{Node, nodes_of}
-use Rattle.tree_shape.specs.Chains.{LeftContext, first_spot, past, from_low, IsBeyond, Rises}
+use Rattle.tree_shape.specs.Chains.{LeftContext, first_context, past, from_low, IsBeyond, Rises}
 
 -- what a verifier sees: the pages by their blocks, how many are in use, and the root with its level, as the metapage names
 -- them; where there is no metapage block 0, which is on no level
@@ -63,16 +63,16 @@ left_after_steps ix depth steps = moved_left ix.at (start ix depth) steps
 
 -- a place of a chain: what a walk along right links knows before it, and the block there, if the chain is so long
 pub record Place : Type 0 where
-  pub spot : LeftContext
+  pub context : LeftContext
   pub block : Option ℕ
 
 abbrev pub next_place : (ℕ → Node) → LeftContext → Option ℕ → Place
-next_place at spot None = record { spot = spot; block = None }
-next_place at spot (Some block) = record { spot = past block (at block) spot; block = (at block).right }
+next_place at context None = record { context = context; block = None }
+next_place at context (Some block) = record { context = past block (at block) context; block = (at block).right }
 
 abbrev pub place_from : (ℕ → Node) → ℕ → ℕ → Place
-place_from at head zero = record { spot = first_spot; block = Some head }
-place_from at head (suc place) = next_place at (place_from at head place).spot (place_from at head place).block
+place_from at head zero = record { context = first_context; block = Some head }
+place_from at head (suc place) = next_place at (place_from at head place).context (place_from at head place).block
 
 abbrev pub place_at : Index → ℕ → ℕ → Place
 place_at ix depth place = place_from ix.at (head ix depth) place
@@ -96,14 +96,14 @@ pub record Here (ix : Index) : Type 0 where
 abbrev pub node : {ix : Index} → Here ix → Node
 node {ix} h = ix.at h.block
 
-abbrev pub spot : {ix : Index} → Here ix → LeftContext
-spot {ix} h = (place_at ix h.depth h.place).spot
+abbrev pub context : {ix : Index} → Here ix → LeftContext
+context {ix} h = (place_at ix h.depth h.place).context
 
 -- an item of that page, with the page's low for its bound if it is the first
 pub record Item {ix : Index} (h : Here ix) : Type 0 where
   pub item : ℕ
   pub link : Downlink
-  pub is : slice_get (from_low (spot h).low (node h).links) item ≡ Some link
+  pub is : slice_get (from_low (context h).low (node h).links) item ≡ Some link
 
 -- Where a damage is.
 pub data Site (ix : Index) : Type 0 where
@@ -165,11 +165,11 @@ HasNotBeyond low node =
 
 -- right after the root with an incomplete split
 abbrev pub IsAfterRoot : ℕ → LeftContext → Type 0
-IsAfterRoot root spot = (spot.left ≡ Some root) × (spot.behind ≡ true)
+IsAfterRoot root context = (context.left ≡ Some root) × (context.behind ≡ true)
 
 -- half-dead, or right after a page with an incomplete split: a page without a downlink
 abbrev pub IsUnlinked : {ix : Index} → Here ix → Type 0
-IsUnlinked h = ((node h).state ≡ HalfDead) ⊎ ((spot h).behind ≡ true)
+IsUnlinked h = ((node h).state ≡ HalfDead) ⊎ ((context h).behind ≡ true)
 
 -- an earlier item, on a level above, an earlier page or the same one, that leads to the same child
 pub record IsSecond {ix : Index} {h : Here ix} (i : Item h) : Type 0 where
@@ -189,19 +189,19 @@ IsOfPath ix depth step number =
 abbrev pub IsOfChain : {ix : Index} → Bool → Here ix → ℕ → Type 0
 IsOfChain {ix} keys h number =
     ((number ≡ 1) × (IsOnLevel ix h.depth h.block → ⊥))
-    ⊎ ((number ≡ 2) × ((node h).left ≢ (spot h).left))
+    ⊎ ((number ≡ 2) × ((node h).left ≢ (context h).left))
     ⊎ ((number ≡ 3) × IsMetBefore h)
     ⊎ ((number ≡ 4) × ((node h).state ≡ Deleted))
-    ⊎ ((number ≡ 5) × ((node h).state ≡ Live) × (Rises (spot h).low (node h).high → ⊥))
-    ⊎ ((number ≡ 6) × HasNotBeyond (spot h).low (node h))
-    ⊎ ((number ≡ 10) × (h.depth ≡ 0) × (h.block ≢ ix.root) × (IsAfterRoot ix.root (spot h) → ⊥))
-    ⊎ ((number ≡ 12) × ((node h).state ≡ HalfDead) × ((spot h).behind ≡ true))
+    ⊎ ((number ≡ 5) × ((node h).state ≡ Live) × (Rises (context h).low (node h).high → ⊥))
+    ⊎ ((number ≡ 6) × HasNotBeyond (context h).low (node h))
+    ⊎ ((number ≡ 10) × (h.depth ≡ 0) × (h.block ≢ ix.root) × (IsAfterRoot ix.root (context h) → ⊥))
+    ⊎ ((number ≡ 12) × ((node h).state ≡ HalfDead) × ((context h).behind ≡ true))
     ⊎ ((number ≡ 13) × (keys ≡ true) × (IsUniqueNode (node h) → ⊥))
 
 -- ... of a page among its parents and children,
 abbrev pub IsOfParents : {ix : Index} → Here ix → ℕ → Type 0
 IsOfParents {ix} h number =
-    ((number ≡ 7) × (i : Item h) × (child : Here ix) × (i.link.child ≡ child.block) × (i.link.bound ≢ (spot child).low))
+    ((number ≡ 7) × (i : Item h) × (child : Here ix) × (i.link.child ≡ child.block) × (i.link.bound ≢ (context child).low))
     ⊎ ((number ≡ 8) × (0 < h.depth) × (IsUnlinked h → ⊥)
     × ((above : Here ix) (i : Item above) → above.depth < h.depth → i.link.child ≢ h.block))
     ⊎ ((number ≡ 9) × (i : Item h) × ((IsOnChain ix i.link.child → ⊥)

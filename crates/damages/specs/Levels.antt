@@ -5,7 +5,7 @@ use Rattle.page_codec.specs.declared.page.Downlink.{Downlink}
 use Rattle.page_codec.specs.declared.page.Page.{Page}
 use Rattle.tree_shape.specs.KeyPages.{IsUniqueNode}
 use Rattle.tree_shape.specs.Nodes.{Node, nodes_of}
-use Rattle.tree_shape.specs.Chains.{IsRunOf, IsRootLevel, IsIn, IsTreeOf, AreDistinct, first_spot, first_or}
+use Rattle.tree_shape.specs.Chains.{IsRunOf, IsRootLevel, IsIn, IsTreeOf, AreDistinct, first_context, first_or}
 use Rattle.tree_shape.specs.Tree.{IsMetaOf}
 use Rattle.damages.specs.Damages.{index_of, moved_left, IsOnChain}
 
@@ -37,7 +37,7 @@ IsAbove pages upper lower = (head child first : ℕ) → first_or upper None ≡
 pub record AreLevels (pages : List Page) (root top : ℕ) (chain : ℕ → List ℕ) : Type 0 where
   pub some : (level : ℕ) → level ≤ top → chain level ≢ []
   pub runs : (level : ℕ) → level ≤ top
-      → IsRunOf (nodes_of pages) level first_spot (chain level) None
+      → IsRunOf (nodes_of pages) level first_context (chain level) None
   pub distinct : (level : ℕ) → level ≤ top → AreDistinct (chain level)
   pub in_use : (level b : ℕ) → level ≤ top → IsIn b (chain level)
       → (0 < b) × (b < length pages)

@@ -22,4 +22,4 @@ pub use Rattle.tree_acts.specs.StepEffects.{causes_of_acting, causes_of_working,
 pub use Rattle.tree_acts.specs.Steps.{AreApart, HoldsAlone}
 pub use Rattle.tree_acts.specs.Trees.{HasCover, HasTrail, HasTree, LeadsTo, PlacesLast, TrailsLast}
 pub use Rattle.descent.specs.NextPage.{DownTo, IsOnDescent, IsShorter, LeadsStraight, LeadsToNext, going, right_from, right_of, walk_length, way_left}
-pub use Rattle.descent.specs.declared.way.Position.{Position}
+pub use Rattle.descent.specs.declared.position.Position.{Position}

@@ -2,10 +2,10 @@
 //! words that the steps of all operations share.
 #![tactic(auto)]
 
+mod position;
 mod reading;
 mod splitting;
-mod way;
 
+pub use position::{NextPage, Position, lead, way_down};
 pub use reading::{check_latch, read_both, read_exclusive, read_shared};
 pub use splitting::{act_on, read_right, take_block};
-pub use way::{NextPage, Position, lead, way_down};

@@ -50,9 +50,9 @@ pub use Rattle.descent.proofs.Acting.{apart_from_held, does_add, holds_else, not
 pub use Rattle.descent.proofs.Shortening.{walk_is_long, way_shortens}
 pub use Rattle.descent.proofs.Tables.{any_excluded, apart_latched, apart_pins}
 pub use Rattle.descent.proofs.Working.{act_cause, apart_pinned, fresh_is, held_cause, read_pinned_cause, working_later}
-pub use Rattle.descent.specs.NextPage.{DescentIsShorter, IsOnDescent, IsShorter, LeadsStraight, LeadsToNext, walk_length, way_from, way_left}
+pub use Rattle.descent.specs.NextPage.{DescentIsShorter, IsOnDescent, IsShorter, LeadsStraight, LeadsToNext, walk_length, position_from, way_left}
 pub use Rattle.descent.specs.Splitting.{RightIsFound, RightIsMendable, RightIsStored, if_read, mended_to}
-pub use Rattle.descent.specs.declared.way.Position.{Position}
+pub use Rattle.descent.specs.declared.position.Position.{Position}
 pub use Rattle.split_finish.specs.Finishes.{FinishSteps, OnlyShapes, causes_of_finishing, finish_blocks, frames_of, takes_block_of}
 pub use Rattle.split_finish.specs.Targets.{FinishInvariant, FinishStands, IsTarget, OnlyTargetsAreIncomplete, finish_left, is_among_targets, is_as_read, targets_of}
 pub use Rattle.split_finish.specs.declared.finish.FinishAt.TheVariants.{Down, Link, Root, Start as FinishStart}

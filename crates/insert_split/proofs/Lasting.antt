@@ -8,11 +8,11 @@ use Rattle.insert_split.proofs.Imports.{Entry, bound_of, Bound, State, entry_aim
 use Rattle.insert_split.proofs.Imports.{FinishInvariant, walk_is_long, FinishStart, Down, Link, Root, FinishOp, Target, InsertStands, insert_left, InsertAt, Coming, Finishing, Start, At, Holds}
 use Rattle.insert_split.proofs.Adding.{holds_leaf}
 
-way_still : (old new : State) (start to : ℕ) (e : Bound) (way : Position) → NumbersStay start old new → IsOnDescent old start (bound_aim e) true to way → IsOnDescent new start (bound_aim e) true to way
-way_still old new start to e way stay on = record {
+way_still : (old new : State) (start to : ℕ) (e : Bound) (position : Position) → NumbersStay start old new → IsOnDescent old start (bound_aim e) true to position → IsOnDescent new start (bound_aim e) true to position
+way_still old new start to e position stay on = record {
   not_below = on.not_below;
-  place = stay.places way.level (bound_aim e) true way.block (bound_falls e) on.place;
-  trail = stay.trails way.level way.block way.moves on.trail;
+  place = stay.places position.level (bound_aim e) true position.block (bound_falls e) on.place;
+  trail = stay.trails position.level position.block position.moves on.trail;
 }
 
 target_still : (old new : State) (start least : ℕ) (target : Target) → NumbersStay start old new → IsTarget old start least target → IsTarget new start least target
@@ -21,8 +21,8 @@ target_still old new start least target stay h =
 
 finish_stands : (old new : State) (start : ℕ) (target : Target) (at : FinishAt) → NumbersStay start old new → FinishStands old start target at → FinishStands new start target at
 finish_stands old new start target FinishStart stay h = h
-finish_stands old new start target (Down way) stay h = way_still old new start (suc target.level) target.separator way stay h
-finish_stands old new start target (Link way) stay h = (h.0, way_still old new start (suc target.level) target.separator way stay h.1)
+finish_stands old new start target (Down position) stay h = way_still old new start (suc target.level) target.separator position stay h
+finish_stands old new start target (Link position) stay h = (h.0, way_still old new start (suc target.level) target.separator position stay h.1)
 finish_stands old new start target Root stay h = h
 
 -- a call that finishes splits
@@ -42,7 +42,7 @@ finish_still old new op rely fits =
 stands_still : (old new : State) (session start : ℕ) (e : Entry) (at : InsertAt) → MayRely session old new → NumbersStay start old new
     → InsertStands old session start e at → InsertStands new session start e at
 stands_still old new session start e (Coming Start) rely stay h = rely.held ∙ h
-stands_still old new session start e (Coming (At way)) rely stay h = (rely.held ∙ h.0, way_still old new start 0 (bound_of e) way stay h.1)
+stands_still old new session start e (Coming (At position)) rely stay h = (rely.held ∙ h.0, way_still old new start 0 (bound_of e) position stay h.1)
 stands_still old new session start e (Coming (Holds block)) rely stay h = (
   rely.held ∙ h.0,
   record {
@@ -72,9 +72,9 @@ bounded most pages few = omega arith
 left_few : (st : State) (session start : ℕ) (e : Entry) (at : InsertAt) → HasTree st → st.limits.pages ≤ 65536 → InsertStands st session start e at
     → insert_left st.limits.pages st.pages at < 4398046511104
 left_few st session start e (Coming Start) has few stands = omega arith
-left_few st session start e (Coming (At way)) has few stands =
-    let low = low_level st start way.level (entry_aim e) true way.block has stands.1.place in
-    let short = walk_is_long st.limits.pages way (omega arith) in
+left_few st session start e (Coming (At position)) has few stands =
+    let low = low_level st start position.level (entry_aim e) true position.block has stands.1.place in
+    let short = walk_is_long st.limits.pages position (omega arith) in
     omega arith
 left_few st session start e (Coming (Holds block)) has few stands = omega arith
 left_few st session start e (Finishing op) has few stands = (let left = finish_bounded st op st.limits.pages has stands.1 in omega arith)

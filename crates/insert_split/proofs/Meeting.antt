@@ -35,17 +35,17 @@ true_false : true ≡ false → ⊥
 true_false h = cc
 
 -- what an insert knows that has one target
-pub one_target_fits : (st : State) (start session : ℕ) (aim : Bound → Bool) (way : Position) (page : Page) (target : Target) (op : FinishOp) → HasTree st → session < 64
+pub one_target_fits : (st : State) (start session : ℕ) (aim : Bound → Bool) (position : Position) (page : Page) (target : Target) (op : FinishOp) → HasTree st → session < 64
     → holding_of st.table session ≡ nothing_held → slice_get st.running session ≡ Some (Some start)
-    → slice_get st.pages way.block ≡ Some page → page.block ≡ way.block → LeadsTo st start way.level aim true way.block → page.state ≡ Live
-    → target.block ≡ way.block → target.level ≡ way.level → page.high ≡ Some target.separator
+    → slice_get st.pages position.block ≡ Some page → page.block ≡ position.block → LeadsTo st start position.level aim true position.block → page.state ≡ Live
+    → target.block ≡ position.block → target.level ≡ position.level → page.high ≡ Some target.separator
     → op.session ≡ session → op.target ≡ target → op.below.items ≡ [] → op.at ≡ FinishStart → FinishInvariant st op
-one_target_fits st start session aim way page target op tree low free runs found block_is place alive t_block t_level high s_is t_is below at =
-    let own : LeadsTo st start way.level (bound_aim target.separator) true page.block = high_key_shows st start way.level aim true page target.separator tree
-    (subst (λ (b : ℕ). slice_get st.pages b ≡ Some page) (sym block_is) found) (subst (LeadsTo st start way.level aim true) (sym block_is) place) alive high in
+one_target_fits st start session aim position page target op tree low free runs found block_is place alive t_block t_level high s_is t_is below at =
+    let own : LeadsTo st start position.level (bound_aim target.separator) true page.block = high_key_shows st start position.level aim true page target.separator tree
+    (subst (λ (b : ℕ). slice_get st.pages b ≡ Some page) (sym block_is) found) (subst (LeadsTo st start position.level aim true) (sym block_is) place) alive high in
     let there : LeadsTo st start target.level (bound_aim target.separator) true target.block =
     subst (λ (l : ℕ). LeadsTo st start l (bound_aim target.separator) true target.block) (sym t_level)
-    (subst (LeadsTo st start way.level (bound_aim target.separator) true) (block_is ∙ sym t_block) own) in
+    (subst (LeadsTo st start position.level (bound_aim target.separator) true) (block_is ∙ sym t_block) own) in
     record {
       session = subst (λ (s : ℕ). s < 64) (sym s_is) low;
       free = subst (λ (s : ℕ). holding_of st.table s ≡ nothing_held) (sym s_is) free;
@@ -58,16 +58,16 @@ one_target_fits st start session aim way page target op tree low free runs found
     }
 
 -- a step that meets such a page
-pub meets : {S : Type 0} (g : Ghosts S) (before after : InsertOp) (old new : S) (page : Page) (way : Position) (result : Result InsertStep Fault) → Continues g.follows old new → g.state new ≡ g.state old
-    → (g.backing old).stopped ≡ false → before.at ≡ Coming (At way) → MeetsPage page way before after result
-    → page.state ≡ Live → page.split ≡ true → IsPage page → page.block ≡ way.block
-    → ((g.backing new).honest ≡ true → slice_get (g.state old).pages way.block ≡ Some page)
+pub meets : {S : Type 0} (g : Ghosts S) (before after : InsertOp) (old new : S) (page : Page) (position : Position) (result : Result InsertStep Fault) → Continues g.follows old new → g.state new ≡ g.state old
+    → (g.backing old).stopped ≡ false → before.at ≡ Coming (At position) → MeetsPage page position before after result
+    → page.state ≡ Live → page.split ≡ true → IsPage page → page.block ≡ position.block
+    → ((g.backing new).honest ≡ true → slice_get (g.state old).pages position.block ≡ Some page)
     → InsertSteps g before after old new result
-meets g before after old new page way (Ok Going) steps same alive at_is h live incomplete admitted block_is found =
+meets g before after old new page position (Ok Going) steps same alive at_is h live incomplete admitted block_is found =
     goes_on g before after old new steps same (ap (λ (o : InsertOp). o.session) h.finishes.after_is) (ap (λ (o : InsertOp). o.entry) h.finishes.after_is) alive
     (λ honest. less (found honest))
     (λ honest order fits. now (found honest) order fits)
-    (λ honest order whole on. absurd (true_false (sym incomplete ∙ whole way.block page (found honest))))
+    (λ honest order whole on. absurd (true_false (sym incomplete ∙ whole position.block page (found honest))))
   where
     st : State
     st = g.state old
@@ -78,21 +78,21 @@ meets g before after old new page way (Ok Going) steps same alive at_is h live i
     target : Target
     target = h.target
 
-    at_target : slice_get st.pages way.block ≡ Some page → slice_get st.pages target.block ≡ Some page
+    at_target : slice_get st.pages position.block ≡ Some page → slice_get st.pages target.block ≡ Some page
     at_target there = subst (λ (b : ℕ). slice_get st.pages b ≡ Some page) (sym h.block_is) there
 
     after_at : after.at ≡ Finishing op
     after_at = ap (λ (o : InsertOp). o.at) h.finishes.after_is
 
-    less : slice_get st.pages way.block ≡ Some page → insert_left st.limits.pages st.pages after.at < insert_left st.limits.pages st.pages before.at
+    less : slice_get st.pages position.block ≡ Some page → insert_left st.limits.pages st.pages after.at < insert_left st.limits.pages st.pages before.at
     less there =
         let left = one_target_left st.limits.pages st.pages target op page h.finishes.target_is h.finishes.below h.finishes.at (at_target there) incomplete h.high_is in
         subst (λ (a : InsertAt). insert_left st.limits.pages st.pages a < insert_left st.limits.pages st.pages before.at) (sym after_at)
         (subst (λ (a : InsertAt). finish_left st.limits.pages st.pages op < insert_left st.limits.pages st.pages a) (sym at_is) (omega (arith, left)))
 
-    now : slice_get st.pages way.block ≡ Some page → IsInOrder st → InsertInvariant st before → StandsNow st before after
+    now : slice_get st.pages position.block ≡ Some page → IsInOrder st → InsertInvariant st before → StandsNow st before after
     now there order fits =
-        let stands = on_way st before way at_is fits in
+        let stands = on_way st before position at_is fits in
         record {
           fits = subst (InsertInvariant st) (sym h.finishes.after_is) (record {
             session = fits.session;
@@ -100,7 +100,7 @@ meets g before after old new page way (Ok Going) steps same alive at_is h live i
             running = fits.running;
             stands = (
               h.finishes.session,
-              one_target_fits st fits.start before.session (entry_aim before.entry) way page target op order.tree fits.session stands.0 fits.running there block_is stands.1.place live
+              one_target_fits st fits.start before.session (entry_aim before.entry) position page target op order.tree fits.session stands.0 fits.running there block_is stands.1.place live
                   h.block_is h.level_is h.high_is h.finishes.session h.finishes.target_is h.finishes.below h.finishes.at,
             );
             to_come = tt;
@@ -110,15 +110,15 @@ meets g before after old new page way (Ok Going) steps same alive at_is h live i
               absurd (let none : is_among_targets (targets_at before.at) b ≡ true = only b is in let k : false ≡ true =
               subst (λ (a : InsertAt). is_among_targets (targets_at a) b ≡ true) at_is none in true_false (sym k));
         }
-meets g before after old new page way (Ok (Added action unfinished)) steps same alive at_is h live incomplete admitted block_is found = absurd h
-meets g before after old new page way (Err fault) steps same alive at_is h live incomplete admitted block_is found =
+meets g before after old new page position (Ok (Added action unfinished)) steps same alive at_is h live incomplete admitted block_is found = absurd h
+meets g before after old new page position (Err fault) steps same alive at_is h live incomplete admitted block_is found =
     subst (λ (o : InsertOp). InsertSteps g before o old new (Err fault)) (sym h.stays)
     (refuses g before old new fault steps same alive (λ honest order fits. absurd (never honest order fits)))
   where
     never : (g.backing new).honest ≡ true → IsInOrder (g.state old) → InsertInvariant (g.state old) before → ⊥
     never honest order fits =
-        let stands = on_way (g.state old) before way at_is fits in
+        let stands = on_way (g.state old) before position at_is fits in
         let there : slice_get (g.state old).pages page.block ≡ Some page = subst (λ (b : ℕ). slice_get (g.state old).pages b ≡ Some page) (sym block_is) (found honest) in
-        let place = subst (LeadsTo (g.state old) fits.start way.level (entry_aim before.entry) true) (sym block_is) stands.1.place in
-        let arrival = live_shows (g.state old) fits.start way.level (entry_aim before.entry) true page order.tree there place live in
+        let place = subst (LeadsTo (g.state old) fits.start position.level (entry_aim before.entry) true) (sym block_is) stands.1.place in
+        let arrival = live_shows (g.state old) fits.start position.level (entry_aim before.entry) true page order.tree there place live in
         incomplete_ends page admitted live incomplete (h.astray arrival.level_is)

@@ -38,20 +38,20 @@ true_false : true ≡ false → ⊥
 true_false h = cc
 
 -- a step that takes the leaf, or doesn't
-pub takes : {S : Type 0} (g : Ghosts S) (before after : InsertOp) (old mid new : S) (page : Page) (way : Position) (result : Result InsertStep Fault)
+pub takes : {S : Type 0} (g : Ghosts S) (before after : InsertOp) (old mid new : S) (page : Page) (position : Position) (result : Result InsertStep Fault)
     → Continues g.follows old new → g.state mid ≡ g.state old → g.backing new ≡ g.backing mid
-    → (g.backing old).stopped ≡ false → before.at ≡ Coming (At way)
+    → (g.backing old).stopped ≡ false → before.at ≡ Coming (At position)
     → (InsertInvariant (g.state old) before → Takes page.block before after (g.state mid) (g.state new) result)
     → (result ≡ Ok Going
     → (g.state new ≡ with_table (g.state mid) (pinned (latched (g.state mid).table before.session page.block Exclusive) before.session page.block))
     × (after ≡ record before { at = Coming (Holds page.block) }))
     → ((fault : Fault) → result ≡ Err fault → (g.state new ≡ g.state mid) × (after ≡ before))
     → ((action : ℕ) (unfinished : Option Fault) → result ≡ Ok (Added action unfinished) → ⊥)
-    → page.block ≡ way.block → IsPage page → page.state ≡ Live → page.split ≡ false → is_within (entry_aim before.entry) page.high ≡ true
-    → ((g.backing new).honest ≡ true → slice_get (g.state old).pages way.block ≡ Some page)
-    → ((g.backing new).honest ≡ true → IsInOrder (g.state old) → InsertInvariant (g.state old) before → way.level ≡ 0)
+    → page.block ≡ position.block → IsPage page → page.state ≡ Live → page.split ≡ false → is_within (entry_aim before.entry) page.high ≡ true
+    → ((g.backing new).honest ≡ true → slice_get (g.state old).pages position.block ≡ Some page)
+    → ((g.backing new).honest ≡ true → IsInOrder (g.state old) → InsertInvariant (g.state old) before → position.level ≡ 0)
     → InsertSteps g before after old new result
-takes g before after old mid new page way (Ok Going) steps same backing alive at_is told moved stays none block_is admitted live whole within found ground = record {
+takes g before after old mid new page position (Ok Going) steps same backing alive at_is told moved stays none block_is admitted live whole within found ground = record {
   steps = steps;
   session = ap (λ (o : InsertOp). o.session) is;
   entry = ap (λ (o : InsertOp). o.entry) is;
@@ -60,13 +60,13 @@ takes g before after old mid new page way (Ok Going) steps same backing alive at
   stopped = λ h. runs_no_more (g.backing old).stopped alive h;
   less = λ honest going acts. fewer;
   stepped = λ honest order fits.
-      let stands = on_way st before way at_is fits in
+      let stands = on_way st before position at_is fits in
       let free : is_held_by_another st.table before.session page.block Exclusive ≡ false =
       subst (λ (s : State). is_held_by_another s.table before.session page.block Exclusive ≡ false) same (told fits).free in
       let taken = takes_leaf st (g.state new) before.session page.block fits.session order stands.0 free now in
       let place : LeadsTo st fits.start 0 (entry_aim before.entry) true page.block =
       subst (λ (l : ℕ). LeadsTo st fits.start l (entry_aim before.entry) true page.block) (ground honest order fits)
-      (subst (LeadsTo st fits.start way.level (entry_aim before.entry) true) (sym block_is) stands.1.place) in
+      (subst (LeadsTo st fits.start position.level (entry_aim before.entry) true) (sym block_is) stands.1.place) in
       let there : slice_get st.pages page.block ≡ Some page = subst (λ (b : ℕ). slice_get st.pages b ≡ Some page) (sym block_is) (found honest) in
       let arrival = live_shows st fits.start 0 (entry_aim before.entry) true page order.tree there place live in
       record {
@@ -89,7 +89,7 @@ takes g before after old mid new page way (Ok Going) steps same backing alive at
               within = within;
             }),
           );
-          to_come = to_come_there before way at_is fits.to_come;
+          to_come = to_come_there before position at_is fits.to_come;
         });
         flags = λ only b incomplete. absurd (
             let was : is_among_targets (targets_at before.at) b ≡ true = only b (subst (λ (s : State). is_incomplete s b ≡ true) now incomplete) in
@@ -114,16 +114,16 @@ takes g before after old mid new page way (Ok Going) steps same backing alive at
     now : g.state new ≡ with_table st table
     now = (moved refl).0 ∙ ap (λ (s : State). with_table s (pinned (latched s.table before.session page.block Exclusive) before.session page.block)) same
 
-    less_there : insert_left st.limits.pages st.pages (Coming (Holds page.block)) < insert_left st.limits.pages st.pages (Coming (At way))
+    less_there : insert_left st.limits.pages st.pages (Coming (Holds page.block)) < insert_left st.limits.pages st.pages (Coming (At position))
     less_there = omega arith
 
     fewer : insert_left (g.state new).limits.pages (g.state new).pages after.at < insert_left st.limits.pages st.pages before.at
     fewer = subst (λ (s : State). insert_left s.limits.pages s.pages after.at < insert_left st.limits.pages st.pages before.at) (sym now)
         (subst (λ (o : InsertOp). insert_left st.limits.pages st.pages o.at < insert_left st.limits.pages st.pages before.at) (sym is)
         (subst (λ (a : InsertAt). insert_left st.limits.pages st.pages (Coming (Holds page.block)) < insert_left st.limits.pages st.pages a) (sym at_is) less_there))
-takes g before after old mid new page way (Ok (Added action unfinished)) steps same backing alive at_is told moved stays none block_is admitted live
+takes g before after old mid new page position (Ok (Added action unfinished)) steps same backing alive at_is told moved stays none block_is admitted live
     whole within found ground = absurd (none action unfinished refl)
-takes g before after old mid new page way (Err fault) steps same backing alive at_is told moved stays none block_is admitted live whole within found ground =
+takes g before after old mid new page position (Err fault) steps same backing alive at_is told moved stays none block_is admitted live whole within found ground =
     let kept = stays fault refl in
     subst (λ (o : InsertOp). InsertSteps g before o old new (Err fault)) (sym kept.1)
     (refuses g before old new fault steps (kept.0 ∙ same) alive (λ honest order fits. why honest order fits (told fits).2))
@@ -135,20 +135,20 @@ takes g before after old mid new page way (Err fault) steps same backing alive a
         → HasCause (causes_of_inserting st (g.backing old) (g.backing new) before.session before.entry before.at) fault
     why honest order fits held =
         subst (HasCause (causes_of_inserting st (g.backing old) (g.backing new) before.session before.entry before.at)) (sym held.0)
-        (reading_cause st (g.backing old) (g.backing new) before way (Blocked page.block) at_is
+        (reading_cause st (g.backing old) (g.backing new) before position (Blocked page.block) at_is
         (held_cause st (g.backing old) (g.backing new) before.session [] 1 false false page.block Exclusive (inr refl)
         (subst (λ (s : State). is_held_by_another s.table before.session page.block Exclusive ≡ true) same held.1)))
 
 -- the page that a search ends at may hold the entry
-pub may_be_held : (st : State) (before : InsertOp) (page : Page) (way : Position) → before.at ≡ Coming (At way) → (order : IsInOrder st) → (fits : InsertInvariant st before)
-    → page.block ≡ way.block → IsPage page → page.state ≡ Live → page.split ≡ false → is_within (entry_aim before.entry) page.high ≡ true → slice_get st.pages way.block ≡ Some page → way.level ≡ 0
+pub may_be_held : (st : State) (before : InsertOp) (page : Page) (position : Position) → before.at ≡ Coming (At position) → (order : IsInOrder st) → (fits : InsertInvariant st before)
+    → page.block ≡ position.block → IsPage page → page.state ≡ Live → page.split ≡ false → is_within (entry_aim before.entry) page.high ≡ true → slice_get st.pages position.block ≡ Some page → position.level ≡ 0
     → MayHold page before.entry
-may_be_held st before page way at_is order fits block_is admitted live whole within found ground =
-    let stands = on_way st before way at_is fits in
-    let used = place_in_use st order.tree fits.start way.level (entry_aim before.entry) true way.block stands.1.place in
+may_be_held st before page position at_is order fits block_is admitted live whole within found ground =
+    let stands = on_way st before position at_is fits in
+    let used = place_in_use st order.tree fits.start position.level (entry_aim before.entry) true position.block stands.1.place in
     let place : LeadsTo st fits.start 0 (entry_aim before.entry) true page.block =
     subst (λ (l : ℕ). LeadsTo st fits.start l (entry_aim before.entry) true page.block) ground
-    (subst (LeadsTo st fits.start way.level (entry_aim before.entry) true) (sym block_is) stands.1.place) in
+    (subst (LeadsTo st fits.start position.level (entry_aim before.entry) true) (sym block_is) stands.1.place) in
     let there : slice_get st.pages page.block ≡ Some page = subst (λ (b : ℕ). slice_get st.pages b ≡ Some page) (sym block_is) found in
     let arrival = live_shows st fits.start 0 (entry_aim before.entry) true page order.tree there place live in
     record {

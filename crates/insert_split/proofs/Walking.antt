@@ -4,7 +4,7 @@ use Rattle.page_codec.specs.declared.page.PageState.{PageState}
 use Rattle.tree_shape.proofs.Shown.{places_keep_their_level}
 use Rattle.tree_acts.proofs.Lasting.{deleted_in_use}
 use Rattle.tree_acts.proofs.Words.{place_in}
-use Rattle.descent.specs.declared.way.NextPage.{NextPage}
+use Rattle.descent.specs.declared.position.NextPage.{NextPage}
 use Rattle.insert_split.proofs.Imports.{HasCause, IsUpTo, bound_of, Bound, Entry, Fault, Blocked, PageDamaged, Exists, KeyExists, Io, Stopped, IndexFull, LogFull, NoFrame, TooTall, Holding}
 use Rattle.insert_split.proofs.Imports.{HasRoom, holding_of, nothing_held, HasEntries, IsSome, IsPage, IsOfKind, IsLeafIn, Items, Meta, Entries, Downlinks, Page, Live, HalfDead, Deleted, State}
 use Rattle.insert_split.proofs.Imports.{Backing, nodes_of, entry_aim, bound_aim, is_within, is_fit, HasTree, LeadsTo, IsOnDescent, LeadsToNext, IsInOrder, causes_of_working, Position}
@@ -67,16 +67,16 @@ up_to_within None e h = tt
 up_to_within (Some high) e h = not_true (entry_aim e high) h
 
 -- where an insert on its way stands
-pub on_way : (st : State) (op : InsertOp) (way : Position) → op.at ≡ Coming (At way) → (fits : InsertInvariant st op)
-    → (holding_of st.table op.session ≡ nothing_held) × IsOnDescent st fits.start (entry_aim op.entry) true 0 way
-on_way st op way at_is fits = subst (InsertStands st op.session fits.start op.entry) at_is fits.stands
+pub on_way : (st : State) (op : InsertOp) (position : Position) → op.at ≡ Coming (At position) → (fits : InsertInvariant st op)
+    → (holding_of st.table op.session ≡ nothing_held) × IsOnDescent st fits.start (entry_aim op.entry) true 0 position
+on_way st op position at_is fits = subst (InsertStands st op.session fits.start op.entry) at_is fits.stands
 
-pub to_come_there : (op : InsertOp) (way : Position) → op.at ≡ Coming (At way) → IsToCome op.at op.added → op.added ≡ None
-to_come_there op way at_is h = subst (λ (a : InsertAt). IsToCome a op.added) at_is h
+pub to_come_there : (op : InsertOp) (position : Position) → op.at ≡ Coming (At position) → IsToCome op.at op.added → op.added ≡ None
+to_come_there op position at_is h = subst (λ (a : InsertAt). IsToCome a op.added) at_is h
 
-pub reading_cause : (st : State) (old new : Backing) (op : InsertOp) (way : Position) (fault : Fault) → op.at ≡ Coming (At way)
+pub reading_cause : (st : State) (old new : Backing) (op : InsertOp) (position : Position) (fault : Fault) → op.at ≡ Coming (At position)
     → HasCause (causes_of_working st old new op.session [] 1 false false) fault → HasCause (causes_of_inserting st old new op.session op.entry op.at) fault
-reading_cause st old new op way fault at_is h = rw at_is (as_inserting st old new op.session op.entry (Coming (At way)) [] 1 false false fault refl h)
+reading_cause st old new op position fault at_is h = rw at_is (as_inserting st old new op.session op.entry (Coming (At position)) [] 1 false false fault refl h)
 
 true_false : true ≡ false → ⊥
 true_false h = cc
@@ -109,12 +109,12 @@ whole_page page admitted whole = by page.items admitted.kind
     by (Downlinks v) h = whole h.state
 
 -- where a page leads an insert on its way
-pub led : (st : State) (op : InsertOp) (way : Position) (page : Page) (bound : Bound) (most : ℕ) (result : Option NextPage) → op.at ≡ Coming (At way) → IsInOrder st → (fits : InsertInvariant st op)
-    → slice_get st.pages way.block ≡ Some page → IsPage page → (page.state ≡ Live → page.split ≡ false) → bound ≡ bound_of op.entry → length st.pages ≤ most
-    → ((s : State) (start : ℕ) (clear : Bool) → HasTree s → slice_get s.pages way.block ≡ Some page → IsOnDescent s start (bound_aim bound) clear 0 way → (clear ≡ true → page.split ≡ false)
-    → length s.pages ≤ most → LeadsToNext s start (bound_aim bound) clear 0 way result)
-    → LeadsToNext st fits.start (entry_aim op.entry) true 0 way result
-led st op way page bound most result at_is order fits found admitted whole is few goes =
-    let stands = on_way st op way at_is fits in
-    subst (λ (b : Bound). LeadsToNext st fits.start (bound_aim b) true 0 way result) is
-    (goes st fits.start true order.tree found (subst (λ (b : Bound). IsOnDescent st fits.start (bound_aim b) true 0 way) (sym is) stands.1) (λ clear. whole_page page admitted whole) few)
+pub led : (st : State) (op : InsertOp) (position : Position) (page : Page) (bound : Bound) (most : ℕ) (result : Option NextPage) → op.at ≡ Coming (At position) → IsInOrder st → (fits : InsertInvariant st op)
+    → slice_get st.pages position.block ≡ Some page → IsPage page → (page.state ≡ Live → page.split ≡ false) → bound ≡ bound_of op.entry → length st.pages ≤ most
+    → ((s : State) (start : ℕ) (clear : Bool) → HasTree s → slice_get s.pages position.block ≡ Some page → IsOnDescent s start (bound_aim bound) clear 0 position → (clear ≡ true → page.split ≡ false)
+    → length s.pages ≤ most → LeadsToNext s start (bound_aim bound) clear 0 position result)
+    → LeadsToNext st fits.start (entry_aim op.entry) true 0 position result
+led st op position page bound most result at_is order fits found admitted whole is few goes =
+    let stands = on_way st op position at_is fits in
+    subst (λ (b : Bound). LeadsToNext st fits.start (bound_aim b) true 0 position result) is
+    (goes st fits.start true order.tree found (subst (λ (b : Bound). IsOnDescent st fits.start (bound_aim b) true 0 position) (sym is) stands.1) (λ clear. whole_page page admitted whole) few)

@@ -51,8 +51,8 @@ pub record IsLeafFor (st : State) (start : ℕ) (e : Entry) (block : ℕ) : Type
 -- what it holds, and where it stands: before its first step, on its way to its leaf, with its leaf, or with splits to finish
 abbrev pub InsertStands : State → ℕ → ℕ → Entry → InsertAt → Type 0
 InsertStands st session start e (Coming Start) = holding_of st.table session ≡ nothing_held
-InsertStands st session start e (Coming (At way)) =
-    (holding_of st.table session ≡ nothing_held) × IsOnDescent st start (entry_aim e) true 0 way
+InsertStands st session start e (Coming (At position)) =
+    (holding_of st.table session ≡ nothing_held) × IsOnDescent st start (entry_aim e) true 0 position
 InsertStands st session start e (Coming (Holds block)) =
     (holding_of st.table session ≡ leaf_held block) × IsLeafFor st start e block
 InsertStands st session start e (Finishing op) = (op.session ≡ session) × FinishInvariant st op
@@ -78,7 +78,7 @@ targets_at (Finishing op) = targets_of op
 -- what is left to do, in steps, while the pages are as they are and there are at most so many
 abbrev pub insert_left : ℕ → List Page → InsertAt → ℕ
 insert_left most pages (Coming Start) = 33 * suc (walk_length most) + walk_length most
-insert_left most pages (Coming (At way)) = 33 * suc (walk_length most) + way_left most way
+insert_left most pages (Coming (At position)) = 33 * suc (walk_length most) + way_left most position
 insert_left most pages (Coming (Holds block)) = 33 * suc (walk_length most)
 insert_left most pages (Finishing op) = finish_left most pages op
 
@@ -101,21 +101,21 @@ blocks_beside st (Some page) =
 -- the blocks that the act of a step writes
 abbrev pub images_at : State → InsertAt → List ℕ
 images_at st (Coming Start) = []
-images_at st (Coming (At way)) = []
+images_at st (Coming (At position)) = []
 images_at st (Coming (Holds block)) = block ∷ blocks_beside st (slice_get st.pages block)
 images_at st (Finishing op) = finish_blocks st op.target op.at
 
 -- ... and how many frames it needs, beside that of the leaf that it has pinned
 abbrev pub frames_at : State → InsertAt → ℕ
 frames_at st (Coming Start) = 1
-frames_at st (Coming (At way)) = 1
+frames_at st (Coming (At position)) = 1
 frames_at st (Coming (Holds block)) = length (blocks_beside st (slice_get st.pages block))
 frames_at st (Finishing op) = frames_of st op.target op.at
 
 -- ... whether it takes a block: to split a full leaf, or to finish a split
 abbrev pub takes_block_at : State → InsertAt → Bool
 takes_block_at st (Coming Start) = false
-takes_block_at st (Coming (At way)) = false
+takes_block_at st (Coming (At position)) = false
 takes_block_at st (Coming (Holds block)) = is_full_page st.limits.items (slice_get st.pages block)
 takes_block_at st (Finishing op) = takes_block_of st op.target op.at
 

@@ -18,14 +18,14 @@ use Rattle.insert_split.specs.declared.insert.InsertStep.TheVariants.{Going, Add
 -- the metapage, a page of each level, and the act
 abbrev pub straight_steps : List Page → InsertAt → ℕ
 straight_steps pages (Coming Start) = root_level pages + 3
-straight_steps pages (Coming (At way)) = way.level + 2
+straight_steps pages (Coming (At position)) = position.level + 2
 straight_steps pages (Coming (Holds block)) = 1
 straight_steps pages (Finishing op) = 0
 
 -- an insert that hasn't begun, whose next page covers the entry, or that holds its leaf
 abbrev pub IsStraight : State → Entry → InsertAt → Type 0
 IsStraight st e (Coming Start) = Unit {0}
-IsStraight st e (Coming (At way)) = HasCover st way.level (entry_aim e) way.block
+IsStraight st e (Coming (At position)) = HasCover st position.level (entry_aim e) position.block
 IsStraight st e (Coming (Holds block)) = Unit {0}
 IsStraight st e (Finishing op) = ⊥
 

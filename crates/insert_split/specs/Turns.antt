@@ -20,7 +20,7 @@ use Rattle.tree_shape.specs.Nodes.{node_of}
 use Rattle.tree_shape.specs.Separators.{IsCutOf}
 use Rattle.descent.specs.Splitting.{RightIsMendable, RightIsStored, RightIsFound, mended_to}
 use Rattle.tree_shape.specs.Leaf.{MayHold}
-use Rattle.descent.specs.declared.way.Position.{Position}
+use Rattle.descent.specs.declared.position.Position.{Position}
 use Rattle.split_finish.specs.declared.finish.FinishAt.TheVariants.{Start as FinishStart}
 use Rattle.split_finish.specs.declared.finish.FinishOp.{FinishOp}
 use Rattle.split_finish.specs.declared.finish.Target.{Target}
@@ -41,25 +41,25 @@ pub record FinishesOne (target : Target) (before after : InsertOp) : Type 0 wher
   pub at : op.at ≡ FinishStart
 
 -- the split of a page that it met on this way is to be finished
-pub record MeetsSplit (page : Page) (way : Position) (before after : InsertOp) : Type 0 where
+pub record MeetsSplit (page : Page) (position : Position) (before after : InsertOp) : Type 0 where
   pub target : Target
-  pub block_is : target.block ≡ way.block
-  pub level_is : target.level ≡ way.level
-  pub page_level : page.level ≡ way.level
+  pub block_is : target.block ≡ position.block
+  pub level_is : target.level ≡ position.level
+  pub page_level : page.level ≡ position.level
   pub high_is : page.high ≡ Some target.separator
   pub finishes : FinishesOne target before after
 
 -- ... or isn't: the page is on another level, or has no high key
-pub record MeetsNone (page : Page) (way : Position) (before after : InsertOp) (fault : Fault)
+pub record MeetsNone (page : Page) (position : Position) (before after : InsertOp) (fault : Fault)
     : Type 0 where
-  pub fault_is : fault ≡ PageDamaged way.block
+  pub fault_is : fault ≡ PageDamaged position.block
   pub stays : after ≡ before
-  pub astray : page.level ≡ way.level → page.high ≡ None
+  pub astray : page.level ≡ position.level → page.high ≡ None
 
 abbrev pub MeetsPage : Page → Position → InsertOp → InsertOp → Result InsertStep Fault → Type 0
-MeetsPage page way before after (Ok Going) = MeetsSplit page way before after
-MeetsPage page way before after (Ok (Added action unfinished)) = ⊥
-MeetsPage page way before after (Err fault) = MeetsNone page way before after fault
+MeetsPage page position before after (Ok Going) = MeetsSplit page position before after
+MeetsPage page position before after (Ok (Added action unfinished)) = ⊥
+MeetsPage page position before after (Err fault) = MeetsNone page position before after fault
 
 -- the leaf is taken: latched, and pinned
 pub record TakesLeaf (block : ℕ) (before after : InsertOp) (old new : State) : Type 0 where

@@ -120,7 +120,7 @@ impl InsertOp {
             InsertAt::Finishing(_) => self.finish(store, pages),
             _ if self.added.is_some() => Ok(self.go_on()),
             InsertAt::Coming(Stage::Start) => self.find_root(store),
-            InsertAt::Coming(Stage::At(way)) => self.walk(store, way),
+            InsertAt::Coming(Stage::At(position)) => self.walk(store, position),
             InsertAt::Coming(Stage::Holding(block)) => self.add(store, block, draft, pages),
         }
     }
@@ -151,57 +151,57 @@ impl InsertOp {
             Ok(()) => {}
             Err(fault) => return Err(fault),
         }
-        let Some(way) = way_down(store.view(0)) else {
+        let Some(position) = way_down(store.view(0)) else {
             return Err(Fault::PageDamaged(0));
         };
-        come_to(&mut self.at, Stage::At(way));
+        come_to(&mut self.at, Stage::At(position));
         Ok(InsertStep::Going)
     }
 
     // Reads a page on its way.
-    fn walk<S: PageStore>(&mut self, store: &mut S, way: Position) -> Result<InsertStep, Fault>
-        requires at { self.old.at ≡ InsertAt.Coming (Stage.At way) }
+    fn walk<S: PageStore>(&mut self, store: &mut S, position: Position) -> Result<InsertStep, Fault>
+        requires at { self.old.at ≡ InsertAt.Coming (Stage.At position) }
         requires alive { (S.backing store.old).stopped ≡ false }
         ensures all { InsertSteps S.PageStore self.old self.new store.old store.new result }
         ensures faults { IfErr result (HasCause causes_of_inserting_any) }
         ensures quiet { IfLeftIncomplete result (λ fault. S.state store.new ≡ S.state store.old) }
         ensures left { IfLeftIncomplete result (HasCause causes_of_left_any) }
     {
-        match read_shared(store, self.session, way.block) {
+        match read_shared(store, self.session, position.block) {
             Ok(()) => {}
             Err(fault) => return Err(fault),
         }
-        let page = store.view(way.block);
+        let page = store.view(position.block);
         if has_incomplete_split(page) {
-            return self.meet(page, way);
+            return self.meet(page, position);
         }
         let aim = SearchKey::Below(self.entry.bound());
-        match lead(page, &way, &aim, 0, store.limits().pages) {
+        match lead(page, &position, &aim, 0, store.limits().pages) {
             Some(NextPage::Going(on)) => {
                 come_to(&mut self.at, Stage::At(on));
                 Ok(InsertStep::Going)
             }
             Some(NextPage::Here) => {
                 if !may_hold(page, &self.entry) {
-                    return Err(Fault::PageDamaged(way.block));
+                    return Err(Fault::PageDamaged(position.block));
                 }
-                self.take(store, way.block)
+                self.take(store, position.block)
             }
-            None => Err(Fault::PageDamaged(way.block)),
+            None => Err(Fault::PageDamaged(position.block)),
         }
     }
 
     // Finishes the split of a page that it met on its way.
-    fn meet(&mut self, page: &Page, way: Position) -> Result<InsertStep, Fault>
-        ensures meets { MeetsPage page.now way self.old self.new result }
+    fn meet(&mut self, page: &Page, position: Position) -> Result<InsertStep, Fault>
+        ensures meets { MeetsPage page.now position self.old self.new result }
         ensures faults { IfErr result (HasCause causes_of_inserting_any) }
     {
-        match target_of(page, way) {
+        match target_of(page, position) {
             Some(target) => {
                 self.at = InsertAt::Finishing(FinishOp::new(self.session, target));
                 Ok(InsertStep::Going)
             }
-            None => Err(Fault::PageDamaged(way.block)),
+            None => Err(Fault::PageDamaged(position.block)),
         }
     }
 
@@ -345,18 +345,18 @@ fn has_incomplete_split(page: &Page) -> bool
 }
 
 // What is to be finished of a page, met on this way; None where it is on another level, or has no high key.
-fn target_of(page: &Page, way: Position) -> Option<Target>
-    ensures target { IfSome result (λ t. (t.block ≡ way.block) × (t.level ≡ way.level)
-        × (page.now.level ≡ way.level) × (page.now.high ≡ Some t.separator)) }
-    ensures none { page.now.level ≡ way.level → IfNone result (page.now.high ≡ None) }
+fn target_of(page: &Page, position: Position) -> Option<Target>
+    ensures target { IfSome result (λ t. (t.block ≡ position.block) × (t.level ≡ position.level)
+        × (page.now.level ≡ position.level) × (page.now.high ≡ Some t.separator)) }
+    ensures none { page.now.level ≡ position.level → IfNone result (page.now.high ≡ None) }
 {
-    if page.level != way.level {
+    if page.level != position.level {
         return None;
     }
     match page.high {
         Some(separator) => Some(Target {
-            block: way.block,
-            level: way.level,
+            block: position.block,
+            level: position.level,
             separator,
         }),
         None => None,

@@ -18,7 +18,7 @@ pub use Rattle.page_action.specs.States.{Backing, Continues, IsLater, State, aft
 pub use Rattle.page_action.specs.Stored.{AreActable, IsStored}
 pub use Rattle.page_action.specs.declared.page_store.PageStore.{Ghosts}
 pub use Rattle.tree_shape.proofs.Members.{apart_back, apart_sides, in_append_left, in_append_right, member, not_in_apart}
-pub use Rattle.tree_shape.specs.Chains.{AreDistinct, IsIn, IsRunOf, IsTreeOf, LeftContext, first_spot, past, spot_after}
+pub use Rattle.tree_shape.specs.Chains.{AreDistinct, IsIn, IsRunOf, IsTreeOf, LeftContext, first_context, past, context_after}
 pub use Rattle.tree_shape.specs.Deletion.{MayDie, as_deleted}
 pub use Rattle.tree_shape.specs.LinkPlaces.{HasLinks, child_at, with_downlinks}
 pub use Rattle.tree_shape.specs.Nodes.{Node, links_of, node_from, node_of, nodes_of}
@@ -32,8 +32,8 @@ pub use Rattle.tree_acts.specs.StepEffects.{IsInOrder, IsOneActAtMost, NumbersSt
 pub use Rattle.tree_acts.specs.Trees.{HasTrail, HasTree, LeadsTo}
 pub use Rattle.descent.proofs.Acting.{cleans_nothing, one_act, one_nothing}
 pub use Rattle.descent.proofs.Working.{act_cause_of, frames_some, two_are, working_later}
-pub use Rattle.descent.specs.NextPage.{DescentIsShorter, IsOnDescent, IsShorter, LeadsToNext, way_from}
-pub use Rattle.descent.specs.declared.way.Position.{Position}
+pub use Rattle.descent.specs.NextPage.{DescentIsShorter, IsOnDescent, IsShorter, LeadsToNext, position_from}
+pub use Rattle.descent.specs.declared.position.Position.{Position}
 pub use Rattle.vacuum.proofs.Counting.{counted_beyond, no_leaf_count}
 pub use Rattle.vacuum.proofs.Lasting.{same_page}
 pub use Rattle.vacuum.specs.Counts.{deleted_count, entries_below, entry_count}

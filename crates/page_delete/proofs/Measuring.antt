@@ -36,24 +36,24 @@ module _ (most used cursor : ℕ) where
   pub start_passes : (high : Bound) → cleanup_left most used (suc cursor) Look < cleanup_left most used cursor (Start high)
   start_passes high = more ((used - suc cursor) * steps_for_page most) 0 (32 * (most + 2) + 3) (omega arith)
 
-  pub start_goes_down : (high : Bound) (way : Position) → way.level ≤ 31 → cleanup_left most used cursor (Down high way) < cleanup_left most used cursor (Start high)
-  start_goes_down high way low = more ((used - suc cursor) * steps_for_page most) (way.level * (most + 2) + ((suc most - way.moves) + 2)) (32 * (most + 2) + 3)
-      (let m = mul_le way.level 31 (most + 2) low in omega (arith, m))
+  pub start_goes_down : (high : Bound) (position : Position) → position.level ≤ 31 → cleanup_left most used cursor (Down high position) < cleanup_left most used cursor (Start high)
+  start_goes_down high position low = more ((used - suc cursor) * steps_for_page most) (position.level * (most + 2) + ((suc most - position.moves) + 2)) (32 * (most + 2) + 3)
+      (let m = mul_le position.level 31 (most + 2) low in omega (arith, m))
 
   down_less : (level' level k x y : ℕ) → (level' < level) → x < k + y → level' * k + x < level * k + y
   down_less level' level k x y lt few = (let m = mul_le (suc level') level k (omega (arith, lt)) in omega (arith, m, few))
 
-  pub down_goes_on : (high : Bound) (way on : Position) → IsShorter 1 most way on → cleanup_left most used cursor (Down high on) < cleanup_left most used cursor (Down high way)
-  down_goes_on high way on shorter = elim shorter.shorter [
-    | inl lower ↦ more ((used - suc cursor) * steps_for_page most) _ _ (down_less on.level way.level (most + 2) ((suc most - on.moves) + 2) ((suc most - way.moves) + 2) lower (omega arith))
+  pub down_goes_on : (high : Bound) (position on : Position) → IsShorter 1 most position on → cleanup_left most used cursor (Down high on) < cleanup_left most used cursor (Down high position)
+  down_goes_on high position on shorter = elim shorter.shorter [
+    | inl lower ↦ more ((used - suc cursor) * steps_for_page most) _ _ (down_less on.level position.level (most + 2) ((suc most - on.moves) + 2) ((suc most - position.moves) + 2) lower (omega arith))
     | inr same ↦ more ((used - suc cursor) * steps_for_page most) _ _
-        (subst (λ (l : ℕ). l * (most + 2) + ((suc most - on.moves) + 2) < way.level * (most + 2) + ((suc most - way.moves) + 2)) (sym same.0)
+        (subst (λ (l : ℕ). l * (most + 2) + ((suc most - on.moves) + 2) < position.level * (most + 2) + ((suc most - position.moves) + 2)) (sym same.0)
         (let a = same.1.0 in let b = same.1.1 in omega (arith, a, b)))
   ]
 
-  pub down_judges : (high : Bound) (way : Position) (parent : ℕ) → 0 < way.level → cleanup_left most used cursor (Judge high parent) < cleanup_left most used cursor (Down high way)
-  down_judges high way parent some = more ((used - suc cursor) * steps_for_page most) 2 (way.level * (most + 2) + ((suc most - way.moves) + 2))
-      (let m = mul_le 1 way.level (most + 2) some in omega (arith, m))
+  pub down_judges : (high : Bound) (position : Position) (parent : ℕ) → 0 < position.level → cleanup_left most used cursor (Judge high parent) < cleanup_left most used cursor (Down high position)
+  down_judges high position parent some = more ((used - suc cursor) * steps_for_page most) 2 (position.level * (most + 2) + ((suc most - position.moves) + 2))
+      (let m = mul_le 1 position.level (most + 2) some in omega (arith, m))
 
   pub judge_unlinks : (high : Bound) (parent : ℕ) → cleanup_left most used cursor Unlink < cleanup_left most used cursor (Judge high parent)
   judge_unlinks high parent = more ((used - suc cursor) * steps_for_page most) 1 2 (omega arith)

@@ -5,7 +5,7 @@ use Rattle.tree_shape.proofs.LeafSplit.{first_in}
 use Rattle.tree_shape.proofs.Runs.{run_front, run_back, SplitAt, split_at}
 use Rattle.tree_shape.proofs.Unlink.{left_in}
 use Rattle.tree_acts.proofs.Words.{trail_in}
-use Rattle.page_delete.proofs.Imports.{IsPage, Page, HalfDead, Deleted, State, Node, node_of, nodes_of, IsRunOf, LeftContext, past, spot_after, first_spot, IsIn, AreDistinct, apart_sides}
+use Rattle.page_delete.proofs.Imports.{IsPage, Page, HalfDead, Deleted, State, Node, node_of, nodes_of, IsRunOf, LeftContext, past, context_after, first_context, IsIn, AreDistinct, apart_sides}
 use Rattle.page_delete.proofs.Imports.{apart_back, not_in_apart, in_append_left, in_append_right, IsTrail, reached, over, HasTree, HasTrail, deleted_in_use, inside, node_there, LinksRight}
 use Rattle.page_delete.proofs.Imports.{LinksLeft, SiblingsLink}
 
@@ -19,13 +19,13 @@ pub some_is : (a b : ℕ) → Some a ≡ Some b → a ≡ b
 some_is a b e = cc
 
 -- the page right before some page leads to it
-last_right : (at : ℕ → Node) (level : ℕ) (s : LeftContext) (x : ℕ) (xs : List ℕ) (l b : ℕ) → IsRunOf at level s (x ∷ xs) (Some b) → (spot_after at s (x ∷ xs)).left ≡ Some l → (at l).right ≡ Some b
+last_right : (at : ℕ → Node) (level : ℕ) (s : LeftContext) (x : ℕ) (xs : List ℕ) (l b : ℕ) → IsRunOf at level s (x ∷ xs) (Some b) → (context_after at s (x ∷ xs)).left ≡ Some l → (at l).right ≡ Some b
 last_right at level s x [] l b run is = ap (λ (c : ℕ). (at c).right) (sym (some_is x l is)) ∙ run.0.right_is
 last_right at level s x (y ∷ ys) l b run is = last_right at level (past x (at x) s) y ys l b run.1 is
 
-left_leads : (at : ℕ → Node) (level : ℕ) (xs : List ℕ) (l b : ℕ) → IsRunOf at level first_spot xs (Some b) → (spot_after at first_spot xs).left ≡ Some l → (at l).right ≡ Some b
+left_leads : (at : ℕ → Node) (level : ℕ) (xs : List ℕ) (l b : ℕ) → IsRunOf at level first_context xs (Some b) → (context_after at first_context xs).left ≡ Some l → (at l).right ≡ Some b
 left_leads at level [] l b run is = cc
-left_leads at level (x ∷ xs) l b run is = last_right at level first_spot x xs l b run is
+left_leads at level (x ∷ xs) l b run is = last_right at level first_context x xs l b run is
 
 -- the page right after some page leads back to it
 next_left : (at : ℕ → Node) (level : ℕ) (s : LeftContext) (b : ℕ) (xs : List ℕ) (r : ℕ) → IsRunOf at level s (b ∷ xs) None → (at b).right ≡ Some r → (at r).left ≡ Some b
@@ -56,14 +56,14 @@ module _ (st : State) (has : HasTree st) (page : Page) (found : slice_get st.pag
   w : SplitAt page.block (has.tree.chain level)
   w = split_at page.block (has.tree.chain level) stands.1
 
-  run : IsRunOf (nodes_of st.pages) level first_spot (w.front ++ page.block ∷ w.back) None
-  run = subst (λ (xs : List ℕ). IsRunOf (nodes_of st.pages) level first_spot xs None) w.is (has.tree.is.runs level stands.0)
+  run : IsRunOf (nodes_of st.pages) level first_context (w.front ++ page.block ∷ w.back) None
+  run = subst (λ (xs : List ℕ). IsRunOf (nodes_of st.pages) level first_context xs None) w.is (has.tree.is.runs level stands.0)
 
   distinct : AreDistinct (w.front ++ page.block ∷ w.back)
   distinct = subst AreDistinct w.is (has.tree.is.distinct level stands.0)
 
-  from_here : IsRunOf (nodes_of st.pages) level (spot_after (nodes_of st.pages) first_spot w.front) (page.block ∷ w.back) None
-  from_here = run_back (nodes_of st.pages) level first_spot w.front (page.block ∷ w.back) None run
+  from_here : IsRunOf (nodes_of st.pages) level (context_after (nodes_of st.pages) first_context w.front) (page.block ∷ w.back) None
+  from_here = run_back (nodes_of st.pages) level first_context w.front (page.block ∷ w.back) None run
 
   on_chain : (c : ℕ) → IsIn c (w.front ++ page.block ∷ w.back) → c < length st.pages
   on_chain c i = (has.tree.is.in_use level c stands.0 (subst (IsIn c) (sym w.is) i)).1
@@ -81,7 +81,7 @@ module _ (st : State) (has : HasTree st) (page : Page) (found : slice_get st.pag
         page = p.0;
         found = p.1;
         links = sym (ap (λ (n : Node). n.right) (node_there st.pages l p.0 p.1))
-            ∙ left_leads (nodes_of st.pages) level w.front l page.block (run_front (nodes_of st.pages) level first_spot w.front page.block w.back None run)
+            ∙ left_leads (nodes_of st.pages) level w.front l page.block (run_front (nodes_of st.pages) level first_context w.front page.block w.back None run)
             (sym from_here.0.left_is ∙ ap (λ (n : Node). n.left) here ∙ is);
       }
 
@@ -92,7 +92,7 @@ module _ (st : State) (has : HasTree st) (page : Page) (found : slice_get st.pag
         page = p.0;
         found = p.1;
         links = sym (ap (λ (n : Node). n.left) (node_there st.pages r p.0 p.1))
-            ∙ next_left (nodes_of st.pages) level (spot_after (nodes_of st.pages) first_spot w.front) page.block w.back r from_here (ap (λ (n : Node). n.right) here ∙ is);
+            ∙ next_left (nodes_of st.pages) level (context_after (nodes_of st.pages) first_context w.front) page.block w.back r from_here (ap (λ (n : Node). n.right) here ∙ is);
       }
 
   pub siblings : SiblingsLink st.pages page

@@ -10,7 +10,7 @@ use Rattle.tree_shape.proofs.Staying.{complete_leaf_has_both_links, root_leaf_is
 use Rattle.tree_acts.proofs.Dying.{whole_from}
 use Rattle.page_delete.proofs.Siblings.{some_at, siblings}
 use Rattle.page_delete.proofs.Imports.{cases_eq, Bound, Holding, Table, holding_of, nothing_held, holding_excludes, others_exclude, is_held_by_another, Cleanup, HasEntries, IsPage, IsOfKind}
-use Rattle.page_delete.proofs.Imports.{IsLeafIn, Downlink, Items, Meta, Entries, Downlinks, Page, PageState, Live, HalfDead, Deleted, State, IsIn, IsTreeOf, first_spot, MayDie, HasLinks, Node}
+use Rattle.page_delete.proofs.Imports.{IsLeafIn, Downlink, Items, Meta, Entries, Downlinks, Page, PageState, Live, HalfDead, Deleted, State, IsIn, IsTreeOf, first_context, MayDie, HasLinks, Node}
 use Rattle.page_delete.proofs.Imports.{node_of, nodes_of, links_of, member, in_append_right, IsCompleteAt, state_in, HasTree, node_there, inside, leaf_is, IsInOrder, IsToDie, IsHandingPlace}
 use Rattle.page_delete.proofs.Imports.{NothingIsSpared, turned_to, moved_past, moved_past_deleted, TurnsAt, unlinks, tries, passes, LeafDies, PageIsDeleted, LinksLeft, IsAlone, IsEmptyLeaf}
 use Rattle.page_delete.proofs.Imports.{HasToStay, MayGo, MayGoFrom, IsSought, IsSparing, OnlyNeededStay, EditsALeaf, dies, goes, CleanupAt, Look, Start, Judge, Unlink, CleanupOp}
@@ -211,7 +211,7 @@ judged_stays st session block parent order alone none m not_to_die = with_right 
             }
 
             on_chain : IsIn parent (m.above.tree.chain 1)
-            on_chain = let c = cover_at (nodes_of st.pages) first_spot (m.above.tree.chain 1) _ parent m.above.covers in
+            on_chain = let c = cover_at (nodes_of st.pages) first_context (m.above.tree.chain 1) _ parent m.above.covers in
                 subst (IsIn parent) (sym c.is) (in_append_right parent c.front (parent ∷ c.back) (inl refl))
 
             parent_there : (page : Page) × (slice_get st.pages parent ≡ Some page)
@@ -237,7 +237,7 @@ judged_stays st session block parent order alone none m not_to_die = with_right 
               at = length both.before;
               hands_on = record {
                 internal = links_there parent_there.0.items both.before (record { bound = both.bound; child = block }) (record { bound = both.own; child = r } ∷ both.after) links_are;
-                level = sym (ap (λ (n : Node). n.level) parent_node) ∙ (member (nodes_of st.pages) 1 first_spot (m.above.tree.chain 1) None parent (m.above.tree.is.runs 1 m.above.in_tree) on_chain).0;
+                level = sym (ap (λ (n : Node). n.level) parent_node) ∙ (member (nodes_of st.pages) 1 first_context (m.above.tree.chain 1) None parent (m.above.tree.is.runs 1 m.above.in_tree) on_chain).0;
                 place = subst (λ (links : List Downlink). IsHandingPlace links block r (length both.before)) (sym links_are) (record {
                   next_inside = place_inside both.before _ _ both.after;
                   leads = ap (λ (d : Downlink). d.child) (place_behind both.before _ _ _);

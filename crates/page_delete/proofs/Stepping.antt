@@ -7,8 +7,8 @@ use Rattle.page_action.specs.Causes.{is_at_end}
 use Rattle.tree_shape.specs.Tree.{IsMetaOf}
 use Rattle.tree_acts.specs.Ways.{RootIsThere}
 use Rattle.tree_acts.proofs.Meanings.{metapage_shows, trail_begins_here}
-use Rattle.descent.specs.declared.way.NextPage.{NextPage}
-use Rattle.descent.specs.declared.way.NextPage.TheVariants.{Going as LeadsOn, Here}
+use Rattle.descent.specs.declared.position.NextPage.{NextPage}
+use Rattle.descent.specs.declared.position.NextPage.TheVariants.{Going as LeadsOn, Here}
 use Rattle.vacuum.proofs.Causes.{or_more}
 use Rattle.page_delete.specs.Turns.{TurnsFrom}
 use Rattle.page_delete.proofs.Cleaning.{cleaned_past, cleaned_at, cleaned_dying, cleaned_deleted, cleaned_looking, cleaned_all}
@@ -20,7 +20,7 @@ use Rattle.page_delete.proofs.Trying.{pinned_same}
 use Rattle.page_delete.specs.declared.steps.CleanupStep.{CleanupStep}
 use Rattle.page_delete.proofs.Imports.{HasCause, Bound, Fault, Holding, HasRoom, holding_of, IsPage, IsOfKind, Items, Meta, Entries, Downlinks, Page, Live, HalfDead, State, Backing, Continues}
 use Rattle.page_delete.proofs.Imports.{IsStored, Ghosts, node_from, nodes_of, bound_aim, state_in, LeadsTo, HasTrail, leaf_begins_trail, IsInOrder, IsOnDescent, LeadsToNext, DescentIsShorter}
-use Rattle.page_delete.proofs.Imports.{way_from, Position, one_nothing, cleans_nothing, same_page, CleanupIsUnderway, CleanupInvariant, CleanupSteps, causes_of_cleaning, IsEmptyAt, IsFoundEmpty}
+use Rattle.page_delete.proofs.Imports.{position_from, Position, one_nothing, cleans_nothing, same_page, CleanupIsUnderway, CleanupInvariant, CleanupSteps, causes_of_cleaning, IsEmptyAt, IsFoundEmpty}
 use Rattle.page_delete.proofs.Imports.{come_to, IsCleaned, AllIsCleaned, deleted_in, cleanup_counted_out, cleanup_stats, turned_to, moved_past, moved_past_deleted, TurnsAt, unlinks, tries, passes}
 use Rattle.page_delete.proofs.Imports.{blocks_judged, blocks_unlinked_at, blocks_written, causes_of_trying, IsTried, DeletesOn, BlocksAreInUse, LeafDies, IsSpared, IsInUse, PageIsDeleted}
 use Rattle.page_delete.proofs.Imports.{IsNotDead, left_to, left_root, left_page, left_answer, IsAlone, IsSought, IsSparing, EditsALeaf, cleanup_left, CleanupAt, Look, Start, Down, Judge, Unlink}
@@ -336,15 +336,15 @@ page_low page h = by page.items h.kind
 start_differs : {high : Bound} → Start high ≡ Unlink → ⊥
 start_differs e = cc
 
-down_differs : {high : Bound} {way : Position} → Down high way ≡ Unlink → ⊥
+down_differs : {high : Bound} {position : Position} → Down high position ≡ Unlink → ⊥
 down_differs e = cc
 
 -- the metapage is read
-pub starts : {S : Type 0} (g : Ghosts S) (before after : CleanupOp) (high : Bound) (old new : S) (meta : Page) (way : Position) → before.at ≡ Start high
+pub starts : {S : Type 0} (g : Ghosts S) (before after : CleanupOp) (high : Bound) (old new : S) (meta : Page) (position : Position) → before.at ≡ Start high
     → (g.backing old).stopped ≡ false → Continues g.follows old new
-    → g.state new ≡ g.state old → IsPage meta → ((g.backing new).honest ≡ true → slice_get (g.state old).pages 0 ≡ Some meta) → way.level ≡ meta.level
-    → ((root : ℕ) → IsMetaOf meta root meta.level → Some way ≡ Some (way_from root meta.level)) → after ≡ left_root before way high → CleanupSteps g before after old new (Ok Going)
-starts g before after high old new meta way at alive steps same admitted found level named is = by way.level refl (is ∙ refl)
+    → g.state new ≡ g.state old → IsPage meta → ((g.backing new).honest ≡ true → slice_get (g.state old).pages 0 ≡ Some meta) → position.level ≡ meta.level
+    → ((root : ℕ) → IsMetaOf meta root meta.level → Some position ≡ Some (position_from root meta.level)) → after ≡ left_root before position high → CleanupSteps g before after old new (Ok Going)
+starts g before after high old new meta position at alive steps same admitted found level named is = by position.level refl (is ∙ refl)
   where
     found_empty : IsCleaned (g.state old) before → IsEmptyAt (g.state old) before.cursor × (state_in (g.state old) before.cursor ≢ HalfDead)
     found_empty h = subst (IsFoundEmpty (g.state old) before.cursor) at h.empty
@@ -358,10 +358,10 @@ starts g before after high old new meta way at alive steps same admitted found l
     tells : (g.backing new).honest ≡ true → IsInOrder (g.state old) → (start : ℕ) → RootIsThere (g.state old) start (bound_aim high) false meta
     tells honest order start = metapage_shows (g.state old) start (bound_aim high) false meta order.tree (found honest)
 
-    root_is : (honest : (g.backing new).honest ≡ true) (order : IsInOrder (g.state old)) (start : ℕ) → way ≡ way_from (tells honest order start).root meta.level
-    root_is honest order start = let t = tells honest order start in some_is way (way_from t.root meta.level) (named t.root t.names)
+    root_is : (honest : (g.backing new).honest ≡ true) (order : IsInOrder (g.state old)) (start : ℕ) → position ≡ position_from (tells honest order start).root meta.level
+    root_is honest order start = let t = tells honest order start in some_is position (position_from t.root meta.level) (named t.root t.names)
 
-    by : (l : ℕ) → way.level ≡ l → after ≡ left_to before l way high → CleanupSteps g before after old new (Ok Going)
+    by : (l : ℕ) → position.level ≡ l → after ≡ left_to before l position high → CleanupSteps g before after old new (Ok Going)
     by zero z is0 = moves g before after old new steps same (ap (λ (op : CleanupOp). op.session) is0) (ap (λ (op : CleanupOp). op.deleted) is0) alive
         (subst (λ (a : CleanupAt).
         cleanup_left (g.state old).limits.pages (length (g.state old).pages) after.cursor after.at < cleanup_left (g.state old).limits.pages
@@ -378,7 +378,7 @@ starts g before after high old new meta way at alive steps same admitted found l
     by (suc n) some is1 = moves g before after old new steps same (ap (λ (op : CleanupOp). op.session) is1) (ap (λ (op : CleanupOp). op.deleted) is1) alive
         (subst (λ (a : CleanupAt).
         cleanup_left (g.state old).limits.pages (length (g.state old).pages) after.cursor after.at < cleanup_left (g.state old).limits.pages (length (g.state old).pages) before.cursor a) (sym at)
-        (rw is1 (start_goes_down (g.state old).limits.pages (length (g.state old).pages) before.cursor high way (subst (λ (k : ℕ). k ≤ 31) (sym level) (page_low meta admitted)))))
+        (rw is1 (start_goes_down (g.state old).limits.pages (length (g.state old).pages) before.cursor high position (subst (λ (k : ℕ). k ≤ 31) (sym level) (page_low meta admitted)))))
         (λ honest order fits.
         let t = tells honest order fits.start in
         let w = root_is honest order fits.start in (
@@ -386,8 +386,8 @@ starts g before after high old new meta way at alive steps same admitted found l
             refl,
             (λ m there. let one = same_page (g.state old).pages 0 meta m (found honest) there in
                 inr (
-                  (λ z. no_zero n way.level some (level ∙ ap (λ (p : Page). p.level) one ∙ z)),
-                  (t.root, ap (λ (p : Page). p.right) (sym one) ∙ t.names.root_is, is1 ∙ ap (λ (k : Position). turned_to before (Down high k)) (w ∙ ap (λ (p : Page). way_from t.root p.level) one)),
+                  (λ z. no_zero n position.level some (level ∙ ap (λ (p : Page). p.level) one ∙ z)),
+                  (t.root, ap (λ (p : Page). p.right) (sym one) ∙ t.names.root_is, is1 ∙ ap (λ (k : Position). turned_to before (Down high k)) (w ∙ ap (λ (p : Page). position_from t.root p.level) one)),
                 )),
           ),
           rw is1 (
@@ -399,48 +399,48 @@ starts g before after high old new meta way at alive steps same admitted found l
             }),
           ),
         ))
-        (λ honest fits h. let e = found_empty h in rw is1 (cleaned_at (g.state old) before (Down high way) h (come_within (g.state old) before (Start high) at h) e))
-        (λ honest order fits alone h. rw is1 (spared_at (g.state old) before (Down high way) h (λ e. start_differs (sym at ∙ e)) (subst (IsSought (g.state old) before.cursor) at h.sought)))
+        (λ honest fits h. let e = found_empty h in rw is1 (cleaned_at (g.state old) before (Down high position) h (come_within (g.state old) before (Start high) at h) e))
+        (λ honest order fits alone h. rw is1 (spared_at (g.state old) before (Down high position) h (λ e. start_differs (sym at ∙ e)) (subst (IsSought (g.state old) before.cursor) at h.sought)))
 
 -- a page on the way is read
-pub descends : {S : Type 0} (g : Ghosts S) (before after : CleanupOp) (high : Bound) (way : Position) (old new : S) (next_page : Option NextPage) (result : Result CleanupStep Fault) → before.at ≡ Down high way
-    → (g.backing old).stopped ≡ false → Continues g.follows old new → g.state new ≡ g.state old → way.level ≢ 0 → DescentIsShorter 1 (g.state old).limits.pages way next_page
-    → ((g.backing new).honest ≡ true → (start : ℕ) → IsInOrder (g.state old) → IsOnDescent (g.state old) start (bound_aim high) false 1 way
-    → LeadsToNext (g.state old) start (bound_aim high) false 1 way next_page)
-    → after ≡ left_page before next_page way.block high → result ≡ left_answer next_page way.block → CleanupSteps g before after old new result
-descends g before after high way old new None result at alive steps same some less leads op is =
-    subst (CleanupSteps g before after old new) (sym is) (subst (λ (a : CleanupOp). CleanupSteps g before a old new (Err (PageDamaged way.block))) (sym op)
-    (refuses g before old new (PageDamaged way.block) steps same (λ h. runs_no_more (g.backing old).stopped alive h)
+pub descends : {S : Type 0} (g : Ghosts S) (before after : CleanupOp) (high : Bound) (position : Position) (old new : S) (next_page : Option NextPage) (result : Result CleanupStep Fault) → before.at ≡ Down high position
+    → (g.backing old).stopped ≡ false → Continues g.follows old new → g.state new ≡ g.state old → position.level ≢ 0 → DescentIsShorter 1 (g.state old).limits.pages position next_page
+    → ((g.backing new).honest ≡ true → (start : ℕ) → IsInOrder (g.state old) → IsOnDescent (g.state old) start (bound_aim high) false 1 position
+    → LeadsToNext (g.state old) start (bound_aim high) false 1 position next_page)
+    → after ≡ left_page before next_page position.block high → result ≡ left_answer next_page position.block → CleanupSteps g before after old new result
+descends g before after high position old new None result at alive steps same some less leads op is =
+    subst (CleanupSteps g before after old new) (sym is) (subst (λ (a : CleanupOp). CleanupSteps g before a old new (Err (PageDamaged position.block))) (sym op)
+    (refuses g before old new (PageDamaged position.block) steps same (λ h. runs_no_more (g.backing old).stopped alive h)
     (λ honest order fits. absurd (leads honest fits.start order (subst (CleanupIsUnderway (g.state old) fits.start before.cursor) at fits.at).1))))
-descends g before after high way old new (Some (LeadsOn on)) result at alive steps same some less leads op is = subst (CleanupSteps g before after old new) (sym is)
+descends g before after high position old new (Some (LeadsOn on)) result at alive steps same some less leads op is = subst (CleanupSteps g before after old new) (sym is)
     (moves g before after old new steps same (ap (λ (o : CleanupOp). o.session) op) (ap (λ (o : CleanupOp). o.deleted) op) alive
     (subst (λ (a : CleanupAt).
     cleanup_left (g.state old).limits.pages (length (g.state old).pages) after.cursor after.at < cleanup_left (g.state old).limits.pages (length (g.state old).pages) before.cursor a) (sym at)
-    (rw op (down_goes_on (g.state old).limits.pages (length (g.state old).pages) before.cursor high way on less)))
+    (rw op (down_goes_on (g.state old).limits.pages (length (g.state old).pages) before.cursor high position on less)))
     (λ honest order fits.
     let u = subst (CleanupIsUnderway (g.state old) fits.start before.cursor) at fits.at in (
       subst (λ (a : CleanupAt). TurnsFrom a (g.state old) before None after) (sym at) (refl, inl (on, op)),
       rw op (u.0, leads honest fits.start order u.1),
     ))
-    (λ honest fits h. rw op (cleaned_at (g.state old) before (Down high on) h (come_within (g.state old) before (Down high way) at h) (subst (IsFoundEmpty (g.state old) before.cursor) at h.empty)))
+    (λ honest fits h. rw op (cleaned_at (g.state old) before (Down high on) h (come_within (g.state old) before (Down high position) at h) (subst (IsFoundEmpty (g.state old) before.cursor) at h.empty)))
     (λ honest order fits alone h. rw op (spared_at (g.state old) before (Down high on) h (λ e. down_differs (sym at ∙ e)) (subst (IsSought (g.state old) before.cursor) at h.sought))))
-descends g before after high way old new (Some Here) result at alive steps same some less leads op is = subst (CleanupSteps g before after old new) (sym is)
+descends g before after high position old new (Some Here) result at alive steps same some less leads op is = subst (CleanupSteps g before after old new) (sym is)
     (moves g before after old new steps same (ap (λ (o : CleanupOp). o.session) op) (ap (λ (o : CleanupOp). o.deleted) op) alive
     (subst (λ (a : CleanupAt).
     cleanup_left (g.state old).limits.pages (length (g.state old).pages) after.cursor after.at < cleanup_left (g.state old).limits.pages (length (g.state old).pages) before.cursor a) (sym at)
-    (rw op (down_judges (g.state old).limits.pages (length (g.state old).pages) before.cursor high way way.block (omega (arith, some)))))
+    (rw op (down_judges (g.state old).limits.pages (length (g.state old).pages) before.cursor high position position.block (omega (arith, some)))))
     (λ honest order fits.
     let u = subst (CleanupIsUnderway (g.state old) fits.start before.cursor) at fits.at in
     let here = leads honest fits.start order u.1 in (
       subst (λ (a : CleanupAt). TurnsFrom a (g.state old) before None after) (sym at) (refl, inr op),
       rw op (
         u.0,
-        subst (λ (k : ℕ). LeadsTo (g.state old) fits.start k (bound_aim high) false way.block) here.0 u.1.place,
+        subst (λ (k : ℕ). LeadsTo (g.state old) fits.start k (bound_aim high) false position.block) here.0 u.1.place,
       ),
     ))
     (λ honest fits h. rw op
-    (cleaned_at (g.state old) before (Judge high way.block) h (come_within (g.state old) before (Down high way) at h) (subst (IsFoundEmpty (g.state old) before.cursor) at h.empty)))
-    (λ honest order fits alone h. rw op (spared_at (g.state old) before (Judge high way.block) h (λ e. down_differs (sym at ∙ e)) (record {
+    (cleaned_at (g.state old) before (Judge high position.block) h (come_within (g.state old) before (Down high position) at h) (subst (IsFoundEmpty (g.state old) before.cursor) at h.empty)))
+    (λ honest order fits alone h. rw op (spared_at (g.state old) before (Judge high position.block) h (λ e. down_differs (sym at ∙ e)) (record {
       high = high;
       leaf = subst (IsSought (g.state old) before.cursor) at h.sought;
       above = (leads honest fits.start order (subst (CleanupIsUnderway (g.state old) fits.start before.cursor) at fits.at).1).1;

@@ -32,8 +32,8 @@ use Rattle.page_delete.specs.declared.steps.CleanupStep.TheVariants.{Going, Fini
 abbrev pub CleanupIsUnderway : State → ℕ → ℕ → CleanupAt → Type 0
 CleanupIsUnderway st start cursor Look = Unit {0}
 CleanupIsUnderway st start cursor (Start high) = HasTrail st start 0 cursor 0
-CleanupIsUnderway st start cursor (Down high way) =
-    HasTrail st start 0 cursor 0 × IsOnDescent st start (bound_aim high) false 1 way
+CleanupIsUnderway st start cursor (Down high position) =
+    HasTrail st start 0 cursor 0 × IsOnDescent st start (bound_aim high) false 1 position
 CleanupIsUnderway st start cursor (Judge high parent) =
     HasTrail st start 0 cursor 0 × LeadsTo st start 1 (bound_aim high) false parent
 CleanupIsUnderway st start cursor Unlink = HasTrail st start 0 cursor 0

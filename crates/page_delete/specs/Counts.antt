@@ -19,7 +19,7 @@ IsEmptyAt st block = entry_count (slice_get st.pages block) ≡ 0
 abbrev pub IsFoundEmpty : State → ℕ → CleanupAt → Type 0
 IsFoundEmpty st cursor Look = Unit {0}
 IsFoundEmpty st cursor (Start high) = IsEmptyAt st cursor × (state_in st cursor ≢ HalfDead)
-IsFoundEmpty st cursor (Down high way) = IsEmptyAt st cursor × (state_in st cursor ≢ HalfDead)
+IsFoundEmpty st cursor (Down high position) = IsEmptyAt st cursor × (state_in st cursor ≢ HalfDead)
 IsFoundEmpty st cursor (Judge high parent) = IsEmptyAt st cursor × (state_in st cursor ≢ HalfDead)
 IsFoundEmpty st cursor Unlink = IsEmptyAt st cursor
 
@@ -27,7 +27,7 @@ IsFoundEmpty st cursor Unlink = IsEmptyAt st cursor
 abbrev pub come_to : ℕ → CleanupAt → ℕ
 come_to cursor Look = cursor
 come_to cursor (Start high) = suc cursor
-come_to cursor (Down high way) = suc cursor
+come_to cursor (Down high position) = suc cursor
 come_to cursor (Judge high parent) = suc cursor
 come_to cursor Unlink = suc cursor
 

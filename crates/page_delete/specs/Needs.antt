@@ -30,7 +30,7 @@ blocks_judged leaf parent st = leaf ∷ parent ∷ []
 abbrev pub blocks_written : CleanupAt → ℕ → State → List ℕ
 blocks_written Look cursor st = []
 blocks_written (Start high) cursor st = []
-blocks_written (Down high way) cursor st = []
+blocks_written (Down high position) cursor st = []
 blocks_written (Judge high parent) cursor st = blocks_judged cursor parent st
 blocks_written Unlink cursor st = blocks_unlinked_at cursor st
 

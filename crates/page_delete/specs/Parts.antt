@@ -18,9 +18,9 @@ use Rattle.tree_shape.specs.Deletion.{MayDie, as_deleted}
 use Rattle.tree_acts.specs.Deletions.{IsCompleteAt, StartsAreBelow, state_in}
 use Rattle.tree_acts.specs.Leaves.{IsLeafAt, WasLeaf}
 use Rattle.tree_acts.specs.StepEffects.{IsInOrder, CleanupEffect, IsOneActAtMost, NumbersStay}
-use Rattle.descent.specs.declared.way.NextPage.{NextPage}
-use Rattle.descent.specs.declared.way.NextPage.TheVariants.{Going as LeadsOn, Here}
-use Rattle.descent.specs.declared.way.Position.{Position}
+use Rattle.descent.specs.declared.position.NextPage.{NextPage}
+use Rattle.descent.specs.declared.position.NextPage.TheVariants.{Going as LeadsOn, Here}
+use Rattle.descent.specs.declared.position.Position.{Position}
 use Rattle.vacuum.specs.Counts.{entry_count}
 use Rattle.page_delete.specs.Judging.{IsToDie}
 use Rattle.page_delete.specs.Needs.{causes_of_trying}
@@ -34,11 +34,11 @@ use Rattle.page_delete.specs.declared.steps.CleanupStep.TheVariants.{Going}
 
 -- the cleanup after the metapage, with this way to the root
 abbrev pub left_to : CleanupOp → ℕ → Position → Bound → CleanupOp
-left_to op zero way high = moved_past op 0
-left_to op (suc level) way high = turned_to op (Down high way)
+left_to op zero position high = moved_past op 0
+left_to op (suc level) position high = turned_to op (Down high position)
 
 abbrev pub left_root : CleanupOp → Position → Bound → CleanupOp
-left_root op way high = left_to op way.level way high
+left_root op position high = left_to op position.level position high
 
 -- ... after a page on the way, that leads it on, or nowhere
 abbrev pub left_page : CleanupOp → Option NextPage → ℕ → Bound → CleanupOp

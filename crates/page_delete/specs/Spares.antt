@@ -52,7 +52,7 @@ pub record MayGoFrom (st : State) (block parent : ℕ) : Type 0 where
 abbrev pub IsSought : State → ℕ → CleanupAt → Type 0
 IsSought st cursor Look = Unit {0}
 IsSought st cursor (Start high) = MayGo st cursor high
-IsSought st cursor (Down high way) = MayGo st cursor high
+IsSought st cursor (Down high position) = MayGo st cursor high
 IsSought st cursor (Judge high parent) = MayGoFrom st cursor parent
 IsSought st cursor Unlink = state_in st cursor ≡ HalfDead
 

@@ -5,8 +5,8 @@ use Rattle.index_model.specs.declared.bound.Bound.{Bound}
 use Rattle.page_codec.specs.declared.page.Page.{Page}
 use Rattle.page_codec.specs.declared.page.PageState.TheVariants.{HalfDead}
 use Rattle.page_action.specs.States.{State}
-use Rattle.descent.specs.NextPage.{way_from}
-use Rattle.descent.specs.declared.way.Position.{Position}
+use Rattle.descent.specs.NextPage.{position_from}
+use Rattle.descent.specs.declared.position.Position.{Position}
 use Rattle.page_delete.specs.Judging.{IsToDie}
 use Rattle.page_delete.specs.Ops.{turned_to, moved_past, moved_past_deleted, TurnsAt}
 use Rattle.page_delete.specs.declared.steps.CleanupAt.{CleanupAt}
@@ -18,13 +18,13 @@ abbrev pub MovesFromMetapage : Page → Bound → CleanupOp → CleanupOp → Ty
 MovesFromMetapage meta high before after =
     ((meta.level ≡ 0) × (after ≡ moved_past before 0))
     ⊎ ((meta.level ≢ 0) × ((root : ℕ) × (meta.right ≡ Some root)
-    × (after ≡ turned_to before (Down high (way_from root meta.level)))))
+    × (after ≡ turned_to before (Down high (position_from root meta.level)))))
 
 -- on its way it goes on to another page, or this one may be the parent
 abbrev pub MovesFromPage : Bound → Position → CleanupOp → CleanupOp → Type 0
-MovesFromPage high way before after =
+MovesFromPage high position before after =
     ((on : Position) × (after ≡ turned_to before (Down high on)))
-    ⊎ (after ≡ turned_to before (Judge high way.block))
+    ⊎ (after ≡ turned_to before (Judge high position.block))
 
 -- the leaf is made half-dead where it is to be, and passed where not
 abbrev pub JudgesLeaf : State → ℕ → CleanupOp → Option Effect → CleanupOp → Type 0
@@ -46,6 +46,6 @@ TurnsFrom Look st before effect after = (effect ≡ None)
     × ((page : Page) → slice_get st.pages before.cursor ≡ Some page → TurnsAt page before after)
 TurnsFrom (Start high) st before effect after = (effect ≡ None)
     × ((meta : Page) → slice_get st.pages 0 ≡ Some meta → MovesFromMetapage meta high before after)
-TurnsFrom (Down high way) st before effect after = (effect ≡ None) × MovesFromPage high way before after
+TurnsFrom (Down high position) st before effect after = (effect ≡ None) × MovesFromPage high position before after
 TurnsFrom (Judge high parent) st before effect after = JudgesLeaf st parent before effect after
 TurnsFrom Unlink st before effect after = UnlinksPage st before effect after

@@ -11,7 +11,7 @@ steps_for_page most = 33 * (most + 2) + 4
 abbrev pub turn_left : ℕ → CleanupAt → ℕ
 turn_left most Look = 0
 turn_left most (Start high) = 32 * (most + 2) + 3
-turn_left most (Down high way) = way.level * (most + 2) + ((suc most - way.moves) + 2)
+turn_left most (Down high position) = position.level * (most + 2) + ((suc most - position.moves) + 2)
 turn_left most (Judge high parent) = 2
 turn_left most Unlink = 1
 
@@ -19,7 +19,7 @@ turn_left most Unlink = 1
 abbrev pub pages_left : ℕ → ℕ → CleanupAt → ℕ
 pages_left used cursor Look = used - cursor
 pages_left used cursor (Start high) = used - suc cursor
-pages_left used cursor (Down high way) = used - suc cursor
+pages_left used cursor (Down high position) = used - suc cursor
 pages_left used cursor (Judge high parent) = used - suc cursor
 pages_left used cursor Unlink = used - suc cursor
 

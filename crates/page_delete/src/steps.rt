@@ -84,7 +84,7 @@ impl CleanupOp {
             CleanupAt::Look if self.cursor < store.used() => self.read_at_cursor(store),
             CleanupAt::Look => Ok(CleanupStep::Finished(stats(self, store))),
             CleanupAt::Start(high) => self.read_metapage(store, high),
-            CleanupAt::Down(high, way) => self.read_page(store, high, way),
+            CleanupAt::Down(high, position) => self.read_page(store, high, position),
             CleanupAt::Judge(_, parent) => self.judge(store, parent),
             CleanupAt::Unlink => self.unlink(store),
         }
@@ -130,10 +130,10 @@ impl CleanupOp {
             Ok(()) => {}
             Err(fault) => return Err(fault),
         }
-        let Some(way) = way_down(store.view(0)) else {
+        let Some(position) = way_down(store.view(0)) else {
             return Err(Fault::PageDamaged(0));
         };
-        self.turn_from_root(way, high);
+        self.turn_from_root(position, high);
         Ok(CleanupStep::Going)
     }
 
@@ -142,25 +142,25 @@ impl CleanupOp {
         &mut self,
         store: &mut S,
         high: Bound,
-        way: Position,
+        position: Position,
     ) -> Result<CleanupStep, Fault>
-        requires at { self.old.at ≡ CleanupAt.Down high way }
+        requires at { self.old.at ≡ CleanupAt.Down high position }
         requires alive { (S.backing store.old).stopped ≡ false }
         requires room { cleanup_counted_out self.old ≡ false }
         ensures all { CleanupSteps S.PageStore self.old self.new store.old store.new result }
         ensures faults { IfErr result (HasCause causes_of_writing_any) }
     {
-        if way.level == 0 {
-            return Err(Fault::PageDamaged(way.block));
+        if position.level == 0 {
+            return Err(Fault::PageDamaged(position.block));
         }
-        match read_shared(store, self.session, way.block) {
+        match read_shared(store, self.session, position.block) {
             Ok(()) => {}
             Err(fault) => return Err(fault),
         }
         let most = store.limits().pages;
         let aim = SearchKey::Below(high);
-        let next_page = lead(store.view(way.block), &way, &aim, 1, most);
-        self.turn_from_page(next_page, way.block, &high)
+        let next_page = lead(store.view(position.block), &position, &aim, 1, most);
+        self.turn_from_page(next_page, position.block, &high)
     }
 
     // Makes the leaf at the cursor half-dead, or passes it.

@@ -89,14 +89,14 @@ impl CleanupOp {
     }
 
     // Goes to the root, unless that is a leaf.
-    pub fn turn_from_root(&mut self, way: Position, high: Bound)
+    pub fn turn_from_root(&mut self, position: Position, high: Bound)
         requires room { cleanup_counted_out self.old ≡ false }
-        ensures { self.new ≡ left_root self.old way high }
+        ensures { self.new ≡ left_root self.old position high }
     {
-        if way.level == 0 {
+        if position.level == 0 {
             self.pass(0);
         } else {
-            self.at = CleanupAt::Down(high, way);
+            self.at = CleanupAt::Down(high, position);
         }
     }
 

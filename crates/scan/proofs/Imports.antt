@@ -28,8 +28,8 @@ pub use Rattle.tree_acts.specs.Trees.{HasCover, HasTrail, HasTree, LeadsTo}
 pub use Rattle.tree_acts.specs.Ways.{NoneIsIncomplete, RightIsThere}
 pub use Rattle.descent.proofs.Acting.{holds_else, one_nothing}
 pub use Rattle.descent.proofs.Shortening.{walk_is_long, way_shortens}
-pub use Rattle.descent.specs.NextPage.{DescentIsShorter, IsArrived, IsOnDescent, IsShorter, LeadsStraight, LeadsToNext, walk_length, way_from, way_left}
-pub use Rattle.descent.specs.declared.way.Position.{Position}
+pub use Rattle.descent.specs.NextPage.{DescentIsShorter, IsArrived, IsOnDescent, IsShorter, LeadsStraight, LeadsToNext, walk_length, position_from, way_left}
+pub use Rattle.descent.specs.declared.position.Position.{Position}
 pub use Rattle.scan.specs.Scans.{IsAfter, IsUnderway, LeafIsLive, LeafIsRead, ScanInvariant, ScanStands, ScanSteps, ScanWaits, after_leaf, behind, causes_of_scanning, frontier_past, leaf_pinned}
 pub use Rattle.scan.specs.Scans.{moved_to, waiting, without_leaf}
 pub use Rattle.scan.specs.Straight.{ScanCountsDown, ScanIsStraight, scan_straight_steps}

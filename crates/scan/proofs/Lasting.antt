@@ -9,10 +9,10 @@ use Rattle.scan.proofs.Counting.{count_few}
 
 stands_still : (old new : State) (start : ℕ) (leaf : Option ℕ) (f : Bound) (at : ScanAt) → NumbersStay start old new → ScanStands old start leaf f at → ScanStands new start leaf f at
 stands_still old new start leaf f Start stay h = h
-stands_still old new start leaf f (At way) stay on = record {
+stands_still old new start leaf f (At position) stay on = record {
   not_below = on.not_below;
-  place = stay.places way.level (frontier_aim f) false way.block (frontier_falls f) on.place;
-  trail = stay.trails way.level way.block way.moves on.trail;
+  place = stay.places position.level (frontier_aim f) false position.block (frontier_falls f) on.place;
+  trail = stay.trails position.level position.block position.moves on.trail;
 }
 stands_still old new start leaf f Last stay h = h
 
@@ -44,15 +44,15 @@ bounded most pages session range few_pages few =
 -- no more leaves are left to read than there are pages
 leaves_few : (f : Bound) (pages : List Page) (at : ScanAt) → leaves_left f pages at ≤ length pages
 leaves_few f pages Start = count_few f pages
-leaves_few f pages (At way) = count_few f pages
+leaves_few f pages (At position) = count_few f pages
 leaves_few f pages Last = omega arith
 
 -- what is left of the present walk is no more than a whole one
 walk_few : (st : State) (start most : ℕ) (leaf : Option ℕ) (f : Bound) (at : ScanAt) → HasTree st → ScanStands st start leaf f at → scan_walk_left most at ≤ walk_length most
 walk_few st start most leaf f Start has stands = omega arith
-walk_few st start most leaf f (At way) has stands =
-    let low = low_level st start way.level (frontier_aim f) false way.block has stands.place in
-    let short = walk_is_long most way (omega arith) in
+walk_few st start most leaf f (At position) has stands =
+    let low = low_level st start position.level (frontier_aim f) false position.block has stands.place in
+    let short = walk_is_long most position (omega arith) in
     omega arith
 walk_few st start most leaf f Last has stands = omega arith
 

@@ -44,7 +44,7 @@ up_to_after : (f : Bound) (high : Option Bound) (right : Option ℕ) (below : Op
 up_to_after f None right below e h = tt
 up_to_after f (Some high) right below e h = behind_after (frontier_past f (Some high)) (Some high) right below e (behind_stays high (frontier_past f (Some high)) (past_high f high) e h)
 
-module _ (st : State) (before : ScanOp) (leaf : Option ℕ) (way : Position) (page : Page) (es : List Entry) (tree : HasTree st) (from : before.at ≡ At way)
+module _ (st : State) (before : ScanOp) (leaf : Option ℕ) (position : Position) (page : Page) (es : List Entry) (tree : HasTree st) (from : before.at ≡ At position)
     (started : (e : Entry) → is_past before.frontier e ≡ true → from_admits before.range.from e.key ≡ true)
     (found : slice_get st.pages page.block ≡ Some page) (cover : HasCover st 0 (frontier_aim before.frontier) page.block) (live : IsLiveLeaf page (entries_of page.items))
     (copied : IsCopiedFrom (entries_of page.items) before.frontier before.range.below es) where

@@ -19,14 +19,14 @@ module _ (old new : State) (before : ScanOp) (order : IsInOrder old) (fits : Sca
   going_does = holds_else before.session old new (without_leaf old.table before.session before.leaf) is order (without_apart old.table before.session before.leaf below order.apart)
       (without_many old.table before.session before.leaf ∙ order.holdings) (λ other differ. without_other old.table before.session before.leaf other differ)
 
-  pub going_fits : (way : Position) → IsOnDescent old fits.start (frontier_aim before.frontier) false 0 way → ScanInvariant new (moved_to before way)
-  going_fits way on = subst (λ (st : State). ScanInvariant st (moved_to before way)) (sym is) (record {
+  pub going_fits : (position : Position) → IsOnDescent old fits.start (frontier_aim before.frontier) false 0 position → ScanInvariant new (moved_to before position)
+  going_fits position on = subst (λ (st : State). ScanInvariant st (moved_to before position)) (sym is) (record {
     session = fits.session;
     start = fits.start;
     running = fits.running;
     held = without_held old.table before.session before.leaf below fits.held;
     live = tt;
-    stands = way_with old (without_leaf old.table before.session before.leaf) fits.start (frontier_aim before.frontier) false 0 way on;
+    stands = way_with old (without_leaf old.table before.session before.leaf) fits.start (frontier_aim before.frontier) false 0 position on;
     started = fits.started;
     few = fits.few;
   })
@@ -76,7 +76,7 @@ stands_after st start leaf f page below h found place = go page.high page.right 
 
 stands_with : (st : State) (table : Table) (start : ℕ) (leaf : Option ℕ) (f : Bound) (at : ScanAt) → ScanStands st start leaf f at → ScanStands (with_table st table) start leaf f at
 stands_with st table start leaf f Start h = h
-stands_with st table start leaf f (At way) h = way_with st table start (frontier_aim f) false 0 way h
+stands_with st table start leaf f (At position) h = way_with st table start (frontier_aim f) false 0 position h
 stands_with st table start leaf f Last h = h
 
 -- a scan that has read the leaf after the frontier
@@ -106,14 +106,14 @@ module _ (old new : State) (before : ScanOp) (block : ℕ) (order : IsInOrder ol
   })
 
 -- what is left to do
-pub first_less : (most : ℕ) (pages : List Page) (before : ScanOp) (way : Position) → before.at ≡ Start → way.level < 256 → scan_left most pages (moved_to before way) < scan_left most pages before
-first_less most pages before way is low =
-    let w = walk_is_long most way (omega (arith, low)) in
+pub first_less : (most : ℕ) (pages : List Page) (before : ScanOp) (position : Position) → before.at ≡ Start → position.level < 256 → scan_left most pages (moved_to before position) < scan_left most pages before
+first_less most pages before position is low =
+    let w = walk_is_long most position (omega (arith, low)) in
     rw is (omega arith)
 
-pub going_less : (most : ℕ) (pages : List Page) (before : ScanOp) (way on : Position) → before.at ≡ At way → IsShorter 0 most way on → scan_left most pages (moved_to before on) < scan_left most pages before
-going_less most pages before way on is s =
-    let w = way_shortens 0 most way on s in
+pub going_less : (most : ℕ) (pages : List Page) (before : ScanOp) (position on : Position) → before.at ≡ At position → IsShorter 0 most position on → scan_left most pages (moved_to before on) < scan_left most pages before
+going_less most pages before position on is s =
+    let w = way_shortens 0 most position on s in
     rw is (omega arith)
 
 -- a page with a high key is passed, and without one it is the last
@@ -145,11 +145,11 @@ walk_after most (Some high) (Some right) below = by (below_admits below high.key
     by true = omega arith
     by false = omega arith
 
-pub reading_less : (most : ℕ) (pages : List Page) (before : ScanOp) (leaf : Option ℕ) (way : Position) (b : ℕ) (page : Page) (es : List Entry) → before.at ≡ At way → slice_get pages b ≡ Some page
+pub reading_less : (most : ℕ) (pages : List Page) (before : ScanOp) (leaf : Option ℕ) (position : Position) (b : ℕ) (page : Page) (es : List Entry) → before.at ≡ At position → slice_get pages b ≡ Some page
     → IsArrived page (frontier_aim before.frontier) → length es ≤ 50 → scan_left most pages (behind (record before { leaf = leaf }) page.high page.right es) < scan_left most pages before
-reading_less most pages before leaf way b page es is found arrived few =
+reading_less most pages before leaf position b page es is found arrived few =
     let fewer = leaves_after before.frontier pages b page before.range.below found arrived in
     let walk = walk_after most page.high page.right before.range.below in
     let t = leaf_less most (leaves_left (frontier_past before.frontier page.high) pages (after_leaf page.high page.right before.range.below)) (count_ahead before.frontier pages)
-    (scan_walk_left most (after_leaf page.high page.right before.range.below) + length es) (way_left most way + length (waiting before)) fewer (omega arith) in
+    (scan_walk_left most (after_leaf page.high page.right before.range.below) + length es) (way_left most position + length (waiting before)) fewer (omega arith) in
     rw is (omega arith)

@@ -1,7 +1,7 @@
 -- Steps of a scan that are refused, and where a page leads one that isn't.
 use Rattle.std.proofs.Common.{◌≡◌, ℕ, ◌≤◌, Bool, true, false, Option, Some, Err, [], length, slice_get, refl, sym, ap, subst, arith}
 use Rattle.page_action.specs.declared.page_store.PageStore.{Ghosts}
-use Rattle.descent.specs.declared.way.NextPage.{NextPage}
+use Rattle.descent.specs.declared.position.NextPage.{NextPage}
 use Rattle.scan.proofs.Imports.{HasCause, Fault, Stopped, sizes_of, Limits, Page, State, Continues, frontier_aim, HasTree, IsOnDescent, LeadsToNext, IsInOrder, Position, one_nothing, waiting}
 use Rattle.scan.proofs.Imports.{ScanStands, ScanInvariant, ScanSteps, causes_of_scanning, At, ScanOp}
 
@@ -27,11 +27,11 @@ refuses g op old new fault steps same none stops cause = record {
 }
 
 -- where a page leads a scan on its way
-pub scan_led : (st : State) (op : ScanOp) (way : Position) (page : Page) (most : Limits) (result : Option NextPage) → op.at ≡ At way → IsInOrder st → (fits : ScanInvariant st op)
-    → slice_get st.pages way.block ≡ Some page → most ≡ sizes_of st.limits → length st.pages ≤ st.limits.pages
-    → ((s : State) (start : ℕ) (clear : Bool) → HasTree s → slice_get s.pages way.block ≡ Some page → IsOnDescent s start (frontier_aim op.frontier) clear 0 way → (clear ≡ true → page.split ≡ false)
-    → length s.pages ≤ most.pages → LeadsToNext s start (frontier_aim op.frontier) clear 0 way result)
-    → LeadsToNext st fits.start (frontier_aim op.frontier) false 0 way result
-scan_led st op way page most result at_is order fits found is few goes =
+pub scan_led : (st : State) (op : ScanOp) (position : Position) (page : Page) (most : Limits) (result : Option NextPage) → op.at ≡ At position → IsInOrder st → (fits : ScanInvariant st op)
+    → slice_get st.pages position.block ≡ Some page → most ≡ sizes_of st.limits → length st.pages ≤ st.limits.pages
+    → ((s : State) (start : ℕ) (clear : Bool) → HasTree s → slice_get s.pages position.block ≡ Some page → IsOnDescent s start (frontier_aim op.frontier) clear 0 position → (clear ≡ true → page.split ≡ false)
+    → length s.pages ≤ most.pages → LeadsToNext s start (frontier_aim op.frontier) clear 0 position result)
+    → LeadsToNext st fits.start (frontier_aim op.frontier) false 0 position result
+scan_led st op position page most result at_is order fits found is few goes =
     goes st fits.start false order.tree found (subst (ScanStands st fits.start op.leaf op.frontier) at_is fits.stands) (λ e. cc)
     (subst (λ (l : Limits). length st.pages ≤ l.pages) (sym is) few)

@@ -11,12 +11,12 @@ trail_with : (st : State) (table : Table) (start level block moves : ℕ) → Ha
 trail_with st table start level block moves t =
     record { tree = t.tree; in_tree = t.in_tree; passed = t.passed; count = t.count; distinct = t.distinct; steps = t.steps; trail = t.trail }
 
-pub way_with : (st : State) (table : Table) (start : ℕ) (aim : Bound → Bool) (clear : Bool) (to : ℕ) (way : Position) → IsOnDescent st start aim clear to way
-    → IsOnDescent (with_table st table) start aim clear to way
-way_with st table start aim clear to way on = record {
+pub way_with : (st : State) (table : Table) (start : ℕ) (aim : Bound → Bool) (clear : Bool) (to : ℕ) (position : Position) → IsOnDescent st start aim clear to position
+    → IsOnDescent (with_table st table) start aim clear to position
+way_with st table start aim clear to position on = record {
   not_below = on.not_below;
-  place = place_with st table start way.level aim clear way.block on.place;
-  trail = trail_with st table start way.level way.block way.moves on.trail;
+  place = place_with st table start position.level aim clear position.block on.place;
+  trail = trail_with st table start position.level position.block position.moves on.trail;
 }
 
 pub rests : (old new : State) (table : Table) → new ≡ with_table old table → IsOneActAtMost old new

@@ -1,14 +1,14 @@
 -- The way from the metapage.
 use Rattle.std.proofs.Common.{◌≡◌, ℕ, Bool, Some, slice_get, arith, false, ap, ◌∙◌}
 use Rattle.tree_shape.specs.Tree.{IsMetaOf}
-use Rattle.scan.proofs.Imports.{Bound, Items, Page, State, HasTree, HasCover, NoneIsIncomplete, metapage_shows, trail_begins_here, root_covers_all, IsOnDescent, way_from}
+use Rattle.scan.proofs.Imports.{Bound, Items, Page, State, HasTree, HasCover, NoneIsIncomplete, metapage_shows, trail_begins_here, root_covers_all, IsOnDescent, position_from}
 use Rattle.tree_acts.specs.Levels.{level_with, level_of, root_level}
 
 -- in a tree the metapage names a root, where a call begins its way
 pub record StartsFrom (st : State) (start : ℕ) (aim : Bound → Bool) (clear : Bool) (meta : Page) : Type 0 where
   pub root : ℕ
   pub names : IsMetaOf meta root meta.level
-  pub on : IsOnDescent st start aim clear 0 (way_from root meta.level)
+  pub on : IsOnDescent st start aim clear 0 (position_from root meta.level)
 
 pub root_way : (st : State) (start : ℕ) (aim : Bound → Bool) (clear : Bool) (meta : Page) → HasTree st → slice_get st.pages 0 ≡ Some meta → StartsFrom st start aim clear meta
 root_way st start aim clear meta h found =

@@ -22,7 +22,7 @@ use Rattle.tree_acts.specs.Leaves.{IsLeafAt, WasLeaf}
 use Rattle.tree_acts.specs.Ways.{NoneIsIncomplete}
 use Rattle.descent.specs.NextPage.{IsOnDescent}
 use Rattle.tree_acts.specs.StepEffects.{IsInOrder, StepEffect, IsOneActAtMost}
-use Rattle.descent.specs.declared.way.Position.{Position}
+use Rattle.descent.specs.declared.position.Position.{Position}
 pub use Rattle.scan.specs.Ready.{waiting}
 use Rattle.scan.specs.Straight.{ScanIsStraight, ScanCountsDown}
 use Rattle.scan.specs.Work.{scan_left}
@@ -66,7 +66,7 @@ after_leaf (Some high) (Some right) below = if below_admits below high.key
 
 -- a scan that goes on to another page stands on no leaf
 abbrev pub moved_to : ScanOp → Position → ScanOp
-moved_to op way = record op { at = At way; leaf = None }
+moved_to op position = record op { at = At position; leaf = None }
 
 -- a scan that has read a leaf, and has copied these entries
 abbrev pub behind : ScanOp → Option Bound → Option ℕ → List Entry → ScanOp
@@ -85,7 +85,7 @@ without_leaf table session (Some block) = unpinned table session block
 -- the scan has read beyond the entry
 abbrev pub IsAfter : Bound → ScanAt → Entry → Type 0
 IsAfter frontier Start e = is_past frontier e ≡ false
-IsAfter frontier (At way) e = is_past frontier e ≡ false
+IsAfter frontier (At position) e = is_past frontier e ≡ false
 IsAfter frontier Last e = Unit {0}
 
 abbrev pub pins_of : Option ℕ → List ℕ
@@ -104,7 +104,7 @@ LeafIsLive pages (Some block) = WasLeaf pages block
 -- it stands on no leaf before its first step, and is on its way to what lies after the frontier
 abbrev pub ScanStands : State → ℕ → Option ℕ → Bound → ScanAt → Type 0
 ScanStands st start leaf frontier Start = leaf ≡ None
-ScanStands st start leaf frontier (At way) = IsOnDescent st start (frontier_aim frontier) false 0 way
+ScanStands st start leaf frontier (At position) = IsOnDescent st start (frontier_aim frontier) false 0 position
 ScanStands st start leaf frontier Last = Unit {0}
 
 -- what a scan knows between its steps
@@ -158,7 +158,7 @@ causes_of_scanning st old new session = record nothing_wrong {
 -- the scan is before its first step, or on a way
 abbrev pub IsUnderway : ScanAt → Type 0
 IsUnderway Start = Unit {0}
-IsUnderway (At way) = Unit {0}
+IsUnderway (At position) = Unit {0}
 IsUnderway Last = ⊥
 
 -- a page is read that isn't the leaf after the frontier
@@ -167,19 +167,19 @@ pub record IsMoving (old new : State) (before after : ScanOp) : Type 0 where
   pub fits : ScanInvariant new after
   pub none : waiting before ≡ []
   pub from : IsUnderway before.at
-  pub way : Position
-  pub op : after ≡ moved_to before way
+  pub position : Position
+  pub op : after ≡ moved_to before position
 
 -- the leaf after the frontier is read: the scan stands on it, and what is ready is of its entries
 pub record IsReading (old new : State) (before after : ScanOp) (count : ℕ) : Type 0 where
   pub does : StepEffect before.session None old new
   pub fits : ScanInvariant new after
   pub none : waiting before ≡ []
-  pub way : Position
-  pub from : before.at ≡ At way
-  pub leaf : after.leaf ≡ Some way.block
+  pub position : Position
+  pub from : before.at ≡ At position
+  pub leaf : after.leaf ≡ Some position.block
   pub page : Page
-  pub live : IsLeafAt old.pages way.block page
+  pub live : IsLeafAt old.pages position.block page
   pub of_leaf : (e : Entry) → is_among (waiting after) e ≡ true
       → is_among (entries_of page.items) e ≡ true
   pub read : LeafIsRead old before after

@@ -16,13 +16,13 @@ use Rattle.scan.specs.declared.steps.ScanStep.TheVariants.{Going, Ready, Done}
 -- the metapage, and a page of each level
 abbrev pub scan_straight_steps : List Page → ScanAt → ℕ
 scan_straight_steps pages Start = root_level pages + 2
-scan_straight_steps pages (At way) = suc way.level
+scan_straight_steps pages (At position) = suc position.level
 scan_straight_steps pages Last = 0
 
 -- a scan that hasn't begun, or whose next page covers what lies after the frontier
 abbrev pub ScanIsStraight : State → Bound → ScanAt → Type 0
 ScanIsStraight st frontier Start = Unit {0}
-ScanIsStraight st frontier (At way) = HasCover st way.level (frontier_aim frontier) way.block
+ScanIsStraight st frontier (At position) = HasCover st position.level (frontier_aim frontier) position.block
 ScanIsStraight st frontier Last = ⊥
 
 -- the last of these steps makes entries ready, and each before it leaves one fewer

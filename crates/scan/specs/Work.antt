@@ -23,13 +23,13 @@ count_ahead frontier (page ∷ pages) =
 -- how many leaves a scan reads still, at most
 abbrev pub leaves_left : Bound → List Page → ScanAt → ℕ
 leaves_left frontier pages Start = count_ahead frontier pages
-leaves_left frontier pages (At way) = count_ahead frontier pages
+leaves_left frontier pages (At position) = count_ahead frontier pages
 leaves_left frontier pages Last = 0
 
 -- how many more pages it reads until it has read a leaf, at most
 abbrev pub scan_walk_left : ℕ → ScanAt → ℕ
 scan_walk_left most Start = walk_length most
-scan_walk_left most (At way) = way_left most way
+scan_walk_left most (At position) = way_left most position
 scan_walk_left most Last = 0
 
 -- what is left to do for a scan, while the pages are as they are and there are at most so many: a

@@ -110,7 +110,7 @@ impl ScanOp {
         }
         match self.at {
             ScanAt::Start => self.find_root(store),
-            ScanAt::At(way) => self.read(store, way),
+            ScanAt::At(position) => self.read(store, position),
             ScanAt::Last => Ok(ScanStep::Done),
         }
     }
@@ -123,50 +123,50 @@ impl ScanOp {
         ensures faults { IfErr result (HasCause causes_of_reading_any) }
     {
         read_shared(store, self.session, 0)?;
-        let Some(way) = way_down(store.view(0)) else {
+        let Some(position) = way_down(store.view(0)) else {
             return Err(Fault::PageDamaged(0));
         };
-        self.go_on(store, way);
+        self.go_on(store, position);
         Ok(ScanStep::Going)
     }
 
     // Reads a page: it leads on, or it is the leaf after the frontier, whose matches are copied.
-    fn read<S: PageStore>(&mut self, store: &mut S, way: Position) -> Result<ScanStep, Fault>
-        requires at { self.old.at ≡ ScanAt.At way }
+    fn read<S: PageStore>(&mut self, store: &mut S, position: Position) -> Result<ScanStep, Fault>
+        requires at { self.old.at ≡ ScanAt.At position }
         requires none { waiting self.old ≡ [] }
         ensures all { ScanSteps S.PageStore self.old self.new store.old store.new result }
         ensures faults { IfErr result (HasCause causes_of_reading_any) }
     {
-        read_shared(store, self.session, way.block)?;
-        let page = store.view(way.block);
+        read_shared(store, self.session, position.block)?;
+        let page = store.view(position.block);
         let most = store.limits().pages;
-        match lead(page, &way, &SearchKey::UpTo(self.frontier), 0, most) {
-            None => Err(Fault::PageDamaged(way.block)),
+        match lead(page, &position, &SearchKey::UpTo(self.frontier), 0, most) {
+            None => Err(Fault::PageDamaged(position.block)),
             Some(NextPage::Going(on)) => {
                 self.go_on(store, on);
                 Ok(ScanStep::Going)
             }
             Some(NextPage::Here) => {
                 let Items::Entries(entries) = &page.items else {
-                    return Err(Fault::PageDamaged(way.block));
+                    return Err(Fault::PageDamaged(position.block));
                 };
                 self.take(page, entries.as_slice());
-                self.stand_on(store, way.block);
+                self.stand_on(store, position.block);
                 Ok(ScanStep::Ready(self.ready()))
             }
         }
     }
 
     // Goes on to another page, and stands on no leaf.
-    fn go_on<S: PageStore>(&mut self, store: &mut S, way: Position)
+    fn go_on<S: PageStore>(&mut self, store: &mut S, position: Position)
         ensures steps { Continues S.follows store.old store.new }
         ensures backing { S.backing store.new ≡ S.backing store.old }
         ensures state { S.state store.new ≡ with_table (S.state store.old)
             (without_leaf (S.state store.old).table self.old.session self.old.leaf) }
-        ensures op { self.new ≡ moved_to self.old way }
+        ensures op { self.new ≡ moved_to self.old position }
     {
         self.let_go(store);
-        self.at = ScanAt::At(way);
+        self.at = ScanAt::At(position);
     }
 
     // Stands on this leaf, and on no other.

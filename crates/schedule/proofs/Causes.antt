@@ -208,9 +208,9 @@ one_or_none false blocks few = omega arith
 
 images_few : (st : State) (target : Target) (at : FinishAt) → length (finish_blocks st target at) ≤ 4
 images_few st target FinishStart = omega arith
-images_few st target (Down way) = omega arith
-images_few st target (Link way) =
-    one_or_none (is_to_link st target way) (blocks_linked st target way.block (slice_get st.pages way.block)) (linked_few st target way.block (slice_get st.pages way.block))
+images_few st target (Down position) = omega arith
+images_few st target (Link position) =
+    one_or_none (is_to_link st target position) (blocks_linked st target position.block (slice_get st.pages position.block)) (linked_few st target position.block (slice_get st.pages position.block))
 images_few st target Root = one_or_none (is_to_grow st target) (fresh_block st ∷ 0 ∷ target.block ∷ []) (omega arith)
 
 pub frames_for_few : (most : ℕ) (images : List ℕ) → 1 ≤ most → length images ≤ most → frames_for images ≤ most
@@ -238,7 +238,7 @@ unlinked_of_few block (Some page) = unlinked_few page.state block page.left page
 pub written_few : (at : CleanupAt) (cursor : ℕ) (st : State) → length (blocks_written at cursor st) ≤ 3
 written_few Look cursor st = omega arith
 written_few (CleanupStart high) cursor st = omega arith
-written_few (CleanupDown high way) cursor st = omega arith
+written_few (CleanupDown high position) cursor st = omega arith
 written_few (Judge high parent) cursor st = omega arith
 written_few Unlink cursor st = unlinked_of_few cursor (slice_get st.pages cursor)
 
@@ -256,13 +256,13 @@ put_few st (Some page) = by (nat_le st.limits.items (length (entries_of page.ite
 
 pub insert_images_few : (st : State) (at : InsertAt) → length (images_at st at) ≤ 4
 insert_images_few st (Coming Start) = omega arith
-insert_images_few st (Coming (At way)) = omega arith
+insert_images_few st (Coming (At position)) = omega arith
 insert_images_few st (Coming (Holds block)) = (let k = put_few st (slice_get st.pages block) in omega (arith, k))
 insert_images_few st (Finishing op) = images_few st op.target op.at
 
 insert_frames_few : (st : State) (at : InsertAt) → frames_at st at ≤ 4
 insert_frames_few st (Coming Start) = omega arith
-insert_frames_few st (Coming (At way)) = omega arith
+insert_frames_few st (Coming (At position)) = omega arith
 insert_frames_few st (Coming (Holds block)) = (let k = put_few st (slice_get st.pages block) in omega (arith, k))
 insert_frames_few st (Finishing op) = frames_few st op.target op.at
 
@@ -403,8 +403,8 @@ module _ {S : Type 0} (g : Ghosts S) (old : Moment S) (new : S) where
         entry = λ k. absurd (false≢true k);
         key = λ row k. absurd (false≢true k);
         block = λ k. absurd (false≢true k);
-        log = λ k. (let one = block_few (has_dead (set_at sets set) (g.state old.store) op) (next_block op.cursor op.back) in
-            few_images (block_if (has_dead (set_at sets set) (g.state old.store) op) (next_block op.cursor op.back)) (omega (arith, one)) k);
+        log = λ k. (let one = block_few (has_dead (set_at sets set) (g.state old.store) op) (next_block op.cursor op.backtrack) in
+            few_images (block_if (has_dead (set_at sets set) (g.state old.store) op) (next_block op.cursor op.backtrack)) (omega (arith, one)) k);
         frames = λ k. few_frames 1 (omega arith) k;
         vacuum = false≢true;
         session_is = false≢true;

@@ -26,7 +26,7 @@ pub use Rattle.page_action.specs.Contents.{entry_on_live_leaf}
 pub use Rattle.page_action.specs.Reuse.{IsFresh, began_after, is_deleted, is_deleted_page, is_deleted_state, is_reusable, others_began_after}
 pub use Rattle.page_action.specs.States.{Continues, IsLater, State}
 pub use Rattle.page_action.specs.declared.page_store.PageStore.{Ghosts}
-pub use Rattle.tree_shape.specs.Chains.{FitsState, IsIn, IsRunOf, LeftContext, first_spot, past, spot_after}
+pub use Rattle.tree_shape.specs.Chains.{FitsState, IsIn, IsRunOf, LeftContext, first_context, past, context_after}
 pub use Rattle.tree_shape.specs.Nodes.{Node, links_of, node_from, nodes_of}
 pub use Rattle.tree_shape.specs.Walks.{IsCoverOn, IsNoHigher, IsTrail, LeadsOn, bound_aim, entry_aim, frontier_aim, here, over, reached, step}
 pub use Rattle.tree_acts.specs.Leaves.{IsLeafAt, LeafPagesStay, WasLeaf}

@@ -13,7 +13,7 @@ use Rattle.scan.specs.declared.steps.ScanAt.TheVariants.{Start as ScanStart, At 
 use Rattle.vacuum.specs.declared.steps.Backtrack.{Backtrack}
 use Rattle.page_delete.specs.Cleanups.{CleanupIsUnderway}
 use Rattle.schedule.specs.Numbers.{KeptNumber, cover_of, page_of, target_number, finish_numbers, insert_numbers, scan_numbers, back_numbers, cleanup_numbers, kept_numbers, StandsOnLevel, LeadsPast, there, next_page, NumberLeads, AllLead, NumbersLeadOn}
-use Rattle.schedule.proofs.Imports.{unwrap_or, cases_lt, Bound, Entry, Page, PageState, Live, Deleted, IsFresh, State, Ghosts, FitsState, IsIn, IsRunOf, LeftContext, first_spot, past, spot_after}
+use Rattle.schedule.proofs.Imports.{unwrap_or, cases_lt, Bound, Entry, Page, PageState, Live, Deleted, IsFresh, State, Ghosts, FitsState, IsIn, IsRunOf, LeftContext, first_context, past, context_after}
 use Rattle.schedule.proofs.Imports.{Node, node_from, nodes_of, IsCoverOn, LeadsOn, here, step, IsTrail, reached, over, entry_aim, bound_aim, frontier_aim, targets_of, FinishInvariant}
 use Rattle.schedule.proofs.Imports.{FinishStands, FinishAt, FinishStart, FinishDown, Link, Root, Target, InsertStands, InsertAt, Coming, Finishing, InsertStart, InsertsAt, Holds, ScanStands}
 use Rattle.schedule.proofs.Imports.{IsGoingBack, CleanupAt, Look, CleanupStart, CleanupDown, Judge, Unlink, OpInvariant, Op, Insert, Scan, Bulk, Cleanup, SlotMatches}
@@ -54,12 +54,12 @@ module _ (st : State) (has : HasTree st) where
   on_level : (level b : ℕ) → level ≤ has.tree.meta.level → IsIn b (has.tree.chain level) → StandsOnLevel st level b
   on_level level b in_top i =
       let w = split_at b (has.tree.chain level) i in
-      let run = subst (λ (xs : List ℕ). IsRunOf (nodes_of st.pages) level first_spot xs None) w.is (has.tree.is.runs level in_top) in
-      let placed = run_back (nodes_of st.pages) level first_spot w.front (b ∷ w.back) None run in
+      let run = subst (λ (xs : List ℕ). IsRunOf (nodes_of st.pages) level first_context xs None) w.is (has.tree.is.runs level in_top) in
+      let placed = run_back (nodes_of st.pages) level first_context w.front (b ∷ w.back) None run in
       record {
         used = (has.tree.is.in_use level b in_top i).1;
         level_is = placed.0.level_is;
-        stays = λ gone. subst (λ (s : PageState). FitsState s level (spot_after (nodes_of st.pages) first_spot w.front) (nodes_of st.pages b)) gone placed.0.fits;
+        stays = λ gone. subst (λ (s : PageState). FitsState s level (context_after (nodes_of st.pages) first_context w.front) (nodes_of st.pages b)) gone placed.0.fits;
       }
 
   leads_past : (start b d : ℕ) → IsStart st.running start → LeadsOn (nodes_of st.pages) (slice_index st.counted) start b d → (IsFresh st d → ⊥) → LeadsPast st b d
@@ -73,7 +73,7 @@ module _ (st : State) (has : HasTree st) where
   place_leads start level aim clear b runs place =
       let p = place_in st has.tree start level aim clear b place in
       let led = places_lead_on (nodes_of st.pages) (slice_index st.counted) (length st.pages) has.tree.root has.tree.meta.level has.tree.chain level start aim clear b has.tree.is p.in_tree p.place in
-      let on = cover_there (nodes_of st.pages) first_spot (has.tree.chain level) aim led.page led.covers in
+      let on = cover_there (nodes_of st.pages) first_context (has.tree.chain level) aim led.page led.covers in
       record {
         page = led.page;
         is = record { tree = has.tree; in_tree = p.in_tree; covers = led.covers };
@@ -106,8 +106,8 @@ module _ (st : State) (has : HasTree st) where
 
   finish_leads : (start : ℕ) (target : Target) (at : FinishAt) → IsStart st.running start → FinishStands st start target at → AllLead st (finish_numbers target at)
   finish_leads start target FinishStart runs stands = tt
-  finish_leads start target (FinishDown way) runs stands = (place_leads start way.level (bound_aim target.separator) true way.block runs stands.place, tt)
-  finish_leads start target (Link way) runs stands = (place_leads start way.level (bound_aim target.separator) true way.block runs stands.1.place, tt)
+  finish_leads start target (FinishDown position) runs stands = (place_leads start position.level (bound_aim target.separator) true position.block runs stands.place, tt)
+  finish_leads start target (Link position) runs stands = (place_leads start position.level (bound_aim target.separator) true position.block runs stands.1.place, tt)
   finish_leads start target Root runs stands = tt
 
   splits_lead : (op : FinishOp) → FinishInvariant st op → AllLead st (map target_number (targets_of op) ++ finish_numbers op.target op.at)
@@ -119,13 +119,13 @@ module _ (st : State) (has : HasTree st) where
 
   insert_leads : (session start : ℕ) (e : Entry) (at : InsertAt) → IsStart st.running start → InsertStands st session start e at → AllLead st (insert_numbers e at)
   insert_leads session start e (Coming InsertStart) runs stands = tt
-  insert_leads session start e (Coming (InsertsAt way)) runs stands = (place_leads start way.level (entry_aim e) true way.block runs stands.1.place, tt)
+  insert_leads session start e (Coming (InsertsAt position)) runs stands = (place_leads start position.level (entry_aim e) true position.block runs stands.1.place, tt)
   insert_leads session start e (Coming (Holds block)) runs stands = (place_leads start 0 (entry_aim e) true block runs stands.1.place, tt)
   insert_leads session start e (Finishing op) runs stands = splits_lead op stands.1
 
   scan_leads : (start : ℕ) (leaf : Option ℕ) (frontier : Bound) (at : ScanAt) → IsStart st.running start → ScanStands st start leaf frontier at → AllLead st (scan_numbers frontier at)
   scan_leads start leaf frontier ScanStart runs stands = tt
-  scan_leads start leaf frontier (ScansAt way) runs stands = (place_leads start way.level (frontier_aim frontier) false way.block runs stands.place, tt)
+  scan_leads start leaf frontier (ScansAt position) runs stands = (place_leads start position.level (frontier_aim frontier) false position.block runs stands.place, tt)
   scan_leads start leaf frontier Last runs stands = tt
 
   back_leads : (start : ℕ) (back : Option Backtrack) → IsStart st.running start → IsGoingBack st start back → AllLead st (back_numbers back)
@@ -135,8 +135,8 @@ module _ (st : State) (has : HasTree st) where
   cleanup_leads : (start cursor : ℕ) (at : CleanupAt) → IsStart st.running start → CleanupIsUnderway st start cursor at → AllLead st (cleanup_numbers cursor at)
   cleanup_leads start cursor Look runs on = tt
   cleanup_leads start cursor (CleanupStart high) runs on = (trail_leads start 0 cursor 0 runs on, tt)
-  cleanup_leads start cursor (CleanupDown high way) runs on =
-      (trail_leads start 0 cursor 0 runs on.0, (place_leads start way.level (bound_aim high) false way.block runs on.1.place, tt))
+  cleanup_leads start cursor (CleanupDown high position) runs on =
+      (trail_leads start 0 cursor 0 runs on.0, (place_leads start position.level (bound_aim high) false position.block runs on.1.place, tt))
   cleanup_leads start cursor (Judge high parent) runs on = (trail_leads start 0 cursor 0 runs on.0, (place_leads start 1 (bound_aim high) false parent runs on.1, tt))
   cleanup_leads start cursor Unlink runs on = (trail_leads start 0 cursor 0 runs on, tt)
 
@@ -144,7 +144,7 @@ module _ (st : State) (has : HasTree st) where
   pub op_leads : (op : Op) → OpInvariant st op → AllLead st (kept_numbers (Some op))
   op_leads (Insert op) fits = insert_leads op.session fits.start op.entry op.at (record { session = op.session; is = fits.running }) fits.stands
   op_leads (Scan op) fits = scan_leads fits.start op.leaf op.frontier op.at (record { session = op.session; is = fits.running }) fits.stands
-  op_leads (Bulk set op) fits = back_leads fits.start op.back (record { session = op.session; is = fits.running }) fits.back
+  op_leads (Bulk set op) fits = back_leads fits.start op.backtrack (record { session = op.session; is = fits.running }) fits.backtrack
   op_leads (Cleanup op) fits = cleanup_leads fits.start op.cursor op.at (record { session = op.session; is = fits.running }) fits.at
 
 pub numbers_lead_on : {S : Type 0} (g : Ghosts S) → NumbersLeadOn g

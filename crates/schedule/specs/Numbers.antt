@@ -9,7 +9,7 @@ use Rattle.page_action.specs.declared.page_store.PageStore.{Ghosts}
 use Rattle.tree_shape.specs.Nodes.{nodes_of}
 use Rattle.tree_shape.specs.Walks.{entry_aim, bound_aim, frontier_aim}
 use Rattle.tree_acts.specs.Trees.{HasCover}
-use Rattle.descent.specs.declared.way.Position.{Position}
+use Rattle.descent.specs.declared.position.Position.{Position}
 use Rattle.split_finish.specs.Targets.{targets_of}
 use Rattle.split_finish.specs.declared.finish.FinishAt.{FinishAt}
 use Rattle.split_finish.specs.declared.finish.FinishAt.TheVariants.{Start as FinishStart, Down as FinishDown, Link, Root}
@@ -40,7 +40,7 @@ pub record KeptNumber : Type 0 where
 
 -- ... of the page that is read next on a way to what is looked for
 abbrev pub number_on : Position → (Bound → Bool) → KeptNumber
-number_on way aim = record { block = way.block; sought = cover_of way.level aim }
+number_on position aim = record { block = position.block; sought = cover_of position.level aim }
 
 -- ... of a page whose split is to be finished
 abbrev pub target_number : Target → KeptNumber
@@ -53,21 +53,21 @@ leaf_number block = record { block = block; sought = page_of 0 }
 -- those of the way to the parent of a target
 abbrev pub finish_numbers : Target → FinishAt → List KeptNumber
 finish_numbers target FinishStart = []
-finish_numbers target (FinishDown way) = number_on way (bound_aim target.separator) ∷ []
-finish_numbers target (Link way) = number_on way (bound_aim target.separator) ∷ []
+finish_numbers target (FinishDown position) = number_on position (bound_aim target.separator) ∷ []
+finish_numbers target (Link position) = number_on position (bound_aim target.separator) ∷ []
 finish_numbers target Root = []
 
 -- those of an insert of this entry
 abbrev pub insert_numbers : Entry → InsertAt → List KeptNumber
 insert_numbers e (Coming InsertStart) = []
-insert_numbers e (Coming (InsertsAt way)) = number_on way (entry_aim e) ∷ []
+insert_numbers e (Coming (InsertsAt position)) = number_on position (entry_aim e) ∷ []
 insert_numbers e (Coming (Holds block)) = record { block = block; sought = cover_of 0 (entry_aim e) } ∷ []
 insert_numbers e (Finishing op) = map target_number (targets_of op) ++ finish_numbers op.target op.at
 
 -- those of a scan that has come to this frontier
 abbrev pub scan_numbers : Bound → ScanAt → List KeptNumber
 scan_numbers frontier ScanStart = []
-scan_numbers frontier (ScansAt way) = number_on way (frontier_aim frontier) ∷ []
+scan_numbers frontier (ScansAt position) = number_on position (frontier_aim frontier) ∷ []
 scan_numbers frontier Last = []
 
 -- those of a bulk delete, which may go back; in block order it keeps none
@@ -79,7 +79,7 @@ back_numbers (Some back) = leaf_number back.block ∷ []
 abbrev pub cleanup_numbers : ℕ → CleanupAt → List KeptNumber
 cleanup_numbers cursor Look = []
 cleanup_numbers cursor (CleanupStart high) = leaf_number cursor ∷ []
-cleanup_numbers cursor (CleanupDown high way) = leaf_number cursor ∷ number_on way (bound_aim high) ∷ []
+cleanup_numbers cursor (CleanupDown high position) = leaf_number cursor ∷ number_on position (bound_aim high) ∷ []
 cleanup_numbers cursor (Judge high parent) = leaf_number cursor ∷ record { block = parent; sought = cover_of 1 (bound_aim high) } ∷ []
 cleanup_numbers cursor Unlink = leaf_number cursor ∷ []
 
@@ -88,7 +88,7 @@ abbrev pub kept_numbers : Option Op → List KeptNumber
 kept_numbers None = []
 kept_numbers (Some (Insert op)) = insert_numbers op.entry op.at
 kept_numbers (Some (Scan op)) = scan_numbers op.frontier op.at
-kept_numbers (Some (Bulk set op)) = back_numbers op.back
+kept_numbers (Some (Bulk set op)) = back_numbers op.backtrack
 kept_numbers (Some (Cleanup op)) = cleanup_numbers op.cursor op.at
 
 -- a page in use that stands on this level: it isn't deleted

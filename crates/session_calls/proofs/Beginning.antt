@@ -172,7 +172,7 @@ module _ (old : State) (sets : DeadSets) (start : Entry → Bool) (history : Lis
         added = refl;
         started = record { number = old.begun; is = started_is };
         fits =
-            record { session = low; start = old.begun; running = starts; held = idle.holds; back = tt };
+            record { session = low; start = old.begun; running = starts; held = idle.holds; backtrack = tt };
         knows = tt;
       }
   begun_runs ToCleanup =
@@ -188,7 +188,7 @@ module _ (old : State) (sets : DeadSets) (start : Entry → Bool) (history : Lis
 
   begun_sweep : (set : ℕ)
       → IsBulkDeleteSoFar (after_start_cycle (after_begin session old)) (set_at sets set) start history number (length history)
-      (record { session = session; cursor = 1; back = None; left = 0; removed = 0 })
+      (record { session = session; cursor = 1; backtrack = None; left = 0; removed = 0 })
   begun_sweep set = record {
     runs = cycle_runs old.last_cycle;
     to_come = λ due are. all_to_come due (after_start_cycle (after_begin session old)) session (cycled_order (after_begin session old) (begun_order old session low m.order));
@@ -224,8 +224,8 @@ few_from most pages session ToCleanup low few = cleanup_few most (length pages) 
 -- a request that its leaf can serve is due after so many steps
 due_from : (old : State) (session : ℕ) (request : Request) → NoneIsIncomplete old.pages → IsServable old request
     → IsDueIn old (Some (op_before session request)) (root_level old.pages + steps_for request)
-due_from old session (ToInsert e) whole servable = record { steps_are = refl; whole = whole; way = tt; absent = servable.0; key_absent = servable.1; room = servable.2 }
-due_from old session (ToScan range) whole servable = record { steps_are = refl; whole = whole; way = tt; none = refl }
+due_from old session (ToInsert e) whole servable = record { steps_are = refl; whole = whole; position = tt; absent = servable.0; key_absent = servable.1; room = servable.2 }
+due_from old session (ToScan range) whole servable = record { steps_are = refl; whole = whole; position = tt; none = refl }
 due_from old session (ToBulk set) whole servable = absurd servable
 due_from old session ToCleanup whole servable = absurd servable
 

@@ -32,13 +32,13 @@ room_still old new e limits same room page found cover =
 
 insert_way_still : (old new : State) (e : Entry) (at : InsertAt) → new.pages ≡ old.pages → IsOnEntryWay old e at → IsOnEntryWay new e at
 insert_way_still old new e (Coming InsertStart) same h = tt
-insert_way_still old new e (Coming (InsertReads way)) same h = cover_still old new way.level (entry_aim e) way.block same h
+insert_way_still old new e (Coming (InsertReads position)) same h = cover_still old new position.level (entry_aim e) position.block same h
 insert_way_still old new e (Coming (Holding block)) same h = tt
 insert_way_still old new e (Finishing op) same h = absurd h
 
 scan_way_still : (old new : State) (frontier : Bound) (at : ScanAt) → new.pages ≡ old.pages → IsOnFrontierWay old frontier at → IsOnFrontierWay new frontier at
 scan_way_still old new frontier ScanStart same h = tt
-scan_way_still old new frontier (ScanReads way) same h = cover_still old new way.level (frontier_aim frontier) way.block same h
+scan_way_still old new frontier (ScanReads position) same h = cover_still old new position.level (frontier_aim frontier) position.block same h
 scan_way_still old new frontier Last same h = absurd h
 
 -- a key that isn't there is so still
@@ -54,7 +54,7 @@ due_still old new (Some (Cleanup op)) steps limits same due = absurd due
 due_still old new (Some (Insert op)) steps limits same due = record {
   steps_are = due.steps_are ∙ sym (ap (λ (ps : List Page). insert_steps ps op.at) same);
   whole = subst NoneIsIncomplete (sym same) due.whole;
-  way = insert_way_still old new op.entry op.at same due.way;
+  position = insert_way_still old new op.entry op.at same due.position;
   absent = ap (λ (ps : List Page). entry_on_live_leaf ps op.entry) same ∙ due.absent;
   key_absent = key_still old new op.entry limits same due.key_absent;
   room = room_still old new op.entry limits same due.room;
@@ -62,7 +62,7 @@ due_still old new (Some (Insert op)) steps limits same due = record {
 due_still old new (Some (Scan op)) steps limits same due = record {
   steps_are = due.steps_are ∙ sym (ap (λ (ps : List Page). scan_steps ps op.at) same);
   whole = subst NoneIsIncomplete (sym same) due.whole;
-  way = scan_way_still old new op.frontier op.at same due.way;
+  position = scan_way_still old new op.frontier op.at same due.position;
   none = due.none;
 }
 
@@ -78,10 +78,10 @@ none_incomplete pages block whole = by (slice_get pages block) refl
 
 -- an insert on its way to its leaf isn't logged yet
 not_logged : (st : State) (e : Entry) (at : InsertAt) (added : Option ℕ) → IsOnEntryWay st e at → IsToCome at added → added ≡ None
-not_logged st e (Coming InsertStart) added way h = h
-not_logged st e (Coming (InsertReads w)) added way h = h
-not_logged st e (Coming (Holding block)) added way h = h
-not_logged st e (Finishing op) added way h = absurd way
+not_logged st e (Coming InsertStart) added position h = h
+not_logged st e (Coming (InsertReads w)) added position h = h
+not_logged st e (Coming (Holding block)) added position h = h
+not_logged st e (Finishing op) added position h = absurd position
 
 -- so a step on that way does no act, where no page has an incomplete split
 quiet_on_way : (old new : State) (e : Entry) (was now : Option ℕ) (effect : Option Effect) → HasEffect effect old new → MovesFlags effect old new
@@ -92,27 +92,27 @@ quiet_on_way old new e was now (Some (Remove es)) changes flags noted none whole
 quiet_on_way old new e was now (Some Shape) changes flags noted none whole = absurd (true_false (none_incomplete old.pages flags.cleared whole) flags.was)
 
 some_steps : (st : State) (e : Entry) (at : InsertAt) → IsOnEntryWay st e at → 0 < insert_steps st.pages at
-some_steps st e (Coming InsertStart) way = omega arith
-some_steps st e (Coming (InsertReads w)) way = omega arith
-some_steps st e (Coming (Holding block)) way = omega arith
-some_steps st e (Finishing op) way = absurd way
+some_steps st e (Coming InsertStart) position = omega arith
+some_steps st e (Coming (InsertReads w)) position = omega arith
+some_steps st e (Coming (Holding block)) position = omega arith
+some_steps st e (Finishing op) position = absurd position
 
 -- an insert that goes on is due one step sooner
 pub insert_counts : (old new : State) (before after : InsertOp) (left : ℕ) → InsertIsDue old before (suc left) → after.entry ≡ before.entry → InsertContinues old new before after
     → IsOnEntryWay new after.entry after.at → suc (insert_steps new.pages after.at) ≡ insert_steps old.pages before.at
     → DueCountsDown old new (Some (Insert before)) (Some (Insert after)) left Going
-insert_counts old new before after left due same step way fewer =
-    let none = not_logged new after.entry after.at after.added way step.fits.to_come in
+insert_counts old new before after left due same step position fewer =
+    let none = not_logged new after.entry after.at after.added position step.fits.to_come in
     let pages = quiet_on_way old new before.entry before.added after.added step.effect step.does.changes step.does.flags step.noted none due.whole in
     let left_is : left ≡ insert_steps new.pages after.at = (let is : suc left ≡ suc (insert_steps new.pages after.at) = due.steps_are ∙ sym fewer in omega arith) in (
-      subst (λ (n : ℕ). 0 < n) (sym left_is) (some_steps new after.entry after.at way),
+      subst (λ (n : ℕ). 0 < n) (sym left_is) (some_steps new after.entry after.at position),
       record {
         pages = pages;
         limits = step.does.limits;
         due = record {
           steps_are = left_is;
           whole = subst NoneIsIncomplete (sym pages) due.whole;
-          way = way;
+          position = position;
           absent = ap (λ (ps : List Page). entry_on_live_leaf ps after.entry) pages ∙ ap (entry_on_live_leaf old.pages) same ∙ due.absent;
           key_absent = key_still old new after.entry step.does.limits pages (subst (IsKeyAbsent old) (sym same) due.key_absent);
           room = room_still old new after.entry step.does.limits pages (subst (λ (e : Entry). HasRoomFor old e) (sym same) due.room);
@@ -121,24 +121,24 @@ insert_counts old new before after left due same step way fewer =
     )
 
 some_reads : (st : State) (frontier : Bound) (at : ScanAt) → IsOnFrontierWay st frontier at → 0 < scan_steps st.pages at
-some_reads st frontier ScanStart way = omega arith
-some_reads st frontier (ScanReads w) way = omega arith
-some_reads st frontier Last way = absurd way
+some_reads st frontier ScanStart position = omega arith
+some_reads st frontier (ScanReads w) position = omega arith
+some_reads st frontier Last position = absurd position
 
 -- a scan that goes on is due one step sooner
 pub scan_counts : (old new : State) (before after : ScanOp) (left : ℕ) → ScanIsDue old before (suc left) → IsMoving old new before after
     → IsOnFrontierWay old after.frontier after.at → suc (scan_steps old.pages after.at) ≡ scan_steps old.pages before.at
     → DueCountsDown old new (Some (Scan before)) (Some (Scan after)) left Going
-scan_counts old new before after left due step way fewer =
+scan_counts old new before after left due step position fewer =
     let pages : new.pages ≡ old.pages = ap (λ (st : State). st.pages) step.does.changes in
     let left_is : left ≡ scan_steps old.pages after.at = (let is : suc left ≡ suc (scan_steps old.pages after.at) = due.steps_are ∙ sym fewer in omega arith) in
     let then_due : ScanIsDue old after left = record {
       steps_are = left_is;
       whole = due.whole;
-      way = way;
+      position = position;
       none = ap (λ (op : ScanOp). waiting op) step.op ∙ step.none;
     } in (
-      subst (λ (n : ℕ). 0 < n) (sym left_is) (some_reads old after.frontier after.at way),
+      subst (λ (n : ℕ). 0 < n) (sym left_is) (some_reads old after.frontier after.at position),
       record { pages = pages; limits = step.does.limits; due = due_still old new (Some (Scan after)) left step.does.limits pages then_due },
     )
 

@@ -172,9 +172,9 @@ module _ {sets : DeadSets} (old new : State) (first second : Backing) (start : E
 
   -- what is due is to come after a step
   module _ (step : BulkDeleteContinues dead old new before after)
-      (comes : (due : Entry → Bool) → IsDueOf dead due → DueIsToCome due old before.cursor before.back → DueIsToCome due new after.cursor after.back) where
+      (comes : (due : Entry → Bool) → IsDueOf dead due → DueIsToCome due old before.cursor before.backtrack → DueIsToCome due new after.cursor after.backtrack) where
     abbrev gone : List Entry
-    gone = dead_at dead old (next_block before.cursor before.back)
+    gone = dead_at dead old (next_block before.cursor before.backtrack)
 
     so_far : IsBulkDeleteSoFar new dead start (history ++ acts_of number (removes gone)) number call.began after
     so_far = record {
@@ -198,7 +198,7 @@ module _ {sets : DeadSets} (old new : State) (first second : Backing) (start : E
 
   -- at the end none is there that was due
   module _ (stats : VacuumStats) (step : BulkDeleteEnds old new before after) (told : stats ≡ stats_of old before)
-      (gone : (due : Entry → Bool) → IsDueOf dead due → DueIsToCome due old before.cursor before.back → (e : Entry) → due e ≡ true → entry_on_live_leaf new.pages e ≡ false) where
+      (gone : (due : Entry → Bool) → IsDueOf dead due → DueIsToCome due old before.cursor before.backtrack → (e : Entry) → due e ≡ true → entry_on_live_leaf new.pages e ≡ false) where
     now_is : actions_between call.began (length history) history ≡ drop call.began history
     now_is = ap (λ (l : List Action). drop call.began l) (take_all (length history) history (omega arith))
 

@@ -18,7 +18,7 @@ pub insert_hindered : (old new : State) (first second : Backing) (before after :
 insert_hindered old new first second before after left fault order fits due stays cause = by fault cause
   where
     none : (takes_block_at old before.at ≡ false) × (splits_root_at old before.at ≡ false)
-    none = straight_takes_none old before order fits due.way due.room
+    none = straight_takes_none old before order fits due.position due.room
 
     still : InsertIsDue new after (suc left)
     still = subst (λ (st : State). InsertIsDue st after (suc left)) (sym stays.state) (subst (λ (op : InsertOp). InsertIsDue old op (suc left)) (sym stays.op) due)

@@ -1,7 +1,7 @@
 -- Events of scans over histories.
 use Rattle.std.proofs.Common.{◌≡◌, ◌⊎◌, ℕ, suc, ◌≤◌, Bool, true, false, ◌||◌, Option, Some, None, List, [], ◌∷◌, ◌++◌, length, refl, sym, ap, subst, inl, inr, ◌∙◌, arith, append_assoc}
 use Rattle.std.specs.List.{AllByRecursion}
-use Rattle.descent.specs.declared.way.Position.{Position}
+use Rattle.descent.specs.declared.position.Position.{Position}
 use Rattle.session_calls.proofs.Imports.{append-nil, or_cases, cases_Bool, Action, Ask, AskScan, Ending, Running, EndsFinished, Call, IsReached, IsUpToLast, IsScanAnswer, IsScanAnswerSoFar}
 use Rattle.session_calls.proofs.Imports.{AnswersRight, end_of, Meets, Circumstances, bound_of, same_entry, is_among, is_past, IsPast, AscendsPast, IsAscending, last_or, matches, Bound, Entry}
 use Rattle.session_calls.proofs.Imports.{NoSession, Range, is_past-falls, same_entry-is, same_entry-self, three_ways, IsPast-trans, is_among-append, is_among-past, AscendsPast-append}
@@ -59,7 +59,7 @@ last_past low (x ∷ xs) e h all =
 
 -- a leaf brings a scan on
 module _ (st : State) (start : Entry → Bool) (history : List Action) (began : ℕ) (given : List Entry) (before after : ScanOp) (m : Matches st start history) (le : began ≤ length history)
-    (range : after.range ≡ before.range) (none : waiting before ≡ []) (way : Position) (from : before.at ≡ At way) (read : LeafIsRead st before after)
+    (range : after.range ≡ before.range) (none : waiting before ≡ []) (position : Position) (from : before.at ≡ At position) (read : LeafIsRead st before after)
     (far : IsScanSoFar start history began given before) where
   was_given : given ++ waiting before ≡ given
   was_given = ap (λ (xs : List Entry). given ++ xs) none ∙ append-nil given
@@ -195,18 +195,18 @@ next_goes {sets} at st start history number call before after (Some e) fits next
 -- on a way a scan has read beyond what isn't beyond its frontier
 after_on : (frontier : Bound) (at : ScanAt) (e : Entry) → IsUnderway at → IsAfter frontier at e → is_past frontier e ≡ false
 after_on frontier Start e under h = h
-after_on frontier (At way) e under h = h
+after_on frontier (At position) e under h = h
 after_on frontier Last e under h = absurd under
 
 on_after : (frontier : Bound) (at : ScanAt) (e : Entry) → IsUnderway at → is_past frontier e ≡ false → IsAfter frontier at e
 on_after frontier Start e under h = h
-on_after frontier (At way) e under h = h
+on_after frontier (At position) e under h = h
 on_after frontier Last e under h = absurd under
 
 -- a scan that goes on to another page has read nothing more
-goes_to : (start : Entry → Bool) (history : List Action) (began : ℕ) (given : List Entry) (op : ScanOp) (way : Position) → IsUnderway op.at
-    → IsScanSoFar start history began given op → IsScanSoFar start history began given (moved_to op way)
-goes_to start history began given op way under far = record {
+goes_to : (start : Entry → Bool) (history : List Action) (began : ℕ) (given : List Entry) (op : ScanOp) (position : Position) → IsUnderway op.at
+    → IsScanSoFar start history began given op → IsScanSoFar start history began given (moved_to op position)
+goes_to start history began given op position under far = record {
   ascending = far.ascending;
   matched = far.matched;
   was_there = far.was_there;
@@ -223,7 +223,7 @@ module _ {sets : DeadSets} (at : Circumstances) (old new : State) (start : Entry
       step_is_ready at old new start history number call (Scan before) (Scan after) fits session (ap AskScan range) count
       (works_on before.session (AskScan before.range) None old new refl step.does) refl step.fits
       (so_far_read old start history call.began call.given before after fits.world (began_before start history number call fits.meets fits.running)
-      range step.none step.way step.from step.read fits.runs.knows) tt
+      range step.none step.position step.from step.read fits.runs.knows) tt
 
   pub ready_goes : (count : ℕ) → IsWaiting old new before after count ⊎ IsReading old new before after count → OpEvent at old new sets start history number call (Scan after) (Ready count)
   ready_goes count (inr step) = reading_goes count step
@@ -266,7 +266,7 @@ module _ {sets : DeadSets} (at : Circumstances) (old new : State) (start : Entry
   moving_goes step = step_goes_on at old new start history number call (Scan before) (Scan after) fits session (ap AskScan range) None
       (works_on before.session (AskScan before.range) None old new refl step.does) tt refl step.fits
       (subst (λ (l : List Action). IsScanSoFar start l call.began call.given after) (sym (append-nil history))
-      (subst (λ (op : ScanOp). IsScanSoFar start history call.began call.given op) (sym step.op) (goes_to start history call.began call.given before step.way step.from fits.runs.knows))) tt
+      (subst (λ (op : ScanOp). IsScanSoFar start history call.began call.given op) (sym step.op) (goes_to start history call.began call.given before step.position step.from fits.runs.knows))) tt
 
 -- a call that is no scan has no next entry
 no_scan_next : (sets : DeadSets) (op : Op) → ((scan : ScanOp) → op ≡ Scan scan → ⊥) → (causes_of_asked_next (asked_of sets op)).no_such_session ≡ true
@@ -290,10 +290,10 @@ pub ready_stands : (old new : State) (before after : ScanOp) (count : ℕ) → I
     → StandsOnLeaf new (Some (Scan after))
 ready_stands old new before after count (inl step) none = absurd (let many : count ≡ 0 = step.count_is ∙ ap length none in let some = step.some in omega arith)
 ready_stands old new before after count (inr step) none = record {
-  block = step.way.block;
+  block = step.position.block;
   page = step.page;
   leaf = step.leaf;
-  live = subst (λ (ps : List Page). IsLeafAt ps step.way.block step.page) (sym (ap (λ (st : State). st.pages) step.does.changes)) step.live;
+  live = subst (λ (ps : List Page). IsLeafAt ps step.position.block step.page) (sym (ap (λ (st : State). st.pages) step.does.changes)) step.live;
   of_leaf = step.of_leaf;
 }
 

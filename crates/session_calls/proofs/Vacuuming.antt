@@ -59,7 +59,7 @@ module _ (old new : State) (dead : Row → Bool) (start : Entry → Bool) (histo
   sweep_still : IsBulkDeleteSoFar new dead start (history ++ acts_of other effect) number began op
   sweep_still = record {
     runs = ap (λ (c : ℕ). runs_bulk_delete (record old { cycle = c })) stay.cycle ∙ h.runs;
-    to_come = λ due are. due_undisturbed due effect old new op.cursor op.back stay
+    to_come = λ due are. due_undisturbed due effect old new op.cursor op.backtrack stay
         (λ e added. not_true (due e) (λ is. due_not_added dead start history other began effect within e (are e is) added))
         (h.to_come due (λ e is. due_before dead start history other began effect within e (are e is)));
     removed = h.removed ∙ (

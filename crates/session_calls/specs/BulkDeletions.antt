@@ -23,7 +23,7 @@ pub record IsDue (dead : Row → Bool) (start : Entry → Bool) (history : List 
 -- what it has counted as removed are the entries of its Removes.
 pub record IsBulkDeleteSoFar (st : State) (dead : Row → Bool) (start : Entry → Bool) (history : List Action) (number began : ℕ) (op : BulkDeleteOp) : Type 0 where
   pub runs : runs_bulk_delete st ≡ true
-  pub to_come : (due : Entry → Bool) → ((e : Entry) → due e ≡ true → IsDue dead start history began e) → DueIsToCome due st op.cursor op.back
+  pub to_come : (due : Entry → Bool) → ((e : Entry) → due e ≡ true → IsDue dead start history began e) → DueIsToCome due st op.cursor op.backtrack
   pub removed : op.removed ≡ removed_by number (drop began history)
 
 -- what a running call has to remove still, and what it has removed

@@ -32,7 +32,7 @@ IsKeyAbsent st e =
 pub record InsertIsDue (st : State) (op : InsertOp) (steps : ℕ) : Type 0 where
   pub steps_are : steps ≡ insert_steps st.pages op.at
   pub whole : NoneIsIncomplete st.pages
-  pub way : IsOnEntryWay st op.entry op.at
+  pub position : IsOnEntryWay st op.entry op.at
   pub absent : entry_on_live_leaf st.pages op.entry ≡ false
   pub key_absent : IsKeyAbsent st op.entry
   pub room : HasRoomFor st op.entry
@@ -41,7 +41,7 @@ pub record InsertIsDue (st : State) (op : InsertOp) (steps : ℕ) : Type 0 where
 pub record ScanIsDue (st : State) (op : ScanOp) (steps : ℕ) : Type 0 where
   pub steps_are : steps ≡ scan_steps st.pages op.at
   pub whole : NoneIsIncomplete st.pages
-  pub way : IsOnFrontierWay st op.frontier op.at
+  pub position : IsOnFrontierWay st op.frontier op.at
   pub none : waiting op ≡ []
 
 -- the call answers after so many steps more, while the pages stay as they are; of a bulk delete and of a cleanup nothing is said

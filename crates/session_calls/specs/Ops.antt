@@ -256,7 +256,7 @@ AnswersLogged (Some action) answer = Unit {0}
 abbrev pub op_work : ℕ → List Page → Op → ℕ
 op_work most pages (Insert op) = insert_left most pages op.at
 op_work most pages (Scan op) = scan_left most pages op
-op_work most pages (Bulk set op) = bulk_delete_left most (length pages) op.cursor op.back
+op_work most pages (Bulk set op) = bulk_delete_left most (length pages) op.cursor op.backtrack
 op_work most pages (Cleanup op) = cleanup_left most (length pages) op.cursor op.at
 
 -- the pages whose splits it is to finish

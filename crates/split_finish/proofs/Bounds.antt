@@ -16,10 +16,10 @@ one_at_most : (is : Bool) → one_unless is ≤ 1
 one_at_most true = omega arith
 one_at_most false = omega arith
 
-detour_few : (at : ℕ → Node) (target : Target) (spot : FinishAt) → detour at target spot ≤ 1
+detour_few : (at : ℕ → Node) (target : Target) (context : FinishAt) → detour at target context ≤ 1
 detour_few at target Start = omega arith
-detour_few at target (Down way) = omega arith
-detour_few at target (Link way) = one_at_most (is_ready (at way.block) (suc target.level) target.separator)
+detour_few at target (Down position) = omega arith
+detour_few at target (Link position) = one_at_most (is_ready (at position.block) (suc target.level) target.separator)
 detour_few at target Root = one_at_most _
 
 -- the walks that are left are few, since the targets are no more than levels
@@ -31,13 +31,13 @@ walks_few at op few =
     omega arith
 
 -- what is left of the present walk is no more than a whole one
-walk_few : (st : State) (start most : ℕ) (target : Target) (spot : FinishAt) → HasTree st → FinishStands st start target spot → walk_left most spot ≤ walk_length most
+walk_few : (st : State) (start most : ℕ) (target : Target) (context : FinishAt) → HasTree st → FinishStands st start target context → walk_left most context ≤ walk_length most
 walk_few st start most target Start has stands = omega arith
-walk_few st start most target (Down way) has stands =
-    let low = low_level st start way.level (bound_aim target.separator) true way.block has stands.place in
-    let short = walk_is_long most way (omega arith) in
+walk_few st start most target (Down position) has stands =
+    let low = low_level st start position.level (bound_aim target.separator) true position.block has stands.place in
+    let short = walk_is_long most position (omega arith) in
     omega arith
-walk_few st start most target (Link way) has stands = omega arith
+walk_few st start most target (Link position) has stands = omega arith
 walk_few st start most target Root has stands = omega arith
 
 -- so many walks bring a call to the end of its splits

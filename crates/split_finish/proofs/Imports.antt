@@ -46,9 +46,9 @@ pub use Rattle.tree_acts.specs.Trees.{HasCover, HasTree, IsStart, LeadsTo}
 pub use Rattle.descent.proofs.Acting.{AreFree, does_finish, nothing_else, one_act, one_nothing}
 pub use Rattle.descent.proofs.Shortening.{walk_is_long, way_shortens}
 pub use Rattle.descent.proofs.Working.{act_cause_of, frames_some, fresh_is, no_room_later, two_are}
-pub use Rattle.descent.specs.NextPage.{DescentIsShorter, IsOnDescent, IsShorter, LeadsToNext, walk_length, way_from, way_left}
+pub use Rattle.descent.specs.NextPage.{DescentIsShorter, IsOnDescent, IsShorter, LeadsToNext, walk_length, position_from, way_left}
 pub use Rattle.descent.specs.Splitting.{RightIsFound, RightIsMendable, RightIsStored, mended_to}
-pub use Rattle.descent.specs.declared.way.Position.{Position}
+pub use Rattle.descent.specs.declared.position.Position.{Position}
 pub use Rattle.split_finish.specs.Acting.{AreGrown, FinishActs, IsLinkPlace, IsReadToChange, MeetsParent, NoLinkPlace}
 pub use Rattle.split_finish.specs.Finishes.{FinishStays, FinishStepped, FinishSteps, blocks_linked, causes_of_finishing, finish_blocks, frames_of, is_full_parent, is_to_grow, is_to_link}
 pub use Rattle.split_finish.specs.Finishes.{takes_block_of}

@@ -32,9 +32,9 @@ ready_is node level separator h =
     record { alive = live_is node.state c.0; whole = not_is node.split c.1; level_is = eqb-true node.level level b.1; within = a.1 }
 
 -- the target and its parent, as they were read in a tree
-module _ (st : State) (op : FinishOp) (honest : Bool) (way : Position) (page parent : Page) (new : ℕ) (order : IsInOrder st) (fits : FinishInvariant st op) (sound : honest ≡ true)
-    (at : op.at ≡ Link way) (read : IsReadToChange st honest op.session op.target.block page)
-    (read_parent : IsReadToChange st honest op.session way.block parent) (ready : IsReadyToLink page parent op op)
+module _ (st : State) (op : FinishOp) (honest : Bool) (position : Position) (page parent : Page) (new : ℕ) (order : IsInOrder st) (fits : FinishInvariant st op) (sound : honest ≡ true)
+    (at : op.at ≡ Link position) (read : IsReadToChange st honest op.session op.target.block page)
+    (read_parent : IsReadToChange st honest op.session position.block parent) (ready : IsReadyToLink page parent op op)
     (right : page.right ≡ Some new) where
   pub has : HasTree st
   has = order.tree
@@ -52,7 +52,7 @@ module _ (st : State) (op : FinishOp) (honest : Bool) (way : Position) (page par
   parent_place =
       let stands = subst (FinishStands st fits.start op.target) at fits.stands in
       subst (LeadsTo st fits.start (suc op.target.level) (bound_aim op.target.separator) true) (sym read_parent.stored.block_is)
-      (subst (λ (n : ℕ). LeadsTo st fits.start n (bound_aim op.target.separator) true way.block) stands.0 stands.1.place)
+      (subst (λ (n : ℕ). LeadsTo st fits.start n (bound_aim op.target.separator) true position.block) stands.0 stands.1.place)
 
   pub parent_covers : HasCover st (suc op.target.level) (bound_aim op.target.separator) parent.block
   parent_covers = (live_shows st fits.start (suc op.target.level) (bound_aim op.target.separator) true parent has parent_found parent_place is_parent.alive).covers is_parent.within
@@ -73,15 +73,15 @@ module _ (st : State) (op : FinishOp) (honest : Bool) (way : Position) (page par
       (let a = ready.level_is in let b = is_parent.level_is in omega arith)
 
 -- ... with a downlink on the parent, which had room
-module _ (st : State) (op : FinishOp) (honest : Bool) (way : Position) (page parent : Page) (new : ℕ) (pages : List Page) (order : IsInOrder st) (fits : FinishInvariant st op) (sound : honest ≡ true)
-    (at : op.at ≡ Link way) (read : IsReadToChange st honest op.session op.target.block page)
-    (read_parent : IsReadToChange st honest op.session way.block parent) (ready : IsReadyToLink page parent op op)
+module _ (st : State) (op : FinishOp) (honest : Bool) (position : Position) (page parent : Page) (new : ℕ) (pages : List Page) (order : IsInOrder st) (fits : FinishInvariant st op) (sound : honest ≡ true)
+    (at : op.at ≡ Link position) (read : IsReadToChange st honest op.session op.target.block page)
+    (read_parent : IsReadToChange st honest op.session position.block parent) (ready : IsReadyToLink page parent op op)
     (right : page.right ≡ Some new) (few : length st.pages ≤ st.limits.pages) (room : length (links_of parent.items) < st.limits.items)
     (linked : AreLinked parent page op.target.separator new pages) where
   pub may_link : MayActWith st (linked.parent_after ∷ linked.page_after ∷ [])
   may_link =
-      let page_in = inside st.pages page.block page (found st op honest way page parent new order fits sound at read read_parent ready right) in
-      let parent_in = inside st.pages parent.block parent (parent_found st op honest way page parent new order fits sound at read read_parent ready right) in
+      let page_in = inside st.pages page.block page (found st op honest position page parent new order fits sound at read read_parent ready right) in
+      let parent_in = inside st.pages parent.block parent (parent_found st op honest position page parent new order fits sound at read read_parent ready right) in
       let page_at = linked.clear.block_is in
       let parent_at = linked.block_is in
       let count = linked.count in (
@@ -90,7 +90,7 @@ module _ (st : State) (op : FinishOp) (honest : Bool) (way : Position) (page par
             (high_bound page op.target.separator read.stored.storable.admitted ready.high_is))
             (omega arith),
         (omega arith, omega arith),
-        ((λ same. two_pages st op honest way page parent new order fits sound at read read_parent ready right (sym page_at ∙ same ∙ parent_at)), tt),
+        ((λ same. two_pages st op honest position page parent new order fits sound at read read_parent ready right (sym page_at ∙ same ∙ parent_at)), tt),
         (
           writable st.limits linked.page_after (ap (λ (p : Page). p.layout) linked.clear.only)
               (linked.page_admitted read.stored.storable.admitted)
@@ -106,9 +106,9 @@ module _ (st : State) (op : FinishOp) (honest : Bool) (way : Position) (page par
 
   pub split_finishes : SplitIsFinished st fits.start op.target.level op.target.separator page parent linked.page_after linked.parent_after new
   split_finishes = record {
-    unfinished = unfinished st op honest way page parent new order fits sound at read read_parent ready right;
-    found = parent_found st op honest way page parent new order fits sound at read read_parent ready right;
-    covers = parent_covers st op honest way page parent new order fits sound at read read_parent ready right;
+    unfinished = unfinished st op honest position page parent new order fits sound at read read_parent ready right;
+    found = parent_found st op honest position page parent new order fits sound at read read_parent ready right;
+    covers = parent_covers st op honest position page parent new order fits sound at read read_parent ready right;
     added = linked.added;
     after_is = linked.after_is;
     block_is = linked.block_is;
@@ -129,7 +129,7 @@ module _ (st : State) (op : FinishOp) (honest : Bool) (way : Position) (page par
       (does_finish st op.session changed order may_link lasts.0 lasts.1
       (finish_leaves st fits.start op.target.level op.target.separator page parent linked.page_after linked.parent_after new order.tree split_finishes) (record {
         cleared = page.block;
-        was = ap (λ (n : Node). n.split) (node_there st.pages page.block page (found st op honest way page parent new order fits sound at read read_parent ready right)) ∙ ready.incomplete;
+        was = ap (λ (n : Node). n.split) (node_there st.pages page.block page (found st op honest position page parent new order fits sound at read read_parent ready right)) ∙ ready.incomplete;
         raised = None;
         higher = tt;
         moves = moves;

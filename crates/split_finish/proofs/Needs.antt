@@ -6,30 +6,30 @@ use Rattle.split_finish.proofs.Imports.{is_ready, IsReadyToLink, IsReadyToGrow, 
 use Rattle.split_finish.proofs.Turning.{as_read}
 
 -- the target as it was read, and a parent that is ready: the downlink is put there
-module _ (st : State) (op : FinishOp) (way : Position) (page parent : Page) (found : slice_get st.pages op.target.block ≡ Some page) (there : slice_get st.pages way.block ≡ Some parent)
+module _ (st : State) (op : FinishOp) (position : Position) (page parent : Page) (found : slice_get st.pages op.target.block ≡ Some page) (there : slice_get st.pages position.block ≡ Some parent)
     (ready : IsReadyToLink page parent op op) where
-  to_link : is_to_link st op.target way ≡ true
+  to_link : is_to_link st op.target position ≡ true
   to_link =
-      and_from (is_as_read (nodes_of st.pages) op.target) (is_ready (nodes_of st.pages way.block) (suc op.target.level) op.target.separator)
+      and_from (is_as_read (nodes_of st.pages) op.target) (is_ready (nodes_of st.pages position.block) (suc op.target.level) op.target.separator)
       (as_read st op.target page found ready.incomplete ready.high_is)
-      (subst (λ (n : Node). is_ready n (suc op.target.level) op.target.separator ≡ true) (sym (node_there st.pages way.block parent there)) ready.ready)
+      (subst (λ (n : Node). is_ready n (suc op.target.level) op.target.separator ≡ true) (sym (node_there st.pages position.block parent there)) ready.ready)
 
-  linked_if : (blocks : List ℕ) → blocks_linked st op.target way.block (slice_get st.pages way.block) ≡ blocks → finish_blocks st op.target (Link way) ≡ blocks
-  linked_if blocks is = ap (λ (b : Bool). if b then blocks_linked st op.target way.block (slice_get st.pages way.block) else []) to_link ∙ is
+  linked_if : (blocks : List ℕ) → blocks_linked st op.target position.block (slice_get st.pages position.block) ≡ blocks → finish_blocks st op.target (Link position) ≡ blocks
+  linked_if blocks is = ap (λ (b : Bool). if b then blocks_linked st op.target position.block (slice_get st.pages position.block) else []) to_link ∙ is
 
   -- a parent with room is written, and the page whose split is finished
-  pub roomy_link : length (links_of parent.items) < st.limits.items → finish_blocks st op.target (Link way) ≡ way.block ∷ op.target.block ∷ []
+  pub roomy_link : length (links_of parent.items) < st.limits.items → finish_blocks st op.target (Link position) ≡ position.block ∷ op.target.block ∷ []
   roomy_link room =
       let roomy = lt-leb st.limits.items (length (links_of parent.items)) room in
-      linked_if (way.block ∷ op.target.block ∷ []) (rw (there, roomy) refl)
+      linked_if (position.block ∷ op.target.block ∷ []) (rw (there, roomy) refl)
 
   -- a full one is split, on a block
   pub full_link : st.limits.items ≤ length (links_of parent.items)
-      → (finish_blocks st op.target (Link way) ≡ way.block ∷ fresh_block st ∷ sibling parent.right ++ op.target.block ∷ []) × (takes_block_of st op.target (Link way) ≡ true)
+      → (finish_blocks st op.target (Link position) ≡ position.block ∷ fresh_block st ∷ sibling parent.right ++ op.target.block ∷ []) × (takes_block_of st op.target (Link position) ≡ true)
   full_link full =
       let no_room = le-leb st.limits.items (length (links_of parent.items)) full in (
-        linked_if (way.block ∷ fresh_block st ∷ sibling parent.right ++ op.target.block ∷ []) (rw (there, no_room) refl),
-        and_from (is_to_link st op.target way) (is_full_parent st.limits.items (slice_get st.pages way.block)) to_link (rw (there, no_room) refl),
+        linked_if (position.block ∷ fresh_block st ∷ sibling parent.right ++ op.target.block ∷ []) (rw (there, no_room) refl),
+        and_from (is_to_link st op.target position) (is_full_parent st.limits.items (slice_get st.pages position.block)) to_link (rw (there, no_room) refl),
       )
 
 -- the metapage names the root's level

@@ -67,9 +67,9 @@ raised_block q p b was not_q h = elim (cases_eq b p) [
 ]
 
 -- the parts of an act that splits a parent
-pub record PartsParent (st : State) (honest : Bool) (session : ℕ) (op : FinishOp) (way : Position) (page parent left half clear : Page) (right : Option Page) (new : ℕ) : Type 0 where
+pub record PartsParent (st : State) (honest : Bool) (session : ℕ) (op : FinishOp) (position : Position) (page parent left half clear : Page) (right : Option Page) (new : ℕ) : Type 0 where
   pub read : IsReadToChange st honest session op.target.block page
-  pub read_parent : IsReadToChange st honest session way.block parent
+  pub read_parent : IsReadToChange st honest session position.block parent
   pub ready : IsReadyToLink page parent op op
   pub right_is : page.right ≡ Some new
   pub split : LinkSplit (node_of parent) parent.block half.block page.block new op.target.separator (node_of left) (node_of half)
@@ -83,15 +83,15 @@ pub record PartsParent (st : State) (honest : Bool) (session : ℕ) (op : Finish
   pub clears : IsClear page clear
 
 -- the act that splits the parent, in a tree
-pub parent_split : (st : State) (session : ℕ) (op : FinishOp) (way : Position) (page parent left half clear : Page) (right : Option Page) (new : ℕ)
-    (order : IsInOrder st) (fits : FinishInvariant st op) → op.at ≡ Link way
-    → PartsParent st true session op way page parent left half clear right new → AreActable st.limits (length st.pages) (halves_and left half right clear)
+pub parent_split : (st : State) (session : ℕ) (op : FinishOp) (position : Position) (page parent left half clear : Page) (right : Option Page) (new : ℕ)
+    (order : IsInOrder st) (fits : FinishInvariant st op) → op.at ≡ Link position
+    → PartsParent st true session op position page parent left half clear right new → AreActable st.limits (length st.pages) (halves_and left half right clear)
     → ParentIsSplit st fits.start op.target.level op.target.separator page parent clear left half (mended_to half.block right) new
-parent_split st session op way page parent left half clear right new order fits at_is h may =
+parent_split st session op position page parent left half clear right new order fits at_is h may =
     let ready = ready_parent parent (suc op.target.level) op.target.separator h.ready.ready in
     let stands = subst (FinishStands st fits.start op.target) at_is fits.stands in
     let at_page : page.block ≡ op.target.block = h.read.stored.block_is in
-    let at_parent : parent.block ≡ way.block = h.read_parent.stored.block_is in
+    let at_parent : parent.block ≡ position.block = h.read_parent.stored.block_is in
     record {
       unfinished = record {
         found = subst (λ (b : ℕ). slice_get st.pages b ≡ Some page) (sym at_page) (h.read.found refl);
@@ -102,7 +102,7 @@ parent_split st session op way page parent left half clear right new order fits 
       };
       found = subst (λ (b : ℕ). slice_get st.pages b ≡ Some parent) (sym at_parent) (h.read_parent.found refl);
       place = subst (LeadsTo st fits.start (suc op.target.level) (bound_aim op.target.separator) true) (sym at_parent)
-          (subst (λ (l : ℕ). LeadsTo st fits.start l (bound_aim op.target.separator) true way.block) stands.0 stands.1.place);
+          (subst (λ (l : ℕ). LeadsTo st fits.start l (bound_aim op.target.separator) true position.block) stands.0 stands.1.place);
       alive = ready.alive;
       whole = ready.whole;
       links = h.split.added;
@@ -116,14 +116,14 @@ parent_split st session op way page parent left half clear right new order fits 
     }
 
 -- the act is done
-pub parts : {S : Type 0} (g : Ghosts S) (before after : FinishOp) (old new : S) (way : Position) (page parent left half clear : Page) (right : Option Page) (new_block : ℕ) (target : Target)
-    → Continues g.follows old new → before.at ≡ Link way → ((g.backing new).honest ≡ true → (g.backing old).honest ≡ true)
-    → PartsParent (g.state old) (g.backing old).honest before.session before way page parent left half clear right new_block
+pub parts : {S : Type 0} (g : Ghosts S) (before after : FinishOp) (old new : S) (position : Position) (page parent left half clear : Page) (right : Option Page) (new_block : ℕ) (target : Target)
+    → Continues g.follows old new → before.at ≡ Link position → ((g.backing new).honest ≡ true → (g.backing old).honest ≡ true)
+    → PartsParent (g.state old) (g.backing old).honest before.session before position page parent left half clear right new_block
     → AreActable (g.state old).limits (length (g.state old).pages) (halves_and left half right clear)
     → g.state new ≡ after_act (halves_and left half right clear) (g.state old)
     → after ≡ record before { target = target; at = Start } → target.block ≡ left.block → target.level ≡ left.level → left.high ≡ Some target.separator
     → FinishActs g before after old new (Ok Going)
-parts g before after old new way page parent left half clear right new_block target steps at_is honest_before h may now after_is t_block t_level t_high = record {
+parts g before after old new position page parent left half clear right new_block target steps at_is honest_before h may now after_is t_block t_level t_high = record {
   steps = steps;
   session = ap (λ (o : FinishOp). o.session) after_is;
   kept = one_act st (g.state new) changed now;
@@ -132,9 +132,9 @@ parts g before after old new way page parent left half clear right new_block tar
   less = λ honest is acts. absurd (let k : suc st.acts ≡ st.acts = sym (ap (λ (s : State). s.acts) now) ∙ acts in omega arith);
   over = λ honest is. absurd cc;
   stepped = λ honest order fits.
-      let here : PartsParent st true before.session before way page parent left half clear right new_block =
-      subst (λ (b : Bool). PartsParent st b before.session before way page parent left half clear right new_block) (honest_before honest) h in
-      let split = parent_split st before.session before way page parent left half clear right new_block order fits at_is here may in
+      let here : PartsParent st true before.session before position page parent left half clear right new_block =
+      subst (λ (b : Bool). PartsParent st b before.session before position page parent left half clear right new_block) (honest_before honest) h in
+      let split = parent_split st before.session before position page parent left half clear right new_block order fits at_is here may in
       let level = before.target.level in
       let s = before.target.separator in
       let mended = mended_to half.block right in
@@ -231,18 +231,18 @@ beside_may st session new (Some r) (Some page) clear stored may storable low ins
     (may.0, may.1, ((λ same. differ (ap Some (sym stored.0.block_is ∙ sym same))), tt), (storable, (low, inside), tt, tt))
 
 -- the pages of the act may be written
-pub parts_may : (st : State) (session : ℕ) (op : FinishOp) (way : Position) (page parent left half clear : Page) (right : Option Page) (new : ℕ)
-    (order : IsInOrder st) (fits : FinishInvariant st op) → op.at ≡ Link way
-    → PartsParent st true session op way page parent left half clear right new → length st.pages ≤ st.limits.pages
+pub parts_may : (st : State) (session : ℕ) (op : FinishOp) (position : Position) (page parent left half clear : Page) (right : Option Page) (new : ℕ)
+    (order : IsInOrder st) (fits : FinishInvariant st op) → op.at ≡ Link position
+    → PartsParent st true session op position page parent left half clear right new → length st.pages ≤ st.limits.pages
     → IsPage left → IsPage half → HasLinks left.items → HasLinks half.items → HasLinks parent.items → 4 ≤ length (links_of parent.items)
     → length (links_of left.items) ≡ left_count (length (links_of parent.items)) → length (links_of left.items) + length (links_of half.items) ≡ length (links_of parent.items) + 1
     → IsBlock half.block → IsPage clear → count_of clear.items ≤ st.limits.items → RightIsMendable st parent.right → parent.right ≢ Some parent.block → parent.right ≢ Some page.block
     → AreActable st.limits (length st.pages) (halves_and left half right clear)
-parts_may st session op way page parent left half clear right new order fits at_is h few left_page half_page left_links half_links parent_links some
+parts_may st session op position page parent left half clear right new order fits at_is h few left_page half_page left_links half_links parent_links some
     kept moved block clear_page clear_few mendable apart_q apart_p =
     let ready = ready_parent parent (suc op.target.level) op.target.separator h.ready.ready in
     let at_page : page.block ≡ op.target.block = h.read.stored.block_is in
-    let at_parent : parent.block ≡ way.block = h.read_parent.stored.block_is in
+    let at_parent : parent.block ≡ position.block = h.read_parent.stored.block_is in
     let found : slice_get st.pages page.block ≡ Some page = subst (λ (b : ℕ). slice_get st.pages b ≡ Some page) (sym at_page) (h.read.found refl) in
     let found_parent : slice_get st.pages parent.block ≡ Some parent = subst (λ (b : ℕ). slice_get st.pages b ≡ Some parent) (sym at_parent) (h.read_parent.found refl) in
     let used : page.block < length st.pages = inside st.pages page.block page found in
@@ -285,9 +285,9 @@ pub record BesideParent (st : State) (page parent : Page) : Type 0 where
   pub apart_parent : parent.right ≢ Some parent.block
   pub apart_page : parent.right ≢ Some page.block
 
-pub beside_parent : (st : State) (session : ℕ) (honest : Bool) (op : FinishOp) (way : Position) (page parent : Page) (order : IsInOrder st) (fits : FinishInvariant st op) → op.at ≡ Link way → honest ≡ true
-    → IsReadToChange st honest session op.target.block page → IsReadToChange st honest session way.block parent → IsReadyToLink page parent op op → BesideParent st page parent
-beside_parent st session honest op way page parent order fits at_is kept_model read read_parent ready_to =
+pub beside_parent : (st : State) (session : ℕ) (honest : Bool) (op : FinishOp) (position : Position) (page parent : Page) (order : IsInOrder st) (fits : FinishInvariant st op) → op.at ≡ Link position → honest ≡ true
+    → IsReadToChange st honest session op.target.block page → IsReadToChange st honest session position.block parent → IsReadyToLink page parent op op → BesideParent st page parent
+beside_parent st session honest op position page parent order fits at_is kept_model read read_parent ready_to =
     by parent.right refl
   where
     ready : ReadyParent parent (suc op.target.level) op.target.separator
@@ -299,12 +299,12 @@ beside_parent st session honest op way page parent order fits at_is kept_model r
     found_parent : slice_get st.pages parent.block ≡ Some parent
     found_parent = subst (λ (b : ℕ). slice_get st.pages b ≡ Some parent) (sym read_parent.stored.block_is) (read_parent.found kept_model)
 
-    stands : (way.level ≡ suc op.target.level) × IsOnDescent st fits.start (bound_aim op.target.separator) true (suc op.target.level) way
+    stands : (position.level ≡ suc op.target.level) × IsOnDescent st fits.start (bound_aim op.target.separator) true (suc op.target.level) position
     stands = subst (FinishStands st fits.start op.target) at_is fits.stands
 
     place : LeadsTo st fits.start (suc op.target.level) (bound_aim op.target.separator) true parent.block
     place = subst (LeadsTo st fits.start (suc op.target.level) (bound_aim op.target.separator) true) (sym read_parent.stored.block_is)
-        (subst (λ (l : ℕ). LeadsTo st fits.start l (bound_aim op.target.separator) true way.block) stands.0 stands.1.place)
+        (subst (λ (l : ℕ). LeadsTo st fits.start l (bound_aim op.target.separator) true position.block) stands.0 stands.1.place)
 
     none_some : (b : ℕ) → None ≡ Some b → ⊥
     none_some b k = cc

@@ -6,7 +6,7 @@ use Rattle.tree_acts.proofs.Lasting.{fresh_free}
 use Rattle.tree_acts.specs.Ways.{RootIsThere}
 use Rattle.split_finish.proofs.Imports.{Bound, Page, IsPage, IsOfKind, IsLeafIn, IsBlock, IsBoundIn, Two, Items, Meta, Entries, Downlinks, PageState, Live, HalfDead, Deleted, IsSome, IfSome}
 use Rattle.split_finish.proofs.Imports.{State, Holding, HasRoom, holding_of, nothing_held, stored_page, IsMetaOf, Node, bound_aim, IsFresh, inside, node_there, HasTree, LeadsTo, IsIncompleteSplit}
-use Rattle.split_finish.proofs.Imports.{metapage_shows, live_shows, high_key_shows, trail_begins_here, IsOnDescent, way_from, Position, targets_of, IsTarget, FinishStands, FinishInvariant, Popped}
+use Rattle.split_finish.proofs.Imports.{metapage_shows, live_shows, high_key_shows, trail_begins_here, IsOnDescent, position_from, Position, targets_of, IsTarget, FinishStands, FinishInvariant, Popped}
 use Rattle.split_finish.proofs.Imports.{Pushed, Retaken, FinishAt, Down, FinishOp, Going, Target}
 
 -- the metapage that is read is the tree's
@@ -29,14 +29,14 @@ fits_moved st op at fits stands = record {
 }
 
 -- from the metapage to the root
-pub starts_down : (st : State) (start : ℕ) (target : Target) (meta : Page) (way : Position) → HasTree st → slice_get st.pages 0 ≡ Some meta → target.level < meta.level
-    → ((root : ℕ) → IsMetaOf meta root meta.level → Some way ≡ Some (way_from root meta.level)) → FinishStands st start target (Down way)
-starts_down st start target meta way h found lower named =
+pub starts_down : (st : State) (start : ℕ) (target : Target) (meta : Page) (position : Position) → HasTree st → slice_get st.pages 0 ≡ Some meta → target.level < meta.level
+    → ((root : ℕ) → IsMetaOf meta root meta.level → Some position ≡ Some (position_from root meta.level)) → FinishStands st start target (Down position)
+starts_down st start target meta position h found lower named =
     by (metapage_shows st start (bound_aim target.separator) true meta h found)
   where
-    by : RootIsThere st start (bound_aim target.separator) true meta → FinishStands st start target (Down way)
+    by : RootIsThere st start (bound_aim target.separator) true meta → FinishStands st start target (Down position)
     by r =
-        let same : way_from r.root meta.level ≡ way = (let k = named r.root r.names in cc) in
+        let same : position_from r.root meta.level ≡ position = (let k = named r.root r.names in cc) in
         subst (IsOnDescent st start (bound_aim target.separator) true (suc target.level)) same (record {
           not_below = omega arith;
           place = r.place;
@@ -72,17 +72,17 @@ each_target st op fits i t h =
     ]
 
 -- a page with an incomplete split with a high key, on the way, as a newer target
-pub rises_to : (st : State) (op after : FinishOp) (way : Position) (page : Page) (separator : Bound) → HasTree st → (fits : FinishInvariant st op)
-    → Pushed (record { block = way.block; level = way.level; separator = separator }) op after → FinishStands st fits.start op.target (Down way)
-    → slice_get st.pages way.block ≡ Some page → page.state ≡ Live → page.high ≡ Some separator → FinishInvariant st after
-rises_to st op after way page separator h fits pushed on found alive high =
-    let there : page.block ≡ way.block = (stored_page st.limits way.block st.pages page h.stored found).block_is in
+pub rises_to : (st : State) (op after : FinishOp) (position : Position) (page : Page) (separator : Bound) → HasTree st → (fits : FinishInvariant st op)
+    → Pushed (record { block = position.block; level = position.level; separator = separator }) op after → FinishStands st fits.start op.target (Down position)
+    → slice_get st.pages position.block ≡ Some page → page.state ≡ Live → page.high ≡ Some separator → FinishInvariant st after
+rises_to st op after position page separator h fits pushed on found alive high =
+    let there : page.block ≡ position.block = (stored_page st.limits position.block st.pages page h.stored found).block_is in
     let found_there : slice_get st.pages page.block ≡ Some page = subst (λ (b : ℕ). slice_get st.pages b ≡ Some page) (sym there) found in
-    let place_there = subst (LeadsTo st fits.start way.level (bound_aim op.target.separator) true) (sym there) on.place in
-    let newer : Target = record { block = way.block; level = way.level; separator = separator } in
-    let place : LeadsTo st fits.start way.level (bound_aim separator) true way.block =
-    subst (LeadsTo st fits.start way.level (bound_aim separator) true) there
-    (high_key_shows st fits.start way.level (bound_aim op.target.separator) true page separator h found_there place_there alive high) in
+    let place_there = subst (LeadsTo st fits.start position.level (bound_aim op.target.separator) true) (sym there) on.place in
+    let newer : Target = record { block = position.block; level = position.level; separator = separator } in
+    let place : LeadsTo st fits.start position.level (bound_aim separator) true position.block =
+    subst (LeadsTo st fits.start position.level (bound_aim separator) true) there
+    (high_key_shows st fits.start position.level (bound_aim op.target.separator) true page separator h found_there place_there alive high) in
     let count : length after.below.items ≡ suc (length op.below.items) = ap length pushed.below_is ∙ length-append op.below.items (op.target ∷ []) ∙ omega arith in
     record {
       session = subst (λ (s : ℕ). s < 64) (sym pushed.session) fits.session;

@@ -264,9 +264,9 @@ pub still_meets : (old new : State) (first second : Backing) (op : FinishOp) (pa
     → (second.honest ≡ true → first.honest ≡ true) → MeetsParent old first.honest op page parent
     → MeetsParent new second.honest op page parent
 still_meets old new first second op page parent same honest meets = record {
-  way = meets.way;
+  position = meets.position;
   at = meets.at;
   read = still_read old new first second op.session op.target.block page same honest meets.read;
-  read_parent = still_read old new first second op.session meets.way.block parent same honest meets.read_parent;
+  read_parent = still_read old new first second op.session meets.position.block parent same honest meets.read_parent;
   ready = meets.ready;
 }

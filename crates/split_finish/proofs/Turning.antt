@@ -9,11 +9,11 @@ use Rattle.split_finish.proofs.Counting.{left, less_pushed, less_popped, less_re
 use Rattle.split_finish.proofs.Standing.{fits_moved, rises_to, fits_popped, fits_retaken, incomplete_in}
 
 -- the same targets, and another step
-pub turn_moved : (st : State) (op : FinishOp) (spot at : FinishAt) → op.at ≡ spot
-    → left st.limits.pages (nodes_of st.pages) op.below.items op.target at < left st.limits.pages (nodes_of st.pages) op.below.items op.target spot
-    → (HasTree st → (fits : FinishInvariant st op) → FinishStands st fits.start op.target spot → FinishStands st fits.start op.target at)
+pub turn_moved : (st : State) (op : FinishOp) (context at : FinishAt) → op.at ≡ context
+    → left st.limits.pages (nodes_of st.pages) op.below.items op.target at < left st.limits.pages (nodes_of st.pages) op.below.items op.target context
+    → (HasTree st → (fits : FinishInvariant st op) → FinishStands st fits.start op.target context → FinishStands st fits.start op.target at)
     → TurnContinues st op (record op { at = at })
-turn_moved st op spot at is less stands = record {
+turn_moved st op context at is less stands = record {
   less = subst (λ (a : FinishAt). left st.limits.pages (nodes_of st.pages) op.below.items op.target at < left st.limits.pages (nodes_of st.pages) op.below.items op.target a) (sym is) less;
   fits = λ h fits. fits_moved st op at fits (stands h fits (subst (FinishStands st fits.start op.target) is fits.stands));
   flags = λ h. h;
@@ -71,16 +71,16 @@ pub as_read : (st : State) (target : Target) (page : Page) → slice_get st.page
 as_read st target page found incomplete high =
     rw (node_there st.pages target.block page found, incomplete, high) (same_bound target.separator)
 
-pub turn_risen : (st : State) (op after : FinishOp) (way : Position) (page : Page) (separator : Bound) → op.at ≡ Down way
-    → Pushed (record { block = way.block; level = way.level; separator = separator }) op after
-    → slice_get st.pages way.block ≡ Some page → page.state ≡ Live → page.split ≡ true → page.high ≡ Some separator → length op.below.items < 31
+pub turn_risen : (st : State) (op after : FinishOp) (position : Position) (page : Page) (separator : Bound) → op.at ≡ Down position
+    → Pushed (record { block = position.block; level = position.level; separator = separator }) op after
+    → slice_get st.pages position.block ≡ Some page → page.state ≡ Live → page.split ≡ true → page.high ≡ Some separator → length op.below.items < 31
     → TurnContinues st op after
-turn_risen st op after way page separator is pushed found alive incomplete high few =
-    let newer : Target = record { block = way.block; level = way.level; separator = separator } in
+turn_risen st op after position page separator is pushed found alive incomplete high few =
+    let newer : Target = record { block = position.block; level = position.level; separator = separator } in
     let list : targets_of after ≡ targets_of op ++ newer ∷ [] = rw (pushed.below_is, pushed.target_is) refl in
     record {
       less = rw (pushed.below_is, pushed.target_is, pushed.at_is) (less_pushed st.limits.pages (nodes_of st.pages) op.below.items op.target newer op.at (as_read st newer page found incomplete high) few);
-      fits = λ h fits. rises_to st op after way page separator h fits pushed (subst (FinishStands st fits.start op.target) is fits.stands) found alive high;
+      fits = λ h fits. rises_to st op after position page separator h fits pushed (subst (FinishStands st fits.start op.target) is fits.stands) found alive high;
       flags = λ h block k. subst (λ (ts : List Target). is_among_targets ts block ≡ true) (sym list) (among_more (targets_of op) (newer ∷ []) block (h block k));
     }
 

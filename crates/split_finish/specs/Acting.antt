@@ -20,7 +20,7 @@ use Rattle.tree_acts.specs.Acts.{IsClear}
 use Rattle.tree_acts.specs.StepEffects.{IsInOrder, IsOneActAtMost}
 use Rattle.descent.specs.NextPage.{walk_length}
 use Rattle.split_finish.specs.Targets.{FinishInvariant, finish_left}
-use Rattle.descent.specs.declared.way.Position.{Position}
+use Rattle.descent.specs.declared.position.Position.{Position}
 use Rattle.split_finish.specs.Turns.{IsReadyToLink, IsReadyToGrow}
 use Rattle.split_finish.specs.declared.finish.FinishAt.TheVariants.{Link, Root}
 use Rattle.split_finish.specs.Finishes.{FinishStays, FinishStepped}
@@ -75,10 +75,10 @@ pub record IsReadToChange (st : State) (honest : Bool) (session block : ℕ) (pa
 -- a call has read its newest target and the parent of that, and may put the downlink there
 pub record MeetsParent (st : State) (honest : Bool) (op : FinishOp) (page parent : Page)
     : Type 0 where
-  pub way : Position
-  pub at : op.at ≡ Link way
+  pub position : Position
+  pub at : op.at ≡ Link position
   pub read : IsReadToChange st honest op.session op.target.block page
-  pub read_parent : IsReadToChange st honest op.session way.block parent
+  pub read_parent : IsReadToChange st honest op.session position.block parent
   pub ready : IsReadyToLink page parent op op
 
 -- the first two of three pages are the parent, block `above`, and the page of the other block, as they were read

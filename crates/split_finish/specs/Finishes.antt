@@ -10,7 +10,7 @@ use Rattle.page_action.specs.declared.page_store.PageStore.{Ghosts}
 use Rattle.tree_shape.specs.Nodes.{links_of, nodes_of}
 use Rattle.tree_acts.specs.StepEffects.{IsInOrder, StepEffect, IsOneActAtMost, is_incomplete, fresh_block, sibling, frames_for, causes_of_working}
 use Rattle.tree_acts.specs.Levels.{root_level}
-use Rattle.descent.specs.declared.way.Position.{Position}
+use Rattle.descent.specs.declared.position.Position.{Position}
 use Rattle.descent.specs.NextPage.{walk_length}
 use Rattle.split_finish.specs.Targets.{targets_of, OnlyTargetsAreIncomplete, FinishInvariant, is_as_read, is_ready, finish_left}
 use Rattle.split_finish.specs.Turns.{splits_root_of}
@@ -59,8 +59,8 @@ blocks_linked st target parent (Some page) = if nat_le st.limits.items (length (
 
 -- a step puts the target's downlink on the page of this way: the target is as its page says, and the page is ready for it
 abbrev pub is_to_link : State → Target → Position → Bool
-is_to_link st target way = is_as_read (nodes_of st.pages) target
-    && is_ready (nodes_of st.pages way.block) (suc target.level) target.separator
+is_to_link st target position = is_as_read (nodes_of st.pages) target
+    && is_ready (nodes_of st.pages position.block) (suc target.level) target.separator
 
 -- a step makes a new root over the target: that is as its page says, and on the root's level still, below the highest
 abbrev pub is_to_grow : State → Target → Bool
@@ -70,9 +70,9 @@ is_to_grow st target = is_as_read (nodes_of st.pages) target
 -- the blocks that the act of a step writes, that stands there with this newest target
 abbrev pub finish_blocks : State → Target → FinishAt → List ℕ
 finish_blocks st target Start = []
-finish_blocks st target (Down way) = []
-finish_blocks st target (Link way) = if is_to_link st target way
-    then blocks_linked st target way.block (slice_get st.pages way.block) else []
+finish_blocks st target (Down position) = []
+finish_blocks st target (Link position) = if is_to_link st target position
+    then blocks_linked st target position.block (slice_get st.pages position.block) else []
 finish_blocks st target Root =
     if is_to_grow st target then fresh_block st ∷ 0 ∷ target.block ∷ [] else []
 
@@ -83,9 +83,9 @@ frames_of st target at = frames_for (finish_blocks st target at)
 -- ... and whether it takes a block: to split a full parent, or the root
 abbrev pub takes_block_of : State → Target → FinishAt → Bool
 takes_block_of st target Start = false
-takes_block_of st target (Down way) = false
-takes_block_of st target (Link way) = is_to_link st target way
-    && is_full_parent st.limits.items (slice_get st.pages way.block)
+takes_block_of st target (Down position) = false
+takes_block_of st target (Link position) = is_to_link st target position
+    && is_full_parent st.limits.items (slice_get st.pages position.block)
 takes_block_of st target Root = is_to_grow st target
 
 -- why a step is refused of a call that stands there with this newest target, on pages that are a tree and a device that keeps

@@ -38,11 +38,11 @@ pub record IsTarget (st : State) (start least : ℕ) (target : Target) : Type 0 
 -- where a call stands on its way to the parent of its newest target
 abbrev pub FinishStands : State → ℕ → Target → FinishAt → Type 0
 FinishStands st start target Start = Unit {0}
-FinishStands st start target (Down way) =
-    IsOnDescent st start (bound_aim target.separator) true (suc target.level) way
-FinishStands st start target (Link way) =
-    (way.level ≡ suc target.level)
-    × IsOnDescent st start (bound_aim target.separator) true (suc target.level) way
+FinishStands st start target (Down position) =
+    IsOnDescent st start (bound_aim target.separator) true (suc target.level) position
+FinishStands st start target (Link position) =
+    (position.level ≡ suc target.level)
+    × IsOnDescent st start (bound_aim target.separator) true (suc target.level) position
 FinishStands st start target Root = Unit {0}
 
 -- What a call knows between the steps by which it finishes splits: it holds nothing, it runs with a start number, and each
@@ -85,8 +85,8 @@ one_unless false = 1
 -- a way that leads back: the parent isn't one, or the root is on another level
 abbrev pub detour : (ℕ → Node) → Target → FinishAt → ℕ
 detour at target Start = 0
-detour at target (Down way) = 0
-detour at target (Link way) = one_unless (is_ready (at way.block) (suc target.level) target.separator)
+detour at target (Down position) = 0
+detour at target (Link position) = one_unless (is_ready (at position.block) (suc target.level) target.separator)
 detour at target Root = one_unless ((at 0).level == target.level)
 
 -- how many walks from the metapage there are still, at most: each brings a new target, or is done with one, or finds a
@@ -98,8 +98,8 @@ walks_left at op = (33 + (2 * stale_count at (targets_of op) + detour at op.targ
 -- how many steps of the present walk are left, at most
 abbrev pub walk_left : ℕ → FinishAt → ℕ
 walk_left most Start = walk_length most
-walk_left most (Down way) = way_left most way
-walk_left most (Link way) = 0
+walk_left most (Down position) = way_left most position
+walk_left most (Link position) = 0
 walk_left most Root = 0
 
 -- what is left to do, in steps, while the pages are as they are and there are at most so many

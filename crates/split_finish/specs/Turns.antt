@@ -62,8 +62,8 @@ pub record TurnIsOver (st : State) (before : FinishOp) : Type 0 where
 -- root's level
 abbrev pub splits_root_of : State → Target → FinishAt → Bool
 splits_root_of st target Start = false
-splits_root_of st target (Down way) = false
-splits_root_of st target (Link way) = false
+splits_root_of st target (Down position) = false
+splits_root_of st target (Link position) = false
 splits_root_of st target Root =
     is_incomplete st target.block && (root_level st.pages == target.level)
 

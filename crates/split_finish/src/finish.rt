@@ -100,8 +100,8 @@ impl FinishOp {
     {
         match self.at {
             FinishAt::Start => self.read_metapage(store),
-            FinishAt::Down(way) => self.read_page(store, way),
-            FinishAt::Link(way) => self.link(store, way, pages),
+            FinishAt::Down(position) => self.read_page(store, position),
+            FinishAt::Link(position) => self.link(store, position, pages),
             FinishAt::Root => self.grow(store),
         }
     }
@@ -115,15 +115,19 @@ impl FinishOp {
         self.leave_metapage(store.view(0))
     }
 
-    fn read_page<S: PageStore>(&mut self, store: &mut S, way: Position) -> Result<FinishStep, Fault>
-        requires { self.old.at ≡ FinishAt.Down way }
+    fn read_page<S: PageStore>(
+        &mut self,
+        store: &mut S,
+        position: Position,
+    ) -> Result<FinishStep, Fault>
+        requires { self.old.at ≡ FinishAt.Down position }
         ensures all { FinishSteps S.PageStore self.old self.new store.old store.new result }
         ensures faults { IfErr result (HasCause causes_of_splitting_any) }
     {
-        match read_shared(store, self.session, way.block) {
+        match read_shared(store, self.session, position.block) {
             Ok(()) => {
                 let most = store.limits().pages;
-                self.leave_page(store.view(way.block), way, most)
+                self.leave_page(store.view(position.block), position, most)
             }
             Err(fault) => Err(fault),
         }

@@ -33,10 +33,10 @@ impl FinishOp {
     pub fn link<S: PageStore>(
         &mut self,
         store: &mut S,
-        way: Position,
+        position: Position,
         pages: &mut [Page; 3],
     ) -> Result<FinishStep, Fault>
-        requires { self.old.at ≡ FinishAt.Link way }
+        requires { self.old.at ≡ FinishAt.Link position }
         ensures all { FinishSteps S.PageStore self.old self.new store.old store.new result }
         ensures faults { IfErr result (HasCause causes_of_splitting_any) }
     {
@@ -46,11 +46,11 @@ impl FinishOp {
             store,
             self.session,
             block,
-            way.block,
+            position.block,
             &mut back[0],
             &mut front[0],
         ) {
-            Ok(()) => self.link_to(store, way, pages),
+            Ok(()) => self.link_to(store, position, pages),
             Err(fault) => Err(fault),
         }
     }
@@ -59,18 +59,18 @@ impl FinishOp {
     fn link_to<S: PageStore>(
         &mut self,
         store: &mut S,
-        way: Position,
+        position: Position,
         pages: &mut [Page; 3],
     ) -> Result<FinishStep, Fault>
-        requires at { self.old.at ≡ FinishAt.Link way }
+        requires at { self.old.at ≡ FinishAt.Link position }
         requires read { AreRead (S.state store.old) (S.backing store.old).honest self.old.session
-            self.old.target.block way.block pages.old }
+            self.old.target.block position.block pages.old }
         requires some { 0 < length (S.state store.old).pages }
         ensures all { FinishActs S.PageStore self.old self.new store.old store.new result }
         ensures faults { IfErr result (HasCause causes_of_splitting_any) }
     {
         let [parent, page, _] = &*pages;
-        match self.turn_at_parent(page, parent, way) {
+        match self.turn_at_parent(page, parent, position) {
             Ok(Some(step)) => Ok(step),
             Ok(None) => self.put_link(store, pages),
             Err(fault) => Err(fault),

@@ -95,7 +95,7 @@ impl FinishOp {
         ensures turn { (st : State) → slice_get st.pages 0 ≡ Some meta.now
             → Turned st self.old self.new result }
     {
-        let Some(way) = way_down(meta) else {
+        let Some(position) = way_down(meta) else {
             return Err(Fault::PageDamaged(0));
         };
         if meta.level < self.target.level {
@@ -104,62 +104,67 @@ impl FinishOp {
         self.at = if meta.level == self.target.level {
             FinishAt::Root
         } else {
-            FinishAt::Down(way)
+            FinishAt::Down(position)
         };
         Ok(FinishStep::Going)
     }
 
     // From a page on the way to the parent.
-    pub fn leave_page(&mut self, page: &Page, way: Position, most: u32) -> Result<FinishStep, Fault>
-        requires { self.old.at ≡ FinishAt.Down way }
+    pub fn leave_page(
+        &mut self,
+        page: &Page,
+        position: Position,
+        most: u32,
+    ) -> Result<FinishStep, Fault>
+        requires { self.old.at ≡ FinishAt.Down position }
         ensures session { self.new.session ≡ self.old.session }
         ensures refused { OnErr result (self.new ≡ self.old) }
         ensures faults { IfErr result (HasCause causes_of_splitting_any) }
-        ensures turn { (st : State) → slice_get st.pages way.block ≡ Some page.now
+        ensures turn { (st : State) → slice_get st.pages position.block ≡ Some page.now
             → st.limits.pages ≡ most → length st.pages ≤ most
             → Turned st self.old self.new result }
     {
-        if way.level <= self.target.level {
-            return Err(Fault::PageDamaged(way.block));
+        if position.level <= self.target.level {
+            return Err(Fault::PageDamaged(position.block));
         }
         if has_incomplete_split(page) {
-            return self.rise_to(page, way);
+            return self.rise_to(page, position);
         }
         let aim = SearchKey::Below(self.target.separator);
-        match lead(page, &way, &aim, self.target.level + 1, most) {
+        match lead(page, &position, &aim, self.target.level + 1, most) {
             Some(NextPage::Going(on)) => {
                 self.at = FinishAt::Down(on);
                 Ok(FinishStep::Going)
             }
             Some(NextPage::Here) => {
-                self.at = FinishAt::Link(way);
+                self.at = FinishAt::Link(position);
                 Ok(FinishStep::Going)
             }
-            None => Err(Fault::PageDamaged(way.block)),
+            None => Err(Fault::PageDamaged(position.block)),
         }
     }
 
     // A page with an incomplete split on the way becomes a target.
-    fn rise_to(&mut self, page: &Page, way: Position) -> Result<FinishStep, Fault>
-        requires down { self.old.at ≡ FinishAt.Down way }
-        requires above { self.old.target.level < way.level }
+    fn rise_to(&mut self, page: &Page, position: Position) -> Result<FinishStep, Fault>
+        requires down { self.old.at ≡ FinishAt.Down position }
+        requires above { self.old.target.level < position.level }
         requires live { page.now.state ≡ PageState.Live }
         requires incomplete { page.now.split ≡ true }
         ensures session { self.new.session ≡ self.old.session }
         ensures refused { OnErr result (self.new ≡ self.old) }
         ensures faults { IfErr result (HasCause causes_of_splitting_any) }
-        ensures turn { (st : State) → slice_get st.pages way.block ≡ Some page.now
+        ensures turn { (st : State) → slice_get st.pages position.block ≡ Some page.now
             → Turned st self.old self.new result }
     {
-        if page.level != way.level || self.below.is_full() {
-            return Err(Fault::PageDamaged(way.block));
+        if page.level != position.level || self.below.is_full() {
+            return Err(Fault::PageDamaged(position.block));
         }
         let Some(separator) = page.high else {
-            return Err(Fault::PageDamaged(way.block));
+            return Err(Fault::PageDamaged(position.block));
         };
         self.push(Target {
-            block: way.block,
-            level: way.level,
+            block: position.block,
+            level: position.level,
             separator,
         });
         Ok(FinishStep::Going)
@@ -170,14 +175,14 @@ impl FinishOp {
         &mut self,
         page: &Page,
         parent: &Page,
-        way: Position,
+        position: Position,
     ) -> Result<Option<FinishStep>, Fault>
-        requires { self.old.at ≡ FinishAt.Link way }
+        requires { self.old.at ≡ FinishAt.Link position }
         ensures session { self.new.session ≡ self.old.session }
         ensures refused { OnErr result (self.new ≡ self.old) }
         ensures faults { IfErr result (HasCause causes_of_splitting_any) }
         ensures turn { (st : State) → slice_get st.pages self.old.target.block ≡ Some page.now
-            → slice_get st.pages way.block ≡ Some parent.now
+            → slice_get st.pages position.block ≡ Some parent.now
             → TurnedOrReady st self.old self.new result }
         ensures ready { result ≡ Ok None → IsReadyToLink page.now parent.now self.old self.new }
     {
@@ -199,7 +204,7 @@ impl FinishOp {
         if is_ready(parent, self.target.level, high) {
             return Ok(None);
         }
-        self.at = FinishAt::Down(way);
+        self.at = FinishAt::Down(position);
         Ok(Some(FinishStep::Going))
     }
 

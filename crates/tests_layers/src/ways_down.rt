@@ -35,17 +35,17 @@ fn page_that_is_not_there(rt: HostRuntime) -> Result<(), Fail> {
 
 // Where the page of a way on this level leads to the leaf of an entry.
 fn led(page: &Page, level: u8, moves: u32, sought: &Entry) -> Option<NextPage> {
-    let way = Position {
+    let position = Position {
         block: page.block,
         level,
         moves,
     };
-    lead(page, &way, &SearchKey::Below(sought.bound()), 0, 8)
+    lead(page, &position, &SearchKey::Below(sought.bound()), 0, 8)
 }
 
 fn place_of(next_page: Option<NextPage>) -> Option<(u32, u8, u32)> {
     match next_page {
-        Some(NextPage::Going(way)) => Some((way.block, way.level, way.moves)),
+        Some(NextPage::Going(position)) => Some((position.block, position.level, position.moves)),
         Some(NextPage::Here) => Some((0, 0, 0)),
         None => None,
     }
@@ -67,7 +67,8 @@ fn way_along_the_leaves(rt: HostRuntime) {
 #[test]
 fn way_down_from_the_root(rt: HostRuntime) {
     assert!(rt;
-        way_down(&meta(3, 1)).map(|way| (way.block, way.level, way.moves)) == Some((3, 1, 0))
+        way_down(&meta(3, 1)).map(|position| (position.block, position.level, position.moves))
+            == Some((3, 1, 0))
     );
     let root = parent(3, &[(None, 1), (Some(3), 2)]);
     assert!(rt; place_of(led(&root, 1, 0, &nth(3))) == Some((1, 0, 0)));

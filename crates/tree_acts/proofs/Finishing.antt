@@ -2,7 +2,7 @@
 use Rattle.std.proofs.Common.{◌≡◌, ◌≢◌, ◌↔◌, ℕ, suc, ◌<◌, ◌≤◌, max, inl, Bool, true, false, List, [], ◌∷◌, ◌++◌, length, slice_get, slice_index, Option, Some, refl, sym, ap, subst, ◌∙◌, arith}
 use Rattle.tree_shape.proofs.Places.{cover_at}
 use Rattle.tree_acts.proofs.Imports.{Bound, Entry, entries_of, IsPage, IsOfKind, IsMeta, IsLeafIn, Items, Meta, Entries, Downlinks, Page, PageState, Live, HalfDead, Deleted, State, after_act}
-use Rattle.tree_acts.proofs.Imports.{with_pages, IsApartFrom, stored_page, Node, node_of, node_from, nodes_of, links_of, IsHeld, IsIn, IsTreeOf, first_spot, IsFree, IsFinish, IsParentSplit}
+use Rattle.tree_acts.proofs.Imports.{with_pages, IsApartFrom, stored_page, Node, node_of, node_from, nodes_of, links_of, IsHeld, IsIn, IsTreeOf, first_context, IsFree, IsFinish, IsParentSplit}
 use Rattle.tree_acts.proofs.Imports.{IsRootSplit, with_links, cleared, new_root, IsTreeAgain, IsReusable, bound_aim, is_fit, IsFitOn, finish_holds, parent_split_holds, root_split_holds}
 use Rattle.tree_acts.proofs.Imports.{finish_keeps, parent_split_keeps, root_split_keeps, in_append_right, only_the_root_is_clear, IsTree, HasTree, HasCover, IsIncompleteSplit, IsClear}
 use Rattle.tree_acts.proofs.Imports.{SplitIsFinished, ParentIsSplit, RootIsSplit, TreeLasts, ContentsStay, FinishLasts, ParentSplitLasts, RootSplitLasts}
@@ -43,7 +43,7 @@ pub covered : (st : State) (tree : IsTree st.pages) (level : ℕ) (aim : Bound �
     → (level ≤ tree.meta.level) × IsIn block (tree.chain level) × ((nodes_of st.pages block).state ≡ Live)
 covered st tree level aim block h =
     let c = cover_in st tree level aim block h in
-    let w = cover_at (nodes_of st.pages) first_spot (tree.chain level) aim block c.covers in
+    let w = cover_at (nodes_of st.pages) first_context (tree.chain level) aim block c.covers in
     (c.in_tree, subst (IsIn block) (sym w.is) (in_append_right block w.front (block ∷ w.back) (inl refl)), w.alive)
 
 -- page p, whose split is to be finished, as it stands
@@ -265,7 +265,7 @@ module _ (st : State) (start : ℕ) (s : Bound) (meta meta_after p p_after root 
 
   p_is_root : p.block ≡ has.tree.root
   p_is_root = only_the_root_is_clear (nodes_of st.pages) (length st.pages) has.tree.root has.tree.meta.level has.tree.chain (bound_aim s) p.block has.tree.is
-      (subst (λ (k : ℕ). IsFitOn (nodes_of st.pages) first_spot (has.tree.chain k) (is_fit (bound_aim s) true) p.block) top_is root_p.fits)
+      (subst (λ (k : ℕ). IsFitOn (nodes_of st.pages) first_context (has.tree.chain k) (is_fit (bound_aim s) true) p.block) top_is root_p.fits)
 
   pub root_free : IsFree (nodes_of st.pages) (length st.pages) root.block
   root_free = fresh_free st root.block has h.fresh

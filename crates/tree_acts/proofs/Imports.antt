@@ -30,7 +30,7 @@ pub use Rattle.tree_shape.proofs.Shown.{covers_lead_down, frontier_covers_entrie
 pub use Rattle.tree_shape.proofs.Shown.{places_go_right, places_keep_their_level, places_stay, root_is_a_place, separator_fits_after}
 pub use Rattle.tree_shape.proofs.StaySound.{finish_keeps, insertion_keeps, leaf_on_chain, leaf_split_keeps, parent_split_keeps, removal_keeps, root_split_keeps}
 pub use Rattle.tree_shape.proofs.Trails.{here_apart, trail_begins, trail_goes_on, trail_is_short, trail_stays}
-pub use Rattle.tree_shape.specs.Chains.{AreDistinct, FitsState, IsIn, IsRunOf, IsTreeOf, LeftContext, Rises, first_spot, past}
+pub use Rattle.tree_shape.specs.Chains.{AreDistinct, FitsState, IsIn, IsRunOf, IsTreeOf, LeftContext, Rises, first_context, past}
 pub use Rattle.tree_shape.specs.Edits.{IsBetween, IsFinish, IsFree, IsHalfDeath, IsInsertion, IsLeafSplit, IsParentSplit, IsRemoval, IsRootSplit, IsUnlink, cleared, deleted, half_dead, new_root}
 pub use Rattle.tree_shape.specs.Edits.{removed_from, with_leaf, with_left, with_links, with_right}
 pub use Rattle.tree_shape.specs.KeyPages.{AreUnique, IsKeyFree, IsKeyLink, IsUniqueNode, IsUniquePage, KeyBefore}

@@ -2,7 +2,7 @@
 use Rattle.std.proofs.Common.{◌≡◌, ◌≢◌, ◌⊎◌, ℕ, zero, suc, ◌<◌, ◌≤◌, ◌&&◌, inl, inr, Bool, true, false, if◌then◌else◌, List, [], ◌∷◌, ◌++◌, length, slice_get, slice_index, nat_le, Option, Some, None, refl, sym, ap, subst, ◌∙◌, arith}
 use Rattle.tree_acts.proofs.Imports.{cases_lt, lt-leb, nat_lt, slice_set, Bound, Format, IsOfKind, IsMeta, Page, PageState, Live, HalfDead, Deleted, is_deleted_state, is_deleted_page, is_deleted}
 use Rattle.tree_acts.proofs.Imports.{began_after, others_began_after, is_reusable, IsFresh, State, after_act, with_page, with_pages, AreStored, AreActable, stored-with_page, stored_page}
-use Rattle.tree_acts.proofs.Imports.{length-with_counts, IsUniquePage, AreUnique, IsMetaOf, node_from, nodes_of, LeftContext, IsIn, IsRunOf, IsTreeOf, first_spot, IsFree, IsTreeAgain}
+use Rattle.tree_acts.proofs.Imports.{length-with_counts, IsUniquePage, AreUnique, IsMetaOf, node_from, nodes_of, LeftContext, IsIn, IsRunOf, IsTreeOf, first_context, IsFree, IsTreeAgain}
 use Rattle.tree_acts.proofs.Imports.{IsTreeAgainWithout, IsReusable, is_fit, IsFitOn, first_in, in_append_right, member, run_back, split_at, trail_stays, places_stay, live_places_stand}
 use Rattle.tree_acts.proofs.Imports.{places_keep_their_level, IsTree, HasTree, LeadsTo, IsStart, KeptDeletedLeadOn, TreeLasts}
 use Rattle.tree_acts.proofs.Gone.{AreInUse, CountUpTo, in_use_count, gone_lead_on, counts_within}
@@ -124,7 +124,7 @@ fresh_reusable st new start f is gone = elim (cases_lt new (length st.pages)) [
 -- a live page that is a place stands on its chain, and isn't the metapage
 pub record Stands (st : State) (tree : IsTree st.pages) (level : ℕ) (fit : LeftContext → Bool) (block : ℕ) : Type 0 where
   pub in_tree : level ≤ tree.meta.level
-  pub fits : IsFitOn (nodes_of st.pages) first_spot (tree.chain level) fit block
+  pub fits : IsFitOn (nodes_of st.pages) first_context (tree.chain level) fit block
   pub on_chain : IsIn block (tree.chain level)
   pub level_is : (nodes_of st.pages block).level ≡ level
   pub above : 0 < block
@@ -140,7 +140,7 @@ stands st tree start level aim clear block place alive =
     clash : Live ≡ Deleted → ⊥
     clash e = cc
 
-    go : level ≤ tree.meta.level → IsFitOn (nodes_of st.pages) first_spot (tree.chain level) (is_fit aim clear) block
+    go : level ≤ tree.meta.level → IsFitOn (nodes_of st.pages) first_context (tree.chain level) (is_fit aim clear) block
         → ((nodes_of st.pages block).state ≡ Deleted) ⊎ (((nodes_of st.pages block).level ≡ level) × IsIn block (tree.chain level)) → Stands st tree level (is_fit aim clear) block
     go in_tree fits (inl gone) = absurd (clash (sym alive ∙ gone))
     go in_tree fits (inr on) =
@@ -151,19 +151,19 @@ stands st tree start level aim clear block place alive =
 pub right_on_chain : (st : State) (tree : IsTree st.pages) (level b r : ℕ) → level ≤ tree.meta.level → IsIn b (tree.chain level) → (nodes_of st.pages b).right ≡ Some r → IsIn r (tree.chain level)
 right_on_chain st tree level b r in_top i right =
     let w = split_at b (tree.chain level) i in
-    let run = subst (λ (xs : List ℕ). IsRunOf (nodes_of st.pages) level first_spot xs None) w.is (tree.is.runs level in_top) in
-    let here = run_back (nodes_of st.pages) level first_spot w.front (b ∷ w.back) None run in
+    let run = subst (λ (xs : List ℕ). IsRunOf (nodes_of st.pages) level first_context xs None) w.is (tree.is.runs level in_top) in
+    let here = run_back (nodes_of st.pages) level first_context w.front (b ∷ w.back) None run in
     subst (IsIn r) (sym w.is) (in_append_right r w.front (b ∷ w.back) (inr (first_in r w.back (sym here.0.right_is ∙ right))))
 
 -- ... and that page isn't deleted
 pub right_in_use : (st : State) (tree : IsTree st.pages) (level b r : ℕ) → level ≤ tree.meta.level → IsIn b (tree.chain level)
     → (nodes_of st.pages b).right ≡ Some r → (nodes_of st.pages r).state ≢ Deleted
 right_in_use st tree level b r in_top i right =
-    (member (nodes_of st.pages) level first_spot (tree.chain level) None r (tree.is.runs level in_top) (right_on_chain st tree level b r in_top i right)).1
+    (member (nodes_of st.pages) level first_context (tree.chain level) None r (tree.is.runs level in_top) (right_on_chain st tree level b r in_top i right)).1
 
 -- a page of a chain says its level
 pub on_level : (st : State) (tree : IsTree st.pages) (level b : ℕ) → level ≤ tree.meta.level → IsIn b (tree.chain level) → (nodes_of st.pages b).level ≡ level
-on_level st tree level b in_top i = (member (nodes_of st.pages) level first_spot (tree.chain level) None b (tree.is.runs level in_top) i).0
+on_level st tree level b in_top i = (member (nodes_of st.pages) level first_context (tree.chain level) None b (tree.is.runs level in_top) i).0
 
 -- the metapage as it is after the act
 pub record MetaIs (pages : List Page) (root top : ℕ) : Type 0 where

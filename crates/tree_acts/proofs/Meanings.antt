@@ -2,7 +2,7 @@
 use Rattle.std.proofs.Common.{◌≡◌, ◌≢◌, ℕ, zero, suc, ◌<◌, ◌≤◌, inl, inr, Bool, true, false, not, ◌&&◌, List, [], ◌∷◌, length, slice_get, slice_index, Option, Some, None, refl, sym, ap, subst, ◌∙◌, arith}
 use Rattle.tree_shape.proofs.Straight.{covers_lead_straight_down, root_covers}
 use Rattle.tree_acts.proofs.Imports.{is_among, Bound, entries_of, IsOfKind, IsMeta, Meta, Page, PageState, Live, entry_on_live_leaf, State, IsMetaOf, Node, node_from, nodes_of, IsIn, AreDistinct}
-use Rattle.tree_acts.proofs.Imports.{IsRunOf, FitsState, Rises, LeftContext, past, first_spot, IsBetween, HasLink, entry_aim, bound_aim, frontier_aim, is_beyond, is_within, is_fit, IsFitOn}
+use Rattle.tree_acts.proofs.Imports.{IsRunOf, FitsState, Rises, LeftContext, past, first_context, IsBetween, HasLink, entry_aim, bound_aim, frontier_aim, is_beyond, is_within, is_fit, IsFitOn}
 use Rattle.tree_acts.proofs.Imports.{IsCoverOn, IsLead, on_chain, by_deleted, first_in, member, not_in_apart, apart_back, run_back, split_at, trail_begins, trail_goes_on, here_apart}
 use Rattle.tree_acts.proofs.Imports.{trail_is_short, root_is_a_place, places_go_right, places_cover, covers_lead_down, held_on_its_cover, frontier_covers_entries, incomplete_split_has_its_link}
 use Rattle.tree_acts.proofs.Imports.{separator_fits_after, only_the_root_is_clear, places_keep_their_level, stored_page, IsTree, HasTree, LeadsTo, MetapageShows, PassedShows, LiveShows}
@@ -117,7 +117,7 @@ root_shows st start s meta p new h found u =
     let same = meta_is st h meta found in
     let on = p_on st start meta.level s p new h u in
     let root : p.block ≡ h.tree.root = only_the_root_is_clear (nodes_of st.pages) (length st.pages) h.tree.root h.tree.meta.level h.tree.chain (bound_aim s) p.block h.tree.is
-    (subst (λ (m : Page). IsFitOn (nodes_of st.pages) first_spot (h.tree.chain m.level) (is_fit (bound_aim s) true) p.block) (sym same) on.fits) in
+    (subst (λ (m : Page). IsFitOn (nodes_of st.pages) first_context (h.tree.chain m.level) (is_fit (bound_aim s) true) p.block) (sym same) on.fits) in
     subst (λ (m : Page). m.right ≡ Some h.tree.root) same h.tree.names_root.root_is ∙ ap Some (sym root)
 
 pub unfinished_is_below : IncompleteSplitIsBelow
@@ -191,7 +191,7 @@ places_widen st start level aim farther clear clear' block more eased place =
 
     far : (c : ℕ) → IsLead (nodes_of st.pages) (slice_index st.counted) (place.tree.chain level) start (is_fit aim clear) c
         → IsLead (nodes_of st.pages) (slice_index st.counted) (place.tree.chain level) start (is_fit farther clear') c
-    far c (on_chain i) = on_chain (on first_spot (place.tree.chain level) c i)
+    far c (on_chain i) = on_chain (on first_context (place.tree.chain level) c i)
     far c (by_deleted r kept right rest) = by_deleted r kept right (far r rest)
 
 -- a live page of a run is fit for its own high key
@@ -224,7 +224,7 @@ high_key_shows st start level aim clear page high h found place alive is =
     record {
       tree = h.tree;
       in_tree = on.in_tree;
-      place = on_chain (own_high (nodes_of st.pages) level first_spot (h.tree.chain level) aim clear page.block high (h.tree.is.runs level on.in_tree)
+      place = on_chain (own_high (nodes_of st.pages) level first_context (h.tree.chain level) aim clear page.block high (h.tree.is.runs level on.in_tree)
           lives (ap (λ (n : Node). n.high) here ∙ is) on.fits);
     }
 
@@ -246,8 +246,8 @@ no_meta_above st h block page found above is =
 right_is_another : (st : State) (tree : IsTree st.pages) (level b r : ℕ) → level ≤ tree.meta.level → IsIn b (tree.chain level) → (nodes_of st.pages b).right ≡ Some r → r ≢ b
 right_is_another st tree level b r in_top i right =
     let w = split_at b (tree.chain level) i in
-    let run = subst (λ (xs : List ℕ). IsRunOf (nodes_of st.pages) level first_spot xs None) w.is (tree.is.runs level in_top) in
-    let here = run_back (nodes_of st.pages) level first_spot w.front (b ∷ w.back) None run in
+    let run = subst (λ (xs : List ℕ). IsRunOf (nodes_of st.pages) level first_context xs None) w.is (tree.is.runs level in_top) in
+    let here = run_back (nodes_of st.pages) level first_context w.front (b ∷ w.back) None run in
     let apart = apart_back w.front (b ∷ w.back) (subst AreDistinct w.is (tree.is.distinct level in_top)) in
     λ same. not_in_apart b r w.back apart.0 (first_in r w.back (sym here.0.right_is ∙ right)) (sym same)
 
@@ -258,7 +258,7 @@ neighbour_shows st start level aim clear page right h found place alive is =
     let on = stands st h.tree start level aim clear page.block place lives in
     let link = ap (λ (n : Node). n.right) here ∙ is in
     let i = right_on_chain st h.tree level page.block right on.in_tree on.on_chain link in
-    let m = member (nodes_of st.pages) level first_spot (h.tree.chain level) None right (h.tree.is.runs level on.in_tree) i in
+    let m = member (nodes_of st.pages) level first_context (h.tree.chain level) None right (h.tree.is.runs level on.in_tree) i in
     let u = h.tree.is.in_use level right on.in_tree i in
     let there = page_within st.pages right u.1 in
     let seen = ap node_from there.1 in
@@ -297,8 +297,8 @@ root_covers_all st aim meta root h whole found names =
     record {
       tree = h.tree;
       in_tree = subst (λ (m : Page). m.level ≤ h.tree.meta.level) same (omega arith);
-      covers = subst (λ (m : Page). IsCoverOn (nodes_of st.pages) first_spot (h.tree.chain m.level) aim root) same
-          (subst (IsCoverOn (nodes_of st.pages) first_spot (h.tree.chain h.tree.meta.level) aim) root_is
+      covers = subst (λ (m : Page). IsCoverOn (nodes_of st.pages) first_context (h.tree.chain m.level) aim root) same
+          (subst (IsCoverOn (nodes_of st.pages) first_context (h.tree.chain h.tree.meta.level) aim) root_is
           (root_covers (nodes_of st.pages) (length st.pages) h.tree.root h.tree.meta.level h.tree.chain aim h.tree.is (none_incomplete st.pages whole h.tree.root)));
     }
 

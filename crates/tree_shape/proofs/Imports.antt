@@ -35,7 +35,7 @@ pub use Rattle.page_codec.specs.declared.page.PageState.{PageState}
 pub use Rattle.page_codec.specs.declared.page.PageState.TheVariants.{Deleted, HalfDead, Live}
 pub use Rattle.tree_shape.specs.Aims.{ArePartedAt, IsToward, IsUpToFirst, aim_of}
 pub use Rattle.tree_shape.specs.Chains.{AreDistinct, AscendWithin, BoundsWithin, FitsState, HasItems, IsAtMost, IsBeyond, IsBoundWithin, IsIn, IsNoGreater, IsNotIn, IsPlaced, IsRootLevel, IsRunOf}
-pub use Rattle.tree_shape.specs.Chains.{IsTreeOf, LeftContext, LinksWithin, Rises, downlinks, due_link, due_links, first_or, first_spot, from_low, low_past, past, spot_after}
+pub use Rattle.tree_shape.specs.Chains.{IsTreeOf, LeftContext, LinksWithin, Rises, downlinks, due_link, due_links, first_or, first_context, from_low, low_past, past, context_after}
 pub use Rattle.tree_shape.specs.Deletion.{as_deleted, handed_on}
 pub use Rattle.tree_shape.specs.Edits.{AreUpTo, IsBeforeFirst, IsBelowBound, IsBelowNext, IsBetween, IsFinish, IsFree, IsHalfDeath, IsInsertion, IsLeafSplit, IsLinkAdded, IsLinkHandedOn}
 pub use Rattle.tree_shape.specs.Edits.{IsParentSplit, IsPutIn, IsRemoval, IsRootSplit, IsUnlink, LeafHalves, LinkHalves, cleared, deleted, left_half, left_links, new_root, removed_from}

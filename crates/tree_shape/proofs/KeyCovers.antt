@@ -1,6 +1,6 @@
 -- One leaf covers all entries of a key.
 use Rattle.std.proofs.Common.{◌≡◌, ℕ, not, Option, Some, None, List, [], ◌∷◌, inl, inr, refl, sym, ap, ◌∙◌}
-use Rattle.tree_shape.proofs.Imports.{IfSome, Bound, Entry, PageState, Live, HalfDead, Deleted, Node, LeftContext, past, low_past, first_spot, entry_aim, is_beyond, is_within, IsCoverOn}
+use Rattle.tree_shape.proofs.Imports.{IfSome, Bound, Entry, PageState, Live, HalfDead, Deleted, Node, LeftContext, past, low_past, first_context, entry_aim, is_beyond, is_within, IsCoverOn}
 use Rattle.tree_shape.proofs.Imports.{IsKeyBound}
 use Rattle.tree_shape.specs.KeyCovers.{HaveKeyBounds, KeyCovers}
 use Rattle.tree_shape.proofs.KeyBounds.{key_bounds_part_keys}
@@ -20,13 +20,13 @@ low_stays Live low high l h = h
 low_stays HalfDead low high l h = l
 low_stays Deleted low high l h = l
 
-covers_from : (at : ℕ → Node) (spot : LeftContext) (chain : List ℕ) (x y : Entry) (c : ℕ) → IfSome spot.low IsKeyBound → HaveKeyBounds at chain → x.key ≡ y.key
-    → IsCoverOn at spot chain (entry_aim x) c → IsCoverOn at spot chain (entry_aim y) c
-covers_from at spot [] x y c low highs same h = h
-covers_from at spot (b ∷ bs) x y c low highs same (inl h) =
-    inl (h.0, h.1, sym (beyond_same spot.low x y low same) ∙ h.2, sym (within_same (at b).high x y (highs b (inl refl)) same) ∙ h.3)
-covers_from at spot (b ∷ bs) x y c low highs same (inr h) =
-    inr (covers_from at (past b (at b) spot) bs x y c (low_stays (at b).state spot.low (at b).high low (highs b (inl refl))) (λ d i. highs d (inr i)) same h)
+covers_from : (at : ℕ → Node) (context : LeftContext) (chain : List ℕ) (x y : Entry) (c : ℕ) → IfSome context.low IsKeyBound → HaveKeyBounds at chain → x.key ≡ y.key
+    → IsCoverOn at context chain (entry_aim x) c → IsCoverOn at context chain (entry_aim y) c
+covers_from at context [] x y c low highs same h = h
+covers_from at context (b ∷ bs) x y c low highs same (inl h) =
+    inl (h.0, h.1, sym (beyond_same context.low x y low same) ∙ h.2, sym (within_same (at b).high x y (highs b (inl refl)) same) ∙ h.3)
+covers_from at context (b ∷ bs) x y c low highs same (inr h) =
+    inr (covers_from at (past b (at b) context) bs x y c (low_stays (at b).state context.low (at b).high low (highs b (inl refl))) (λ d i. highs d (inr i)) same h)
 
 pub key_covers : KeyCovers
-key_covers at chain x y c highs same h = covers_from at first_spot chain x y c tt highs same h
+key_covers at chain x y c highs same h = covers_from at first_context chain x y c tt highs same h

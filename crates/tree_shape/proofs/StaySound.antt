@@ -1,7 +1,7 @@
 -- Each edit leaves a tree, and each kept number good.
 use Rattle.std.proofs.Common.{◌≡◌, ◌≢◌, ◌⊎◌, ℕ, suc, ◌<◌, ◌≤◌, inl, inr, Bool, true, List, [], ◌∷◌, ◌++◌, Some, None, refl, sym, ap, subst, ◌∙◌, arith}
 use Rattle.std.specs.List.{filter}
-use Rattle.tree_shape.proofs.Imports.{cases_eq, bound_of, Bound, Entry, PageState, Live, Deleted, Node, IsRunOf, LeftContext, spot_after, first_spot, IsIn, AreDistinct, IsRootLevel, IsTreeOf}
+use Rattle.tree_shape.proofs.Imports.{cases_eq, bound_of, Bound, Entry, PageState, Live, Deleted, Node, IsRunOf, LeftContext, context_after, first_context, IsIn, AreDistinct, IsRootLevel, IsTreeOf}
 use Rattle.tree_shape.proofs.Imports.{entry_aim, bound_aim, is_fit, IsFitOn, KeepsPlaces, SameOrder, IsInsertion, IsRemoval, InsertionKeeps, RemovalKeeps, LeafSplitKeeps, FinishKeeps}
 use Rattle.tree_shape.proofs.Imports.{ParentSplitKeeps, RootSplitKeeps}
 use Rattle.tree_shape.proofs.Runs.{run_back, SplitAt, split_at}
@@ -33,7 +33,7 @@ record IsMember (at : ℕ → Node) (used level c : ℕ) : Type 0 where
 
 on_chain_of : (at : ℕ → Node) (used root top : ℕ) (chain : ℕ → List ℕ) → IsTreeOf at used root top chain → (level c : ℕ) → level ≤ top → IsIn c (chain level) → IsMember at used level c
 on_chain_of at used root top chain tree level c in_top i =
-    let m = member at level first_spot (chain level) None c (tree.runs level in_top) i in
+    let m = member at level first_context (chain level) None c (tree.runs level in_top) i in
     let u = tree.in_use level c in_top i in
     record { level_is = m.0; alive = m.1; above = u.0; inside = u.1 }
 
@@ -66,21 +66,21 @@ pub insertion_keeps : InsertionKeeps
 insertion_keeps at at' number number' used root top chain least b e clear tree h fit within counts = record {
   chain' = chain;
   tree = insertion_tree at at' used root top chain b e f.front f.back tree f.is h
-      (beyond_from (bound_of e) (spot_after at first_spot f.front).low (fit_beyond (entry_aim e) clear (spot_after at first_spot f.front) f.passes))
+      (beyond_from (bound_of e) (context_after at first_context f.front).low (fit_beyond (entry_aim e) clear (context_after at first_context f.front) f.passes))
       (within_from (bound_of e) (at b).high within);
   places = λ start is level in_top. places_alike at at' number number' (chain level) start (λ c i. edit_alike (edit_of_insertion h) c) (edit_stay number number' (edit_of_insertion h) counts start);
   order = λ level in_top. order_same (chain level);
 }
   where
-    f : IsFitAt at first_spot (chain 0) (is_fit (entry_aim e) clear) b
-    f = fit_at at first_spot (chain 0) (is_fit (entry_aim e) clear) b fit
+    f : IsFitAt at first_context (chain 0) (is_fit (entry_aim e) clear) b
+    f = fit_at at first_context (chain 0) (is_fit (entry_aim e) clear) b fit
 
 -- entries are removed from a leaf of the tree
 pub removal_keeps : RemovalKeeps
 removal_keeps at at' number number' used root top chain least b keeps tree h above inside counts = record {
   chain' = chain;
   tree = leaf_edit_tree at at' used root top chain b (filter keeps (at b).entries) w.front w.back tree w.is (edit_of_removal h)
-      (λ sorted. filter_within keeps (spot_after at first_spot w.front).low (at b).entries (at b).high sorted);
+      (λ sorted. filter_within keeps (context_after at first_context w.front).low (at b).entries (at b).high sorted);
   places = λ start is level in_top. places_alike at at' number number' (chain level) start (λ c i. edit_alike (edit_of_removal h) c) (edit_stay number number' (edit_of_removal h) counts start);
   order = λ level in_top. order_same (chain level);
 }
@@ -99,19 +99,19 @@ pub leaf_split_keeps : LeafSplitKeeps
 leaf_split_keeps at at' number number' used root top chain least b new e tree h free reusable fit within counts = record {
   chain' = put_chain chain 0 (f.front ++ b ∷ new ∷ f.back);
   tree = leaf_split_tree at at' used root top chain b new e f.front f.back tree f.is h free
-      (beyond_from (bound_of e) spot.low (fit_beyond (entry_aim e) true spot f.passes)) (within_from (bound_of e) (at b).high within)
-      (λ z. root_from_fit at root b f.front f.back (subst (IsRootLevel at root) f.is (subst (λ (k : ℕ). IsRootLevel at root (chain k)) z tree.root_level)) (fit_clear (entry_aim e) spot f.passes));
+      (beyond_from (bound_of e) context.low (fit_beyond (entry_aim e) true context f.passes)) (within_from (bound_of e) (at b).high within)
+      (λ z. root_from_fit at root b f.front f.back (subst (IsRootLevel at root) f.is (subst (λ (k : ℕ). IsRootLevel at root (chain k)) z tree.root_level)) (fit_clear (entry_aim e) context f.passes));
   places = λ start is level in_top. kept start is level in_top (cases_eq level 0);
   order = λ level in_top. order_of chain 0 f.front b new f.back f.is level (cases_eq level 0);
 }
   where
-    f : IsFitAt at first_spot (chain 0) (is_fit (entry_aim e) true) b
-    f = fit_at at first_spot (chain 0) (is_fit (entry_aim e) true) b fit
+    f : IsFitAt at first_context (chain 0) (is_fit (entry_aim e) true) b
+    f = fit_at at first_context (chain 0) (is_fit (entry_aim e) true) b fit
 
-    spot : LeftContext
-    spot = spot_after at first_spot f.front
+    context : LeftContext
+    context = context_after at first_context f.front
 
-    run : IsRunOf at 0 first_spot (f.front ++ b ∷ f.back) None
+    run : IsRunOf at 0 first_context (f.front ++ b ∷ f.back) None
     run = rw (f.is) at (tree.runs 0 (omega arith))
 
     not_new : (level c : ℕ) → level ≤ top → IsIn c (chain level) → c ≢ new
@@ -121,7 +121,7 @@ leaf_split_keeps at at' number number' used root top chain least b new e tree h 
 
     right_in : (c : ℕ) → (at b).right ≡ Some c → IsIn c (chain 0)
     right_in c same =
-        let here = run_back at 0 first_spot f.front (b ∷ f.back) None run in
+        let here = run_back at 0 first_context f.front (b ∷ f.back) None run in
         subst (IsIn c) (sym f.is) (in_append_right c f.front (b ∷ f.back) (inr (first_in c f.back (sym here.0.right_is ∙ same))))
 
     alike : (c : ℕ) → c ≢ b → c ≢ new → IsPassedAlike (at c) (at' c)
@@ -180,7 +180,7 @@ record Standing (at : ℕ → Node) (chain : ℕ → List ℕ) (level p new q : 
 
 standing : (at : ℕ → Node) (used root top : ℕ) (chain : ℕ → List ℕ) (level p new q : ℕ) (s : Bound) → IsTreeOf at used root top chain → level < top
     → (at p).split ≡ true → (at p).high ≡ Some s → (at p).right ≡ Some new
-    → IsFitOn at first_spot (chain level) (is_fit (bound_aim s) true) p → IsIn q (chain (suc level)) → Standing at chain level p new q
+    → IsFitOn at first_context (chain level) (is_fit (bound_aim s) true) p → IsIn q (chain (suc level)) → Standing at chain level p new q
 standing at used root top chain level p new q s tree tall incomplete high right fit q_in = record {
   front = f.front;
   rest = f.rest;
@@ -188,9 +188,9 @@ standing at used root top chain level p new q s tree tall incomplete high right 
   right = w.back;
   lower_is = f.is ∙ ap (λ (n : ℕ). f.front ++ p ∷ n ∷ f.rest) (some_is f.new new (sym f.right_is ∙ right));
   upper_is = w.is;
-  level_is = (member at level first_spot (f.front ++ p ∷ f.new ∷ f.rest) None p f.incomplete.run (in_append_right p f.front (p ∷ f.new ∷ f.rest) (inl refl))).0;
-  p_alive = incomplete_alive at level first_spot f.front p f.new s f.rest f.incomplete;
-  q_alive = upper_live (at q).state level (spot_after at first_spot w.front) (at q) (run_back at (suc level) first_spot w.front (q ∷ w.back) None (rw (w.is) at (tree.runs (suc level) tall))).0.fits;
+  level_is = (member at level first_context (f.front ++ p ∷ f.new ∷ f.rest) None p f.incomplete.run (in_append_right p f.front (p ∷ f.new ∷ f.rest) (inl refl))).0;
+  p_alive = incomplete_alive at level first_context f.front p f.new s f.rest f.incomplete;
+  q_alive = upper_live (at q).state level (context_after at first_context w.front) (at q) (run_back at (suc level) first_context w.front (q ∷ w.back) None (rw (w.is) at (tree.runs (suc level) tall))).0.fits;
 }
   where
     f : IsIncompleteAt at level (chain level) p s
@@ -234,14 +234,14 @@ parent_split_keeps at at' number number' used root top chain least level p q sib
 }
   where
     w : Standing at chain level p h.new q
-    w = standing at used root top chain level p h.new q s tree tall h.incomplete (h.high_is ∙ ap Some sep) h.right_is fit (fit_in at first_spot (chain (suc level)) (is_fit (bound_aim s) true) q q_fit)
+    w = standing at used root top chain level p h.new q s tree tall h.incomplete (h.high_is ∙ ap Some sep) h.right_is fit (fit_in at first_context (chain (suc level)) (is_fit (bound_aim s) true) q q_fit)
 
     at_root : top ≡ suc level → q ≡ root
     at_root is_top =
-        let f = fit_at at first_spot (chain (suc level)) (is_fit (bound_aim s) true) q q_fit in
-        root_from_fit at root q f.front f.back (subst (IsRootLevel at root) (ap chain is_top ∙ f.is) tree.root_level) (fit_clear (bound_aim s) (spot_after at first_spot f.front) f.passes)
+        let f = fit_at at first_context (chain (suc level)) (is_fit (bound_aim s) true) q q_fit in
+        root_from_fit at root q f.front f.back (subst (IsRootLevel at root) (ap chain is_top ∙ f.is) tree.root_level) (fit_clear (bound_aim s) (context_after at first_context f.front) f.passes)
 
-    upper_run : IsRunOf at (suc level) first_spot (w.left ++ q ∷ w.right) None
+    upper_run : IsRunOf at (suc level) first_context (w.left ++ q ∷ w.right) None
     upper_run = rw (w.upper_is) at (tree.runs (suc level) tall)
 
     distinct : AreDistinct (w.left ++ q ∷ w.right)
@@ -254,11 +254,11 @@ parent_split_keeps at at' number number' used root top chain least level p q sib
 
     right_in : (c : ℕ) → (at q).right ≡ Some c → IsIn c (chain (suc level))
     right_in c same =
-        let here = run_back at (suc level) first_spot w.left (q ∷ w.right) None upper_run in
+        let here = run_back at (suc level) first_context w.left (q ∷ w.right) None upper_run in
         subst (IsIn c) (sym w.upper_is) (in_append_right c w.left (q ∷ w.right) (inr (first_in c w.right (sym here.0.right_is ∙ same))))
 
     q_level : (at q).level ≡ suc level
-    q_level = (member at (suc level) first_spot (w.left ++ q ∷ w.right) None q upper_run (in_append_right q w.left (q ∷ w.right) (inl refl))).0
+    q_level = (member at (suc level) first_context (w.left ++ q ∷ w.right) None q upper_run (in_append_right q w.left (q ∷ w.right) (inl refl))).0
 
     alike : (c : ℕ) → c ≢ q → c ≢ sibling → IsPassedAlike (at c) (at' c)
     alike c not_q not_new = elim (cases_eq c p) [

@@ -3,7 +3,7 @@ use Rattle.std.specs.Prelude.{◌≡◌, ℕ, IfSome, List}
 use Rattle.index_model.specs.declared.entry.Entry.{Entry}
 use Rattle.tree_shape.specs.KeyBounds.{IsKeyBound}
 use Rattle.tree_shape.specs.Nodes.{Node}
-use Rattle.tree_shape.specs.Chains.{first_spot, IsIn}
+use Rattle.tree_shape.specs.Chains.{first_context, IsIn}
 use Rattle.tree_shape.specs.Walks.{entry_aim, IsCoverOn}
 
 -- each high key on the chain is the place before all rows of a key
@@ -15,4 +15,4 @@ abbrev pub KeyCovers : Type 0
 KeyCovers =
     (at : ℕ → Node) (chain : List ℕ) (x y : Entry) (c : ℕ)
     → HaveKeyBounds at chain → x.key ≡ y.key
-    → IsCoverOn at first_spot chain (entry_aim x) c → IsCoverOn at first_spot chain (entry_aim y) c
+    → IsCoverOn at first_context chain (entry_aim x) c → IsCoverOn at first_context chain (entry_aim y) c

@@ -7,9 +7,9 @@ use Rattle.vacuum.proofs.Imports.{IsLeafAt, entry_count, entries_below, IsBelow,
 block_less : (n k m : ℕ) → m < k → n * k + m < suc n * k
 block_less n k m lt = omega (arith, lt)
 
-pub leaves_less : (most used cursor : ℕ) (back next_page : Option Backtrack) → (back ≡ None → cursor < used)
-    → ((b : Backtrack) → next_page ≡ Some b → (b.moves ≡ suc (moves_of back)) × (moves_of back < most))
-    → bulk_delete_left most used (cursor_past cursor back) next_page < bulk_delete_left most used cursor back
+pub leaves_less : (most used cursor : ℕ) (backtrack next_page : Option Backtrack) → (backtrack ≡ None → cursor < used)
+    → ((b : Backtrack) → next_page ≡ Some b → (b.moves ≡ suc (moves_of backtrack)) × (moves_of backtrack < most))
+    → bulk_delete_left most used (cursor_past cursor backtrack) next_page < bulk_delete_left most used cursor backtrack
 leaves_less most used cursor (Some b) None below turn = omega arith
 leaves_less most used cursor (Some b) (Some c) below turn = (let t = turn c refl in omega (arith, t.0, t.1))
 leaves_less most used cursor None None below turn =
@@ -38,28 +38,28 @@ no_leaf_count page none = by page.state page.items none
     by HalfDead items h = refl
     by Deleted items h = refl
 
-below_past : (cursor : ℕ) (back next_page : Option Backtrack) → IsBelow cursor back → ((b : Backtrack) → next_page ≡ Some b → (b.block < last_read cursor back) × (b.from ≡ last_read cursor back))
-    → IsBelow (cursor_past cursor back) next_page
-below_past cursor back None below turn = tt
+below_past : (cursor : ℕ) (backtrack next_page : Option Backtrack) → IsBelow cursor backtrack → ((b : Backtrack) → next_page ≡ Some b → (b.block < last_read cursor backtrack) × (b.from ≡ last_read cursor backtrack))
+    → IsBelow (cursor_past cursor backtrack) next_page
+below_past cursor backtrack None below turn = tt
 below_past cursor None (Some b) below turn = (let t = turn b refl in (omega (arith, t.0), omega (arith, t.1)))
 below_past cursor (Some c) (Some b) below turn = (let t = turn b refl in let l = below.1 in (omega (arith, t.0, l), omega (arith, t.1, l)))
 
 -- Where nobody else acts, the counts go on. The page that is read in block order has as many entries as are counted, and no
 -- dead one; going back nothing is changed.
 pub counts_on : (dead : Row → Bool) (st new : State) (op : BulkDeleteOp) (next_page : Option Backtrack) (kept gone : ℕ) → IsCounted dead st op
-    → ((b : ℕ) → b ≢ next_block op.cursor op.back → slice_get new.pages b ≡ slice_get st.pages b)
-    → ((b : Backtrack) → next_page ≡ Some b → (b.block < last_read op.cursor op.back) × (b.from ≡ last_read op.cursor op.back))
-    → (op.back ≡ None → entry_count (slice_get new.pages op.cursor) ≡ kept)
-    → ((page : Page) (e : Entry) → IsLeafAt new.pages (next_block op.cursor op.back) page → is_among (entries_of page.items) e ≡ true → dead e.row ≡ false)
-    → ((b : Backtrack) → op.back ≡ Some b → new.pages ≡ st.pages)
+    → ((b : ℕ) → b ≢ next_block op.cursor op.backtrack → slice_get new.pages b ≡ slice_get st.pages b)
+    → ((b : Backtrack) → next_page ≡ Some b → (b.block < last_read op.cursor op.backtrack) × (b.from ≡ last_read op.cursor op.backtrack))
+    → (op.backtrack ≡ None → entry_count (slice_get new.pages op.cursor) ≡ kept)
+    → ((page : Page) (e : Entry) → IsLeafAt new.pages (next_block op.cursor op.backtrack) page → is_among (entries_of page.items) e ≡ true → dead e.row ≡ false)
+    → ((b : Backtrack) → op.backtrack ≡ Some b → new.pages ≡ st.pages)
     → IsCounted dead new (moved_beyond op next_page kept gone)
-counts_on dead st new op next_page kept gone h others turn count clean unchanged = by op.back refl
+counts_on dead st new op next_page kept gone h others turn count clean unchanged = by op.backtrack refl
   where
-    by : (back : Option Backtrack) → op.back ≡ back → IsCounted dead new (moved_beyond op next_page kept gone)
+    by : (backtrack : Option Backtrack) → op.backtrack ≡ backtrack → IsCounted dead new (moved_beyond op next_page kept gone)
     by None is = record {
       counted = rw is (rw (count is, counted_alike st.pages new.pages op.cursor (λ b lt. others b (λ same. let k : b ≡ op.cursor = same ∙ rw is refl in omega (arith, k, lt))))
           (let c = h.counted in omega (arith, c)));
-      below = below_past op.cursor op.back next_page h.below turn;
+      below = below_past op.cursor op.backtrack next_page h.below turn;
       clean = λ block page e lt at on. elim (cases_eq block op.cursor) [
         | inl same ↦ clean page e (subst (λ (b : ℕ). IsLeafAt new.pages b page) (same ∙ sym here) at) on
         | inr differ ↦ h.clean block page e (omega (arith, differ, past lt))
@@ -67,14 +67,14 @@ counts_on dead st new op next_page kept gone h others turn count clean unchanged
       ];
     }
       where
-        here : next_block op.cursor op.back ≡ op.cursor
+        here : next_block op.cursor op.backtrack ≡ op.cursor
         here = rw is refl
 
-        past : {b : ℕ} → b < cursor_past op.cursor op.back → b < suc op.cursor
+        past : {b : ℕ} → b < cursor_past op.cursor op.backtrack → b < suc op.cursor
         past lt = rw is at lt
     by (Some b) is = record {
       counted = rw is (h.counted ∙ ap (λ (ps : List Page). entries_below ps op.cursor) (sym (unchanged b is)));
-      below = below_past op.cursor op.back next_page h.below turn;
+      below = below_past op.cursor op.backtrack next_page h.below turn;
       clean = λ block page e lt at on.
           h.clean block page e (rw is at lt) (record { found = ap (λ (ps : List Page). slice_get ps block) (sym (unchanged b is)) ∙ at.found; alive = at.alive; leaf = at.leaf }) on;
     }

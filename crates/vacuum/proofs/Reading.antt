@@ -38,14 +38,14 @@ refuses g dead op old new fault steps same stops cause = record {
   stopped = λ h. ap Err (stops h);
   stats = tt;
   less = tt;
-  due = λ honest due of h. subst (λ (st : State). DueIsToCome due st op.cursor op.back) (sym same) h;
+  due = λ honest due of h. subst (λ (st : State). DueIsToCome due st op.cursor op.backtrack) (sym same) h;
   pins = λ honest other block page differ at pin le. le;
   counts = λ honest h. subst (λ (st : State). IsCounted dead st op) (sym same) h;
   stepped = cause;
 }
 
 -- the last step
-pub ends : {S : Type 0} (g : Ghosts S) (dead : Row → Bool) (op : BulkDeleteOp) (store : S) (stats : VacuumStats) → (g.backing store).stopped ≡ false → op.back ≡ None
+pub ends : {S : Type 0} (g : Ghosts S) (dead : Row → Bool) (op : BulkDeleteOp) (store : S) (stats : VacuumStats) → (g.backing store).stopped ≡ false → op.backtrack ≡ None
     → length (g.state store).pages ≤ op.cursor → stats ≡ stats_of (g.state store) op → Continues g.follows store store → BulkDeleteSteps g dead op op store store (Ok (Finished stats))
 ends g dead op store stats alive none last told steps = record {
   steps = steps;
@@ -151,10 +151,10 @@ trail_in_use st start block moves tree trail = (let t = trail_in st tree.tree st
     by passed steps (reached i left) = (tree.tree.is.in_use 0 block (omega arith) i).1
     by passed steps (over r kept right apart rest) = (deleted_in_use st tree block kept.gone).1
 
-pub next_in_use : (st : State) (op : BulkDeleteOp) → HasTree st → (fits : BulkDeleteInvariant st op) → (op.back ≡ None → op.cursor < length st.pages) → next_block op.cursor op.back < length st.pages
-next_in_use st op tree fits inside = by op.back refl fits.back
+pub next_in_use : (st : State) (op : BulkDeleteOp) → HasTree st → (fits : BulkDeleteInvariant st op) → (op.backtrack ≡ None → op.cursor < length st.pages) → next_block op.cursor op.backtrack < length st.pages
+next_in_use st op tree fits inside = by op.backtrack refl fits.backtrack
   where
-    by : (back : Option Backtrack) → op.back ≡ back → IsGoingBack st fits.start back → next_block op.cursor back < length st.pages
+    by : (backtrack : Option Backtrack) → op.backtrack ≡ backtrack → IsGoingBack st fits.start backtrack → next_block op.cursor backtrack < length st.pages
     by None is goes = inside is
     by (Some b) is goes = trail_in_use st fits.start b.block b.moves tree goes
 
@@ -162,11 +162,11 @@ pub has_room : (st : State) (op : BulkDeleteOp) → BulkDeleteInvariant st op �
 has_room st op fits = subst (λ (h : Holding). length h.latches < 8) (sym fits.held) (omega arith)
 
 -- the walk to the right has come to the leaf that is read
-comes_here : (st : State) (op : BulkDeleteOp) (page : Page) (block : ℕ) → HasTree st → (fits : BulkDeleteInvariant st op) → next_block op.cursor op.back ≡ block
-    → IsLeafAt st.pages block page → page.block ≡ block → HasTrail st fits.start 0 page.block (moves_of op.back)
-comes_here st op page block tree fits at leaf block_is = by op.back refl fits.back
+comes_here : (st : State) (op : BulkDeleteOp) (page : Page) (block : ℕ) → HasTree st → (fits : BulkDeleteInvariant st op) → next_block op.cursor op.backtrack ≡ block
+    → IsLeafAt st.pages block page → page.block ≡ block → HasTrail st fits.start 0 page.block (moves_of op.backtrack)
+comes_here st op page block tree fits at leaf block_is = by op.backtrack refl fits.backtrack
   where
-    by : (back : Option Backtrack) → op.back ≡ back → IsGoingBack st fits.start back → HasTrail st fits.start 0 page.block (moves_of back)
+    by : (backtrack : Option Backtrack) → op.backtrack ≡ backtrack → IsGoingBack st fits.start backtrack → HasTrail st fits.start 0 page.block (moves_of backtrack)
     by None is goes = leaf_begins_trail st fits.start page tree (subst (λ (b : ℕ). slice_get st.pages b ≡ Some page) (sym block_is) leaf.found) leaf.alive leaf.leaf
     by (Some b) is goes = subst (λ (k : ℕ). HasTrail st fits.start 0 k b.moves) (sym at') goes
       where
@@ -174,10 +174,10 @@ comes_here st op page block tree fits at leaf block_is = by op.back refl fits.ba
         at' = block_is ∙ sym at ∙ ap (λ (o : Option Backtrack). next_block op.cursor o) is
 
 -- so it makes no more moves than there are pages
-pub never_too_far : (st : State) (op : BulkDeleteOp) (page : Page) (block cycle from : ℕ) → IsInOrder st → (fits : BulkDeleteInvariant st op) → next_block op.cursor op.back ≡ block
-    → IsLeafAt st.pages block page → page.block ≡ block → length st.pages ≤ st.limits.pages → TurnsNoMore cycle st.limits.pages from (moves_of op.back) page → ⊥
+pub never_too_far : (st : State) (op : BulkDeleteOp) (page : Page) (block cycle from : ℕ) → IsInOrder st → (fits : BulkDeleteInvariant st op) → next_block op.cursor op.backtrack ≡ block
+    → IsLeafAt st.pages block page → page.block ≡ block → length st.pages ≤ st.limits.pages → TurnsNoMore cycle st.limits.pages from (moves_of op.backtrack) page → ⊥
 never_too_far st op page block cycle from order fits at leaf block_is few more =
-    let short = trail_is_short_here st fits.start 0 page.block (moves_of op.back) order.tree (comes_here st op page block order.tree fits at leaf block_is) in
+    let short = trail_is_short_here st fits.start 0 page.block (moves_of op.backtrack) order.tree (comes_here st op page block order.tree fits at leaf block_is) in
     (let m = more.many in omega (arith, short, few, m))
 
 none_turned : {A : Type 0} (b : Backtrack) → None ≡ Some b → A
@@ -185,7 +185,7 @@ none_turned b is = absurd cc
 
 -- a page that isn't a live leaf is passed
 pub passes : {S : Type 0} (g : Ghosts S) (dead : Row → Bool) (before after : BulkDeleteOp) (old new : S) (block : ℕ) (page : Page) → Continues g.follows old new → g.state new ≡ g.state old
-    → (g.backing old).stopped ≡ false → next_block before.cursor before.back ≡ block → (before.back ≡ None → before.cursor < length (g.state old).pages)
+    → (g.backing old).stopped ≡ false → next_block before.cursor before.backtrack ≡ block → (before.backtrack ≡ None → before.cursor < length (g.state old).pages)
     → ((g.backing new).honest ≡ true → slice_get (g.state old).pages block ≡ Some page) → (page.state ≡ Live → HasEntries page.items → ⊥)
     → after ≡ moved_beyond before None 0 0 → BulkDeleteSteps g dead before after old new (Ok Going)
 passes g dead before after old new block page steps same alive at inside_is found none is =
@@ -199,10 +199,10 @@ passes g dead before after old new block page steps same alive at inside_is foun
       stopped = λ h. runs_no_more (g.backing old).stopped alive h;
       stats = tt;
       less = subst (λ (s : State).
-          bulk_delete_left s.limits.pages (length s.pages) (cursor_past before.cursor before.back) None < bulk_delete_left st.limits.pages (length st.pages) before.cursor before.back)
-          (sym same) (leaves_less st.limits.pages (length st.pages) before.cursor before.back None inside_is (λ b k. none_turned b k));
-      due = λ honest due of h. subst (λ (s : State). DueIsToCome due s (cursor_past before.cursor before.back) None) (sym same)
-          (due_comes_on st st before.cursor before.back None h.from (read_on honest) due h (λ p e leaf on is_due. no_leaf honest p leaf));
+          bulk_delete_left s.limits.pages (length s.pages) (cursor_past before.cursor before.backtrack) None < bulk_delete_left st.limits.pages (length st.pages) before.cursor before.backtrack)
+          (sym same) (leaves_less st.limits.pages (length st.pages) before.cursor before.backtrack None inside_is (λ b k. none_turned b k));
+      due = λ honest due of h. subst (λ (s : State). DueIsToCome due s (cursor_past before.cursor before.backtrack) None) (sym same)
+          (due_comes_on st st before.cursor before.backtrack None h.from (read_on honest) due h (λ p e leaf on is_due. no_leaf honest p leaf));
       pins = λ honest other b p differ leaf pin le. past honest b p leaf le;
       counts = λ honest h. subst (λ (s : State). IsCounted dead s (moved_beyond before None 0 0)) (sym same)
           (counts_on dead st st before None 0 0 h (λ b differ. refl) (λ b k. none_turned b k) (λ k. count honest k) (λ p e leaf on. absurd (no_leaf honest p leaf)) (λ b k. refl));
@@ -211,22 +211,22 @@ passes g dead before after old new block page steps same alive at inside_is foun
         dead_rows = λ e on. absurd (let k : false ≡ true = subst (λ (es : List Entry). is_among es e ≡ true) (none_dead honest) on in cc);
         count = ap (λ (es : List Entry). before.removed + length es) (sym (none_dead honest));
         fits = subst (λ (s : State). BulkDeleteInvariant s (moved_beyond before None 0 0)) (sym same)
-            (record { session = fits.session; start = fits.start; running = fits.running; held = fits.held; back = tt });
+            (record { session = fits.session; start = fits.start; running = fits.running; held = fits.held; backtrack = tt });
       };
     })
   where
     st : State
     st = g.state old
 
-    here : (g.backing new).honest ≡ true → slice_get st.pages (next_block before.cursor before.back) ≡ Some page
+    here : (g.backing new).honest ≡ true → slice_get st.pages (next_block before.cursor before.backtrack) ≡ Some page
     here honest = subst (λ (b : ℕ). slice_get st.pages b ≡ Some page) (sym at) (found honest)
 
-    no_leaf : (g.backing new).honest ≡ true → (p : Page) → IsLeafAt st.pages (next_block before.cursor before.back) p → ⊥
+    no_leaf : (g.backing new).honest ≡ true → (p : Page) → IsLeafAt st.pages (next_block before.cursor before.backtrack) p → ⊥
     no_leaf honest p leaf =
-        let is_page = same_page st.pages (next_block before.cursor before.back) p page leaf.found (here honest) in
+        let is_page = same_page st.pages (next_block before.cursor before.backtrack) p page leaf.found (here honest) in
         none (subst (λ (q : Page). q.state ≡ Live) is_page leaf.alive) (subst (λ (q : Page). HasEntries q.items) is_page leaf.leaf)
 
-    read_on : (g.backing new).honest ≡ true → IsReadOn st st before.cursor before.back None
+    read_on : (g.backing new).honest ≡ true → IsReadOn st st before.cursor before.backtrack None
     read_on honest = record {
       cycle = refl;
       others = λ b differ. refl;
@@ -235,20 +235,20 @@ passes g dead before after old new block page steps same alive at inside_is foun
       from = λ b k. none_turned b k;
     }
 
-    none_dead : (g.backing new).honest ≡ true → dead_at dead st (next_block before.cursor before.back) ≡ []
+    none_dead : (g.backing new).honest ≡ true → dead_at dead st (next_block before.cursor before.backtrack) ≡ []
     none_dead honest = ap (dead_of dead) (here honest) ∙ no_entries (live_entries page.state page.items) (no_leaf_count page none)
       where
         no_entries : (es : List Entry) → length es ≡ 0 → removed_from (lives dead) es ≡ []
         no_entries [] h = refl
         no_entries (e ∷ es) h = absurd (let k : suc (length es) ≡ 0 = h in omega (arith, k))
 
-    count : (g.backing new).honest ≡ true → before.back ≡ None → entry_count (slice_get st.pages before.cursor) ≡ 0
+    count : (g.backing new).honest ≡ true → before.backtrack ≡ None → entry_count (slice_get st.pages before.cursor) ≡ 0
     count honest k = ap entry_count (subst (λ (o : Option Backtrack). slice_get st.pages (next_block before.cursor o) ≡ Some page) k (here honest)) ∙ no_leaf_count page none
 
-    past : (g.backing new).honest ≡ true → (b : ℕ) (p : Page) → IsLeafAt st.pages b p → before.cursor ≤ b → cursor_past before.cursor before.back ≤ b
-    past honest b p leaf le = by before.back refl
+    past : (g.backing new).honest ≡ true → (b : ℕ) (p : Page) → IsLeafAt st.pages b p → before.cursor ≤ b → cursor_past before.cursor before.backtrack ≤ b
+    past honest b p leaf le = by before.backtrack refl
       where
-        by : (o : Option Backtrack) → before.back ≡ o → cursor_past before.cursor o ≤ b
+        by : (o : Option Backtrack) → before.backtrack ≡ o → cursor_past before.cursor o ≤ b
         by (Some c) k = le
         by None k = elim (cases_eq before.cursor b) [
           | inl eq ↦ absurd (no_leaf honest p (subst (λ (n : ℕ). IsLeafAt st.pages n p) (sym eq ∙ sym (ap (λ (o : Option Backtrack). next_block before.cursor o) k)) leaf))
@@ -262,18 +262,18 @@ is_written : (n m : ℕ) → n ≡ suc m → nat_lt 0 n ≡ true
 is_written n m is = lt-ltb 0 n (omega (arith, is))
 
 -- a page that is read is written exactly where it has dead entries
-pub writes_dead : (dead : Row → Bool) (st : State) (op : BulkDeleteOp) (block : ℕ) (page : Page) (pruned : PrunedLeaf) → next_block op.cursor op.back ≡ block → slice_get st.pages block ≡ Some page
+pub writes_dead : (dead : Row → Bool) (st : State) (op : BulkDeleteOp) (block : ℕ) (page : Page) (pruned : PrunedLeaf) → next_block op.cursor op.backtrack ≡ block → slice_get st.pages block ≡ Some page
     → page.state ≡ Live → HasEntries page.items → IsPruned dead page pruned → nat_lt 0 pruned.gone ≡ has_dead dead st op
 writes_dead dead st op block page pruned at found alive leaf sw =
-    let here : slice_get st.pages (next_block op.cursor op.back) ≡ Some page = subst (λ (b : ℕ). slice_get st.pages b ≡ Some page) (sym at) found in
+    let here : slice_get st.pages (next_block op.cursor op.backtrack) ≡ Some page = subst (λ (b : ℕ). slice_get st.pages b ≡ Some page) (sym at) found in
     ap (λ (n : ℕ). nat_lt 0 n) (gone_is dead page pruned alive leaf sw ∙ ap (λ (o : Option Page). length (dead_of dead o)) (sym here))
 
 -- a live leaf loses its dead entries, and may lead back
 module _ {S : Type 0} (g : Ghosts S) (dead : Row → Bool) (before : BulkDeleteOp) (old new : S) (block : ℕ) (page : Page) (pruned : PrunedLeaf) (next_page : Option Backtrack)
-    (at : next_block before.cursor before.back ≡ block) (inside_is : before.back ≡ None → before.cursor < length (g.state old).pages)
+    (at : next_block before.cursor before.backtrack ≡ block) (inside_is : before.backtrack ≡ None → before.cursor < length (g.state old).pages)
     (found : (g.backing new).honest ≡ true → slice_get (g.state old).pages block ≡ Some page) (alive : page.state ≡ Live) (leaf : HasEntries page.items)
     (stored : IsStored (g.state old).limits block page) (used : block < length (g.state old).pages) (few : length (g.state old).pages ≤ (g.state old).limits.pages)
-    (turn : TurnsTo (g.state old).cycle (g.state old).limits.pages (last_read before.cursor before.back) (moves_of before.back) page next_page)
+    (turn : TurnsTo (g.state old).cycle (g.state old).limits.pages (last_read before.cursor before.backtrack) (moves_of before.backtrack) page next_page)
     (sw : IsPruned dead page pruned) (free : is_held_by_another (g.state old).table before.session pruned.after.block Cleanup ≡ false) where
   -- the store after the step
   abbrev pub now : State
@@ -289,13 +289,13 @@ module _ {S : Type 0} (g : Ghosts S) (dead : Row → Bool) (before : BulkDeleteO
   lt = subst (λ (b : ℕ). b < length (g.state old).pages) (sym block_is) used
 
   -- where it is read
-  next_is : page.block ≡ next_block before.cursor before.back
+  next_is : page.block ≡ next_block before.cursor before.backtrack
   next_is = block_is ∙ sym at
 
   found_here : (g.backing new).honest ≡ true → slice_get (g.state old).pages page.block ≡ Some page
   found_here honest = subst (λ (b : ℕ). slice_get (g.state old).pages b ≡ Some page) (sym block_is) (found honest)
 
-  leaf_here : (g.backing new).honest ≡ true → IsLeafAt (g.state old).pages (next_block before.cursor before.back) page
+  leaf_here : (g.backing new).honest ≡ true → IsLeafAt (g.state old).pages (next_block before.cursor before.backtrack) page
   leaf_here honest = record { found = subst (λ (b : ℕ). slice_get (g.state old).pages b ≡ Some page) next_is (found_here honest); alive = alive; leaf = leaf }
 
   free_here : is_held_by_another (g.state old).table before.session page.block Cleanup ≡ false
@@ -311,26 +311,26 @@ module _ {S : Type 0} (g : Ghosts S) (dead : Row → Bool) (before : BulkDeleteO
   there : (g.backing new).honest ≡ true → slice_get now.pages page.block ≡ Some stands
   there honest = written_there (nat_lt 0 pruned.gone) (without_dead dead page) (g.state old) page (found_here honest) lt
 
-  after_here : (g.backing new).honest ≡ true → (p : Page) → IsLeafAt now.pages (next_block before.cursor before.back) p → p ≡ stands
+  after_here : (g.backing new).honest ≡ true → (p : Page) → IsLeafAt now.pages (next_block before.cursor before.backtrack) p → p ≡ stands
   after_here honest p h = same_page now.pages page.block p stands (subst (λ (b : ℕ). slice_get now.pages b ≡ Some p) (sym next_is) h.found) (there honest)
 
-  live_there : (g.backing new).honest ≡ true → (p : Page) (e : Entry) → IsLeafAt now.pages (next_block before.cursor before.back) p → is_among (entries_of p.items) e ≡ true → dead e.row ≡ false
+  live_there : (g.backing new).honest ≡ true → (p : Page) (e : Entry) → IsLeafAt now.pages (next_block before.cursor before.backtrack) p → is_among (entries_of p.items) e ≡ true → dead e.row ≡ false
   live_there honest p e at_leaf on = left_lives dead page e (subst (λ (es : List Entry). is_among es e ≡ true) (ap (λ (q : Page). entries_of q.items) (after_here honest p at_leaf) ∙ left.entries) on)
 
-  others : (b : ℕ) → b ≢ next_block before.cursor before.back → slice_get now.pages b ≡ slice_get (g.state old).pages b
+  others : (b : ℕ) → b ≢ next_block before.cursor before.backtrack → slice_get now.pages b ≡ slice_get (g.state old).pages b
   others b differ = written_other (nat_lt 0 pruned.gone) (without_dead dead page) (g.state old) b (λ same. differ (same ∙ next_is)) lt
 
-  read_on : (g.backing new).honest ≡ true → IsReadOn (g.state old) now before.cursor before.back next_page
+  read_on : (g.backing new).honest ≡ true → IsReadOn (g.state old) now before.cursor before.backtrack next_page
   read_on honest = record {
     cycle = written_cycle (nat_lt 0 pruned.gone) (without_dead dead page) (g.state old);
     others = others;
     stays = λ p h. record { page = stands; was = record { found = subst (λ (b : ℕ). slice_get now.pages b ≡ Some stands) next_is (there honest); alive = left.alive; leaf = left.leaf } };
     turn = λ p b h leads.
-        let is_page = same_page (g.state old).pages (next_block before.cursor before.back) p page h.found (leaf_here honest).found in
-        turned (g.state old).cycle (g.state old).limits.pages (last_read before.cursor before.back) (moves_of before.back) page next_page turn b
-        (subst (λ (q : Page). LeadsBack (g.state old).cycle (last_read before.cursor before.back) q b) is_page leads);
+        let is_page = same_page (g.state old).pages (next_block before.cursor before.backtrack) p page h.found (leaf_here honest).found in
+        turned (g.state old).cycle (g.state old).limits.pages (last_read before.cursor before.backtrack) (moves_of before.backtrack) page next_page turn b
+        (subst (λ (q : Page). LeadsBack (g.state old).cycle (last_read before.cursor before.backtrack) q b) is_page leads);
     from = λ b is. (
-      (turned_from (g.state old).cycle (g.state old).limits.pages (last_read before.cursor before.back) (moves_of before.back) page next_page turn b is).1,
+      (turned_from (g.state old).cycle (g.state old).limits.pages (last_read before.cursor before.backtrack) (moves_of before.backtrack) page next_page turn b is).1,
       record { page = page; was = leaf_here honest },
     );
   }
@@ -353,7 +353,7 @@ module _ {S : Type 0} (g : Ghosts S) (dead : Row → Bool) (before : BulkDeleteO
       subst (StepEffect before.session (removes (e ∷ es)) (g.state old)) (ap (λ (b : Bool). written b (without_dead dead page) (g.state old)) (sym c))
       (does_remove (g.state old) before.session dead page e es order (removed honest) (sym (dead_is dead page alive leaf) ∙ is) free_here)
 
-  dead_here : (g.backing new).honest ≡ true → dead_at dead (g.state old) (next_block before.cursor before.back) ≡ dead_entries dead page
+  dead_here : (g.backing new).honest ≡ true → dead_at dead (g.state old) (next_block before.cursor before.backtrack) ≡ dead_entries dead page
   dead_here honest = ap (dead_of dead) (leaf_here honest).found
 
   trail_lasts : (g.backing new).honest ≡ true → IsInOrder (g.state old) → (start b moves : ℕ) → slice_get (g.state old).running before.session ≡ Some (Some start)
@@ -370,9 +370,9 @@ module _ {S : Type 0} (g : Ghosts S) (dead : Row → Bool) (before : BulkDeleteO
       by : (o : Option Backtrack) → next_page ≡ o → IsGoingBack now fits.start o
       by None is = tt
       by (Some b) is =
-          let t = turned_from (g.state old).cycle (g.state old).limits.pages (last_read before.cursor before.back) (moves_of before.back) page next_page turn b is in
+          let t = turned_from (g.state old).cycle (g.state old).limits.pages (last_read before.cursor before.backtrack) (moves_of before.backtrack) page next_page turn b is in
           let here = comes_here (g.state old) before page block order.tree fits at (record { found = found honest; alive = alive; leaf = leaf }) block_is in
-          let right = trail_moves_right (g.state old) fits.start 0 (moves_of before.back) b.block page order.tree (found_here honest) t.0.right_is here in
+          let right = trail_moves_right (g.state old) fits.start 0 (moves_of before.backtrack) b.block page order.tree (found_here honest) t.0.right_is here in
           trail_lasts honest order fits.start b.block b.moves fits.running (subst (HasTrail (g.state old) fits.start 0 b.block) (sym t.2) right)
 
   pub fits_on : (g.backing new).honest ≡ true → IsInOrder (g.state old) → BulkDeleteInvariant (g.state old) before → BulkDeleteInvariant now (moved_beyond before next_page pruned.kept pruned.gone)
@@ -381,14 +381,14 @@ module _ {S : Type 0} (g : Ghosts S) (dead : Row → Bool) (before : BulkDeleteO
     start = fits.start;
     running = ap (λ (r : List (Option ℕ)). slice_get r before.session) (written_running (nat_lt 0 pruned.gone) (without_dead dead page) (g.state old)) ∙ fits.running;
     held = ap (λ (t : Table). holding_of t before.session) (written_table (nat_lt 0 pruned.gone) (without_dead dead page) (g.state old)) ∙ fits.held;
-    back = goes_back honest order fits;
+    backtrack = goes_back honest order fits;
   }
 
   past : (g.backing new).honest ≡ true → (other b : ℕ) → other ≢ before.session → has_pin (holding_of (g.state old).table other).pins b ≡ true → before.cursor ≤ b
-      → cursor_past before.cursor before.back ≤ b
-  past honest other b differ pin le = by before.back refl
+      → cursor_past before.cursor before.backtrack ≤ b
+  past honest other b differ pin le = by before.backtrack refl
     where
-      by : (o : Option Backtrack) → before.back ≡ o → cursor_past before.cursor o ≤ b
+      by : (o : Option Backtrack) → before.backtrack ≡ o → cursor_past before.cursor o ≤ b
       by (Some c) k = le
       by None k = elim (cases_eq before.cursor b) [
         | inl eq ↦ (
@@ -400,15 +400,15 @@ module _ {S : Type 0} (g : Ghosts S) (dead : Row → Bool) (before : BulkDeleteO
   counted : (g.backing new).honest ≡ true → IsCounted dead (g.state old) before → IsCounted dead now (moved_beyond before next_page pruned.kept pruned.gone)
   counted honest h = counts_on dead (g.state old) now before next_page pruned.kept pruned.gone h others
       (λ b is.
-      let t = turned_from (g.state old).cycle (g.state old).limits.pages (last_read before.cursor before.back) (moves_of before.back) page next_page turn b is in
+      let t = turned_from (g.state old).cycle (g.state old).limits.pages (last_read before.cursor before.backtrack) (moves_of before.backtrack) page next_page turn b is in
       (t.0.below, t.1))
       (λ k. ap entry_count (subst (λ (b : ℕ). slice_get now.pages b ≡ Some stands) (next_is ∙ ap (λ (o : Option Backtrack). next_block before.cursor o) k) (there honest))
       ∙ ap length (live_is stands left.alive left.leaf ∙ left.entries) ∙ ap (λ (p : Page). length (entries_of p.items)) (sym sw.after_is) ∙ sym sw.kept_is)
       (λ p e at_leaf on. live_there honest p e at_leaf on)
       (λ b k.
       let low : b.block < before.cursor = (subst (IsBelow before.cursor) k h.below).0 in
-      let is : next_block before.cursor before.back ≡ b.block = ap (λ (o : Option Backtrack). next_block before.cursor o) k in
-      let none = none_lost dead page alive leaf (λ e on. h.clean (next_block before.cursor before.back) page e (omega (arith, low, is)) (leaf_here honest) on) in
+      let is : next_block before.cursor before.backtrack ≡ b.block = ap (λ (o : Option Backtrack). next_block before.cursor o) k in
+      let none = none_lost dead page alive leaf (λ e on. h.clean (next_block before.cursor before.backtrack) page e (omega (arith, low, is)) (leaf_here honest) on) in
       ap (λ (c : Bool). (written c (without_dead dead page) (g.state old)).pages) (not_written pruned.gone (lost ∙ none)))
 
   pub takes : (op : BulkDeleteOp) → Continues g.follows old new → (g.backing old).stopped ≡ false → g.state new ≡ written (nat_lt 0 pruned.gone) pruned.after (g.state old)
@@ -422,18 +422,18 @@ module _ {S : Type 0} (g : Ghosts S) (dead : Row → Bool) (before : BulkDeleteO
     refused = tt;
     stopped = λ h. runs_no_more (g.backing old).stopped running h;
     stats = tt;
-    less = subst (λ (s : State). bulk_delete_left s.limits.pages (length s.pages) (cursor_past before.cursor before.back) next_page
-        < bulk_delete_left (g.state old).limits.pages (length (g.state old).pages) before.cursor before.back) (sym new_is)
+    less = subst (λ (s : State). bulk_delete_left s.limits.pages (length s.pages) (cursor_past before.cursor before.backtrack) next_page
+        < bulk_delete_left (g.state old).limits.pages (length (g.state old).pages) before.cursor before.backtrack) (sym new_is)
         (rw (written_limits (nat_lt 0 pruned.gone) (without_dead dead page) (g.state old), written_length (nat_lt 0 pruned.gone) (without_dead dead page) (g.state old) lt)
-        (leaves_less (g.state old).limits.pages (length (g.state old).pages) before.cursor before.back next_page inside_is
-        (λ b k. let t = turned_from (g.state old).cycle (g.state old).limits.pages (last_read before.cursor before.back) (moves_of before.back) page next_page turn b k in (t.2, t.3))));
-    due = λ honest due of h. subst (λ (s : State). DueIsToCome due s (cursor_past before.cursor before.back) next_page) (sym new_is)
-        (due_comes_on (g.state old) now before.cursor before.back next_page h.from (read_on honest) due h
+        (leaves_less (g.state old).limits.pages (length (g.state old).pages) before.cursor before.backtrack next_page inside_is
+        (λ b k. let t = turned_from (g.state old).cycle (g.state old).limits.pages (last_read before.cursor before.backtrack) (moves_of before.backtrack) page next_page turn b k in (t.2, t.3))));
+    due = λ honest due of h. subst (λ (s : State). DueIsToCome due s (cursor_past before.cursor before.backtrack) next_page) (sym new_is)
+        (due_comes_on (g.state old) now before.cursor before.backtrack next_page h.from (read_on honest) due h
         (λ p e at_leaf on is_due. clash (dead e.row) (of e is_due) (live_there honest p e at_leaf on)));
     pins = λ honest other b p differ at_leaf pin le. past honest other b differ pin le;
     counts = λ honest h. subst (λ (s : State). IsCounted dead s (moved_beyond before next_page pruned.kept pruned.gone)) (sym new_is) (counted honest h);
     stepped = λ honest order fits. record {
-      does = subst (StepEffect before.session (removes (dead_at dead (g.state old) (next_block before.cursor before.back))) (g.state old)) (sym new_is)
+      does = subst (StepEffect before.session (removes (dead_at dead (g.state old) (next_block before.cursor before.backtrack))) (g.state old)) (sym new_is)
           (subst (λ (es : List Entry). StepEffect before.session (removes es) (g.state old) now) (sym (dead_here honest)) (does honest order (dead_entries dead page) refl));
       dead_rows = λ e on. dead_are dead page e (subst (λ (es : List Entry). is_among es e ≡ true) (dead_here honest) on);
       count = ap (λ (n : ℕ). before.removed + n) (lost ∙ ap length (sym (dead_here honest)));

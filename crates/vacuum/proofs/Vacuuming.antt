@@ -5,22 +5,22 @@ use Rattle.vacuum.proofs.Imports.{entry_on_live_leaf, State, IsLeafAt, WasLeaf, 
 use Rattle.vacuum.proofs.Imports.{DueIsToCome, LeadsBack, Backtrack}
 
 -- the page that was read leads on as it does, and no other page is changed
-pub record IsReadOn (st new : State) (cursor : ℕ) (back next_page : Option Backtrack) : Type 0 where
+pub record IsReadOn (st new : State) (cursor : ℕ) (backtrack next_page : Option Backtrack) : Type 0 where
   pub cycle : new.cycle ≡ st.cycle
-  pub others : (b : ℕ) → b ≢ next_block cursor back → slice_get new.pages b ≡ slice_get st.pages b
-  pub stays : (page : Page) → IsLeafAt st.pages (next_block cursor back) page → WasLeaf new.pages (next_block cursor back)
-  pub turn : (page : Page) (block : ℕ) → IsLeafAt st.pages (next_block cursor back) page → LeadsBack st.cycle (last_read cursor back) page block → IsSibling next_page block
-  pub from : (b : Backtrack) → next_page ≡ Some b → (b.from ≡ last_read cursor back) × WasLeaf st.pages (next_block cursor back)
+  pub others : (b : ℕ) → b ≢ next_block cursor backtrack → slice_get new.pages b ≡ slice_get st.pages b
+  pub stays : (page : Page) → IsLeafAt st.pages (next_block cursor backtrack) page → WasLeaf new.pages (next_block cursor backtrack)
+  pub turn : (page : Page) (block : ℕ) → IsLeafAt st.pages (next_block cursor backtrack) page → LeadsBack st.cycle (last_read cursor backtrack) page block → IsSibling next_page block
+  pub from : (b : Backtrack) → next_page ≡ Some b → (b.from ≡ last_read cursor backtrack) × WasLeaf st.pages (next_block cursor backtrack)
 
-last_falls : (st : State) (cursor : ℕ) (back next_page : Option Backtrack) (block : ℕ) → WentBackFromLeaf st cursor back → ((b : Backtrack) → next_page ≡ Some b → b.from ≡ last_read cursor back)
-    → block < last_read cursor back → block < last_read (cursor_past cursor back) next_page
-last_falls st cursor back (Some b) block went same below = rw (same b refl) below
+last_falls : (st : State) (cursor : ℕ) (backtrack next_page : Option Backtrack) (block : ℕ) → WentBackFromLeaf st cursor backtrack → ((b : Backtrack) → next_page ≡ Some b → b.from ≡ last_read cursor backtrack)
+    → block < last_read cursor backtrack → block < last_read (cursor_past cursor backtrack) next_page
+last_falls st cursor backtrack (Some b) block went same below = rw (same b refl) below
 last_falls st cursor None None block went same below = omega (arith, below)
 last_falls st cursor (Some c) None block went same below = omega (arith, below, went.0)
 
-module _ (st new : State) (cursor : ℕ) (back next_page : Option Backtrack) (went : WentBackFromLeaf st cursor back) (read : IsReadOn st new cursor back next_page) where
+module _ (st new : State) (cursor : ℕ) (backtrack next_page : Option Backtrack) (went : WentBackFromLeaf st cursor backtrack) (read : IsReadOn st new cursor backtrack next_page) where
   here : ℕ
-  here = next_block cursor back
+  here = next_block cursor backtrack
 
   begins : (c : Option Backtrack) (b : ℕ) → cursor ≤ b → (b ≡ next_block cursor c) ⊎ (cursor_past cursor c ≤ b)
   begins None b le = elim (cases_lt cursor b) [ inl lt ↦ inr lt | inr ge ↦ inl (omega (arith, le, ge)) ]
@@ -30,24 +30,24 @@ module _ (st new : State) (cursor : ℕ) (back next_page : Option Backtrack) (we
   is_here None b h = absurd h
   is_here (Some c) b h = h
 
-  pub comes_on : {block : ℕ} → BlockIsToCome st cursor back block → (block ≡ next_block cursor back) ⊎ BlockIsToCome new (cursor_past cursor back) next_page block
-  comes_on (ahead {block} le) = elim (begins back block le) [ inl same ↦ inl same | inr past ↦ inr (ahead past) ]
-  comes_on (sibling {block} is) = inl (is_here back block is)
+  pub comes_on : {block : ℕ} → BlockIsToCome st cursor backtrack block → (block ≡ next_block cursor backtrack) ⊎ BlockIsToCome new (cursor_past cursor backtrack) next_page block
+  comes_on (ahead {block} le) = elim (begins backtrack block le) [ inl same ↦ inl same | inr past ↦ inr (ahead past) ]
+  comes_on (sibling {block} is) = inl (is_here backtrack block is)
   comes_on (led {from} {block} page at carries right below rest) = onto from block page at carries right below (comes_on rest)
     where
-      onto : (from block : ℕ) (page : Page) → IsLeafAt st.pages from page → page.cycle ≡ st.cycle → page.right ≡ Some block → block < last_read cursor back
-          → (from ≡ next_block cursor back) ⊎ BlockIsToCome new (cursor_past cursor back) next_page from → (block ≡ next_block cursor back) ⊎ BlockIsToCome new (cursor_past cursor back) next_page block
-      onto from block page at carries right below now = elim (cases_eq from (next_block cursor back)) [
+      onto : (from block : ℕ) (page : Page) → IsLeafAt st.pages from page → page.cycle ≡ st.cycle → page.right ≡ Some block → block < last_read cursor backtrack
+          → (from ≡ next_block cursor backtrack) ⊎ BlockIsToCome new (cursor_past cursor backtrack) next_page from → (block ≡ next_block cursor backtrack) ⊎ BlockIsToCome new (cursor_past cursor backtrack) next_page block
+      onto from block page at carries right below now = elim (cases_eq from (next_block cursor backtrack)) [
         | inl same ↦ inr (sibling (read.turn page block (subst (λ (b : ℕ). IsLeafAt st.pages b page) same at) (record { carries = carries; right_is = right; below = below })))
         | inr differ ↦ elim now [
           | inl same ↦ absurd (differ same)
           | inr later ↦ inr (led page (record { found = read.others from differ ∙ at.found; alive = at.alive; leaf = at.leaf }) (carries ∙ sym read.cycle) right
-              (last_falls st cursor back next_page block went (λ b is. (read.from b is).0) below) later)
+              (last_falls st cursor backtrack next_page block went (λ b is. (read.from b is).0) below) later)
         ]
       ]
 
   leaf_lasts : (b : ℕ) → WasLeaf st.pages b → WasLeaf new.pages b
-  leaf_lasts b was = elim (cases_eq b (next_block cursor back)) [
+  leaf_lasts b was = elim (cases_eq b (next_block cursor backtrack)) [
     | inl same ↦ subst (λ (k : ℕ). WasLeaf new.pages k) (sym same) (read.stays was.page (subst (λ (k : ℕ). IsLeafAt st.pages k was.page) same was.was))
     | inr differ ↦ record { page = was.page; was = record { found = read.others b differ ∙ was.was.found; alive = was.was.alive; leaf = was.was.leaf } }
   ]
@@ -58,12 +58,12 @@ module _ (st new : State) (cursor : ℕ) (back next_page : Option Backtrack) (we
   from_lasts None h (Some b) is = (let k = is b refl in (ap suc k.0, leaf_lasts b.from (subst (WasLeaf st.pages) (sym k.0) k.1)))
   from_lasts (Some c) h (Some b) is = (let k = is b refl in (ap suc k.0 ∙ h.0, leaf_lasts b.from (subst (WasLeaf st.pages) (sym k.0) h.1)))
 
-  pub due_comes_on : (due : Entry → Bool) → DueIsToCome due st cursor back
-      → ((page : Page) (e : Entry) → IsLeafAt new.pages (next_block cursor back) page → is_among (entries_of page.items) e ≡ true → due e ≡ true → ⊥)
-      → DueIsToCome due new (cursor_past cursor back) next_page
+  pub due_comes_on : (due : Entry → Bool) → DueIsToCome due st cursor backtrack
+      → ((page : Page) (e : Entry) → IsLeafAt new.pages (next_block cursor backtrack) page → is_among (entries_of page.items) e ≡ true → due e ≡ true → ⊥)
+      → DueIsToCome due new (cursor_past cursor backtrack) next_page
   due_comes_on due h clean = record {
-    from = from_lasts back went next_page read.from;
-    to_come = λ block page e at on is_due. elim (cases_eq block (next_block cursor back)) [
+    from = from_lasts backtrack went next_page read.from;
+    to_come = λ block page e at on is_due. elim (cases_eq block (next_block cursor backtrack)) [
       | inl same ↦ absurd (clean page e (subst (λ (k : ℕ). IsLeafAt new.pages k page) same at) on is_due)
       | inr differ ↦ elim (comes_on (h.to_come block page e (record { found = sym (read.others block differ) ∙ at.found; alive = at.alive; leaf = at.leaf }) on is_due)) [
         | inl same ↦ absurd (differ same)

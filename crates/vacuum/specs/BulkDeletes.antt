@@ -29,7 +29,7 @@ use Rattle.vacuum.specs.declared.steps.BulkDeleteStep.TheVariants.{Going, Finish
 -- going back, it has come so far to the right from the leaf at which it began, past no page twice
 abbrev pub IsGoingBack : State → ℕ → Option Backtrack → Type 0
 IsGoingBack st start None = Unit {0}
-IsGoingBack st start (Some back) = HasTrail st start 0 back.block back.moves
+IsGoingBack st start (Some backtrack) = HasTrail st start 0 backtrack.block backtrack.moves
 
 -- what a bulk delete knows between its steps
 pub record BulkDeleteInvariant (st : State) (op : BulkDeleteOp) : Type 0 where
@@ -38,7 +38,7 @@ pub record BulkDeleteInvariant (st : State) (op : BulkDeleteOp) : Type 0 where
   pub start : ℕ
   pub running : slice_get st.running op.session ≡ Some (Some start)
   pub held : holding_of st.table op.session ≡ nothing_held
-  pub back : IsGoingBack st start op.back
+  pub backtrack : IsGoingBack st start op.backtrack
 
 -- a counter of 64 bits has no room for the entries of one more leaf
 abbrev pub is_full_count : ℕ → Bool
@@ -62,7 +62,7 @@ dead_at dead st block = dead_of dead (slice_get st.pages block)
 
 -- the page that is read next has dead entries
 abbrev pub has_dead : (Row → Bool) → State → BulkDeleteOp → Bool
-has_dead dead st op = nat_lt 0 (length (dead_at dead st (next_block op.cursor op.back)))
+has_dead dead st op = nat_lt 0 (length (dead_at dead st (next_block op.cursor op.backtrack)))
 
 -- the block, if it is written
 abbrev pub block_if : Bool → ℕ → List ℕ
@@ -83,18 +83,18 @@ causes_of_taking images st old new op = record nothing_wrong {
 -- writes the page that it reads where that has dead entries
 abbrev pub causes_of_deleting : (Row → Bool) → State → Backing → Backing → BulkDeleteOp → Circumstances
 causes_of_deleting dead st old new op =
-    causes_of_taking (block_if (has_dead dead st op) (next_block op.cursor op.back)) st old new op
+    causes_of_taking (block_if (has_dead dead st op) (next_block op.cursor op.backtrack)) st old new op
 
 -- a page is read: its dead entries are removed in one act
 pub record BulkDeleteContinues (dead : Row → Bool) (old new : State) (before after : BulkDeleteOp)
     : Type 0 where
   pub does : StepEffect before.session
-      (removes (dead_at dead old (next_block before.cursor before.back))) old new
+      (removes (dead_at dead old (next_block before.cursor before.backtrack))) old new
   pub dead_rows : (e : Entry)
-      → is_among (dead_at dead old (next_block before.cursor before.back)) e ≡ true
+      → is_among (dead_at dead old (next_block before.cursor before.backtrack)) e ≡ true
       → dead e.row ≡ true
   pub count : after.removed
-      ≡ before.removed + length (dead_at dead old (next_block before.cursor before.back))
+      ≡ before.removed + length (dead_at dead old (next_block before.cursor before.backtrack))
   pub fits : BulkDeleteInvariant new after
 
 -- each block in use was read
@@ -102,7 +102,7 @@ pub record BulkDeleteEnds (old new : State) (before after : BulkDeleteOp) : Type
   pub state : new ≡ old
   pub op : after ≡ before
   pub last : length old.pages ≤ before.cursor
-  pub none : before.back ≡ None
+  pub none : before.backtrack ≡ None
 
 -- what a step of a bulk delete does, by what it answers
 abbrev pub BulkDeleteStepped : (Row → Bool) → State → Backing → State → Backing → BulkDeleteOp
@@ -129,18 +129,18 @@ StatsAreRight st op (Err fault) = Unit {0}
 abbrev pub BulkDeleteHasLessLeft : State → State → BulkDeleteOp → BulkDeleteOp
     → Result BulkDeleteStep Fault → Type 0
 BulkDeleteHasLessLeft old new before after (Ok Going) =
-    bulk_delete_left new.limits.pages (length new.pages) after.cursor after.back
-    < bulk_delete_left old.limits.pages (length old.pages) before.cursor before.back
+    bulk_delete_left new.limits.pages (length new.pages) after.cursor after.backtrack
+    < bulk_delete_left old.limits.pages (length old.pages) before.cursor before.backtrack
 BulkDeleteHasLessLeft old new before after (Ok (Finished stats)) = Unit {0}
 BulkDeleteHasLessLeft old new before after (Err fault) = Unit {0}
 
 -- what was due is to come still; at the end none of it is there
 abbrev pub DueStaysToCome : (Entry → Bool) → State → BulkDeleteOp → Result BulkDeleteStep Fault
     → Type 0
-DueStaysToCome due new after (Ok Going) = DueIsToCome due new after.cursor after.back
+DueStaysToCome due new after (Ok Going) = DueIsToCome due new after.cursor after.backtrack
 DueStaysToCome due new after (Ok (Finished stats)) =
     (e : Entry) → due e ≡ true → entry_on_live_leaf new.pages e ≡ false
-DueStaysToCome due new after (Err fault) = DueIsToCome due new after.cursor after.back
+DueStaysToCome due new after (Err fault) = DueIsToCome due new after.cursor after.backtrack
 
 -- the set has each entry that is due
 abbrev pub IsDueOf : (Row → Bool) → (Entry → Bool) → Type 0
@@ -184,7 +184,7 @@ pub record BulkDeleteSteps {S : Type 0} (g : Ghosts S) (dead : Row → Bool)
     pub stats : StatsAreRight (g.state old) before result
     pub less : BulkDeleteHasLessLeft (g.state old) (g.state new) before after result
     pub due : (g.backing new).honest ≡ true → (due : Entry → Bool) → IsDueOf dead due
-        → DueIsToCome due (g.state old) before.cursor before.back
+        → DueIsToCome due (g.state old) before.cursor before.backtrack
         → DueStaysToCome due (g.state new) after result
     pub pins : (g.backing new).honest ≡ true
         → StaysBeforePins (g.state old) before after result

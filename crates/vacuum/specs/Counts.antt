@@ -50,13 +50,13 @@ stats_of st op = record {
 -- going back, it is below the cursor
 abbrev pub IsBelow : ℕ → Option Backtrack → Type 0
 IsBelow cursor None = Unit {0}
-IsBelow cursor (Some back) = (back.block < cursor) × (back.from < cursor)
+IsBelow cursor (Some backtrack) = (backtrack.block < cursor) × (backtrack.from < cursor)
 
 -- Where nobody else acted since it began: the pages before the cursor have no dead entry any more, and as many entries as it
 -- counted.
 pub record IsCounted (dead : Row → Bool) (st : State) (op : BulkDeleteOp) : Type 0 where
   pub counted : op.left ≡ entries_below st.pages op.cursor
-  pub below : IsBelow op.cursor op.back
+  pub below : IsBelow op.cursor op.backtrack
   pub clean : (block : ℕ) (page : Page) (e : Entry) → block < op.cursor
       → IsLeafAt st.pages block page → is_among (entries_of page.items) e ≡ true
       → dead e.row ≡ false

@@ -24,15 +24,15 @@ BulkDeletesAreUndisturbed =
 abbrev pub DueIsUndisturbed : Type 0
 DueIsUndisturbed =
     (due : Entry → Bool) (effect : Option Effect) (old new : State) (cursor : ℕ)
-    (back : Option Backtrack)
+    (backtrack : Option Backtrack)
     → LeafPagesStay effect old new → ((e : Entry) → IsAddedBy effect e → due e ≡ false)
-    → DueIsToCome due old cursor back → DueIsToCome due new cursor back
+    → DueIsToCome due old cursor backtrack → DueIsToCome due new cursor backtrack
 
 -- before the first step each entry is to come
 abbrev pub AllIsToCome : Type 0
 AllIsToCome =
     (due : Entry → Bool) (st : State) (session : ℕ) → IsInOrder st
-    → DueIsToCome due st (fresh_bulk_delete session).cursor (fresh_bulk_delete session).back
+    → DueIsToCome due st (fresh_bulk_delete session).cursor (fresh_bulk_delete session).backtrack
 
 -- ... and nothing is counted
 abbrev pub NothingIsCounted : Type 0
@@ -44,4 +44,4 @@ NothingIsCounted =
 abbrev pub BulkDeletesAreBounded : Type 0
 BulkDeletesAreBounded =
     (most used : ℕ) (op : BulkDeleteOp) → most ≤ 65536 → used ≤ 65536
-    → bulk_delete_left most used op.cursor op.back < 4398046511104
+    → bulk_delete_left most used op.cursor op.backtrack < 4398046511104

@@ -15,7 +15,7 @@ abbrev pub fresh_bulk_delete : ℕ → BulkDeleteOp
 fresh_bulk_delete session = record {
   session = session;
   cursor = 1;
-  back = None;
+  backtrack = None;
   left = 0;
   removed = 0;
 }
@@ -35,19 +35,19 @@ dead_entries dead page = removed_from (lives dead) (live_entries page.state page
 -- the block that is read next: going back the sibling, else that at the cursor
 abbrev pub next_block : ℕ → Option Backtrack → ℕ
 next_block cursor None = cursor
-next_block cursor (Some back) = back.block
+next_block cursor (Some backtrack) = backtrack.block
 
 -- the last leaf that was read in block order, or is: going back it goes to blocks below that
 abbrev pub last_read : ℕ → Option Backtrack → ℕ
 last_read cursor None = cursor
-last_read cursor (Some back) = back.from
+last_read cursor (Some backtrack) = backtrack.from
 
 -- how many moves back were made since that leaf
 abbrev pub moves_of : Option Backtrack → ℕ
 moves_of None = 0
-moves_of (Some back) = back.moves
+moves_of (Some backtrack) = backtrack.moves
 
 -- the cursor after the block that is read
 abbrev pub cursor_past : ℕ → Option Backtrack → ℕ
 cursor_past cursor None = suc cursor
-cursor_past cursor (Some back) = cursor
+cursor_past cursor (Some backtrack) = cursor

@@ -18,8 +18,8 @@ pub record LeadsBack (cycle from : ℕ) (page : Page) (block : ℕ) : Type 0 whe
 -- after a leaf the bulk delete goes back to the sibling to which it leads, by one move more; or it leads to none
 abbrev pub TurnsTo : ℕ → ℕ → ℕ → ℕ → Page → Option Backtrack → Type 0
 TurnsTo cycle most from moves page None = (block : ℕ) → LeadsBack cycle from page block → ⊥
-TurnsTo cycle most from moves page (Some back) = LeadsBack cycle from page back.block
-    × (back.from ≡ from) × (back.moves ≡ suc moves) × (moves < most)
+TurnsTo cycle most from moves page (Some backtrack) = LeadsBack cycle from page backtrack.block
+    × (backtrack.from ≡ from) × (backtrack.moves ≡ suc moves) × (moves < most)
 
 -- so many moves were made
 pub record TurnsNoMore (cycle most from moves : ℕ) (page : Page) : Type 0 where
@@ -36,14 +36,14 @@ pub record IsPruned (dead : Row → Bool) (page : Page) (pruned : PrunedLeaf) : 
 -- the entries left are counted in block order alone
 abbrev pub left_with : ℕ → Option Backtrack → ℕ → ℕ
 left_with left None kept = left + kept
-left_with left (Some back) kept = left
+left_with left (Some backtrack) kept = left
 
 -- the bulk delete after a page that it has read
 abbrev pub moved_beyond : BulkDeleteOp → Option Backtrack → ℕ → ℕ → BulkDeleteOp
-moved_beyond op back kept gone = record op {
-  cursor = cursor_past op.cursor op.back;
-  back = back;
-  left = left_with op.left op.back kept;
+moved_beyond op backtrack kept gone = record op {
+  cursor = cursor_past op.cursor op.backtrack;
+  backtrack = backtrack;
+  left = left_with op.left op.backtrack kept;
   removed = op.removed + gone;
 }
 

@@ -5,8 +5,8 @@ use Rattle.vacuum.specs.declared.steps.Backtrack.{Backtrack}
 -- how many moves back are left, of so many
 abbrev pub moves_left : ℕ → Option Backtrack → ℕ
 moves_left most None = 0
-moves_left most (Some back) = suc (suc most - back.moves)
+moves_left most (Some backtrack) = suc (suc most - backtrack.moves)
 
 -- the blocks in use from the cursor on, and the moves back that each may bring
 abbrev pub bulk_delete_left : ℕ → ℕ → ℕ → Option Backtrack → ℕ
-bulk_delete_left most used cursor back = (used - cursor) * (most + 3) + moves_left most back
+bulk_delete_left most used cursor backtrack = (used - cursor) * (most + 3) + moves_left most backtrack

@@ -35,7 +35,7 @@ pub struct BulkDeleteOp {
     /// The block that comes next in block order: each before it was read.
     pub cursor: u32,
     /// The siblings that it reads before it goes on at the cursor, if it goes back.
-    pub back: Option<Backtrack>,
+    pub backtrack: Option<Backtrack>,
     /// The entries that were left on each live leaf when it was read in block order, summed.
     pub left: u64,
     /// The entries removed.
@@ -63,7 +63,7 @@ impl BulkDeleteOp {
         BulkDeleteOp {
             session,
             cursor: 1,
-            back: None,
+            backtrack: None,
             left: 0,
             removed: 0,
         }
@@ -88,8 +88,8 @@ impl BulkDeleteOp {
         if store.is_stopped() || self.is_counted_out() {
             return Err(Fault::Stopped);
         }
-        match self.back {
-            Some(back) => self.read(store, dead, back.block),
+        match self.backtrack {
+            Some(backtrack) => self.read(store, dead, backtrack.block),
             None if self.cursor < store.used() => self.read(store, dead, self.cursor),
             None => Ok(BulkDeleteStep::Finished(stats(self, store))),
         }
@@ -109,12 +109,12 @@ impl BulkDeleteOp {
         dead: &T,
         block: u32,
     ) -> Result<BulkDeleteStep, Fault>
-        requires at { next_block self.old.cursor self.old.back ≡ block }
+        requires at { next_block self.old.cursor self.old.backtrack ≡ block }
         requires alive { (S.backing store.old).stopped ≡ false }
         requires room { is_counted_out self.old ≡ false }
-        requires inside { self.old.back ≡ None
+        requires inside { self.old.backtrack ≡ None
             → self.old.cursor < length (S.state store.old).pages }
-        requires narrow { self.old.back ≡ None → self.old.cursor < 4294967295 }
+        requires narrow { self.old.backtrack ≡ None → self.old.cursor < 4294967295 }
         ensures all { BulkDeleteSteps S.PageStore (T.is_in dead.now) self.old self.new
             store.old store.new result }
         ensures faults { IfErr result (HasCause causes_of_writing_any) }
@@ -128,8 +128,8 @@ impl BulkDeleteOp {
             self.go_on(None, 0, 0);
             return Ok(BulkDeleteStep::Going);
         }
-        let back = match self.turn(page, store.cycle(), store.limits().pages) {
-            Ok(back) => back,
+        let backtrack = match self.turn(page, store.cycle(), store.limits().pages) {
+            Ok(backtrack) => backtrack,
             Err(fault) => return Err(fault),
         };
         let pruned = prune(page, dead);
@@ -137,21 +137,21 @@ impl BulkDeleteOp {
             Ok(()) => {}
             Err(fault) => return Err(fault),
         }
-        self.go_on(back, pruned.kept, pruned.gone);
+        self.go_on(backtrack, pruned.kept, pruned.gone);
         Ok(BulkDeleteStep::Going)
     }
 
     // Where it goes back after a leaf, if it does: to the right sibling, below the last leaf read in block order, of one
     // that carries the cycle number.
     fn turn(&self, page: &Page, cycle: u32, most: u32) -> Result<Option<Backtrack>, Fault>
-        ensures turns { IfOk result (TurnsTo cycle most (last_read self.now.cursor self.now.back)
-            (moves_of self.now.back) page.now) }
+        ensures turns { IfOk result (TurnsTo cycle most (last_read self.now.cursor self.now.backtrack)
+            (moves_of self.now.backtrack) page.now) }
         ensures fault { IfErr result (λ f. f ≡ Fault.PageDamaged page.now.block) }
         ensures refused { OnErr result (TurnsNoMore cycle most
-            (last_read self.now.cursor self.now.back) (moves_of self.now.back) page.now) }
+            (last_read self.now.cursor self.now.backtrack) (moves_of self.now.backtrack) page.now) }
     {
-        let (from, moves) = match self.back {
-            Some(back) => (back.from, back.moves),
+        let (from, moves) = match self.backtrack {
+            Some(backtrack) => (backtrack.from, backtrack.moves),
             None => (self.cursor, 0),
         };
         match page.right {
@@ -198,18 +198,18 @@ impl BulkDeleteOp {
     }
 
     // Goes on after a page: back to a sibling, or at the cursor.
-    fn go_on(&mut self, back: Option<Backtrack>, kept: u64, gone: u64)
+    fn go_on(&mut self, backtrack: Option<Backtrack>, kept: u64, gone: u64)
         requires room { is_counted_out self.old ≡ false }
-        requires narrow { self.old.back ≡ None → self.old.cursor < 4294967295 }
+        requires narrow { self.old.backtrack ≡ None → self.old.cursor < 4294967295 }
         requires kept { kept ≤ 50 }
         requires gone { gone ≤ 50 }
-        ensures { self.new ≡ moved_beyond self.old back kept gone }
+        ensures { self.new ≡ moved_beyond self.old backtrack kept gone }
     {
-        if self.back.is_none() {
+        if self.backtrack.is_none() {
             self.cursor += 1;
             self.left += kept;
         }
-        self.back = back;
+        self.backtrack = backtrack;
         self.removed += gone;
     }
 }

@@ -255,7 +255,7 @@ module _ {S : Type 0} (g : Ghosts S) (start : Entry → Bool) (session least_roo
       → nat_lt st.frames (frames_at st at + count_apart (pinned_blocks st.table)) ≡ true
       → (busy || nat_lt (g.state y.store).frames 4) ≡ true
   insert_frames of n e (Coming Start) is stands h = pins_cause 1 1 nothing_held (subst (λ (s : ℕ). holding_of st.table s ≡ nothing_held) is stands) (omega arith) (omega arith) h
-  insert_frames of n e (Coming (At way)) is stands h = pins_cause 1 1 nothing_held (subst (λ (s : ℕ). holding_of st.table s ≡ nothing_held) is stands.0) (omega arith) (omega arith) h
+  insert_frames of n e (Coming (At position)) is stands h = pins_cause 1 1 nothing_held (subst (λ (s : ℕ). holding_of st.table s ≡ nothing_held) is stands.0) (omega arith) (omega arith) h
   insert_frames of n e (Coming (Holds block)) is stands h =
       pins_cause (frames_at st (Coming (Holds block))) 3 (leaf_held block) (subst (λ (s : ℕ). holding_of st.table s ≡ leaf_held block) is stands.0)
       (let k = put_few st (slice_get st.pages block) in omega (arith, k)) (omega arith) h
@@ -313,8 +313,8 @@ module _ {S : Type 0} (g : Ghosts S) (start : Entry → Bool) (session least_roo
   deleting dead op is f Stopped h = counts_cause (g.backing x.store).stopped (has_failed (g.backing x.store) (g.backing y.store)) (is_counted_out op) h
   deleting dead op is f (Blocked b) h = held_cause b Cleanup (subst (λ (s : ℕ). is_held_by_another st.table s b Cleanup ≡ true) is h)
   deleting dead op is f LogFull h =
-      (let one = block_few (has_dead dead st op) (next_block op.cursor op.back) in
-      enough least_room (g.backing x.store) (g.backing y.store) (block_if (has_dead dead st op) (next_block op.cursor op.back)) room (omega (arith, one)) h)
+      (let one = block_few (has_dead dead st op) (next_block op.cursor op.backtrack) in
+      enough least_room (g.backing x.store) (g.backing y.store) (block_if (has_dead dead st op) (next_block op.cursor op.backtrack)) room (omega (arith, one)) h)
   deleting dead op is f NoFrame h = pins_cause 1 1 nothing_held (subst (λ (s : ℕ). holding_of st.table s ≡ nothing_held) is f.held) (omega arith) (omega arith) h
   deleting dead op is f fault h = h
 

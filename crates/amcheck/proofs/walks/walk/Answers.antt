@@ -47,7 +47,7 @@ loop-preserved c =
           c.add.new.self (subst (IsMet c.add.new.self) c.len-in-loop.ensures c.add.ensures.met) c.add.ensures.added
           (level_there c.args.pages.now c.args.level c.args.depth c.loop.stop.block c.requires.level on)
           c.push_reserved.new.self.items c.push_reserved.ensures.items c.in-Some.right c.next_stop-stop.result (c.loop.counter + 1)
-          (sym c.sketch-sketch.ensures.is.right ∙ c.in-Some.is) c.next_stop-stop.ensures.block (c.next_stop-stop.ensures.spot (nodes_of c.args.pages.now) c.sketch-sketch.ensures.is) (omega arith);
+          (sym c.sketch-sketch.ensures.is.right ∙ c.in-Some.is) c.next_stop-stop.ensures.block (c.next_stop-stop.ensures.context (nodes_of c.args.pages.now) c.sketch-sketch.ensures.is) (omega arith);
       room = c.push_reserved.ensures.capacity ∙ c.loop.invariant.room;
     }
 

@@ -12,8 +12,8 @@ returns-clause-all g c =
     let found : (g.S.PageStore.backing c.read_shared.new.store).honest ≡ true → slice_get old.pages 0 ≡ Some meta =
     λ honest. subst (λ (st : State). slice_get st.pages 0 ≡ Some meta) c.read_shared.ensures.state (c.view.ensures.page honest) in
     let most : ℕ = old.limits.pages in
-    let low : c.in-Some.way.level ≤ 255 = (let l = level_low meta stored.storable.admitted in let e = c.in-Some.ensures.level in omega arith) in
-    let shorter = walk_is_long most c.in-Some.way low in
+    let low : c.in-Some.position.level ≤ 255 = (let l = level_low meta stored.storable.admitted in let e = c.in-Some.ensures.level in omega arith) in
+    let shorter = walk_is_long most c.in-Some.position low in
     rw c.come_to.ensures (goes_on g.S.PageStore c.args.self.now _ c.args.store.now c.read_shared.new.store c.read_shared.ensures.steps c.read_shared.ensures.state refl refl c.requires.alive
     (λ honest. rw c.requires.at (omega (arith, shorter)))
     (λ honest order fits.
@@ -26,7 +26,7 @@ returns-clause-all g c =
         running = fits.running;
         stands = (
           free,
-          on_way_from_root old fits.start (entry_aim c.args.self.now.entry) true 0 meta c.in-Some.way order.tree (found honest) (omega arith)
+          on_way_from_root old fits.start (entry_aim c.args.self.now.entry) true 0 meta c.in-Some.position order.tree (found honest) (omega arith)
               (λ root names. sym c.in-Some.is ∙ c.way_down.ensures.named root names),
         );
         to_come = subst (λ (a : InsertAt). IsToCome a c.args.self.now.added) c.requires.at fits.to_come;
@@ -35,7 +35,7 @@ returns-clause-all g c =
       flags = λ only. subst (λ (a : InsertAt). OnlyTargetsAreIncomplete old (targets_at a)) c.requires.at only;
     })
     (λ honest order whole on.
-    let there = root_covers_there old (entry_aim c.args.self.now.entry) meta c.in-Some.way order.tree whole (found honest) (λ root names. sym c.in-Some.is ∙ c.way_down.ensures.named root names) in (
+    let there = root_covers_there old (entry_aim c.args.self.now.entry) meta c.in-Some.position order.tree whole (found honest) (λ root names. sym c.in-Some.is ∙ c.way_down.ensures.named root names) in (
       there.0,
-      subst (λ (a : InsertAt). suc (c.in-Some.way.level + 2) ≡ straight_steps old.pages a) (sym c.requires.at) (let z = there.1 in omega (arith, z)),
+      subst (λ (a : InsertAt). suc (c.in-Some.position.level + 2) ≡ straight_steps old.pages a) (sym c.requires.at) (let z = there.1 in omega (arith, z)),
     )))

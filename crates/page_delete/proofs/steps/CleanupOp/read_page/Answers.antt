@@ -15,7 +15,7 @@ returns-in-Err-clause-all g c =
     (let none : [] ≡ blocks_written c.args.self.now.at c.args.self.now.cursor old = ap (λ (a : CleanupAt). blocks_written a c.args.self.now.cursor old) (sym c.requires.at) in
     subst (λ (n : List ℕ). HasCause (causes_of_trying old (g.S.PageStore.backing c.args.store.now) (g.S.PageStore.backing c.read_shared.new.store) c.args.self.now.session n) c.in-Err.fault) none
     (c.in-Err.ensures.works honest (has_room old c.args.self.now fits)
-    (trail_in_use old fits.start c.args.way.level c.args.way.block c.args.way.moves order.tree u.1.trail) [] 1 false false (omega arith))))
+    (trail_in_use old fits.start c.args.position.level c.args.position.block c.args.position.moves order.tree u.1.trail) [] 1 false false (omega arith))))
   where
     clash : false ≡ true → ⊥
     clash e = cc
@@ -24,12 +24,12 @@ pub returns-clause-all : goal.returns-clause-all
 returns-clause-all g c =
     let old = g.S.PageStore.state c.args.store.now in
     let most : c.limits-most.result.pages ≡ old.limits.pages = ap (λ (l : Limits). l.pages) c.limits-most.ensures.value ∙ ap (λ (s : State). s.limits.pages) c.read_shared.ensures.state in
-    descends g.S.PageStore c.args.self.now c.turn_from_page.new.self c.args.high c.args.way c.args.store.now c.read_shared.new.store c.lead-next_page.result
+    descends g.S.PageStore c.args.self.now c.turn_from_page.new.self c.args.high c.args.position c.args.store.now c.read_shared.new.store c.lead-next_page.result
     c.turn_from_page.result c.requires.at c.requires.alive
-    c.read_shared.ensures.steps c.read_shared.ensures.state c.if-way-eq0.false
-    (subst (λ (n : ℕ). DescentIsShorter 1 n c.args.way c.lead-next_page.result) most c.lead-next_page.ensures.less)
-    (λ honest start order way. c.lead-next_page.ensures.goes old start false order.tree
-    (subst (λ (st : State). slice_get st.pages c.args.way.block ≡ Some c.view.result.now) c.read_shared.ensures.state (c.view.ensures.page honest)) way (λ e. absurd (clash e))
+    c.read_shared.ensures.steps c.read_shared.ensures.state c.if-position-eq0.false
+    (subst (λ (n : ℕ). DescentIsShorter 1 n c.args.position c.lead-next_page.result) most c.lead-next_page.ensures.less)
+    (λ honest start order position. c.lead-next_page.ensures.goes old start false order.tree
+    (subst (λ (st : State). slice_get st.pages c.args.position.block ≡ Some c.view.result.now) c.read_shared.ensures.state (c.view.ensures.page honest)) position (λ e. absurd (clash e))
     (subst (λ (n : ℕ). length old.pages ≤ n) (sym most) c.in-Ok.ensures.inside))
     c.turn_from_page.ensures.op c.turn_from_page.ensures.answer
   where

@@ -1,5 +1,5 @@
 use Rattle.std.proofs.Common.{rules, ◌≡◌, ◌<◌, false, Some, slice_get, sym, ap, subst, ◌∙◌, arith, Ok, suc}
-use Rattle.scan.proofs.Imports.{Page, State, IsLater, with_table, frontier_aim, IsOnDescent, way_from, Position, ScanAt, without_leaf, ScanInvariant, ScanWaits, IsUnderway, scan_straight_steps}
+use Rattle.scan.proofs.Imports.{Page, State, IsLater, with_table, frontier_aim, IsOnDescent, position_from, Position, ScanAt, without_leaf, ScanInvariant, ScanWaits, IsUnderway, scan_straight_steps}
 use Rattle.scan.proofs.Imports.{ScanCountsDown, scan_left, Going, HasCover, ScanOp}
 use Rattle.scan.proofs.Moving.{going_does, going_fits, first_less}
 use Rattle.scan.proofs.Resting.{quiet_by, rests}
@@ -13,13 +13,13 @@ returns-clause-all g c =
     let before : ScanOp = c.args.self.now in
     let after : ScanOp = c.go_on.new.self in
     let page : Page = c.view.result.now in
-    let way : Position = c.in-Some.way in
+    let position : Position = c.in-Some.position in
     let is : new ≡ with_table old (without_leaf old.table before.session before.leaf) =
     c.go_on.ensures.state ∙ ap (λ (st : State). with_table st (without_leaf st.table before.session before.leaf)) c.read_shared.ensures.state in
-    let low : way.level < 256 = search rules in
+    let low : position.level < 256 = search rules in
     let less : scan_left old.limits.pages old.pages after < scan_left old.limits.pages old.pages before =
     subst (λ (op : ScanOp). scan_left old.limits.pages old.pages op < scan_left old.limits.pages old.pages before) (sym c.go_on.ensures.op)
-    (first_less old.limits.pages old.pages before way c.requires.at low) in
+    (first_less old.limits.pages old.pages before position c.requires.at low) in
     record {
       steps = search rules;
       session = ap (λ (op : ScanOp). op.session) c.go_on.ensures.op;
@@ -37,15 +37,15 @@ returns-clause-all g c =
           g.met.S.PageStore.laws.follows_later _ _ (c.go_on.ensures.steps _ (g.met.S.PageStore.laws.follows_same _)) in
           let found : slice_get old.pages 0 ≡ Some page = subst (λ (st : State). slice_get st.pages 0 ≡ Some page) c.read_shared.ensures.state (c.view.ensures.page (later.honest honest)) in
           let root = root_way old fits.start (frontier_aim before.frontier) false page order.tree found in
-          let named : Some way ≡ Some (way_from root.root page.level) = sym c.in-Some.is ∙ c.way_down.ensures.named root.root root.names in
-          let same : way ≡ way_from root.root page.level = cc in
+          let named : Some position ≡ Some (position_from root.root page.level) = sym c.in-Some.is ∙ c.way_down.ensures.named root.root root.names in
+          let same : position ≡ position_from root.root page.level = cc in
           record {
             does = going_does old new before order fits is;
             fits = subst (ScanInvariant new) (sym c.go_on.ensures.op)
-                (going_fits old new before order fits is way (subst (IsOnDescent old fits.start (frontier_aim before.frontier) false 0) (sym same) root.on));
+                (going_fits old new before order fits is position (subst (IsOnDescent old fits.start (frontier_aim before.frontier) false 0) (sym same) root.on));
             none = c.requires.none;
             from = subst IsUnderway (sym c.requires.at) tt;
-            way = way;
+            position = position;
             op = c.go_on.ensures.op;
           };
       straight = λ honest order whole none starts.
@@ -53,11 +53,11 @@ returns-clause-all g c =
           g.met.S.PageStore.laws.follows_later _ _ (c.go_on.ensures.steps _ (g.met.S.PageStore.laws.follows_same _)) in
           let found : slice_get old.pages 0 ≡ Some page = subst (λ (st : State). slice_get st.pages 0 ≡ Some page) c.read_shared.ensures.state (c.view.ensures.page (later.honest honest)) in
           let root = straight_root old (frontier_aim before.frontier) page order.tree whole found in
-          let named : Some way ≡ Some (way_from root.root page.level) = sym c.in-Some.is ∙ c.way_down.ensures.named root.root root.names in
-          let same : way ≡ way_from root.root page.level = cc in
+          let named : Some position ≡ Some (position_from root.root page.level) = sym c.in-Some.is ∙ c.way_down.ensures.named root.root root.names in
+          let same : position ≡ position_from root.root page.level = cc in
           subst (λ (op : ScanOp). ScanCountsDown old before op (Ok Going)) (sym c.go_on.ensures.op) (
             subst (λ (w : Position). HasCover old w.level (frontier_aim before.frontier) w.block) (sym same) root.covers,
-            subst (λ (a : ScanAt). suc (suc way.level) ≡ scan_straight_steps old.pages a) (sym c.requires.at)
-                (let l : way.level ≡ page.level = ap (λ (w : Position). w.level) same in let m = root.level_is in omega arith),
+            subst (λ (a : ScanAt). suc (suc position.level) ≡ scan_straight_steps old.pages a) (sym c.requires.at)
+                (let l : position.level ≡ page.level = ap (λ (w : Position). w.level) same in let m = root.level_is in omega arith),
           );
     }

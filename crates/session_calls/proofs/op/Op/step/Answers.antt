@@ -59,7 +59,7 @@ returns-in-Ok-Going-clause-due g c honest order fits left due =
     let mine = subst (λ (op : Op). OpInvariant old op) c.in-Insert.is fits in
     let mine_due = subst (λ (op : Op). IsDueIn old (Some op) (suc left)) c.in-Insert.is due in
     let all = c.in-Ok-Going.ensures.all in
-    let counted = rw c.in-Ok-Going.field-0-is at (all.straight honest order mine mine_due.whole mine_due.way mine_due.room) in
+    let counted = rw c.in-Ok-Going.field-0-is at (all.straight honest order mine mine_due.whole mine_due.position mine_due.room) in
     insert_counts old (g.S.PageStore.state c.step.new.store) c.in-Insert.op c.step.new.self left mine_due c.step.ensures.all.entry
     (rw c.in-Ok-Going.field-0-is at (all.stepped honest order mine)) counted.0 counted.1
 
@@ -77,7 +77,7 @@ returns-in-Ok-Going-step-clause-due g c honest order fits left due =
     let mine = subst (λ (op : Op). OpInvariant old op) c.in-Scan.is fits in
     let mine_due = subst (λ (op : Op). IsDueIn old (Some op) (suc left)) c.in-Scan.is due in
     let all = c.in-Ok-Going-step.ensures.all in
-    let counted = rw c.in-Ok-Going-step.field-0-is at (all.straight honest order mine_due.whole mine_due.none mine_due.way) in
+    let counted = rw c.in-Ok-Going-step.field-0-is at (all.straight honest order mine_due.whole mine_due.none mine_due.position) in
     scan_counts old (g.S.PageStore.state c.step-in-Scan.new.store) c.in-Scan.op c.step-in-Scan.new.self left mine_due
     (rw c.in-Ok-Going-step.field-0-is at (all.stepped honest order mine)) counted.0 counted.1
 

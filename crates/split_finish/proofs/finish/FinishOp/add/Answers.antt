@@ -25,7 +25,7 @@ returns-in-Ok-clause-all g c =
     let changed : List Page = take 2 (slice_set (slice_set c.args.pages.now 0 c.add_link.new.page) 1 c.clear_split.new.page) in
     acts_done g.S.PageStore op c.pop.new.self c.args.store.now c.act_on.new.store c.pop.result changed c.act_on.ensures.steps c.in-Ok.ensures.done
     (popped_session op c.pop.new.self c.pop.result c.pop.ensures)
-    (λ honest order fits. links st op (g.S.PageStore.backing c.args.store.now).honest meets.way ready.page ready.parent c.args.new changed order fits (later.honest honest)
+    (λ honest order fits. links st op (g.S.PageStore.backing c.args.store.now).honest meets.position ready.page ready.parent c.args.new changed order fits (later.honest honest)
     meets.at meets.read meets.read_parent meets.ready have.right (g.met.S.PageStore.laws.few c.args.store.now) have.room linked
     (g.S.PageStore.backing c.args.store.now) (g.S.PageStore.backing c.act_on.new.store) c.pop.new.self c.pop.result c.pop.ensures)
 
@@ -49,9 +49,9 @@ returns-in-Err-clause-all g c =
     act_refused g.S.PageStore op c.args.store.now c.act_on.new.store c.in-Err.fault changed c.act_on.ensures.steps c.in-Err.ensures.refused
     (λ honest.
     ap (map (λ (page : Page). page.block)) are.pages_are
-    ∙ two_are are.parent_after.block are.page_after.block meets.way.block op.target.block (are.block_is ∙ meets.read_parent.stored.block_is) (are.clear.block_is ∙ meets.read.stored.block_is)
+    ∙ two_are are.parent_after.block are.page_after.block meets.position.block op.target.block (are.block_is ∙ meets.read_parent.stored.block_is) (are.clear.block_is ∙ meets.read.stored.block_is)
     ∙ sym (ap (finish_blocks st op.target) meets.at
-    ∙ roomy_link st op meets.way ready.page ready.parent (meets.read.found (later.honest honest)) (meets.read_parent.found (later.honest honest)) meets.ready have.room))
+    ∙ roomy_link st op meets.position ready.page ready.parent (meets.read.found (later.honest honest)) (meets.read_parent.found (later.honest honest)) meets.ready have.room))
     (λ honest order fits.
-    c.in-Err.ensures.cause (may_link_all st op (g.S.PageStore.backing c.args.store.now).honest meets.way ready.page ready.parent c.args.new changed order fits (later.honest honest)
+    c.in-Err.ensures.cause (may_link_all st op (g.S.PageStore.backing c.args.store.now).honest meets.position ready.page ready.parent c.args.new changed order fits (later.honest honest)
     meets.at meets.read meets.read_parent meets.ready have.right (g.met.S.PageStore.laws.few c.args.store.now) have.room are))

@@ -26,7 +26,7 @@ link_to-requires-clause-read g c =
         stored = c.in-Ok.ensures.stored.0;
         free = c.in-Ok.ensures.free.0;
       });
-      read_parent = subst (λ (s : State). IsReadToChange s (g.S.PageStore.backing c.read_both.new.store).honest op.session c.args.way.block parent) (sym c.read_both.ensures.state) (record {
+      read_parent = subst (λ (s : State). IsReadToChange s (g.S.PageStore.backing c.read_both.new.store).honest op.session c.args.position.block parent) (sym c.read_both.ensures.state) (record {
         found = λ honest. (c.in-Ok.ensures.pages honest).1;
         stored = c.in-Ok.ensures.stored.1;
         free = c.in-Ok.ensures.free.1;
@@ -57,5 +57,5 @@ returns-in-Err-clause-all g c =
     (λ honest order fits.
     let stands = subst (FinishStands st fits.start op.target) c.requires fits.stands in
     c.in-Err.ensures.cause honest (has_room st op fits) (place_inside st fits.start op.target.level _ true op.target.block order.tree fits.newest.place)
-    (place_inside st fits.start c.args.way.level _ true c.args.way.block order.tree stands.1.place)
+    (place_inside st fits.start c.args.position.level _ true c.args.position.block order.tree stands.1.place)
     (finish_blocks st op.target op.at) (frames_of st op.target op.at) (takes_block_of st op.target op.at) (splits_root_of st op.target op.at) (needs_frame st op.target op.at))

@@ -20,9 +20,9 @@ returns-in_default-place_behind-clause-all g c =
     (subst (λ (q : Page). NoLinkPlace q (slice_index_or c.args.pages.now 1 c.index-pages-1.result).block op.target.separator) first c.in_default-place_behind.ensures.none) in
     acts_not g.S.PageStore op c.args.store.now c.args.store.now _ (λ first h. h) refl
     (λ honest order fits. absurd (there_is_a_place st fits.start op.target.level op.target.separator are.page are.parent c.in-Some.new order.tree
-    (unfinished st op (g.S.PageStore.backing c.args.store.now).honest meets.way are.page are.parent c.in-Some.new order fits honest meets.at meets.read meets.read_parent meets.ready right)
-    (parent_found st op (g.S.PageStore.backing c.args.store.now).honest meets.way are.page are.parent c.in-Some.new order fits honest meets.at meets.read meets.read_parent meets.ready right)
-    (parent_covers st op (g.S.PageStore.backing c.args.store.now).honest meets.way are.page are.parent c.in-Some.new order fits honest meets.at meets.read meets.read_parent meets.ready right)
+    (unfinished st op (g.S.PageStore.backing c.args.store.now).honest meets.position are.page are.parent c.in-Some.new order fits honest meets.at meets.read meets.read_parent meets.ready right)
+    (parent_found st op (g.S.PageStore.backing c.args.store.now).honest meets.position are.page are.parent c.in-Some.new order fits honest meets.at meets.read meets.read_parent meets.ready right)
+    (parent_covers st op (g.S.PageStore.backing c.args.store.now).honest meets.position are.page are.parent c.in-Some.new order fits honest meets.at meets.read meets.read_parent meets.ready right)
     none))
 
 pub add-requires-clause-room : goal.add-requires-clause-room

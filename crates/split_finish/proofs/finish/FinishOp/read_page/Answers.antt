@@ -9,7 +9,7 @@ returns-in-Ok-clause-all g c =
     turns g.S.PageStore c.args.self.now c.leave_page.new.self c.args.store.now c.read_shared.new.store c.leave_page.result c.read_shared.ensures.steps c.read_shared.ensures.state
     c.leave_page.ensures.session c.leave_page.ensures.refused (λ h. (let k = sym c.in-Ok.is ∙ c.read_shared.ensures.stopped h in cc))
     (λ honest. c.leave_page.ensures.turn (g.S.PageStore.state c.args.store.now)
-    (ap (λ (st : State). slice_get st.pages c.args.way.block) (sym c.read_shared.ensures.state) ∙ c.view.ensures.page honest)
+    (ap (λ (st : State). slice_get st.pages c.args.position.block) (sym c.read_shared.ensures.state) ∙ c.view.ensures.page honest)
     (ap (λ (st : State). st.limits.pages) (sym c.read_shared.ensures.state) ∙ sym (ap (λ (l : _). l.pages) c.limits-most.ensures.value))
     (let most = c.in-Ok.ensures.inside in
     let same = ap (λ (st : State). st.limits.pages) (sym c.read_shared.ensures.state) ∙ sym (ap (λ (l : _). l.pages) c.limits-most.ensures.value) in
@@ -24,4 +24,4 @@ returns-in-Err-clause-all g c =
     (λ honest order fits.
     let on = subst (FinishStands st fits.start op.target) c.requires fits.stands in
     subst (λ (a : FinishAt). HasCause (causes_of_finishing st (g.S.PageStore.backing c.args.store.now) (g.S.PageStore.backing c.read_shared.new.store) op.session op.target a) c.in-Err.fault) (sym c.requires)
-    (c.in-Err.ensures.works honest (has_room st op fits) (place_inside st fits.start c.args.way.level _ true c.args.way.block order.tree on.place) [] 1 false false (omega arith)))
+    (c.in-Err.ensures.works honest (has_room st op fits) (place_inside st fits.start c.args.position.level _ true c.args.position.block order.tree on.place) [] 1 false false (omega arith)))

@@ -11,17 +11,17 @@ pub returns-in-Err-clause-all : goal.returns-in-Err-clause-all
 returns-in-Err-clause-all g c =
     let op = c.args.self.now in
     let st : State = g.S.PageStore.state c.args.store.now in
-    let way = c.requires.meets.way in
+    let position = c.requires.meets.position in
     acts_not g.S.PageStore op c.args.store.now c.take_block.new.store c.in-Err.fault c.take_block.ensures.steps c.take_block.ensures.state
     (λ honest order fits.
     subst (λ (a : FinishAt).
     HasCause (causes_of_finishing st (g.S.PageStore.backing c.args.store.now) (g.S.PageStore.backing c.take_block.new.store) op.session op.target a) c.in-Err.fault) (sym c.requires.meets.at)
     (subst (λ (b : Bool).
     HasCause (causes_of_working st (g.S.PageStore.backing c.args.store.now) (g.S.PageStore.backing c.take_block.new.store) op.session
-    (finish_blocks st op.target (Link way)) (frames_of st op.target (Link way)) b false) c.in-Err.fault)
+    (finish_blocks st op.target (Link position)) (frames_of st op.target (Link position)) b false) c.in-Err.fault)
     (let sound = subst (λ (b : Backing). b.honest ≡ true) c.take_block.ensures.backing honest in
-    sym (full_link st op way c.args.page c.args.parent (c.requires.meets.read.found sound) (c.requires.meets.read_parent.found sound) c.requires.meets.ready c.requires.no_room).1)
-    (c.in-Err.ensures.cause (has_room st op fits) (finish_blocks st op.target (Link way)) (frames_of st op.target (Link way)) false)))
+    sym (full_link st op position c.args.page c.args.parent (c.requires.meets.read.found sound) (c.requires.meets.read_parent.found sound) c.requires.meets.ready c.requires.no_room).1)
+    (c.in-Err.ensures.cause (has_room st op fits) (finish_blocks st op.target (Link position)) (frames_of st op.target (Link position)) false)))
 
 pub split_links-half-requires-clause-block : goal.split_links-half-requires-clause-block
 split_links-half-requires-clause-block g c = c.in-Ok.ensures.block c.requires.some
@@ -37,7 +37,7 @@ returns-in-Ok-act_on_halves-clause-all g c =
     let later : IsLater (g.S.PageStore.backing c.args.store.now) (g.S.PageStore.backing c.act_on_halves.new.store) =
     g.met.S.PageStore.laws.follows_later _ _ (c.act_on_halves.ensures.steps _ (c.take_block.ensures.steps _ (g.met.S.PageStore.laws.follows_same _))) in
     let same = c.take_block.ensures.state in
-    parts g.S.PageStore op _ c.args.store.now c.act_on_halves.new.store c.requires.meets.way c.args.page c.args.parent left half clear c.args.right c.args.new c.in-Some.target
+    parts g.S.PageStore op _ c.args.store.now c.act_on_halves.new.store c.requires.meets.position c.args.page c.args.parent left half clear c.args.right c.args.new c.in-Some.target
     (λ first h. c.act_on_halves.ensures.steps first (c.take_block.ensures.steps first h)) c.requires.meets.at later.honest
     (record {
       read = c.requires.meets.read;
@@ -74,10 +74,10 @@ returns-in-Err-act_on_halves-clause-all g c =
     acts_not g.S.PageStore op c.args.store.now c.act_on_halves.new.store c.in-Err-act_on_halves.fault
     (λ before h. c.act_on_halves.ensures.steps before (c.take_block.ensures.steps before h)) (c.in-Err-act_on_halves.ensures.refused ∙ same)
     (λ honest order fits.
-    let beside = beside_parent st op.session first.honest op c.requires.meets.way c.args.page c.args.parent order fits c.requires.meets.at
+    let beside = beside_parent st op.session first.honest op c.requires.meets.position c.args.page c.args.parent order fits c.requires.meets.at
     (later.honest honest) c.requires.meets.read c.requires.meets.read_parent c.requires.meets.ready in
-    let here : PartsParent st true op.session op c.requires.meets.way c.args.page c.args.parent left half clear c.args.right c.args.new =
-    subst (λ (b : Bool). PartsParent st b op.session op c.requires.meets.way c.args.page c.args.parent left half clear c.args.right c.args.new) (later.honest honest) (record {
+    let here : PartsParent st true op.session op c.requires.meets.position c.args.page c.args.parent left half clear c.args.right c.args.new =
+    subst (λ (b : Bool). PartsParent st b op.session op c.requires.meets.position c.args.page c.args.parent left half clear c.args.right c.args.new) (later.honest honest) (record {
       read = c.requires.meets.read;
       read_parent = c.requires.meets.read_parent;
       ready = c.requires.meets.ready;
@@ -92,9 +92,9 @@ returns-in-Err-act_on_halves-clause-all g c =
       right_found = c.requires.beside_found;
       clears = record { only = c.clear_split.ensures.only; after_is = c.clear_split.ensures.node; block_is = ap (λ (p : Page). p.block) c.clear_split.ensures.only };
     }) in
-    let some_pages : 0 < length st.pages = (let u = inside st.pages c.requires.meets.way.block c.args.parent (c.requires.meets.read_parent.found (later.honest honest)) in omega arith) in
+    let some_pages : 0 < length st.pages = (let u = inside st.pages c.requires.meets.position.block c.args.parent (c.requires.meets.read_parent.found (later.honest honest)) in omega arith) in
     let may : AreActable st.limits (length st.pages) (halves_and left half c.args.right clear) =
-    parts_may st op.session op c.requires.meets.way c.args.page c.args.parent left half clear c.args.right c.args.new order fits c.requires.meets.at here (g.met.S.PageStore.laws.few c.args.store.now)
+    parts_may st op.session op c.requires.meets.position c.args.page c.args.parent left half clear c.args.right c.args.new order fits c.requires.meets.at here (g.met.S.PageStore.laws.few c.args.store.now)
     c.split_links-half.ensures.left_page c.split_links-half.ensures.right_page c.split_links-half.ensures.left_internal
     c.split_links-half.ensures.right_internal c.requires.place.internal c.requires.full
     c.split_links-half.ensures.kept c.split_links-half.ensures.moved (subst IsBlock (sym is_new) (c.in-Ok.ensures.block some_pages))
@@ -105,10 +105,10 @@ returns-in-Err-act_on_halves-clause-all g c =
     subst (λ (b : Backing). HasCause (causes_of_acting st b third (halves_and left half c.args.right clear)) c.in-Err-act_on_halves.fault) c.take_block.ensures.backing
     (subst (λ (s : State). HasCause (causes_of_acting s (g.S.PageStore.backing c.take_block.new.store) third (halves_and left half c.args.right clear)) c.in-Err-act_on_halves.fault) same
     (c.in-Err-act_on_halves.ensures.cause (subst (λ (s : State). AreActable s.limits (length s.pages) (halves_and left half c.args.right clear)) (sym same) may))) in
-    let need = full_link st op c.requires.meets.way c.args.page c.args.parent (c.requires.meets.read.found (later.honest honest))
+    let need = full_link st op c.requires.meets.position c.args.page c.args.parent (c.requires.meets.read.found (later.honest honest))
     (c.requires.meets.read_parent.found (later.honest honest)) c.requires.meets.ready c.requires.no_room in
     let are : map (λ (page : Page). page.block) (halves_and left half c.args.right clear) ≡ finish_blocks st op.target op.at =
-    parted_are st op.session c.requires.meets.way.block (fresh_block st) op.target.block left half clear c.args.parent.right c.args.right
+    parted_are st op.session c.requires.meets.position.block (fresh_block st) op.target.block left half clear c.args.parent.right c.args.right
     (c.split_links-half.ensures.left_block ∙ c.requires.meets.read_parent.stored.block_is) (is_new ∙ sym (fresh_is st c.in-Ok.fresh c.in-Ok.ensures.fresh))
     (ap (λ (p : Page). p.block) c.clear_split.ensures.only ∙ c.requires.meets.read.stored.block_is) c.requires.beside
     ∙ sym (ap (finish_blocks st op.target) c.requires.meets.at ∙ need.0) in

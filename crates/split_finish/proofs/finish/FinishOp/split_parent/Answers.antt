@@ -39,7 +39,7 @@ returns-in-Err-clause-all g c =
     g.met.S.PageStore.laws.follows_later _ _ (c.read_right.ensures.steps _ (g.met.S.PageStore.laws.follows_same _)) in
     acts_not g.S.PageStore op c.args.store.now c.read_right.new.store c.in-Err.fault c.read_right.ensures.steps c.read_right.ensures.state
     (λ honest order fits.
-    let beside = beside_parent st op.session (g.S.PageStore.backing c.args.store.now).honest op c.requires.meets.way c.args.page.now c.args.parent.now
+    let beside = beside_parent st op.session (g.S.PageStore.backing c.args.store.now).honest op c.requires.meets.position c.args.page.now c.args.parent.now
     order fits c.requires.meets.at (later.honest honest) c.requires.meets.read c.requires.meets.read_parent c.requires.meets.ready in
     c.in-Err.ensures.cause honest (has_room st op fits) beside.mendable
     (finish_blocks st op.target op.at) (frames_of st op.target op.at) (takes_block_of st op.target op.at) (splits_root_of st op.target op.at) (needs_frame st op.target op.at))

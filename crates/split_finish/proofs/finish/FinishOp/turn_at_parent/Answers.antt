@@ -26,9 +26,9 @@ returns-then-page-self-clause-turn c = λ st found there h fits.
 pub returns-clause-turn : goal.returns-clause-turn
 returns-clause-turn c = λ st found there.
     let op = c.args.self.now in
-    turn_moved st op (Link c.args.way) (Down c.args.way) c.requires
-    (less_back st.limits.pages (nodes_of st.pages) op.below.items op.target c.args.way (omega arith)
-    (subst (λ (n : Node). is_ready n (suc op.target.level) op.target.separator ≡ false) (sym (node_there st.pages c.args.way.block c.args.parent.now there))
+    turn_moved st op (Link c.args.position) (Down c.args.position) c.requires
+    (less_back st.limits.pages (nodes_of st.pages) op.below.items op.target c.args.position (omega arith)
+    (subst (λ (n : Node). is_ready n (suc op.target.level) op.target.separator ≡ false) (sym (node_there st.pages c.args.position.block c.args.parent.now there))
     (subst (λ (s : Bound). is_ready (node_of c.args.parent.now) (suc op.target.level) s ≡ false) (c.are_same.ensures.same c.if-not-are_same.false) (sym c.is_ready.ensures ∙ c.if-is_ready.false)))
     (omega arith))
     (λ h fits stands. stands.1)

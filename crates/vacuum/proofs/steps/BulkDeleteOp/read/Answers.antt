@@ -44,9 +44,9 @@ returns-in-Err-turn-clause-all g c =
     refuses g.S.PageStore (g.T.DeadRows.is_in c.args.dead.now) before c.args.store.now c.read_shared.new.store c.in-Err-turn.fault c.read_shared.ensures.steps c.read_shared.ensures.state
     (λ h. absurd (let k : false ≡ true = sym c.requires.alive ∙ h in cc))
     (λ honest order fits.
-    absurd (never_too_far old before c.view-page.result.now c.args.block c.cycle.result (last_read before.cursor before.back) order fits c.requires.at
+    absurd (never_too_far old before c.view-page.result.now c.args.block c.cycle.result (last_read before.cursor before.backtrack) order fits c.requires.at
     (record { found = found g (goal.at.returns-in-Err-turn-clause-all g c).After-view-page honest; alive = leaf.0; leaf = leaf.1 }) there.block_is c.in-Ok.ensures.inside
-    (subst (λ (n : ℕ). TurnsNoMore c.cycle.result n (last_read before.cursor before.back) (moves_of before.back) c.view-page.result.now) most c.in-Err-turn.ensures.refused)))
+    (subst (λ (n : ℕ). TurnsNoMore c.cycle.result n (last_read before.cursor before.backtrack) (moves_of before.backtrack) c.view-page.result.now) most c.in-Err-turn.ensures.refused)))
 
 pub take-requires : goal.take-requires
 take-requires g c =
@@ -78,7 +78,7 @@ returns-in-Err-take-clause-all g c =
     let second = g.S.PageStore.backing c.read_shared.new.store in
     let third = g.S.PageStore.backing c.take.new.store in
     let at_view = (goal.at.returns-in-Err-take-clause-all g c).After-view-page in
-    let block : c.prune-pruned.result.after.block ≡ next_block before.cursor before.back =
+    let block : c.prune-pruned.result.after.block ≡ next_block before.cursor before.backtrack =
     ap (λ (p : Page). p.block) c.prune-pruned.ensures.pruned.after_is ∙ (stored g at_view).block_is ∙ sym c.requires.at in
     subst (λ (b : ℕ). HasCause (causes_of_taking (block_if (has_dead dead old before) b) old first third before) c.in-Err-take.fault) block
     (subst (λ (writes : Bool). HasCause (causes_of_taking (block_if writes c.prune-pruned.result.after.block) old first third before) c.in-Err-take.fault)
@@ -97,10 +97,10 @@ returns-clause-all g c =
     g.met.S.PageStore.laws.follows_later _ _ (c.take.ensures.steps _ (g.met.S.PageStore.laws.follows_same _)) in
     let most : c.limits.result.pages ≡ old.limits.pages = ap (λ (l : Limits). l.pages) c.limits.ensures.value ∙ ap (λ (s : State). s.limits.pages) c.read_shared.ensures.state in
     let cycle : c.cycle.result ≡ old.cycle = c.cycle.ensures ∙ ap (λ (s : State). s.cycle) c.read_shared.ensures.state in
-    takes g.S.PageStore (g.T.DeadRows.is_in c.args.dead.now) before c.args.store.now c.take.new.store c.args.block c.view-page.result.now c.prune-pruned.result c.in-Ok-turn.back
+    takes g.S.PageStore (g.T.DeadRows.is_in c.args.dead.now) before c.args.store.now c.take.new.store c.args.block c.view-page.result.now c.prune-pruned.result c.in-Ok-turn.backtrack
     c.requires.at c.requires.inside (λ honest. found g at_view (later.honest honest)) leaf.0 leaf.1 (stored g at_view) c.in-Ok.ensures.used c.in-Ok.ensures.inside
-    (subst (λ (n : ℕ). TurnsTo n old.limits.pages (last_read before.cursor before.back) (moves_of before.back) c.view-page.result.now c.in-Ok-turn.back) cycle
-    (subst (λ (n : ℕ). TurnsTo c.cycle.result n (last_read before.cursor before.back) (moves_of before.back) c.view-page.result.now c.in-Ok-turn.back) most c.in-Ok-turn.ensures.turns))
+    (subst (λ (n : ℕ). TurnsTo n old.limits.pages (last_read before.cursor before.backtrack) (moves_of before.backtrack) c.view-page.result.now c.in-Ok-turn.backtrack) cycle
+    (subst (λ (n : ℕ). TurnsTo c.cycle.result n (last_read before.cursor before.backtrack) (moves_of before.backtrack) c.view-page.result.now c.in-Ok-turn.backtrack) most c.in-Ok-turn.ensures.turns))
     c.prune-pruned.ensures.pruned
     (subst (λ (st : State). is_held_by_another st.table before.session c.prune-pruned.result.after.block Cleanup ≡ false) c.read_shared.ensures.state c.in-Ok-take.ensures.free)
     c.go_on-2.new.self (λ first h. c.take.ensures.steps first (c.read_shared.ensures.steps first h)) c.requires.alive

@@ -7,7 +7,7 @@ ghost use Rattle.tree_shape.specs.Tree.{IsMetaOf};
 ghost use Rattle.tree_shape.specs.Walks.{is_within};
 ghost use Rattle.tree_acts.specs.Trees.{HasTree, HasCover};
 ghost use Rattle.tree_acts.specs.Ways.{NoneIsIncomplete};
-ghost use Rattle.descent.specs.NextPage.{IsOnDescent, LeadsToNext, DescentIsShorter, LeadsStraight, IsArrived, way_from, right_of, going, DownTo};
+ghost use Rattle.descent.specs.NextPage.{IsOnDescent, LeadsToNext, DescentIsShorter, LeadsStraight, IsArrived, position_from, right_of, going, DownTo};
 
 use page_codec::{Items, Page, PageState};
 use tree_shape::{SearchKey, child_toward};
@@ -35,8 +35,8 @@ pub enum NextPage {
 /// The way from the metapage to the root; None where the page names none.
 pub fn way_down(meta: &Page) -> Option<Position>
     ensures named { (root : ℕ) → IsMetaOf meta.now root meta.now.level
-        → result ≡ Some (way_from root meta.now.level) }
-    ensures level { IfSome result (λ way. way.level ≡ meta.now.level) }
+        → result ≡ Some (position_from root meta.now.level) }
+    ensures level { IfSome result (λ position. position.level ≡ meta.now.level) }
 {
     if !matches!(meta.items, Items::Meta) {
         return None;
@@ -58,13 +58,13 @@ fn is_live(state: PageState) -> bool
 }
 
 // Whether it is a live page of another level than it is to be.
-fn is_astray(page: &Page, way: &Position) -> bool
+fn is_astray(page: &Page, position: &Position) -> bool
     ensures live { result ≡ true → page.now.state ≡ PageState.Live }
-    ensures level { result ≡ true → page.now.level ≢ way.now.level }
+    ensures level { result ≡ true → page.now.level ≢ position.now.level }
     ensures in_place { result ≡ false → page.now.state ≡ PageState.Live
-        → page.now.level ≡ way.now.level }
+        → page.now.level ≡ position.now.level }
 {
-    is_live(page.state) && page.level != way.level
+    is_live(page.state) && page.level != position.level
 }
 
 // Whether the page is not live, or what is looked for lies beyond its high key.
@@ -78,23 +78,23 @@ fn is_passed(page: &Page, aim: &SearchKey) -> bool
 }
 
 // The page to the right, unless so many moves were made.
-fn go_right(page: &Page, way: &Position, most: u32) -> Option<Position>
-    ensures { result ≡ right_of page.now way.now most }
+fn go_right(page: &Page, position: &Position, most: u32) -> Option<Position>
+    ensures { result ≡ right_of page.now position.now most }
 {
     match page.right {
-        Some(block) if way.moves < most => Some(Position {
+        Some(block) if position.moves < most => Some(Position {
             block,
-            level: way.level,
-            moves: way.moves + 1,
+            level: position.level,
+            moves: position.moves + 1,
         }),
         _ => None,
     }
 }
 
 // The child that leads to what is looked for.
-fn go_down(page: &Page, way: &Position, aim: &SearchKey) -> Option<Position>
-    requires { 0 < way.now.level }
-    ensures { DownTo page.now way.now aim.now result }
+fn go_down(page: &Page, position: &Position, aim: &SearchKey) -> Option<Position>
+    requires { 0 < position.now.level }
+    ensures { DownTo page.now position.now aim.now result }
 {
     let Items::Downlinks(links) = &page.items else {
         return None;
@@ -102,7 +102,7 @@ fn go_down(page: &Page, way: &Position, aim: &SearchKey) -> Option<Position>
     match child_toward(links.as_slice(), aim) {
         Some(block) => Some(Position {
             block,
-            level: way.level - 1,
+            level: position.level - 1,
             moves: 0,
         }),
         None => None,
@@ -112,38 +112,44 @@ fn go_down(page: &Page, way: &Position, aim: &SearchKey) -> Option<Position>
 /// Where the page of this way leads a call on its way to the level `to`: right, where it is not live or what is looked for
 /// lies beyond its high key; else down, to a page that is one level lower; or it is the page sought. None where the page is
 /// on another level than it is to be, where a link or a child is missing, or where `most` moves right were made.
-pub fn lead(page: &Page, way: &Position, aim: &SearchKey, to: u8, most: u32) -> Option<NextPage>
-    requires { to ≤ way.now.level }
+pub fn lead(
+    page: &Page,
+    position: &Position,
+    aim: &SearchKey,
+    to: u8,
+    most: u32,
+) -> Option<NextPage>
+    requires { to ≤ position.now.level }
     ensures goes { (st : State) (start : ℕ) (clear : Bool) → HasTree st
-        → slice_get st.pages way.now.block ≡ Some page.now
-        → IsOnDescent st start (aim_of aim.now) clear to way.now
+        → slice_get st.pages position.now.block ≡ Some page.now
+        → IsOnDescent st start (aim_of aim.now) clear to position.now
         → (clear ≡ true → page.now.split ≡ false) → length st.pages ≤ most
-        → LeadsToNext st start (aim_of aim.now) clear to way.now result }
-    ensures less { DescentIsShorter to most way.now result }
+        → LeadsToNext st start (aim_of aim.now) clear to position.now result }
+    ensures less { DescentIsShorter to most position.now result }
     ensures straight { (st : State) → HasTree st → NoneIsIncomplete st.pages
-        → slice_get st.pages way.now.block ≡ Some page.now
-        → HasCover st way.now.level (aim_of aim.now) way.now.block
-        → LeadsStraight st (aim_of aim.now) to way.now result }
+        → slice_get st.pages position.now.block ≡ Some page.now
+        → HasCover st position.now.level (aim_of aim.now) position.now.block
+        → LeadsStraight st (aim_of aim.now) to position.now result }
     ensures here { result ≡ Some NextPage.Here → IsArrived page.now (aim_of aim.now) }
     ensures level { result ≡ Some NextPage.Here → page.now.level ≡ to }
 {
-    if is_astray(page, way) {
+    if is_astray(page, position) {
         return None;
     }
     if is_passed(page, aim) {
-        return going(go_right(page, way, most));
+        return going(go_right(page, position, most));
     }
-    if way.level == to {
+    if position.level == to {
         return Some(NextPage::Here);
     }
-    going(go_down(page, way, aim))
+    going(go_down(page, position, aim))
 }
 
-fn going(way: Option<Position>) -> Option<NextPage>
-    ensures { result ≡ going way }
+fn going(position: Option<Position>) -> Option<NextPage>
+    ensures { result ≡ going position }
 {
-    match way {
-        Some(way) => Some(NextPage::Going(way)),
+    match position {
+        Some(position) => Some(NextPage::Going(position)),
         None => None,
     }
 }
