@@ -1,11 +1,11 @@
 //! Calls of one session.
 
-use crate::dead::{NO_SETS, SEVEN_AND_EIGHT};
-use crate::plain::{begin, end, is_added, is_refused, is_running, next, sessions, step};
-use crate::trees::{ALL, entry, tree};
+use crate::dead::{Blocks, NO_SETS, SEVEN_AND_EIGHT};
+use crate::plain::{acts, begin, cycle, end, is_added, is_refused, is_running, next, step};
+use crate::trees::{ALL, entry, over_calls};
 use arrayvec::ArrayVec;
 use index_model::{Entry, Fault};
-use page_action::{MapStore, PageStore};
+use page_action::MapStore;
 use session_calls::{Answer, Calls, Request};
 use std::test::{Fail, *};
 
@@ -26,55 +26,88 @@ fn gives(calls: &mut Calls, wanted: Option<Entry>) -> bool {
     matches!(next(calls, 5), Answer::Gave(given) if given == wanted)
 }
 
+// Whether the session's call is given up.
+fn ends(store: &mut MapStore, calls: &mut Calls, session: u32) -> bool {
+    matches!(end(store, calls, session), Answer::Ended)
+}
+
+// Whether a call is refused so.
+fn refuses(
+    store: &mut MapStore,
+    calls: &mut Calls,
+    session: u32,
+    request: Request,
+    fault: Fault,
+) -> bool {
+    is_refused(
+        &begin(store, calls, &SEVEN_AND_EIGHT, session, request),
+        fault,
+    )
+}
+
+// Whether the session has no entry to give.
+fn has_none(calls: &mut Calls) -> bool {
+    is_refused(&next(calls, 5), Fault::NoSession)
+}
+
+// An insert, and what is refused before it and beside it.
+fn is_inserted(store: &mut MapStore, calls: &mut Calls) -> bool {
+    is_refused(&step(store, calls, &NO_SETS, 5), Fault::NoSession)
+        && begins(store, calls, 5, Request::Insert(entry(1, 7, 1)))
+        && refuses(store, calls, 5, Request::Scan(ALL), Fault::SessionBusy)
+        && has_none(calls)
+        && goes_on(store, calls)
+        && goes_on(store, calls)
+        && is_added(&step(store, calls, &NO_SETS, 5), 1)
+        && !is_running(calls, 5)
+}
+
+// A scan of what was inserted.
+fn is_scanned(store: &mut MapStore, calls: &mut Calls) -> bool {
+    begins(store, calls, 5, Request::Scan(ALL))
+        && goes_on(store, calls)
+        && matches!(step(store, calls, &NO_SETS, 5), Answer::Ready(1))
+        && gives(calls, Some(entry(1, 7, 1)))
+        && gives(calls, None)
+        && matches!(step(store, calls, &NO_SETS, 5), Answer::Done)
+        && !is_running(calls, 5)
+}
+
+fn is_inserted_and_scanned(store: &mut MapStore, calls: &mut Calls) -> bool {
+    is_inserted(store, calls) && is_scanned(store, calls)
+}
+
 #[test]
 fn an_insert_and_a_scan(rt: HostRuntime) -> Result<(), Fail> {
-    let mut store = tree(rt.alloc(), 8, &[])?;
-    let mut calls = sessions(rt.alloc(), 7)?;
-    let idle = step(&mut store, &mut calls, &NO_SETS, 5);
-    assert!(rt; is_refused(&idle, Fault::NoSession));
-    let request = Request::Insert(entry(1, 7, 1));
-    assert!(rt; begins(&mut store, &mut calls, 5, request));
-    let busy = begin(&mut store, &mut calls, &NO_SETS, 5, Request::Scan(ALL));
-    assert!(rt; is_refused(&busy, Fault::SessionBusy));
-    assert!(rt; is_refused(&next(&mut calls, 5), Fault::NoSession));
-    for _ in 0..2 {
-        assert!(rt; goes_on(&mut store, &mut calls));
-    }
-    assert!(rt; is_added(&step(&mut store, &mut calls, &NO_SETS, 5), 1));
-    assert!(rt; !is_running(&calls, 5));
-
-    assert!(rt; begins(&mut store, &mut calls, 5, Request::Scan(ALL)));
-    assert!(rt; goes_on(&mut store, &mut calls));
-    assert!(rt; matches!(step(&mut store, &mut calls, &NO_SETS, 5), Answer::Ready(1)));
-    assert!(rt; gives(&mut calls, Some(entry(1, 7, 1))));
-    assert!(rt; gives(&mut calls, None));
-    assert!(rt; matches!(step(&mut store, &mut calls, &NO_SETS, 5), Answer::Done));
-    assert!(rt; !is_running(&calls, 5));
+    assert!(rt; over_calls(rt.alloc(), 8, &[], 7, is_inserted_and_scanned)?);
     Ok(())
+}
+
+fn is_given_up(store: &mut MapStore, calls: &mut Calls) -> bool {
+    begins(store, calls, 5, Request::Scan(ALL))
+        && is_running(calls, 5)
+        && !is_running(calls, 6)
+        && ends(store, calls, 5)
+        && is_refused(&end(store, calls, 5), Fault::NoSession)
 }
 
 #[test]
 fn a_call_is_given_up(rt: HostRuntime) -> Result<(), Fail> {
-    let mut store = tree(rt.alloc(), 8, &[])?;
-    let mut calls = sessions(rt.alloc(), 7)?;
-    assert!(rt; begins(&mut store, &mut calls, 5, Request::Scan(ALL)));
-    assert!(rt; is_running(&calls, 5) && !is_running(&calls, 6));
-    assert!(rt; matches!(end(&mut store, &mut calls, 5), Answer::Ended));
-    assert!(rt; is_refused(&end(&mut store, &mut calls, 5), Fault::NoSession));
+    assert!(rt; over_calls(rt.alloc(), 8, &[], 7, is_given_up)?);
     Ok(())
 }
 
 // The answer to the first of the next steps that isn't `Going`, and how many acts were done at each step that was.
 fn run(store: &mut MapStore, calls: &mut Calls) -> (Answer, ArrayVec<u64, 20>) {
-    let mut acts = ArrayVec::new();
+    let mut done = ArrayVec::new();
     let mut answer = step(store, calls, &NO_SETS, 5);
     for _ in 0..20 {
         if matches!(answer, Answer::Going) {
-            let _ = acts.try_push(store.acts());
+            let _ = done.try_push(acts(store));
             answer = step(store, calls, &NO_SETS, 5);
         }
     }
-    (answer, acts)
+    (answer, done)
 }
 
 // The next entry of a scan, after as many steps as it takes.
@@ -88,6 +121,34 @@ fn give(store: &mut MapStore, calls: &mut Calls) -> Option<Entry> {
     None
 }
 
+// An insert that splits the leaf, and the root above it.
+fn is_split(store: &mut MapStore, calls: &mut Calls) -> bool {
+    let begun = begins(store, calls, 5, Request::Insert(entry(5, 7, 1)));
+    let (added, done) = run(store, calls);
+    begun
+        && is_added(&added, 1)
+        && done.as_slice() == [0, 0, 1, 1].as_slice()
+        && acts(store) == 2
+        && !is_running(calls, 5)
+}
+
+fn gives_five(store: &mut MapStore, calls: &mut Calls) -> bool {
+    for number in 1..=5 {
+        if give(store, calls) != Some(entry(number, 7, 1)) {
+            return false;
+        }
+    }
+    true
+}
+
+fn is_split_and_scanned(store: &mut MapStore, calls: &mut Calls) -> bool {
+    is_split(store, calls)
+        && begins(store, calls, 5, Request::Scan(ALL))
+        && gives_five(store, calls)
+        && gives(calls, None)
+        && matches!(run(store, calls), (Answer::Done, _))
+}
+
 #[test]
 fn a_leaf_and_the_root_are_split(rt: HostRuntime) -> Result<(), Fail> {
     let full = [
@@ -96,116 +157,95 @@ fn a_leaf_and_the_root_are_split(rt: HostRuntime) -> Result<(), Fail> {
         entry(3, 7, 1),
         entry(4, 7, 1),
     ];
-    let mut store = tree(rt.alloc(), 8, &full)?;
-    let mut calls = sessions(rt.alloc(), 7)?;
-    let request = Request::Insert(entry(5, 7, 1));
-    assert!(rt; begins(&mut store, &mut calls, 5, request));
-    let (added, acts) = run(&mut store, &mut calls);
-    assert!(rt; is_added(&added, 1));
-    assert!(rt; acts.as_slice() == [0, 0, 1, 1].as_slice());
-    assert!(rt; store.acts() == 2);
-    assert!(rt; !is_running(&calls, 5));
-
-    assert!(rt; begins(&mut store, &mut calls, 5, Request::Scan(ALL)));
-    for number in 1..=5 {
-        assert!(rt; give(&mut store, &mut calls) == Some(entry(number, 7, 1)));
-    }
-    assert!(rt; gives(&mut calls, None));
-    let (done, _) = run(&mut store, &mut calls);
-    assert!(rt; matches!(done, Answer::Done));
+    assert!(rt; over_calls(rt.alloc(), 8, &full, 7, is_split_and_scanned)?);
     Ok(())
 }
 
-// A leaf as the root, with entries of the blocks 7, 8 and 9.
-fn mixed(rt: &HostRuntime) -> Result<MapStore, Fault> {
-    let entries = [
+// Entries of the blocks 7, 8 and 9.
+fn mixed() -> [Entry; 4] {
+    [
         entry(1, 7, 1),
         entry(2, 8, 1),
         entry(3, 9, 1),
         entry(4, 8, 1),
-    ];
-    tree(rt.alloc(), 8, &entries)
+    ]
+}
+
+// A bulk delete begins, beside it an insert, and no other vacuum.
+fn is_begun_alone(store: &mut MapStore, calls: &mut Calls) -> bool {
+    begins(store, calls, 5, Request::Bulk(1))
+        && refuses(store, calls, 6, Request::Bulk(0), Fault::VacuumRunning)
+        && begins(store, calls, 6, Request::Insert(entry(1, 8, 1)))
+        && ends(store, calls, 6)
+        && cycle(store) == 1
+}
+
+// Whether the session's vacuum is over after one step more: how many entries it has removed, and how many it has left.
+fn finishes(
+    store: &mut MapStore,
+    calls: &mut Calls,
+    sets: &[Blocks],
+    counts: (u64, u64, u32, u32),
+) -> bool {
+    let Answer::Finished(stats) = step(store, calls, sets, 5) else {
+        return false;
+    };
+    let found = (
+        stats.tuples_removed,
+        stats.num_index_tuples,
+        stats.pages_newly_deleted,
+        stats.num_pages,
+    );
+    found == counts && !is_running(calls, 5)
+}
+
+fn is_alone(store: &mut MapStore, calls: &mut Calls) -> bool {
+    is_begun_alone(store, calls)
+        && matches!(step(store, calls, &SEVEN_AND_EIGHT, 5), Answer::Going)
+        && has_none(calls)
+        && finishes(store, calls, &SEVEN_AND_EIGHT, (2, 2, 0, 2))
+        && cycle(store) == 0
+        && acts(store) == 1
+        && begins(store, calls, 6, Request::Bulk(0))
 }
 
 #[test]
 fn a_bulk_delete_runs_alone(rt: HostRuntime) -> Result<(), Fail> {
-    let mut store = mixed(&rt)?;
-    let mut calls = sessions(rt.alloc(), 7)?;
-    assert!(rt; begins(&mut store, &mut calls, 5, Request::Bulk(1)));
-    let running = begin(
-        &mut store,
-        &mut calls,
-        &SEVEN_AND_EIGHT,
-        6,
-        Request::Bulk(0),
-    );
-    assert!(rt; is_refused(&running, Fault::VacuumRunning));
-    let request = Request::Insert(entry(1, 8, 1));
-    assert!(rt; begins(&mut store, &mut calls, 6, request));
-    assert!(rt; matches!(end(&mut store, &mut calls, 6), Answer::Ended));
-    assert!(rt; store.cycle() == 1);
-
-    assert!(rt;
-        matches!(
-            step(&mut store, &mut calls, &SEVEN_AND_EIGHT, 5),
-            Answer::Going
-        )
-    );
-    assert!(rt; is_refused(&next(&mut calls, 5), Fault::NoSession));
-    let Answer::Finished(stats) = step(&mut store, &mut calls, &SEVEN_AND_EIGHT, 5) else {
-        assert!(rt; false);
-        return Ok(());
-    };
-    assert!(rt; (stats.tuples_removed, stats.num_index_tuples) == (2, 2));
-    assert!(rt; !is_running(&calls, 5));
-    assert!(rt; (store.cycle(), store.acts()) == (0, 1));
-    assert!(rt; begins(&mut store, &mut calls, 6, Request::Bulk(0)));
+    assert!(rt; over_calls(rt.alloc(), 8, &mixed(), 7, is_alone)?);
     Ok(())
+}
+
+// A bulk delete is given up; then there is no such set, or none any more.
+fn bulk_delete_is_given_up(store: &mut MapStore, calls: &mut Calls) -> bool {
+    begins(store, calls, 5, Request::Bulk(0))
+        && ends(store, calls, 5)
+        && cycle(store) == 0
+        && refuses(store, calls, 5, Request::Bulk(2), Fault::NoSession)
+        && begins(store, calls, 5, Request::Bulk(1))
+        && is_refused(&step(store, calls, &NO_SETS, 5), Fault::NoSession)
 }
 
 #[test]
 fn a_bulk_delete_is_given_up(rt: HostRuntime) -> Result<(), Fail> {
-    let mut store = mixed(&rt)?;
-    let mut calls = sessions(rt.alloc(), 7)?;
-    assert!(rt; begins(&mut store, &mut calls, 5, Request::Bulk(0)));
-    assert!(rt; matches!(end(&mut store, &mut calls, 5), Answer::Ended));
-    assert!(rt; store.cycle() == 0);
-    // There is no such set, or none any more.
-    let none = begin(
-        &mut store,
-        &mut calls,
-        &SEVEN_AND_EIGHT,
-        5,
-        Request::Bulk(2),
-    );
-    assert!(rt; is_refused(&none, Fault::NoSession));
-    assert!(rt; begins(&mut store, &mut calls, 5, Request::Bulk(1)));
-    let gone = step(&mut store, &mut calls, &NO_SETS, 5);
-    assert!(rt; is_refused(&gone, Fault::NoSession));
+    assert!(rt; over_calls(rt.alloc(), 8, &mixed(), 7, bulk_delete_is_given_up)?);
     Ok(())
+}
+
+fn is_counted(store: &mut MapStore, calls: &mut Calls) -> bool {
+    begins(store, calls, 6, Request::Bulk(0))
+        && refuses(store, calls, 5, Request::Cleanup, Fault::VacuumRunning)
+        && ends(store, calls, 6)
+        && begins(store, calls, 5, Request::Cleanup)
+        && cycle(store) == 0
+        && goes_on(store, calls)
+        && has_none(calls)
+        && finishes(store, calls, &NO_SETS, (0, 3, 0, 2))
+        && acts(store) == 0
 }
 
 #[test]
 fn a_cleanup_counts_the_entries(rt: HostRuntime) -> Result<(), Fail> {
     let entries = [entry(1, 7, 1), entry(2, 8, 1), entry(3, 9, 1)];
-    let mut store = tree(rt.alloc(), 8, &entries)?;
-    let mut calls = sessions(rt.alloc(), 7)?;
-    assert!(rt; begins(&mut store, &mut calls, 6, Request::Bulk(0)));
-    let running = begin(&mut store, &mut calls, &NO_SETS, 5, Request::Cleanup);
-    assert!(rt; is_refused(&running, Fault::VacuumRunning));
-    assert!(rt; matches!(end(&mut store, &mut calls, 6), Answer::Ended));
-    assert!(rt; begins(&mut store, &mut calls, 5, Request::Cleanup));
-    assert!(rt; store.cycle() == 0);
-
-    assert!(rt; goes_on(&mut store, &mut calls));
-    assert!(rt; is_refused(&next(&mut calls, 5), Fault::NoSession));
-    let Answer::Finished(stats) = step(&mut store, &mut calls, &NO_SETS, 5) else {
-        assert!(rt; false);
-        return Ok(());
-    };
-    assert!(rt; (stats.num_pages, stats.num_index_tuples) == (2, 3));
-    assert!(rt; (stats.tuples_removed, stats.pages_newly_deleted) == (0, 0));
-    assert!(rt; !is_running(&calls, 5));
-    assert!(rt; store.acts() == 0);
+    assert!(rt; over_calls(rt.alloc(), 8, &entries, 7, is_counted)?);
     Ok(())
 }

@@ -2,14 +2,13 @@
 
 use crate::plain::add;
 use crate::trees::{
-    before, bound, emptied, entry, incomplete, leaf, leaf_of, meta, parent, stored, stored_unique,
+    before, bound, emptied, entry, incomplete, leaf, leaf_of, meta, parent, stored_as,
 };
 use amcheck::{CheckFault, Report, check, check_one, check_parents, check_parents_one};
 use index_model::{Fault, NoProgress};
 use page_action::MapStore;
 use page_codec::{Items, Page, PageState};
 use std::alloc::Global;
-use std::process::Abort;
 use std::test::{Fail, *};
 use std::thread::Threads;
 
@@ -58,29 +57,40 @@ fn last_leaf() -> Page {
 }
 
 // The pages from block 1 on, after a metapage that names block 3.
-fn store(alloc: Global, pages: &[Page]) -> Result<MapStore, Fault> {
-    let mut store = stored(alloc, 8, &[meta(3, 1)])?;
+fn store(alloc: Global, unique: bool, pages: &[Page]) -> Result<MapStore, Fault> {
+    let mut store = stored_as(alloc, 8, unique, &[meta(3, 1)])?;
     for page in pages {
         add(&mut store, page.copy())?;
     }
     Ok(store)
 }
 
+// What both checks of these pages answer.
+fn answers(
+    rt: &(impl Threads + Sync),
+    alloc: Global,
+    unique: bool,
+    pages: &[Page],
+) -> Result<(Option<Answer>, Option<Answer>), Fault> {
+    let mut store = store(alloc, unique, pages)?;
+    let chains = levels(rt, alloc, &mut store);
+    let all = parents(rt, alloc, &mut store);
+    Ok((chains, all))
+}
+
 fn damage(number: u8, block: u32) -> Option<Answer> {
     Some(Err(CheckFault::Damage { number, block }))
 }
 
-// Both checks of these pages answer this report.
-fn is_sound<R: Abort + Threads + Sync>(
-    rt: &R,
+// Whether both checks of these pages answer this report.
+fn is_sound(
+    rt: &(impl Threads + Sync),
     alloc: Global,
     pages: &[Page],
     report: Report,
-) -> Result<(), Fault> {
-    let mut store = store(alloc, pages)?;
-    assert!(rt; levels(rt, alloc, &mut store) == Some(Ok(report)));
-    assert!(rt; parents(rt, alloc, &mut store) == Some(Ok(report)));
-    Ok(())
+) -> Result<bool, Fault> {
+    let (chains, all) = answers(rt, alloc, false, pages)?;
+    Ok(chains == Some(Ok(report)) && all == Some(Ok(report)))
 }
 
 #[test]
@@ -95,12 +105,12 @@ fn sound_indexes(rt: HostRuntime) -> Result<(), Fail> {
         unfinished: 0,
     };
     let pages = [first_leaf(), second_leaf(), root(), last_leaf()];
-    is_sound(&rt, alloc, &pages, report)?;
+    assert!(rt; is_sound(&rt, alloc, &pages, report)?);
     // Leaf 2 lacks its downlink after leaf 1 with its incomplete split.
     report.unfinished = 1;
     let two = parent(3, &[(None, 1), (Some(0x66), 4)]);
     let pages = [incomplete(first_leaf()), second_leaf(), two, last_leaf()];
-    is_sound(&rt, alloc, &pages, report)?;
+    assert!(rt; is_sound(&rt, alloc, &pages, report)?);
     // Leaf 2 is half-dead, and block 5 deleted: the last leaf's low is the first one's high key.
     report = Report {
         levels: 2,
@@ -112,17 +122,8 @@ fn sound_indexes(rt: HostRuntime) -> Result<(), Fail> {
     };
     let two = parent(3, &[(None, 1), (Some(0x63), 4)]);
     let pages = [first_leaf(), half_dead(), two, last_leaf(), deleted(5, 4)];
-    is_sound(&rt, alloc, &pages, report)?;
+    assert!(rt; is_sound(&rt, alloc, &pages, report)?);
     Ok(())
-}
-
-// The pages from block 1 on of a unique index, after a metapage that names block 3.
-fn unique_store(alloc: Global, pages: &[Page]) -> Result<MapStore, Fault> {
-    let mut store = stored_unique(alloc, 8, &[meta(3, 1)])?;
-    for page in pages {
-        add(&mut store, page.copy())?;
-    }
-    Ok(store)
 }
 
 // The page, whose bounds and high key, entries of these keys, are the places before all rows of those.
@@ -154,39 +155,51 @@ fn unique_pages() -> [Page; 4] {
     ]
 }
 
-// Both checks of these pages find 13 at this block, if the index is unique, and else none.
-fn is_found_of_keys<R: Abort + Threads + Sync>(
-    rt: &R,
+// Whether both checks of these pages find no damage.
+fn is_whole(
+    rt: &(impl Threads + Sync),
+    alloc: Global,
+    unique: bool,
+    pages: &[Page],
+) -> Result<bool, Fault> {
+    let (chains, all) = answers(rt, alloc, unique, pages)?;
+    Ok(matches!(chains, Some(Ok(_))) && matches!(all, Some(Ok(_))))
+}
+
+// Whether both checks of these pages of a unique index find 13 at this block.
+fn has_wrong_keys(
+    rt: &(impl Threads + Sync),
     alloc: Global,
     pages: &[Page],
     block: u32,
-) -> Result<(), Fault> {
-    let mut unique = unique_store(alloc, pages)?;
-    assert!(rt; levels(rt, alloc, &mut unique) == damage(13, block));
-    assert!(rt; parents(rt, alloc, &mut unique) == damage(13, block));
-    let mut other = store(alloc, pages)?;
-    assert!(rt; matches!(levels(rt, alloc, &mut other), Some(Ok(_))));
-    assert!(rt; matches!(parents(rt, alloc, &mut other), Some(Ok(_))));
-    Ok(())
+) -> Result<bool, Fault> {
+    let (chains, all) = answers(rt, alloc, true, pages)?;
+    Ok(chains == damage(13, block) && all == damage(13, block))
+}
+
+// Both checks of these pages find 13 at this block, if the index is unique, and else none.
+fn is_found_of_keys(
+    rt: &(impl Threads + Sync),
+    alloc: Global,
+    pages: &[Page],
+    block: u32,
+) -> Result<bool, Fault> {
+    Ok(has_wrong_keys(rt, alloc, pages, block)? && is_whole(rt, alloc, false, pages)?)
 }
 
 #[test]
 fn wrong_keys_of_a_unique_index(rt: HostRuntime) -> Result<(), Fail> {
     let alloc = rt.alloc();
-    let mut sound = unique_store(alloc, &unique_pages())?;
-    assert!(rt; matches!(levels(&rt, alloc, &mut sound), Some(Ok(_))));
-    assert!(rt; matches!(parents(&rt, alloc, &mut sound), Some(Ok(_))));
+    assert!(rt; is_whole(&rt, alloc, true, &unique_pages())?);
     // An entry as a bound of the root, and of the leaf below it: the root is judged first.
     let mut pages = unique_pages();
     pages[2] = root();
-    let mut whole = unique_store(alloc, &pages)?;
-    assert!(rt; levels(&rt, alloc, &mut whole) == damage(13, 3));
-    assert!(rt; parents(&rt, alloc, &mut whole) == damage(13, 3));
+    assert!(rt; has_wrong_keys(&rt, alloc, &pages, 3)?);
     // Two entries of one key, on the last leaf.
     let mut pages = unique_pages();
     let twice = [entry(0x67, 0, 1), entry(0x68, 0, 1), entry(0x68, 0, 2)];
     pages[3] = leaf(4, Some(2), None, &twice, None);
-    is_found_of_keys(&rt, alloc, &pages, 4)?;
+    assert!(rt; is_found_of_keys(&rt, alloc, &pages, 4)?);
     Ok(())
 }
 
@@ -195,12 +208,12 @@ fn entries_as_bounds_of_a_unique_index(rt: HostRuntime) -> Result<(), Fail> {
     let alloc = rt.alloc();
     // All bounds are entries.
     let pages = [first_leaf(), second_leaf(), root(), last_leaf()];
-    is_found_of_keys(&rt, alloc, &pages, 3)?;
+    assert!(rt; is_found_of_keys(&rt, alloc, &pages, 3)?);
     // The high key of a half-dead leaf alone: no downlink has it.
     let keys = [(0x63, 0x64)];
     let two = short(parent(3, &[(None, 1), (Some(0x63), 4)]), &keys);
     let pages = [short(first_leaf(), &keys), half_dead(), two, last_leaf()];
-    is_found_of_keys(&rt, alloc, &pages, 2)?;
+    assert!(rt; is_found_of_keys(&rt, alloc, &pages, 2)?);
     Ok(())
 }
 

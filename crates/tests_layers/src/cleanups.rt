@@ -1,33 +1,28 @@
 //! Cleanups, which delete pages.
 
-use crate::plain::{copy_of, enter, latch};
-use crate::trees::{change, emptied, leaf_of, meta, parent, stored};
+use crate::plain::{acts, copy_of, enter, latch, pin, release, session};
+use crate::trees::{change, emptied, leaf_of, meta, over, parent};
 use index_model::{Fault, Session, VacuumStats};
 use latch_table::Mode;
-use page_action::{MapStore, PageStore};
-use page_codec::{Items, PageState};
+use page_action::MapStore;
+use page_codec::{Items, Page, PageState};
 use page_delete::{CleanupOp, CleanupStep};
-use std::alloc::Global;
 use std::test::{Fail, *};
 
 // Leaves 1, 2 and 4 under root 3; leaf 2 is empty, and in this state.
-fn tree(alloc: Global, state: PageState) -> Result<MapStore, Fault> {
+fn tree(state: PageState) -> [Page; 5] {
     let root = if matches!(state, PageState::HalfDead) {
         parent(3, &[(None, 1), (Some(0x63), 4)])
     } else {
         parent(3, &[(None, 1), (Some(0x63), 2), (Some(0x66), 4)])
     };
-    stored(
-        alloc,
-        8,
-        &[
-            meta(3, 1),
-            leaf_of(1, None, Some(2), &[0x61, 0x62, 0x63], Some(0x63)),
-            emptied(2, Some(1), 4, Some(0x66), state),
-            root,
-            leaf_of(4, Some(2), None, &[0x67, 0x68], None),
-        ],
-    )
+    [
+        meta(3, 1),
+        leaf_of(1, None, Some(2), &[0x61, 0x62, 0x63], Some(0x63)),
+        emptied(2, Some(1), 4, Some(0x66), state),
+        root,
+        leaf_of(4, Some(2), None, &[0x67, 0x68], None),
+    ]
 }
 
 fn step(op: &mut CleanupOp, store: &mut MapStore) -> Result<CleanupStep, Fault> {
@@ -36,6 +31,11 @@ fn step(op: &mut CleanupOp, store: &mut MapStore) -> Result<CleanupStep, Fault> 
 
 fn goes_on(op: &mut CleanupOp, store: &mut MapStore) -> bool {
     matches!(step(op, store), Ok(CleanupStep::Going))
+}
+
+// Whether it goes on after each of four steps.
+fn goes_on_four_times(op: &mut CleanupOp, store: &mut MapStore) -> bool {
+    goes_on(op, store) && goes_on(op, store) && goes_on(op, store) && goes_on(op, store)
 }
 
 // Steps until it has finished; NoMemory where it goes on after thirty steps.
@@ -82,82 +82,114 @@ fn begun(store: &mut MapStore, session: Session) -> CleanupOp {
     CleanupOp::new(session)
 }
 
+// Whether it writes the next action.
+fn acts_on(op: &mut CleanupOp, store: &mut MapStore, action: u64) -> bool {
+    goes_on(op, store) && acts(store) == action
+}
+
 // Block 1, block 2, the metapage, the root, half-dead, unlinked.
+fn is_deleted(store: &mut MapStore) -> Result<bool, Fault> {
+    let mut op = begun(store, session(2)?);
+    Ok(
+        goes_on_four_times(&mut op, store)
+            && acts(store) == 0
+            && acts_on(&mut op, store, 1)
+            && children(store, 3) == 2
+            && acts_on(&mut op, store, 2)
+            && links(store, 1) == (None, Some(4))
+            && links(store, 2) == (None, Some(4))
+            && links(store, 4) == (Some(1), None)
+            && finish(&mut op, store) == Ok(stats(5, 1, 1, 1)),
+    )
+}
+
 #[test]
 fn empty_leaf_leaves_the_tree(rt: HostRuntime) -> Result<(), Fail> {
-    let mut store = tree(rt.alloc(), PageState::Live)?;
-    let mut op = begun(&mut store, Session::new(2)?);
-    for _ in 0..4 {
-        assert!(rt; goes_on(&mut op, &mut store));
-    }
-    assert!(rt; store.acts() == 0);
-    assert!(rt; goes_on(&mut op, &mut store));
-    assert!(rt; store.acts() == 1);
-    assert!(rt; children(&mut store, 3) == 2);
-    assert!(rt; goes_on(&mut op, &mut store));
-    assert!(rt; store.acts() == 2);
-    assert!(rt; links(&mut store, 1) == (None, Some(4)));
-    assert!(rt; links(&mut store, 2) == (None, Some(4)));
-    assert!(rt; links(&mut store, 4) == (Some(1), None));
-    assert!(rt; finish(&mut op, &mut store) == Ok(stats(5, 1, 1, 1)));
+    assert!(rt; over(rt.alloc(), 8, &tree(PageState::Live), is_deleted)?);
     Ok(())
 }
 
 // A half-dead page that was left after is unlinked; another session's running call keeps it from reuse.
+fn is_unlinked(store: &mut MapStore) -> Result<bool, Fault> {
+    let entered = enter(store, session(1)?) == Ok(0);
+    let mut op = begun(store, session(2)?);
+    Ok(
+        entered
+            && finish(&mut op, store) == Ok(stats(5, 1, 1, 0))
+            && acts(store) == 1
+            && links(store, 4) == (Some(1), None),
+    )
+}
+
 #[test]
 fn half_dead_page_is_found(rt: HostRuntime) -> Result<(), Fail> {
-    let mut store = tree(rt.alloc(), PageState::HalfDead)?;
-    assert!(rt; enter(&mut store, Session::new(1)?) == Ok(0));
-    let mut op = begun(&mut store, Session::new(2)?);
-    assert!(rt; finish(&mut op, &mut store) == Ok(stats(5, 1, 1, 0)));
-    assert!(rt; store.acts() == 1);
-    assert!(rt; links(&mut store, 4) == (Some(1), None));
+    assert!(rt; over(rt.alloc(), 8, &tree(PageState::HalfDead), is_unlinked)?);
     Ok(())
 }
 
 // Another session's pin: the leaf is passed.
+fn is_passed(store: &mut MapStore) -> Result<bool, Fault> {
+    pin(store, session(1)?, 2);
+    let mut op = begun(store, session(2)?);
+    Ok(finish(&mut op, store) == Ok(stats(5, 0, 0, 0)) && acts(store) == 0)
+}
+
 #[test]
 fn pinned_leaf_is_passed(rt: HostRuntime) -> Result<(), Fail> {
-    let mut store = tree(rt.alloc(), PageState::Live)?;
-    store.pin(Session::new(1)?, 2);
-    let mut op = begun(&mut store, Session::new(2)?);
-    assert!(rt; finish(&mut op, &mut store) == Ok(stats(5, 0, 0, 0)));
-    assert!(rt; store.acts() == 0);
+    assert!(rt; over(rt.alloc(), 8, &tree(PageState::Live), is_passed)?);
     Ok(())
 }
 
 // Another session's latch of a sibling: the step may be made again.
+fn waits_for_a_sibling(store: &mut MapStore) -> Result<bool, Fault> {
+    let other = session(1)?;
+    let mut op = begun(store, session(2)?);
+    if !goes_on_four_times(&mut op, store)
+        || latch(store, other, 4, Mode::Exclusive) != Ok(())
+        || finish(&mut op, store) != Err(Fault::Blocked(4))
+    {
+        return Ok(false);
+    }
+    release(store, other, 4);
+    Ok(acts_on(&mut op, store, 1))
+}
+
 #[test]
 fn latched_sibling_blocks(rt: HostRuntime) -> Result<(), Fail> {
-    let mut store = tree(rt.alloc(), PageState::Live)?;
-    let other = Session::new(1)?;
-    let mut op = begun(&mut store, Session::new(2)?);
-    for _ in 0..4 {
-        assert!(rt; goes_on(&mut op, &mut store));
-    }
-    assert!(rt; latch(&mut store, other, 4, Mode::Exclusive) == Ok(()));
-    assert!(rt; finish(&mut op, &mut store) == Err(Fault::Blocked(4)));
-    store.release(other, 4);
-    assert!(rt; goes_on(&mut op, &mut store));
-    assert!(rt; store.acts() == 1);
+    assert!(rt; over(rt.alloc(), 8, &tree(PageState::Live), waits_for_a_sibling)?);
     Ok(())
 }
 
 // Entries came meanwhile: the leaf is passed, and they are not counted.
+fn is_passed_with_entries(store: &mut MapStore) -> Result<bool, Fault> {
+    let mut op = begun(store, session(2)?);
+    let filled = leaf_of(2, Some(1), Some(4), &[0x65], Some(0x66));
+    Ok(
+        goes_on_four_times(&mut op, store)
+            && change(store, &[filled]) == Ok(1)
+            && finish(&mut op, store) == Ok(stats(5, 0, 0, 0)),
+    )
+}
+
 #[test]
 fn leaf_is_tested_again(rt: HostRuntime) -> Result<(), Fail> {
-    let mut store = tree(rt.alloc(), PageState::Live)?;
-    let mut op = begun(&mut store, Session::new(2)?);
-    for _ in 0..4 {
-        assert!(rt; goes_on(&mut op, &mut store));
-    }
-    let filled = leaf_of(2, Some(1), Some(4), &[0x65], Some(0x66));
-    assert!(rt; change(&mut store, &[filled]) == Ok(1));
-    assert!(rt; finish(&mut op, &mut store) == Ok(stats(5, 0, 0, 0)));
+    assert!(rt;
+        over(
+            rt.alloc(),
+            8,
+            &tree(PageState::Live),
+            is_passed_with_entries
+        )?
+    );
     Ok(())
 }
 
 // A sibling that doesn't link back, and a last child, which stays.
+fn stays(store: &mut MapStore) -> Result<bool, Fault> {
+    let mut op = begun(store, session(2)?);
+    Ok(finish(&mut op, store) == Err(Fault::PageDamaged(2)) && acts(store) == 0)
+}
+
 #[test]
 fn siblings_and_last_child(rt: HostRuntime) -> Result<(), Fail> {
     let pages = [
@@ -166,9 +198,6 @@ fn siblings_and_last_child(rt: HostRuntime) -> Result<(), Fail> {
         leaf_of(2, Some(4), None, &[], None),
         parent(3, &[(None, 1), (Some(0x63), 2)]),
     ];
-    let mut store = stored(rt.alloc(), 8, &pages)?;
-    let mut op = begun(&mut store, Session::new(2)?);
-    assert!(rt; finish(&mut op, &mut store) == Err(Fault::PageDamaged(2)));
-    assert!(rt; store.acts() == 0);
+    assert!(rt; over(rt.alloc(), 8, &pages, stays)?);
     Ok(())
 }

@@ -89,27 +89,30 @@ fn assert_damages(rt: &impl Abort, page: &Page, damages: &[(usize, u8)]) {
     assert!(rt; is_decoded(&bytes));
 }
 
-#[test]
-fn fresh_pages(rt: HostRuntime) {
-    let first = bytes_of(&marked(1, 0));
+/// Whether they begin so, are 0 after that, and are those of a page.
+fn begin_so(bytes: &[u8; 4096], begins: &[u8; 20]) -> bool {
+    &bytes[..20] == begins.as_slice() && bytes[20..].iter().all(|b| *b == 0) && is_decoded(bytes)
+}
+
+fn is_first_leaf(bytes: &[u8; 4096]) -> bool {
     let begins = [
         0x42, 0x4c, 0x50, 0x32, 1, 0, 0, 0, 2, 0, 0, 0, 255, 255, 255, 255, 255, 255, 255, 255,
     ];
-    assert!(rt; &first[..20] == begins.as_slice());
-    assert!(rt; first[20..].iter().all(|b| *b == 0));
-    assert!(rt; is_decoded(&first));
+    begin_so(bytes, &begins) && !is_unused(bytes)
+}
 
-    let zeroth = bytes_of(&meta(1, 0));
+fn is_first_metapage(bytes: &[u8; 4096]) -> bool {
     let begins = [
         0x42, 0x4c, 0x50, 0x32, 0, 0, 0, 0, 1, 0, 0, 0, 255, 255, 255, 255, 1, 0, 0, 0,
     ];
-    assert!(rt; &zeroth[..20] == begins.as_slice());
-    assert!(rt; zeroth[20..].iter().all(|b| *b == 0));
-    assert!(rt; is_decoded(&zeroth));
+    begin_so(bytes, &begins)
+}
 
-    assert!(rt; is_unused(&[0; 4096]));
-    assert!(rt; !is_unused(&first));
-    assert!(rt; !is_decoded(&[0; 4096]));
+#[test]
+fn fresh_pages(rt: HostRuntime) {
+    assert!(rt; is_first_leaf(&bytes_of(&marked(1, 0))));
+    assert!(rt; is_first_metapage(&bytes_of(&meta(1, 0))));
+    assert!(rt; is_unused(&[0; 4096]) && !is_decoded(&[0; 4096]));
 }
 
 /// Decodes into a page, and answers whether they were those of one.
@@ -299,42 +302,61 @@ fn before(key: &[u8]) -> Bound {
     }
 }
 
+/// Whether the high key is the place before all rows of the key 7, 4, 1, on a page of layout 2.
+fn is_short_high(bytes: &[u8; 4096]) -> bool {
+    &bytes[..4] == b"BLP2".as_slice()
+        && &bytes[36..40] == [3, 7, 4, 1].as_slice()
+        && bytes[40..107].iter().all(|byte| *byte == 0)
+}
+
+/// Whether they are those of a page of layout 1.
+fn is_of_layout_1(bytes: &[u8; 4096]) -> bool {
+    &bytes[..4] == b"BLP1".as_slice()
+        && decode(bytes).is_some_and(|read| read.layout == Layout::One)
+}
+
+/// Whether the page is one with this high key.
+fn is_page_up_to(page: &mut Page, high: Bound) -> bool {
+    page.high = Some(high);
+    is_page(page)
+}
+
 /// A bound before all rows of a key is an entry with block 0 and offset 0, on a page of layout 2 alone; its key isn't empty.
 #[test]
 fn bounds_before_all_rows(rt: HostRuntime) {
     let entries = [nth_entry(0), nth_entry(1), nth_entry(2)];
     let high = Some(before(&[7, 4, 1]));
     let mut page = leaf(5, Some(4), Some(6), entries.as_slice(), high);
-    let bytes = bytes_of(&page);
-    assert!(rt; &bytes[..4] == b"BLP2".as_slice());
-    assert!(rt; &bytes[36..40] == [3, 7, 4, 1].as_slice());
-    assert!(rt; bytes[40..107].iter().all(|byte| *byte == 0));
+    assert!(rt; is_short_high(&bytes_of(&page)));
     assert_damages(&rt, &page, &[(3, 0x31), (36, 0), (38, 3), (101, 1)]);
-    page.high = Some(before(&[]));
-    assert!(rt; !is_page(&page));
-    page.high = Some(nth_entry(2).bound());
+    assert!(rt; !is_page_up_to(&mut page, before(&[])));
     page.layout = Layout::One;
-    assert!(rt; is_page(&page));
-    let bytes = bytes_of(&page);
-    assert!(rt; &bytes[..4] == b"BLP1".as_slice());
-    assert!(rt; decode(&bytes).is_some_and(|read| read.layout == Layout::One));
-    page.high = Some(before(&[9]));
-    assert!(rt; !is_page(&page));
+    assert!(rt; is_page_up_to(&mut page, nth_entry(2).bound()));
+    assert!(rt; is_of_layout_1(&bytes_of(&page)));
+    assert!(rt; !is_page_up_to(&mut page, before(&[9])));
 }
 
-/// ... and so are those of an internal page, except for the first.
-#[test]
-fn downlinks_before_all_rows(rt: HostRuntime) {
+/// A full internal page whose item 3 has the place before all rows of the key 7, 6 as its bound.
+fn short_internal() -> Page {
     let mut page = full_internal();
     if let Items::Downlinks(links) = &mut page.items {
         if let Some(link) = links.get_mut(3) {
             link.bound = Some(before(&[7, 6]));
         }
     }
-    assert!(rt; is_page(&page));
-    let bytes = bytes_of(&page);
-    assert!(rt; &bytes[332..335] == [2, 7, 6].as_slice());
-    assert!(rt; bytes[335..403].iter().all(|byte| *byte == 0));
+    page
+}
+
+/// Whether that bound is among the bytes.
+fn is_short_link(bytes: &[u8; 4096]) -> bool {
+    &bytes[332..335] == [2, 7, 6].as_slice() && bytes[335..403].iter().all(|byte| *byte == 0)
+}
+
+/// ... and so are those of an internal page, except for the first.
+#[test]
+fn downlinks_before_all_rows(rt: HostRuntime) {
+    let mut page = short_internal();
+    assert!(rt; is_page(&page) && is_short_link(&bytes_of(&page)));
     assert_damages(&rt, &page, &[(3, 0x31), (334, 4), (397, 1)]);
     page.layout = Layout::One;
     assert!(rt; !is_page(&page));

@@ -44,36 +44,67 @@ fn bytes_of(device: &mut MemDevice) -> [u8; 8] {
     bytes
 }
 
+// Whether a crash leaves these bytes.
+fn leaves(alloc: Global, device: &MemDevice, image: CrashImage, want: [u8; 8]) -> bool {
+    match left(alloc, device, image) {
+        Ok(mut left) => left.len() == 8 && bytes_of(&mut left) == want,
+        Err(_) => false,
+    }
+}
+
+fn leaves_each_image(alloc: Global) -> Result<bool, Fault> {
+    let mut device = fresh(alloc)?;
+    Ok(
+        write_eight(&mut device) == [true; 4]
+            && leaves(alloc, &device, CrashImage::Drop, [1, 2, 3, 4, 0, 0, 0, 0])
+            && leaves(
+                alloc,
+                &device,
+                CrashImage::Keep,
+                [1, 11, 12, 13, 0, 0, 21, 22],
+            )
+            && leaves(
+                alloc,
+                &device,
+                CrashImage::Tear,
+                [1, 11, 0xa5, 0xa5, 0, 0, 21, 0xa5],
+            ),
+    )
+}
+
 #[test]
 fn a_crash_leaves_each_image(rt: HostRuntime) -> Result<(), Fail> {
-    let mut device = fresh(rt.alloc())?;
-    assert!(rt; write_eight(&mut device) == [true; 4]);
-    for (image, want) in [
-        (CrashImage::Drop, [1, 2, 3, 4, 0, 0, 0, 0]),
-        (CrashImage::Keep, [1, 11, 12, 13, 0, 0, 21, 22]),
-        (CrashImage::Tear, [1, 11, 0xa5, 0xa5, 0, 0, 21, 0xa5]),
-    ] {
-        let mut left = left(rt.alloc(), &device, image)?;
-        assert!(rt; left.len() == 8);
-        assert!(rt; bytes_of(&mut left) == want);
-    }
+    assert!(rt; leaves_each_image(rt.alloc())?);
     Ok(())
+}
+
+// Whether the n-th call alone fails; a failed write is kept as written.
+fn fails_once(alloc: Global, n: u64, want: [bool; 4]) -> Result<bool, Fault> {
+    let mut device = fresh(alloc)?;
+    device.fail_at(n);
+    Ok(write_eight(&mut device) == want && bytes_of(&mut device) == [1, 11, 12, 13, 0, 0, 21, 22])
 }
 
 #[test]
 fn each_call_fails_once(rt: HostRuntime) -> Result<(), Fail> {
     for n in 0..5 {
-        let mut device = fresh(rt.alloc())?;
-        device.fail_at(n);
         let mut want = [true; 4];
         if n > 0 && n <= 4 {
             want[n as usize - 1] = false;
         }
-        assert!(rt; write_eight(&mut device) == want);
-        // A failed write is kept as written.
-        assert!(rt; bytes_of(&mut device) == [1, 11, 12, 13, 0, 0, 21, 22]);
+        assert!(rt; fails_once(rt.alloc(), n, want)?);
     }
     Ok(())
+}
+
+// Whether the calls before the n-th alone run, and these bytes are left.
+fn stops(alloc: Global, n: u64, want: [u8; 8]) -> Result<bool, Fault> {
+    let mut device = fresh(alloc)?;
+    device.stop_at(n);
+    let run = write_eight(&mut device) == [1 < n, 2 < n, 3 < n, 4 < n];
+    let reads_none = bytes_of(&mut device) == [7; 8];
+    device.stop_at(0);
+    Ok(run && reads_none && bytes_of(&mut device) == want)
 }
 
 #[test]
@@ -84,15 +115,7 @@ fn from_a_call_on_none_runs(rt: HostRuntime) -> Result<(), Fail> {
         (3, [1, 11, 12, 13, 0, 0, 0, 0]),
         (4, [1, 11, 12, 13, 0, 0, 21, 22]),
     ] {
-        let mut device = fresh(rt.alloc())?;
-        device.stop_at(n);
-        let answers = write_eight(&mut device);
-        for i in 0..4 {
-            assert!(rt; answers[i] == ((i as u64) + 1 < n));
-        }
-        assert!(rt; bytes_of(&mut device) == [7; 8]);
-        device.stop_at(0);
-        assert!(rt; bytes_of(&mut device) == want);
+        assert!(rt; stops(rt.alloc(), n, want)?);
     }
     Ok(())
 }

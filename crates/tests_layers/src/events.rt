@@ -1,13 +1,14 @@
 //! Events of many sessions.
 
 use crate::dead::{Blocks, NO_SETS};
-use crate::plain::{finish, force, is_running, one, run, sessions};
-use crate::trees::{ALL, entry, tree};
+use crate::plain::{acts, finish, force, is_refused, is_running, one, run, sessions, used};
+use crate::trees::{ALL, entry, over_calls, stored, tree};
 use arrayvec::ArrayVec;
 use index_model::{Entry, Fault};
-use page_action::{MapStore, PageStore};
+use page_action::MapStore;
 use schedule::Event;
 use session_calls::{Answer, Calls};
+use std::alloc::Global;
 use std::test::{Fail, *};
 
 // So many entries are inserted, of these keys in another order.
@@ -130,37 +131,108 @@ fn scan_alone(store: &mut MapStore, calls: &mut Calls) -> Option<ArrayVec<Entry,
     None
 }
 
-#[test]
-fn two_split_leaves_while_a_third_scans(rt: HostRuntime) -> Result<(), Fail> {
-    let mut store = tree(rt.alloc(), 32, &[])?;
-    let mut calls = sessions(rt.alloc(), 3)?;
-    let Some((added, scans)) = take_turns(&mut store, &mut calls, 600) else {
-        assert!(rt; false);
-        return Ok(());
-    };
-    assert!(rt; added == MOST);
-    assert!(rt; scans > 2);
-    assert!(rt; store.used() > 8);
-    assert!(rt; !is_running(&calls, 0) && !is_running(&calls, 1));
-    let _ended = one(&mut store, &mut calls, &NO_SETS, Event::End(2));
-    let Some(given) = scan_alone(&mut store, &mut calls) else {
-        assert!(rt; false);
-        return Ok(());
-    };
-    assert!(rt; given.len() == usize::from(MOST));
-    for (place, found) in given.iter().enumerate() {
-        assert!(rt; *found == entry(u8::try_from(place + 1).unwrap_or(0), 1, 1));
+// Whether they are the entries of this key, of twice it, and so on, in this block.
+fn are_each(given: &[Entry], step: u8, block: u32) -> bool {
+    let mut key = 0u8;
+    for found in given {
+        key = key.saturating_add(step);
+        if *found != entry(key, block, 1) {
+            return false;
+        }
     }
-    let acts = store.acts();
-    let kept = force(&mut store);
-    assert!(rt; matches!(kept, Answer::Forced(count) if count == acts));
-    Ok(())
+    true
+}
+
+// Whether a scan on its own gives so many, which are those.
+fn scans_each(store: &mut MapStore, calls: &mut Calls, count: usize, step: u8, block: u32) -> bool {
+    match scan_alone(store, calls) {
+        Some(given) => given.len() == count && are_each(given.as_slice(), step, block),
+        None => false,
+    }
+}
+
+// Whether all actions are durable.
+fn is_forced(store: &mut MapStore) -> bool {
+    let done = acts(store);
+    matches!(force(store), Answer::Forced(count) if count == done)
+}
+
+// Whether all is inserted, in more leaves than eight, beside more scans than two.
+fn are_split(store: &mut MapStore, calls: &mut Calls) -> bool {
+    match take_turns(store, calls, 600) {
+        Some((added, scans)) => {
+            added == MOST
+                && scans > 2
+                && used(store) > 8
+                && !is_running(calls, 0)
+                && !is_running(calls, 1)
+        }
+        None => false,
+    }
+}
+
+fn are_split_beside_scans(store: &mut MapStore, calls: &mut Calls) -> bool {
+    let split = are_split(store, calls);
+    let _ended = one(store, calls, &NO_SETS, Event::End(2));
+    split && scans_each(store, calls, usize::from(MOST), 1, 1) && is_forced(store)
 }
 
 #[test]
-fn refused_events_in_a_run(rt: HostRuntime) -> Result<(), Fail> {
-    let mut store = tree(rt.alloc(), 32, &[])?;
-    let mut calls = sessions(rt.alloc(), 2)?;
+fn two_split_leaves_while_a_third_scans(rt: HostRuntime) -> Result<(), Fail> {
+    assert!(rt; over_calls(rt.alloc(), 32, &[], 3, are_split_beside_scans)?);
+    Ok(())
+}
+
+// Whether this holds of an empty tree of so many pages at most, of the calls of so many sessions, and of a list for answers.
+fn over_answers<F: FnOnce(&mut MapStore, &mut Calls, &mut Vec<Answer>) -> bool>(
+    alloc: Global,
+    most: u32,
+    count: u32,
+    is_right: F,
+) -> Result<bool, Fault>
+    requires { F.IsAlwaysCallable is_right }
+{
+    let mut store = stored(alloc, most, &tree(&[]))?;
+    let mut calls = sessions(alloc, count)?;
+    let mut answers = Vec::new(alloc);
+    Ok(is_right(&mut store, &mut calls, &mut answers))
+}
+
+// Whether the answer at this place is this refusal.
+fn refuses(answers: &[Answer], at: usize, fault: Fault) -> bool {
+    match answers.get(at) {
+        Some(answer) => is_refused(answer, fault),
+        None => false,
+    }
+}
+
+// Whether a call began at this place.
+fn begins(answers: &[Answer], at: usize) -> bool {
+    matches!(answers.get(at), Some(Answer::Begun))
+}
+
+// Whether a call was given up at this place.
+fn ends(answers: &[Answer], at: usize) -> bool {
+    matches!(answers.get(at), Some(Answer::Ended))
+}
+
+// Whether no action was made durable at this place.
+fn forces_none(answers: &[Answer], at: usize) -> bool {
+    matches!(answers.get(at), Some(Answer::Forced(0)))
+}
+
+fn are_refused(answers: &[Answer]) -> bool {
+    answers.len() == 7
+        && refuses(answers, 0, Fault::NoSession)
+        && refuses(answers, 1, Fault::NoSession)
+        && begins(answers, 2)
+        && refuses(answers, 3, Fault::SessionBusy)
+        && refuses(answers, 4, Fault::NoSession)
+        && ends(answers, 5)
+        && forces_none(answers, 6)
+}
+
+fn run_is_refused(store: &mut MapStore, calls: &mut Calls, answers: &mut Vec<Answer>) -> bool {
     let events = [
         Event::Step(0),
         Event::Insert(2, entry(1, 1, 1)),
@@ -170,40 +242,62 @@ fn refused_events_in_a_run(rt: HostRuntime) -> Result<(), Fail> {
         Event::End(0),
         Event::Force,
     ];
-    let mut answers = Vec::new(rt.alloc());
-    run(&mut store, &mut calls, &NO_SETS, &events, &mut answers)?;
-    assert!(rt; answers.len() == events.len());
-    assert!(rt; matches!(answers[0], Answer::Refused(Fault::NoSession)));
-    assert!(rt; matches!(answers[1], Answer::Refused(Fault::NoSession)));
-    assert!(rt; matches!(answers[2], Answer::Begun));
-    assert!(rt; matches!(answers[3], Answer::Refused(Fault::SessionBusy)));
-    assert!(rt; matches!(answers[4], Answer::Refused(Fault::NoSession)));
-    assert!(rt; matches!(answers[5], Answer::Ended));
-    assert!(rt; matches!(answers[6], Answer::Forced(0)));
+    run(store, calls, &NO_SETS, &events, answers).is_ok() && are_refused(answers.as_slice())
+}
+
+#[test]
+fn refused_events_in_a_run(rt: HostRuntime) -> Result<(), Fail> {
+    assert!(rt; over_answers(rt.alloc(), 32, 2, run_is_refused)?);
     Ok(())
+}
+
+fn scan_is_ended(store: &mut MapStore, calls: &mut Calls, answers: &mut Vec<Answer>) -> bool {
+    let begun = one(store, calls, &NO_SETS, Event::Scan(1, ALL));
+    let runs = is_running(calls, 1);
+    let ran = run(
+        store,
+        calls,
+        &NO_SETS,
+        &[Event::End(1), Event::Force],
+        answers,
+    );
+    matches!(begun, Answer::Begun)
+        && runs
+        && ran.is_ok()
+        && answers.len() == 2
+        && ends(answers.as_slice(), 0)
+        && forces_none(answers.as_slice(), 1)
+        && !is_running(calls, 1)
 }
 
 #[test]
 fn sessions_of_another_owner(rt: HostRuntime) -> Result<(), Fail> {
-    let mut store = tree(rt.alloc(), 8, &[])?;
-    let mut calls = sessions(rt.alloc(), 2)?;
-    let mut answers = Vec::new(rt.alloc());
-    let begun = one(&mut store, &mut calls, &NO_SETS, Event::Scan(1, ALL));
-    assert!(rt; matches!(begun, Answer::Begun));
-    assert!(rt; is_running(&calls, 1));
-    let events = [Event::End(1), Event::Force];
-    run(&mut store, &mut calls, &NO_SETS, &events, &mut answers)?;
-    assert!(rt; answers.len() == 2);
-    assert!(rt; matches!(answers[0], Answer::Ended));
-    assert!(rt; matches!(answers[1], Answer::Forced(0)));
-    assert!(rt; !is_running(&calls, 1));
+    assert!(rt; over_answers(rt.alloc(), 8, 2, scan_is_ended)?);
     Ok(())
 }
 
-#[test]
-fn a_bulk_delete_is_refused_in_order(rt: HostRuntime) -> Result<(), Fail> {
-    let mut store = tree(rt.alloc(), 32, &[])?;
-    let mut calls = sessions(rt.alloc(), 3)?;
+// Whether no second bulk delete began, and no call without a session or a set.
+fn are_in_order(answers: &[Answer]) -> bool {
+    answers.len() == 12
+        && refuses(answers, 0, Fault::NoSession)
+        && refuses(answers, 1, Fault::NoSession)
+        && begins(answers, 2)
+        && refuses(answers, 3, Fault::NoSession)
+        && refuses(answers, 4, Fault::SessionBusy)
+        && refuses(answers, 5, Fault::NoSession)
+        && refuses(answers, 6, Fault::VacuumRunning)
+        && begins(answers, 7)
+        && refuses(answers, 8, Fault::SessionBusy)
+        && refuses(answers, 9, Fault::NoSession)
+        && ends(answers, 10)
+        && begins(answers, 11)
+}
+
+fn bulk_delete_is_refused(
+    store: &mut MapStore,
+    calls: &mut Calls,
+    answers: &mut Vec<Answer>,
+) -> bool {
     let events = [
         Event::Bulk(3, 0),
         Event::Bulk(0, 2),
@@ -218,54 +312,81 @@ fn a_bulk_delete_is_refused_in_order(rt: HostRuntime) -> Result<(), Fail> {
         Event::End(0),
         Event::Bulk(2, 0),
     ];
-    let mut answers = Vec::new(rt.alloc());
-    run(&mut store, &mut calls, &SETS, &events, &mut answers)?;
-    assert!(rt; answers.len() == events.len());
-    assert!(rt; matches!(answers[0], Answer::Refused(Fault::NoSession)));
-    assert!(rt; matches!(answers[1], Answer::Refused(Fault::NoSession)));
-    assert!(rt; matches!(answers[2], Answer::Begun));
-    assert!(rt; matches!(answers[3], Answer::Refused(Fault::NoSession)));
-    assert!(rt; matches!(answers[4], Answer::Refused(Fault::SessionBusy)));
-    assert!(rt; matches!(answers[5], Answer::Refused(Fault::NoSession)));
-    assert!(rt; matches!(answers[6], Answer::Refused(Fault::VacuumRunning)));
-    assert!(rt; matches!(answers[7], Answer::Begun));
-    assert!(rt; matches!(answers[8], Answer::Refused(Fault::SessionBusy)));
-    assert!(rt; matches!(answers[9], Answer::Refused(Fault::NoSession)));
-    assert!(rt; matches!(answers[10], Answer::Ended));
-    assert!(rt; matches!(answers[11], Answer::Begun));
+    run(store, calls, &SETS, &events, answers).is_ok() && are_in_order(answers.as_slice())
+}
+
+#[test]
+fn a_bulk_delete_is_refused_in_order(rt: HostRuntime) -> Result<(), Fail> {
+    assert!(rt; over_answers(rt.alloc(), 32, 3, bulk_delete_is_refused)?);
     Ok(())
+}
+
+// Whether an event begins a call.
+fn is_begun(store: &mut MapStore, calls: &mut Calls, event: Event) -> bool {
+    matches!(one(store, calls, &SETS, event), Answer::Begun)
+}
+
+// Whether an event gives a call up.
+fn is_ended(store: &mut MapStore, calls: &mut Calls, session: u32) -> bool {
+    matches!(one(store, calls, &SETS, Event::End(session)), Answer::Ended)
+}
+
+// Whether an event is refused so.
+fn is_against(store: &mut MapStore, calls: &mut Calls, event: Event, fault: Fault) -> bool {
+    is_refused(&one(store, calls, &SETS, event), fault)
+}
+
+// Whether three entries are added, of the blocks 1, 0 and 1.
+fn adds_three(store: &mut MapStore, calls: &mut Calls) -> bool {
+    for key in 1..=3 {
+        let insert = Event::Insert(0, entry(key, u32::from(key) % 2, 1));
+        let _begun = one(store, calls, &SETS, insert);
+        if !matches!(finish(store, calls, &SETS, 0), Answer::Added { .. }) {
+            return false;
+        }
+    }
+    true
+}
+
+// Whether a scan of them all is ready.
+fn has_three_ready(store: &mut MapStore, calls: &mut Calls) -> bool {
+    let _begun = one(store, calls, &SETS, Event::Scan(1, ALL));
+    matches!(finish(store, calls, &SETS, 1), Answer::Ready(3))
+}
+
+// Whether the bulk delete waits for page 1.
+fn waits(store: &mut MapStore, calls: &mut Calls) -> bool {
+    is_refused(&finish(store, calls, &SETS, 2), Fault::Blocked(1))
+}
+
+// How many entries the vacuum of session 2 has removed and left, and how many pages there are; None where it does not finish.
+fn counts_of(store: &mut MapStore, calls: &mut Calls) -> Option<(u64, u64, u32)> {
+    match finish(store, calls, &SETS, 2) {
+        Answer::Finished(stats) => {
+            Some((
+                stats.tuples_removed,
+                stats.num_index_tuples,
+                stats.num_pages,
+            ))
+        }
+        _ => None,
+    }
+}
+
+fn bulk_delete_waits(store: &mut MapStore, calls: &mut Calls) -> bool {
+    adds_three(store, calls)
+        && has_three_ready(store, calls)
+        && is_begun(store, calls, Event::Bulk(2, 1))
+        && waits(store, calls)
+        && waits(store, calls)
+        && waits(store, calls)
+        && is_ended(store, calls, 1)
+        && counts_of(store, calls) == Some((2, 1, 2))
 }
 
 #[test]
 fn a_bulk_delete_waits_for_a_scan(rt: HostRuntime) -> Result<(), Fail> {
-    let mut store = tree(rt.alloc(), 32, &[])?;
-    let mut calls = sessions(rt.alloc(), 3)?;
-    for key in 1..=3 {
-        let _begun = one(
-            &mut store,
-            &mut calls,
-            &SETS,
-            Event::Insert(0, entry(key, u32::from(key) % 2, 1)),
-        );
-        let added = finish(&mut store, &mut calls, &SETS, 0);
-        assert!(rt; matches!(added, Answer::Added { .. }));
-    }
-    let _begun = one(&mut store, &mut calls, &SETS, Event::Scan(1, ALL));
-    let ready = finish(&mut store, &mut calls, &SETS, 1);
-    assert!(rt; matches!(ready, Answer::Ready(3)));
-    let begun = one(&mut store, &mut calls, &SETS, Event::Bulk(2, 1));
-    assert!(rt; matches!(begun, Answer::Begun));
-    for _ in 0..3 {
-        let blocked = finish(&mut store, &mut calls, &SETS, 2);
-        assert!(rt; matches!(blocked, Answer::Refused(Fault::Blocked(1))));
-    }
-    let ended = one(&mut store, &mut calls, &SETS, Event::End(1));
-    assert!(rt; matches!(ended, Answer::Ended));
-    let Answer::Finished(stats) = finish(&mut store, &mut calls, &SETS, 2) else {
-        assert!(rt; false);
-        return Ok(());
-    };
-    assert!(rt; (stats.tuples_removed, stats.num_index_tuples) == (2, 1));
+    assert!(rt; over_calls(rt.alloc(), 32, &[], 3, bulk_delete_waits)?);
     Ok(())
 }
 
@@ -298,57 +419,49 @@ fn delete_beside(store: &mut MapStore, calls: &mut Calls, turns: u32) -> Option<
     Some((added, finished))
 }
 
+// Whether all is inserted, beside more bulk deletes than two.
+fn are_inserted(store: &mut MapStore, calls: &mut Calls) -> bool {
+    match delete_beside(store, calls, 900) {
+        Some((added, finished)) => added == MOST && finished > 2,
+        None => false,
+    }
+}
+
+fn are_inserted_beside_deletes(store: &mut MapStore, calls: &mut Calls) -> bool {
+    let inserted = are_inserted(store, calls);
+    let _ended = one(store, calls, &SETS, Event::End(2));
+    let _begun = one(store, calls, &SETS, Event::Bulk(2, 1));
+    let left = u64::from(MOST / 2);
+    inserted
+        && matches!(counts_of(store, calls), Some((_, count, _)) if count == left)
+        && scans_each(store, calls, usize::from(MOST / 2), 2, 0)
+}
+
 #[test]
 fn two_insert_while_a_third_deletes(rt: HostRuntime) -> Result<(), Fail> {
-    let mut store = tree(rt.alloc(), 32, &[])?;
-    let mut calls = sessions(rt.alloc(), 3)?;
-    let Some((added, finished)) = delete_beside(&mut store, &mut calls, 900) else {
-        assert!(rt; false);
-        return Ok(());
-    };
-    assert!(rt; added == MOST);
-    assert!(rt; finished > 2);
-    let _ended = one(&mut store, &mut calls, &SETS, Event::End(2));
-    let _begun = one(&mut store, &mut calls, &SETS, Event::Bulk(2, 1));
-    let Answer::Finished(stats) = finish(&mut store, &mut calls, &SETS, 2) else {
-        assert!(rt; false);
-        return Ok(());
-    };
-    assert!(rt; stats.num_index_tuples == u64::from(MOST / 2));
-    let Some(given) = scan_alone(&mut store, &mut calls) else {
-        assert!(rt; false);
-        return Ok(());
-    };
-    assert!(rt; given.len() == usize::from(MOST / 2));
-    for (place, found) in given.iter().enumerate() {
-        assert!(rt; *found == entry(u8::try_from(place * 2 + 2).unwrap_or(0), 0, 1));
-    }
+    assert!(rt; over_calls(rt.alloc(), 32, &[], 3, are_inserted_beside_deletes)?);
     Ok(())
+}
+
+// Whether no second vacuum begins beside this one.
+fn is_the_only_one(store: &mut MapStore, calls: &mut Calls, first: Event) -> bool {
+    is_begun(store, calls, first)
+        && is_against(store, calls, Event::Bulk(1, 1), Fault::VacuumRunning)
+        && is_against(store, calls, Event::Cleanup(1), Fault::VacuumRunning)
+        && is_against(store, calls, Event::Cleanup(0), Fault::SessionBusy)
+        && is_against(store, calls, Event::Cleanup(3), Fault::NoSession)
+        && is_ended(store, calls, 0)
+}
+
+fn vacuums_run_alone(store: &mut MapStore, calls: &mut Calls) -> bool {
+    is_the_only_one(store, calls, Event::Bulk(0, 1))
+        && is_the_only_one(store, calls, Event::Cleanup(0))
+        && is_begun(store, calls, Event::Cleanup(2))
+        && counts_of(store, calls) == Some((0, 0, 2))
 }
 
 #[test]
 fn one_vacuum_runs_at_a_time(rt: HostRuntime) -> Result<(), Fail> {
-    let mut store = tree(rt.alloc(), 32, &[])?;
-    let mut calls = sessions(rt.alloc(), 3)?;
-    for first in [Event::Bulk(0, 1), Event::Cleanup(0)] {
-        let begun = one(&mut store, &mut calls, &SETS, first);
-        assert!(rt; matches!(begun, Answer::Begun));
-        for second in [Event::Bulk(1, 1), Event::Cleanup(1)] {
-            let refused = one(&mut store, &mut calls, &SETS, second);
-            assert!(rt; matches!(refused, Answer::Refused(Fault::VacuumRunning)));
-        }
-        let busy = one(&mut store, &mut calls, &SETS, Event::Cleanup(0));
-        assert!(rt; matches!(busy, Answer::Refused(Fault::SessionBusy)));
-        let none = one(&mut store, &mut calls, &SETS, Event::Cleanup(3));
-        assert!(rt; matches!(none, Answer::Refused(Fault::NoSession)));
-        let ended = one(&mut store, &mut calls, &SETS, Event::End(0));
-        assert!(rt; matches!(ended, Answer::Ended));
-    }
-    let _begun = one(&mut store, &mut calls, &SETS, Event::Cleanup(2));
-    let Answer::Finished(stats) = finish(&mut store, &mut calls, &SETS, 2) else {
-        assert!(rt; false);
-        return Ok(());
-    };
-    assert!(rt; (stats.num_pages, stats.num_index_tuples) == (2, 0));
+    assert!(rt; over_calls(rt.alloc(), 32, &[], 3, vacuums_run_alone)?);
     Ok(())
 }

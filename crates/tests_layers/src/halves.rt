@@ -68,6 +68,29 @@ fn leaf_halves(page: &mut Page, entry: Entry, new: u32, cycle: u32) -> Option<Pa
     Some(half)
 }
 
+// Whether the leaf keeps these entries.
+fn has_entries(leaf: &Page, entries: &[Entry]) -> bool {
+    entries_on(leaf) == entries
+}
+
+// The links and marks of a page that has been split, and of its right half.
+fn are_halves(page: &Page, right: &Page) -> bool {
+    page.split
+        && page.right == Some(right.block)
+        && right.left == Some(page.block)
+        && !right.split
+        && right.high.is_none()
+}
+
+fn are_leaf_halves(page: &Page, right: &Page) -> bool {
+    has_entries(page, &[entry(1, 1, 1), entry(3, 1, 1), entry(4, 1, 1)])
+        && has_entries(right, &[entry(5, 1, 1), entry(7, 1, 1)])
+        && are_halves(page, right)
+        && page.high == Some(before(5))
+        && (page.block, right.block) == (1, 9)
+        && (page.cycle, right.cycle) == (6, 6)
+}
+
 #[test]
 fn leaf_in_two_halves(rt: HostRuntime) {
     let entries = [
@@ -81,14 +104,7 @@ fn leaf_in_two_halves(rt: HostRuntime) {
         assert!(rt; false);
         return;
     };
-    assert!(rt; entries_on(&page) == [entry(1, 1, 1), entry(3, 1, 1), entry(4, 1, 1)].as_slice());
-    assert!(rt; entries_on(&right) == [entry(5, 1, 1), entry(7, 1, 1)].as_slice());
-    assert!(rt; page.split && page.high == Some(before(5)));
-    assert!(rt; page.right == Some(9));
-    assert!(rt; right.left == Some(1));
-    assert!(rt; !right.split && right.high.is_none());
-    assert!(rt; right.block == 9);
-    assert!(rt; (page.cycle, right.cycle) == (6, 6));
+    assert!(rt; are_leaf_halves(&page, &right));
 }
 
 // Whether a downlink of this key fits after that place.
@@ -96,15 +112,19 @@ fn fits(links: &[Downlink], place: usize, key: u8, high: Option<u8>) -> bool {
     place < links.len() && fits_after(links, place, &at(key), &high.map(at))
 }
 
+// Whether each downlink is found, and a new one fits between two of them alone.
+fn are_placed(three: &[Downlink]) -> bool {
+    find_child(three, 4) == Some(2)
+        && find_child(three, 5) == None
+        && fits(three, 1, 5, None)
+        && !fits(three, 1, 3, None)
+        && !fits(three, 1, 7, None)
+        && !fits(three, 2, 8, Some(8))
+}
+
 #[test]
 fn place_of_a_downlink(rt: HostRuntime) {
-    let three = [lowest(1), link(3, 2), link(7, 4)];
-    assert!(rt; find_child(&three, 4) == Some(2));
-    assert!(rt; find_child(&three, 5) == None);
-    assert!(rt; fits(&three, 1, 5, None));
-    assert!(rt; !fits(&three, 1, 3, None));
-    assert!(rt; !fits(&three, 1, 7, None));
-    assert!(rt; !fits(&three, 2, 8, Some(8)));
+    assert!(rt; are_placed(&[lowest(1), link(3, 2), link(7, 4)]));
 }
 
 // Puts a downlink of this key after that place; false where it can't be.
@@ -142,6 +162,19 @@ fn inner_halves(page: &mut Page, place: usize, key: u8, child: u32, new: u32) ->
     Some(split_links(page, place, separator, child, new))
 }
 
+// Whether the page has these downlinks.
+fn leads_to(page: &Page, links: &[Downlink]) -> bool {
+    links_on(page) == links
+}
+
+fn are_inner_halves(page: &Page, right: &Page) -> bool {
+    leads_to(page, &[lowest(1), link(3, 2), link(4, 9)])
+        && leads_to(right, &[lowest(3), link(7, 4)])
+        && are_halves(page, right)
+        && page.high == Some(at(5))
+        && (page.block, right.block) == (7, 8)
+}
+
 #[test]
 fn internal_page_in_two_halves(rt: HostRuntime) {
     let mut page = inner(&four_links());
@@ -149,49 +182,56 @@ fn internal_page_in_two_halves(rt: HostRuntime) {
         assert!(rt; false);
         return;
     };
-    assert!(rt; links_on(&page) == [lowest(1), link(3, 2), link(4, 9)].as_slice());
-    assert!(rt; links_on(&right) == [lowest(3), link(7, 4)].as_slice());
-    assert!(rt; page.split && page.high == Some(at(5)));
-    assert!(rt; page.right == Some(8));
-    assert!(rt; right.left == Some(7));
-    assert!(rt; !right.split && right.high.is_none());
-    assert!(rt; right.block == 8);
+    assert!(rt; are_inner_halves(&page, &right));
+}
+
+fn are_led(four: &[Downlink]) -> bool {
+    child_toward(four, &SearchKey::Below(at(4))) == Some(2)
+        && child_toward(four, &SearchKey::Below(at(5))) == Some(2)
+        && child_toward(four, &SearchKey::UpTo(at(5))) == Some(3)
+        && child_toward(four, &SearchKey::Below(at(1))) == Some(1)
+        && child_toward(&[], &SearchKey::Below(at(1))) == None
+}
+
+// Whether a search up to a bound isn't within that bound, but one below it is.
+fn are_within() -> bool {
+    SearchKey::Below(at(5)).is_within(&Some(at(5)))
+        && !SearchKey::UpTo(at(5)).is_within(&Some(at(5)))
+        && SearchKey::UpTo(at(5)).is_within(&None)
 }
 
 #[test]
 fn way_down(rt: HostRuntime) {
-    let four = four_links();
-    for (aim, child) in [
-        (SearchKey::Below(at(4)), 2),
-        (SearchKey::Below(at(5)), 2),
-        (SearchKey::UpTo(at(5)), 3),
-        (SearchKey::Below(at(1)), 1),
-    ] {
-        assert!(rt; child_toward(&four, &aim) == Some(child));
+    assert!(rt; are_led(&four_links()) && are_within());
+}
+
+fn is_mended(page: &mut Page) -> bool {
+    page.split = true;
+    clear_split(page);
+    let is_clear = !page.split && may_be_mended(page);
+    if !is_clear {
+        return false;
     }
-    assert!(rt; child_toward(&[], &SearchKey::Below(at(1))) == None);
-    assert!(rt; SearchKey::Below(at(5)).is_within(&Some(at(5))));
-    assert!(rt; !SearchKey::UpTo(at(5)).is_within(&Some(at(5))));
-    assert!(rt; SearchKey::UpTo(at(5)).is_within(&None));
+    mend_left(page, 5);
+    page.left == Some(5)
+}
+
+fn is_root_over_two() -> bool {
+    let root = root_over(6, 2, 7, at(5), 8);
+    is_page(&root) && leads_to(&root, &[lowest(7), link(5, 8)])
+}
+
+fn points_to_root(page: &mut Page) -> bool {
+    page.items = Items::Meta;
+    let may_be = may_be_mended(page);
+    point_to_root(page, 6, 2);
+    !may_be && page.right == Some(6) && page.level == 2
 }
 
 #[test]
 fn marks_of_a_split(rt: HostRuntime) {
     let mut page = inner(&[]);
-    page.split = true;
-    clear_split(&mut page);
-    assert!(rt; !page.split);
-    assert!(rt; may_be_mended(&page));
-    mend_left(&mut page, 5);
-    assert!(rt; page.left == Some(5));
-
-    let root = root_over(6, 2, 7, at(5), 8);
-    assert!(rt; is_page(&root));
-    assert!(rt; links_on(&root) == [lowest(7), link(5, 8)].as_slice());
-
-    page.items = Items::Meta;
-    assert!(rt; !may_be_mended(&page));
-    point_to_root(&mut page, 6, 2);
-    assert!(rt; page.right == Some(6));
-    assert!(rt; page.level == 2);
+    assert!(rt; is_mended(&mut page));
+    assert!(rt; is_root_over_two());
+    assert!(rt; points_to_root(&mut page));
 }

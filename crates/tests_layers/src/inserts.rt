@@ -1,10 +1,10 @@
 //! Inserts, with the splits that they make.
 
-use crate::plain::{enter, leave};
-use crate::trees::{nth, tree};
+use crate::plain::{acts, enter, leave, pair, session};
+use crate::trees::{nth, over, tree};
 use index_model::{Entry, Fault, Session};
 use insert_split::{InsertOp, InsertStep};
-use page_action::{MapStore, PageStore};
+use page_action::MapStore;
 use page_codec::Page;
 use std::test::{Fail, *};
 
@@ -47,53 +47,74 @@ fn insert_up_to(store: &mut MapStore, session: Session, last: u8) -> bool {
     true
 }
 
+// Whether leaves are split, and roots, and an entry that is there is refused.
+fn are_split(store: &mut MapStore) -> Result<bool, Fault> {
+    let session = session(0)?;
+    Ok(
+        insert_up_to(store, session, 5)
+            && acts(store) == 6
+            && insert(store, session, nth(6)) == Ok(7)
+            && insert(store, session, nth(7)) == Ok(8)
+            && insert(store, session, nth(8)) == Ok(9)
+            && acts(store) == 10
+            && insert(store, session, nth(2)) == Err(Fault::Exists)
+            && acts(store) == 10,
+    )
+}
+
 #[test]
 fn leaves_and_roots_split(rt: HostRuntime) -> Result<(), Fail> {
-    let mut store = tree(rt.alloc(), 8, &[])?;
-    let session = Session::new(0)?;
-    assert!(rt; insert_up_to(&mut store, session, 5));
-    assert!(rt; store.acts() == 6);
-    assert!(rt; insert(&mut store, session, nth(6)) == Ok(7));
-    assert!(rt; insert(&mut store, session, nth(7)) == Ok(8));
-    assert!(rt; insert(&mut store, session, nth(8)) == Ok(9));
-    assert!(rt; store.acts() == 10);
-    assert!(rt; insert(&mut store, session, nth(2)) == Err(Fault::Exists));
-    assert!(rt; store.acts() == 10);
+    assert!(rt; over(rt.alloc(), 8, &tree(&[]), are_split)?);
     Ok(())
+}
+
+fn goes_on(op: &mut InsertOp, store: &mut MapStore) -> bool {
+    matches!(step(op, store), Ok(InsertStep::Going))
+}
+
+// Whether the first three steps of an insert go on.
+fn goes_on_thrice(store: &mut MapStore, session: Session, entry: Entry) -> bool {
+    let mut op = InsertOp::new(session, entry);
+    goes_on(&mut op, store) && goes_on(&mut op, store) && goes_on(&mut op, store)
+}
+
+// Whether an insert that is given up after three steps leaves a split, which the next insert finishes.
+fn is_finished(store: &mut MapStore) -> Result<bool, Fault> {
+    let (session, other) = pair(0, 1)?;
+    if !insert_up_to(store, session, 4)
+        || enter(store, other).is_err()
+        || !goes_on_thrice(store, other, nth(5))
+    {
+        return Ok(false);
+    }
+    leave(store, other);
+    Ok(acts(store) == 5 && insert(store, session, nth(6)) == Ok(7))
 }
 
 #[test]
 fn another_insert_finishes_a_split(rt: HostRuntime) -> Result<(), Fail> {
-    let mut store = tree(rt.alloc(), 8, &[])?;
-    let (session, other) = (Session::new(0)?, Session::new(1)?);
-    assert!(rt; insert_up_to(&mut store, session, 4));
-    assert!(rt; enter(&mut store, other).is_ok());
-    let mut op = InsertOp::new(other, nth(5));
-    for _ in 0..3 {
-        assert!(rt; matches!(step(&mut op, &mut store), Ok(InsertStep::Going)));
-    }
-    leave(&mut store, other);
-    assert!(rt; store.acts() == 5);
-    assert!(rt; insert(&mut store, session, nth(6)) == Ok(7));
+    assert!(rt; over(rt.alloc(), 8, &tree(&[]), is_finished)?);
     Ok(())
+}
+
+// Whether a leaf that one insert has latched is refused to another.
+fn is_held(store: &mut MapStore) -> Result<bool, Fault> {
+    let mut first = InsertOp::new(session(0)?, nth(1));
+    let mut second = InsertOp::new(session(1)?, nth(2));
+    Ok(
+        goes_on(&mut first, store)
+            && goes_on(&mut first, store)
+            && goes_on(&mut second, store)
+            && matches!(step(&mut second, store), Err(Fault::Blocked(1)))
+            && matches!(
+                step(&mut first, store),
+                Ok(InsertStep::Added { action: 1, .. })
+            ),
+    )
 }
 
 #[test]
 fn a_leaf_is_held_by_one(rt: HostRuntime) -> Result<(), Fail> {
-    let mut store = tree(rt.alloc(), 8, &[])?;
-    let (session, other) = (Session::new(0)?, Session::new(1)?);
-    let mut first = InsertOp::new(session, nth(1));
-    let mut second = InsertOp::new(other, nth(2));
-    for _ in 0..2 {
-        assert!(rt; matches!(step(&mut first, &mut store), Ok(InsertStep::Going)));
-    }
-    assert!(rt; matches!(step(&mut second, &mut store), Ok(InsertStep::Going)));
-    assert!(rt; matches!(step(&mut second, &mut store), Err(Fault::Blocked(1))));
-    assert!(rt;
-        matches!(
-            step(&mut first, &mut store),
-            Ok(InsertStep::Added { action: 1, .. })
-        )
-    );
+    assert!(rt; over(rt.alloc(), 8, &tree(&[]), is_held)?);
     Ok(())
 }

@@ -5,11 +5,9 @@ ghost use Rattle.std.specs.Prelude.{◌<◌};
 use crate::checks::{levels, parents};
 use crate::plain::add;
 use crate::plain_damages::first_damage;
-use crate::trees::{
-    before, bound, emptied, incomplete, keyed, leaf_of, meta, parent, stored, stored_unique,
-};
+use crate::trees::{before, bound, emptied, incomplete, keyed, leaf_of, meta, parent, stored_as};
 use amcheck::{CheckFault, Report};
-use index_model::{Bound, Entry};
+use index_model::{Bound, Entry, Fault};
 use page_action::MapStore;
 use page_codec::{Items, Page, PageState};
 use std::alloc::Global;
@@ -216,8 +214,11 @@ fn alter(dice: &mut Dice, unique: bool, page: &mut Page) {
     }
 }
 
+/// The damage, if one is answered; none where a check is refused.
+type Told = Option<Option<(u8, u32)>>;
+
 /// The damage that is answered, if one is.
-fn told(answer: Option<Result<Report, CheckFault>>) -> Option<Option<(u8, u32)>> {
+fn told(answer: Option<Result<Report, CheckFault>>) -> Told {
     match answer {
         Some(Ok(_)) => Some(None),
         Some(Err(CheckFault::Damage { number, block })) => Some(Some((number, block))),
@@ -238,12 +239,8 @@ fn begun(alloc: Global, unique: bool) -> Result<Vec<Page>, Fail> {
     Ok(pages)
 }
 
-/// Altered pages in a store; none where they aren't of the format.
-fn made(
-    alloc: Global,
-    dice: &mut Dice,
-    unique: bool,
-) -> Result<Option<(MapStore, Vec<Page>)>, Fail> {
+/// Altered pages.
+fn altered(alloc: Global, dice: &mut Dice, unique: bool) -> Result<Vec<Page>, Fail> {
     let mut pages = begun(alloc, unique)?;
     for _ in 0..1 + dice.roll(3) {
         let block = dice.roll(COUNT) as usize;
@@ -251,32 +248,59 @@ fn made(
             alter(dice, unique, page);
         }
     }
-    let mut store = if unique {
-        stored_unique(alloc, COUNT + 1, &[])?
-    } else {
-        stored(alloc, COUNT + 1, &[])?
-    };
-    for page in &pages {
-        if add(&mut store, page.copy()).is_err() {
-            return Ok(None);
-        }
-    }
-    Ok(Some((store, pages)))
+    Ok(pages)
 }
 
-/// Compares what the checks of some pages answer with what the plain program computes.
-fn judged<R: Abort + AllocGlobal + Threads + Sync>(
+/// Whether these pages are of the format of the store, to which they are added.
+fn are_added(store: &mut MapStore, pages: &[Page]) -> bool {
+    for page in pages {
+        if add(store, page.copy()).is_err() {
+            return false;
+        }
+    }
+    true
+}
+
+/// What both checks of these pages answer; none where they aren't of the format.
+fn answers<R: AllocGlobal + Threads + Sync>(
     rt: &R,
     store: &mut MapStore,
     pages: &[Page],
+) -> Option<(Told, Told)> {
+    if !are_added(store, pages) {
+        return None;
+    }
+    let chains = told(levels(rt, rt.alloc(), store));
+    Some((chains, told(parents(rt, rt.alloc(), store))))
+}
+
+/// The same of a store of its own.
+fn answers_of<R: AllocGlobal + Threads + Sync>(
+    rt: &R,
+    pages: &[Page],
     unique: bool,
-) -> Result<Option<(u8, u32)>, Fail> {
-    let alloc = rt.alloc();
-    let chains = first_damage(alloc, pages, false, unique)?;
-    assert!(rt; told(levels(rt, alloc, store)) == Some(chains));
-    let all = first_damage(alloc, pages, true, unique)?;
-    assert!(rt; told(parents(rt, alloc, store)) == Some(all));
-    Ok(all)
+) -> Result<Option<(Told, Told)>, Fault> {
+    let mut store = stored_as(rt.alloc(), COUNT + 1, unique, &[])?;
+    Ok(answers(rt, &mut store, pages))
+}
+
+/// Compares what the checks of these pages answer, if they are of the format, with what the plain program computes: the number
+/// of the first damage, 0 without one.
+fn number_of<R: Abort + AllocGlobal + Threads + Sync>(
+    rt: &R,
+    pages: &[Page],
+    unique: bool,
+) -> Result<Option<usize>, Fail> {
+    let Some((chains, all)) = answers_of(rt, pages, unique)? else {
+        return Ok(None);
+    };
+    let first = first_damage(rt.alloc(), pages, true, unique)?;
+    assert!(rt; chains == Some(first_damage(rt.alloc(), pages, false, unique)?));
+    assert!(rt; all == Some(first));
+    match first {
+        Some((number, _)) => Ok(Some(usize::from(number))),
+        None => Ok(Some(0)),
+    }
 }
 
 #[test]
@@ -285,12 +309,10 @@ fn damages_of_random_pages(rt: HostRuntime) -> Result<(), Fail> {
     let mut found = [0u32; 14];
     for round in 0..SETS {
         let unique = round % 2 == 1;
-        let Some((mut store, pages)) = made(rt.alloc(), &mut dice, unique)? else {
+        let pages = altered(rt.alloc(), &mut dice, unique)?;
+        let number = number_of(&rt, pages.as_slice(), unique)?;
+        let Some(number) = number else {
             continue;
-        };
-        let number = match judged(&rt, &mut store, &pages, unique)? {
-            Some((number, _)) => usize::from(number),
-            None => 0,
         };
         if let Some(count) = found.get_mut(number) {
             *count = count.saturating_add(1);

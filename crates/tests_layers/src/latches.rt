@@ -1,64 +1,111 @@
 //! Latches and pins of sessions.
 
+use crate::plain::{pair, session};
 use index_model::{Fault, Session};
 use latch_table::{LatchTable, Mode};
 use std::test::{Fail, *};
 
+fn latch(table: &mut LatchTable, session: Session, block: u32, mode: Mode) -> Result<(), Fault> {
+    table.latch(session, block, mode)
+}
+
+fn release(table: &mut LatchTable, session: Session, block: u32) {
+    table.release(session, block);
+}
+
+fn pin(table: &mut LatchTable, session: Session, block: u32) {
+    table.pin(session, block);
+}
+
+fn unpin(table: &mut LatchTable, session: Session, block: u32) {
+    table.unpin(session, block);
+}
+
+fn conflicts(table: &LatchTable, session: Session, block: u32, mode: Mode) -> bool {
+    table.conflicts(session, block, mode)
+}
+
+fn are_beside_each_other(table: &mut LatchTable) -> Result<bool, Fault> {
+    let (first, last) = pair(0, 63)?;
+    if latch(table, first, 5, Mode::Shared) != Ok(())
+        || latch(table, last, 5, Mode::Shared) != Ok(())
+        || latch(table, last, 5, Mode::Exclusive) != Err(Fault::Blocked(5))
+    {
+        return Ok(false);
+    }
+    release(table, first, 5);
+    Ok(
+        latch(table, last, 5, Mode::Exclusive) == Ok(())
+            && latch(table, first, 5, Mode::Shared) == Err(Fault::Blocked(5))
+            && !conflicts(table, last, 5, Mode::Cleanup),
+    )
+}
+
 #[test]
 fn sessions_beside_each_other(rt: HostRuntime) -> Result<(), Fail> {
-    let first = Session::new(0)?;
-    let last = Session::new(63)?;
-    let mut table = LatchTable::new();
-    assert!(rt; table.latch(first, 5, Mode::Shared) == Ok(()));
-    assert!(rt; table.latch(last, 5, Mode::Shared) == Ok(()));
-    assert!(rt; table.latch(last, 5, Mode::Exclusive) == Err(Fault::Blocked(5)));
-    table.release(first, 5);
-    assert!(rt; table.latch(last, 5, Mode::Exclusive) == Ok(()));
-    assert!(rt; table.latch(first, 5, Mode::Shared) == Err(Fault::Blocked(5)));
-    assert!(rt; !table.conflicts(last, 5, Mode::Cleanup));
+    assert!(rt; are_beside_each_other(&mut LatchTable::new())?);
     Ok(())
+}
+
+fn cleanup_is_excluded(table: &mut LatchTable) -> Result<bool, Fault> {
+    let (first, other) = pair(1, 2)?;
+    pin(table, first, 9);
+    if latch(table, other, 9, Mode::Cleanup) != Err(Fault::Blocked(9))
+        || latch(table, first, 9, Mode::Cleanup) != Ok(())
+    {
+        return Ok(false);
+    }
+    release(table, first, 9);
+    if latch(table, other, 9, Mode::Exclusive) != Ok(()) {
+        return Ok(false);
+    }
+    release(table, other, 9);
+    unpin(table, first, 9);
+    Ok(latch(table, other, 9, Mode::Cleanup) == Ok(()))
 }
 
 #[test]
 fn pins_exclude_cleanup_alone(rt: HostRuntime) -> Result<(), Fail> {
-    let first = Session::new(1)?;
-    let other = Session::new(2)?;
-    let mut table = LatchTable::new();
-    table.pin(first, 9);
-    assert!(rt; table.latch(other, 9, Mode::Cleanup) == Err(Fault::Blocked(9)));
-    assert!(rt; table.latch(first, 9, Mode::Cleanup) == Ok(()));
-    table.release(first, 9);
-    assert!(rt; table.latch(other, 9, Mode::Exclusive) == Ok(()));
-    table.release(other, 9);
-    table.unpin(first, 9);
-    assert!(rt; table.latch(other, 9, Mode::Cleanup) == Ok(()));
+    assert!(rt; cleanup_is_excluded(&mut LatchTable::new())?);
     Ok(())
+}
+
+fn are_eight(table: &mut LatchTable) -> Result<bool, Fault> {
+    let session = session(7)?;
+    for block in 1..9 {
+        if latch(table, session, block, Mode::Exclusive) != Ok(()) {
+            return Ok(false);
+        }
+    }
+    Ok(latch(table, session, 9, Mode::Shared) == Err(Fault::Blocked(9)))
 }
 
 #[test]
 fn eight_latches(rt: HostRuntime) -> Result<(), Fail> {
-    let session = Session::new(7)?;
-    let mut table = LatchTable::new();
-    for block in 1..9 {
-        assert!(rt; table.latch(session, block, Mode::Exclusive) == Ok(()));
-    }
-    assert!(rt; table.latch(session, 9, Mode::Shared) == Err(Fault::Blocked(9)));
+    assert!(rt; are_eight(&mut LatchTable::new())?);
     Ok(())
 }
 
+// Whether these are the blocks that are pinned.
+fn are_pinned(table: &LatchTable, blocks: &[u32]) -> bool {
+    table.pinned().as_slice() == blocks
+}
+
 // A block is listed for each pin of it; a third pin of a session isn't taken.
+fn are_listed(table: &mut LatchTable) -> Result<bool, Fault> {
+    let (first, last) = pair(0, 63)?;
+    let none = are_pinned(table, &[]);
+    pin(table, first, 5);
+    pin(table, first, 9);
+    pin(table, first, 7);
+    pin(table, last, 5);
+    let three = are_pinned(table, &[9, 5, 5]);
+    unpin(table, first, 5);
+    Ok(none && three && are_pinned(table, &[9, 5]))
+}
+
 #[test]
 fn pinned_by_two_sessions(rt: HostRuntime) -> Result<(), Fail> {
-    let first = Session::new(0)?;
-    let last = Session::new(63)?;
-    let mut table = LatchTable::new();
-    assert!(rt; table.pinned().is_empty());
-    table.pin(first, 5);
-    table.pin(first, 9);
-    table.pin(first, 7);
-    table.pin(last, 5);
-    assert!(rt; table.pinned().as_slice() == [9, 5, 5].as_slice());
-    table.unpin(first, 5);
-    assert!(rt; table.pinned().as_slice() == [9, 5].as_slice());
+    assert!(rt; are_listed(&mut LatchTable::new())?);
     Ok(())
 }

@@ -13,8 +13,6 @@ const PAGES: u32 = 32;
 
 const LEN: u64 = 4096 + 65_536 + 4096;
 
-const IMAGES: [CrashImage; 3] = [CrashImage::Drop, CrashImage::Keep, CrashImage::Tear];
-
 fn replay(alloc: Global, device: &mut MemDevice) -> Result<Replayed, Fault> {
     let limits = Format::new(&limits(PAGES));
     if !limits.are_valid() || device.len() < LOG_START + u64::from(limits.log_bytes) {
@@ -194,15 +192,60 @@ fn put(device: &mut MemDevice, bytes: &[u8]) -> Result<(), Fault> {
     device.write_at(LOG_START, bytes)
 }
 
-fn planned(alloc: Global, n: u64, stops: bool) -> Result<(Run, Log, MemDevice), Fault> {
+// Whether this holds of a log that has nothing, and the device that it is on.
+fn over<F: FnOnce(Global, &mut Log, &mut MemDevice) -> bool>(
+    alloc: Global,
+    is_right: F,
+) -> Result<bool, Fault>
+    requires { F.IsAlwaysCallable is_right }
+{
     let (mut log, mut device) = fresh(alloc)?;
+    Ok(is_right(alloc, &mut log, &mut device))
+}
+
+// The cycle of the last image of each of the first blocks for a restart, 0 without one.
+fn found_again(alloc: Global, device: &mut MemDevice) -> Result<[u32; 8], Fault> {
+    let replayed = replay(alloc, device)?;
+    Ok(found(&replayed))
+}
+
+// How many blocks have an image for a restart.
+fn count_again(alloc: Global, device: &mut MemDevice) -> Result<u32, Fault> {
+    let replayed = replay(alloc, device)?;
+    Ok(count(&replayed))
+}
+
+fn room(log: &Log) -> u32 {
+    log.room()
+}
+
+// The device refuses a call, or all from that on.
+fn refuse(device: &mut MemDevice, n: u64, stops: bool) {
     if stops {
         device.stop_at(n);
     } else {
         device.fail_at(n);
     }
+}
+
+// Whether a crash leaves what is allowed after this run.
+fn is_left(alloc: Global, device: &MemDevice, image: CrashImage, run: Run) -> bool {
+    match left(alloc, device, image) {
+        Ok(replayed) => is_allowed(run, &replayed),
+        Err(_) => false,
+    }
+}
+
+// A run that is refused the n-th call: whether it failed, and whether what a crash leaves, and what the log answers, is right.
+fn planned(alloc: Global, n: u64, stops: bool) -> Result<(bool, bool), Fault> {
+    let (mut log, mut device) = fresh(alloc)?;
+    refuse(&mut device, n, stops);
     let run = drive(&mut log, &mut device);
-    Ok((run, log, device))
+    let is_left = is_left(alloc, &device, CrashImage::Drop, run)
+        && is_left(alloc, &device, CrashImage::Keep, run)
+        && is_left(alloc, &device, CrashImage::Tear, run);
+    let answers = !run.failed || act(&mut log, 6) == Err(Fault::Stopped);
+    Ok((run.failed, is_left && answers))
 }
 
 #[test]
@@ -210,15 +253,9 @@ fn a_crash_leaves_a_first_part(rt: HostRuntime) -> Result<(), Fail> {
     let mut failed = 0u64;
     for n in 1..20 {
         for stops in [false, true] {
-            let (run, mut log, device) = planned(rt.alloc(), n, stops)?;
-            for image in IMAGES {
-                let replayed = left(rt.alloc(), &device, image)?;
-                assert!(rt; is_allowed(run, &replayed), "call {n}");
-            }
-            if run.failed {
-                failed = failed.saturating_add(1);
-                assert!(rt; act(&mut log, 6) == Err(Fault::Stopped));
-            }
+            let (fails, is_right) = planned(rt.alloc(), n, stops)?;
+            assert!(rt; is_right, "call {n}");
+            failed = failed.saturating_add(u64::from(fails));
         }
     }
     // Three forces and a reset make fourteen calls.
@@ -226,142 +263,194 @@ fn a_crash_leaves_a_first_part(rt: HostRuntime) -> Result<(), Fail> {
     Ok(())
 }
 
+// Whether so many images are appended, each of a block of its own, with as many actions.
+fn appends(log: &mut Log, count: u32) -> bool {
+    for k in 0..count {
+        if append(log, &[marked(k.saturating_add(1), 1)]) != Ok(u64::from(k) + 1) {
+            return false;
+        }
+    }
+    true
+}
+
+// Whether each of fifteen images takes room.
+fn fills(log: &mut Log) -> bool {
+    for k in 0..15 {
+        if append(log, &[marked(k + 1, k)]) != Ok(u64::from(k) + 1) || room(log) != 14 - k {
+            return false;
+        }
+    }
+    true
+}
+
+fn has_room_for_fifteen(alloc: Global, log: &mut Log, device: &mut MemDevice) -> bool {
+    room(log) == 15
+        && fills(log)
+        && append(log, &[marked(16, 15)]) == Err(Fault::LogFull)
+        && force(log, device) == Ok(15)
+        && count_again(alloc, device) == Ok(15)
+        && reset(log, device) == Ok(())
+        && room(log) == 15
+}
+
 // One group of n images takes 6 + 4096 n bytes, so 65,536 bytes have room for 15.
 #[test]
 fn a_fresh_log_holds_fifteen_images(rt: HostRuntime) -> Result<(), Fail> {
-    let (mut log, mut device) = fresh(rt.alloc())?;
-    assert!(rt; log.room() == 15);
-    for k in 0..15 {
-        assert!(rt; append(&mut log, &[marked(k + 1, k)]) == Ok(u64::from(k) + 1));
-        assert!(rt; log.room() == 14 - k);
-    }
-    assert!(rt; append(&mut log, &[marked(16, 15)]) == Err(Fault::LogFull));
-    assert!(rt; force(&mut log, &mut device) == Ok(15));
-    assert!(rt; count(&replay(rt.alloc(), &mut device)?) == 15);
-    assert!(rt; reset(&mut log, &mut device) == Ok(()));
-    assert!(rt; log.room() == 15);
+    assert!(rt; over(rt.alloc(), has_room_for_fifteen)?);
     Ok(())
+}
+
+// At last twice in one action, and one of another block.
+fn takes_room_once(alloc: Global, log: &mut Log, device: &mut MemDevice) -> bool {
+    room(log) == 15
+        && append(log, &[marked(1, 1)]) == Ok(1)
+        && append(log, &[marked(1, 2)]) == Ok(2)
+        && room(log) == 14
+        && append(log, &[marked(2, 3), marked(1, 4), marked(2, 5)]) == Ok(3)
+        && room(log) == 13
+        && force(log, device) == Ok(3)
+        && group_count(device, 0) == 2
+        && found_again(alloc, device) == Ok([0, 4, 5, 0, 0, 0, 0, 0])
 }
 
 #[test]
 fn a_second_image_of_a_block_takes_no_room(rt: HostRuntime) -> Result<(), Fail> {
-    let (mut log, mut device) = fresh(rt.alloc())?;
-    assert!(rt; log.room() == 15);
-    assert!(rt; append(&mut log, &[marked(1, 1)]) == Ok(1));
-    assert!(rt; append(&mut log, &[marked(1, 2)]) == Ok(2));
-    assert!(rt; log.room() == 14);
-    // Twice in one action, and one of another block.
-    assert!(rt; append(&mut log, &[marked(2, 3), marked(1, 4), marked(2, 5)]) == Ok(3));
-    assert!(rt; log.room() == 13);
-    assert!(rt; force(&mut log, &mut device) == Ok(3));
-    assert!(rt; group_count(&mut device, 0) == 2);
-    let replayed = replay(rt.alloc(), &mut device)?;
-    assert!(rt; found(&replayed) == [0, 4, 5, 0, 0, 0, 0, 0]);
+    assert!(rt; over(rt.alloc(), takes_room_once)?);
     Ok(())
+}
+
+// Whether forty images of a block are appended.
+fn appends_forty(log: &mut Log) -> bool {
+    for k in 1..41 {
+        if append(log, &[marked(7, k)]) != Ok(u64::from(k)) {
+            return false;
+        }
+    }
+    true
+}
+
+fn has_one_image(alloc: Global, log: &mut Log, device: &mut MemDevice) -> bool {
+    appends_forty(log)
+        && force(log, device) == Ok(40)
+        && group_count(device, 0) == 1
+        && found_again(alloc, device) == Ok([0, 0, 0, 0, 0, 0, 0, 40])
+        && append(log, &[marked(7, 41)]) == Ok(41)
+        && force(log, device) == Ok(41)
+        && group_count(device, 4_101) == 1
+        && count_again(alloc, device) == Ok(1)
+        && found_again(alloc, device) == Ok([0, 0, 0, 0, 0, 0, 0, 41])
 }
 
 // A group has one image of the block, though there is room for 15 alone; the next one has it again.
 #[test]
 fn forty_images_of_a_block_are_one(rt: HostRuntime) -> Result<(), Fail> {
-    let (mut log, mut device) = fresh(rt.alloc())?;
-    for k in 1..41 {
-        assert!(rt; append(&mut log, &[marked(7, k)]) == Ok(u64::from(k)));
-    }
-    assert!(rt; force(&mut log, &mut device) == Ok(40));
-    assert!(rt; group_count(&mut device, 0) == 1);
-    let replayed = replay(rt.alloc(), &mut device)?;
-    assert!(rt; found(&replayed) == [0, 0, 0, 0, 0, 0, 0, 40]);
-    assert!(rt; append(&mut log, &[marked(7, 41)]) == Ok(41));
-    assert!(rt; force(&mut log, &mut device) == Ok(41));
-    assert!(rt; group_count(&mut device, 4_101) == 1);
-    let replayed = replay(rt.alloc(), &mut device)?;
-    assert!(rt; count(&replayed) == 1);
-    assert!(rt; found(&replayed) == [0, 0, 0, 0, 0, 0, 0, 41]);
+    assert!(rt; over(rt.alloc(), has_one_image)?);
     Ok(())
+}
+
+fn keeps_the_image(alloc: Global, log: &mut Log, device: &mut MemDevice) -> bool {
+    appends(log, 13)
+        && force(log, device) == Ok(13)
+        && room(log) == 2
+        && append(log, &[marked(1, 2)]) == Ok(14)
+        && append(log, &[marked(1, 3), marked(2, 3), marked(3, 3)]) == Err(Fault::LogFull)
+        && room(log) == 1
+        && force(log, device) == Ok(14)
+        && count_again(alloc, device) == Ok(13)
+        && found_again(alloc, device) == Ok([0, 2, 1, 1, 1, 1, 1, 1])
 }
 
 // After a group of 13 images two fit: an action with a later image of a block that waits and two
 // of blocks that don't is refused, and the image that waits is the old one still.
 #[test]
 fn a_refused_append_replaces_no_image(rt: HostRuntime) -> Result<(), Fail> {
-    let (mut log, mut device) = fresh(rt.alloc())?;
-    for k in 0..13 {
-        assert!(rt; append(&mut log, &[marked(k + 1, 1)]) == Ok(u64::from(k) + 1));
-    }
-    assert!(rt; force(&mut log, &mut device) == Ok(13));
-    assert!(rt; log.room() == 2);
-    assert!(rt; append(&mut log, &[marked(1, 2)]) == Ok(14));
-    let refused = [marked(1, 3), marked(2, 3), marked(3, 3)];
-    assert!(rt; append(&mut log, &refused) == Err(Fault::LogFull));
-    assert!(rt; log.room() == 1);
-    assert!(rt; force(&mut log, &mut device) == Ok(14));
-    let replayed = replay(rt.alloc(), &mut device)?;
-    assert!(rt; count(&replayed) == 13);
-    assert!(rt; found(&replayed) == [0, 2, 1, 1, 1, 1, 1, 1]);
+    assert!(rt; over(rt.alloc(), keeps_the_image)?);
     Ok(())
+}
+
+// Whether the action before a reset is forgotten.
+fn forgets(alloc: Global, log: &mut Log, device: &mut MemDevice) -> bool {
+    reset(log, device) == Ok(()) && count_again(alloc, device) == Ok(0)
+}
+
+fn keeps_what_waits(alloc: Global, log: &mut Log, device: &mut MemDevice) -> bool {
+    act(log, 1) == Ok(1)
+        && force(log, device) == Ok(1)
+        && act(log, 2) == Ok(2)
+        && forgets(alloc, log, device)
+        && force(log, device) == Ok(2)
+        && found_again(alloc, device) == Ok(after(2, 3))
 }
 
 // A reset forgets what was forced, and what waits still waits.
 #[test]
 fn a_reset_keeps_what_waits(rt: HostRuntime) -> Result<(), Fail> {
-    let (mut log, mut device) = fresh(rt.alloc())?;
-    assert!(rt; act(&mut log, 1) == Ok(1));
-    assert!(rt; force(&mut log, &mut device) == Ok(1));
-    assert!(rt; act(&mut log, 2) == Ok(2));
-    assert!(rt; reset(&mut log, &mut device) == Ok(()));
-    assert!(rt; count(&replay(rt.alloc(), &mut device)?) == 0);
-    assert!(rt; force(&mut log, &mut device) == Ok(2));
-    let replayed = replay(rt.alloc(), &mut device)?;
-    assert!(rt; found(&replayed) == after(2, 3));
+    assert!(rt; over(rt.alloc(), keeps_what_waits)?);
     Ok(())
+}
+
+fn answers_stopped(_alloc: Global, log: &mut Log, device: &mut MemDevice) -> bool {
+    if act(log, 1) != Ok(1) {
+        return false;
+    }
+    refuse(device, 1, false);
+    force(log, device) == Err(Fault::Io)
+        && act(log, 2) == Err(Fault::Stopped)
+        && force(log, device) == Err(Fault::Stopped)
+        && reset(log, device) == Err(Fault::Stopped)
 }
 
 #[test]
 fn a_stopped_log_answers_stopped(rt: HostRuntime) -> Result<(), Fail> {
-    let (mut log, mut device) = fresh(rt.alloc())?;
-    assert!(rt; act(&mut log, 1) == Ok(1));
-    device.fail_at(1);
-    assert!(rt; force(&mut log, &mut device) == Err(Fault::Io));
-    assert!(rt; act(&mut log, 2) == Err(Fault::Stopped));
-    assert!(rt; force(&mut log, &mut device) == Err(Fault::Stopped));
-    assert!(rt; reset(&mut log, &mut device) == Err(Fault::Stopped));
+    assert!(rt; over(rt.alloc(), answers_stopped)?);
     Ok(())
+}
+
+fn makes_no_call(alloc: Global, log: &mut Log, device: &mut MemDevice) -> bool {
+    refuse(device, 1, false);
+    force(log, device) == Ok(0)
+        && reset(log, device) == Ok(())
+        && count_again(alloc, device).is_err()
 }
 
 #[test]
 fn nothing_to_write_makes_no_call(rt: HostRuntime) -> Result<(), Fail> {
-    let (mut log, mut device) = fresh(rt.alloc())?;
-    device.fail_at(1);
-    assert!(rt; force(&mut log, &mut device) == Ok(0));
-    assert!(rt; reset(&mut log, &mut device) == Ok(()));
-    assert!(rt; replay(rt.alloc(), &mut device).is_err());
+    assert!(rt; over(rt.alloc(), makes_no_call)?);
     Ok(())
+}
+
+// How many blocks have an image for a restart after a crash has opened the gate again.
+fn count_with_an_open_gate(alloc: Global, device: &MemDevice) -> Result<u32, Fault> {
+    let mut torn = device.crash(alloc, CrashImage::Keep)?;
+    put(&mut torn, &[1])?;
+    count_again(alloc, &mut torn)
+}
+
+fn is_taken_again(alloc: Global, log: &mut Log, device: &mut MemDevice) -> bool {
+    act(log, 1) == Ok(1)
+        && force(log, device) == Ok(1)
+        && forgets(alloc, log, device)
+        && count_with_an_open_gate(alloc, device) == Ok(2)
 }
 
 // After a closed gate the old group still stands: had `reset` written that gate once more, a crash
 // could have left any byte there, and with a 1 the restart would have taken the old group again.
 #[test]
 fn an_open_gate_in_front_of_old_bytes_would_be_replayed(rt: HostRuntime) -> Result<(), Fail> {
-    let (mut log, mut device) = fresh(rt.alloc())?;
-    assert!(rt; act(&mut log, 1) == Ok(1));
-    assert!(rt; force(&mut log, &mut device) == Ok(1));
-    assert!(rt; reset(&mut log, &mut device) == Ok(()));
-    assert!(rt; count(&replay(rt.alloc(), &mut device)?) == 0);
-    let mut torn = device.crash(rt.alloc(), CrashImage::Keep)?;
-    assert!(rt; put(&mut torn, &[1]) == Ok(()));
-    assert!(rt; count(&replay(rt.alloc(), &mut torn)?) == 2);
+    assert!(rt; over(rt.alloc(), is_taken_again)?);
     Ok(())
 }
 
+// How many blocks have an image for a restart where a fresh log has this gate before a group of none.
+fn count_with(alloc: Global, gate: u8) -> Result<u32, Fault> {
+    let (_log, mut device) = fresh(alloc)?;
+    put(&mut device, &[gate, 0, 0, 0, 0])?;
+    count_again(alloc, &mut device)
+}
+
 #[test]
-fn an_open_group_of_no_image_is_damage(rt: HostRuntime) -> Result<(), Fail> {
-    for (gate, is_damage) in [(0, false), (1, true), (2, false)] {
-        let (_log, mut device) = fresh(rt.alloc())?;
-        assert!(rt; put(&mut device, &[gate, 0, 0, 0, 0]) == Ok(()));
-        match replay(rt.alloc(), &mut device) {
-            Ok(replayed) => assert!(rt; count(&replayed) == 0 && !is_damage),
-            Err(fault) => assert!(rt; fault == Fault::LogDamaged && is_damage),
-        }
-    }
-    Ok(())
+fn an_open_group_of_no_image_is_damage(rt: HostRuntime) {
+    assert!(rt; count_with(rt.alloc(), 0) == Ok(0));
+    assert!(rt; count_with(rt.alloc(), 1) == Err(Fault::LogDamaged));
+    assert!(rt; count_with(rt.alloc(), 2) == Ok(0));
 }

@@ -1,28 +1,24 @@
 //! Scans.
 
-use crate::plain::latch;
-use crate::trees::{change, leaf_of, meta, nth, parent, stored};
+use crate::plain::{latch, release, session};
+use crate::trees::{change, leaf_of, meta, over, parent};
 use arrayvec::ArrayVec;
 use index_model::{Entry, Fault, Key, Range, Session};
 use latch_table::Mode;
-use page_action::{MapStore, PageStore};
+use page_action::MapStore;
+use page_codec::Page;
 use scan::{ScanOp, ScanStep};
-use std::alloc::Global;
 use std::test::{Fail, *};
 
 // Three leaves under a root.
-fn tree(alloc: Global) -> Result<MapStore, Fault> {
-    stored(
-        alloc,
-        8,
-        &[
-            meta(4, 1),
-            leaf_of(1, None, Some(2), &[10, 20], Some(20)),
-            leaf_of(2, Some(1), Some(3), &[30, 40], Some(40)),
-            leaf_of(3, Some(2), None, &[50, 60], None),
-            parent(4, &[(None, 1), (Some(20), 2), (Some(40), 3)]),
-        ],
-    )
+fn tree() -> [Page; 5] {
+    [
+        meta(4, 1),
+        leaf_of(1, None, Some(2), &[10, 20], Some(20)),
+        leaf_of(2, Some(1), Some(3), &[30, 40], Some(40)),
+        leaf_of(3, Some(2), None, &[50, 60], None),
+        parent(4, &[(None, 1), (Some(20), 2), (Some(40), 3)]),
+    ]
 }
 
 fn step(op: &mut ScanOp, store: &mut MapStore) -> Result<ScanStep, Fault> {
@@ -33,10 +29,14 @@ fn next(op: &mut ScanOp) -> Option<Entry> {
     op.next()
 }
 
+fn key(byte: Option<u8>) -> Option<Key> {
+    Key::new(&[byte?]).ok()
+}
+
 fn range(from: Option<u8>, below: Option<u8>) -> Range {
     Range {
-        from: from.and_then(|byte| Key::new(&[byte]).ok()),
-        below: below.and_then(|byte| Key::new(&[byte]).ok()),
+        from: key(from),
+        below: key(below),
     }
 }
 
@@ -71,67 +71,107 @@ fn is_done(op: &mut ScanOp, store: &mut MapStore) -> bool {
     matches!(step(op, store), Ok(ScanStep::Done))
 }
 
+// A scan of session 0.
+fn scan(from: Option<u8>, below: Option<u8>) -> Result<ScanOp, Fault> {
+    Ok(ScanOp::new(session(0)?, range(from, below)))
+}
+
+fn gives_all(store: &mut MapStore) -> Result<bool, Fault> {
+    let mut op = scan(None, None)?;
+    Ok(
+        gives(&mut op, store, &[10, 20])
+            && gives(&mut op, store, &[30, 40])
+            && gives(&mut op, store, &[50, 60])
+            && is_done(&mut op, store),
+    )
+}
+
 #[test]
 fn scan_of_all(rt: HostRuntime) -> Result<(), Fail> {
-    let mut store = tree(rt.alloc())?;
-    let session = Session::new(0)?;
-    let mut op = ScanOp::new(session, range(None, None));
-    assert!(rt; gives(&mut op, &mut store, &[10, 20]));
-    assert!(rt; gives(&mut op, &mut store, &[30, 40]));
-    assert!(rt; gives(&mut op, &mut store, &[50, 60]));
-    assert!(rt; is_done(&mut op, &mut store));
+    assert!(rt; over(rt.alloc(), 8, &tree(), gives_all)?);
     Ok(())
+}
+
+// Whether a scan of this range gives the entries of two leaves, and is done then.
+fn gives_two(
+    store: &mut MapStore,
+    from: u8,
+    below: u8,
+    first: &[u8],
+    second: &[u8],
+) -> Result<bool, Fault> {
+    let mut op = scan(Some(from), Some(below))?;
+    Ok(gives(&mut op, store, first) && gives(&mut op, store, second) && is_done(&mut op, store))
+}
+
+// Whether a range ends within a leaf, and after one.
+fn gives_ranges(store: &mut MapStore) -> Result<bool, Fault> {
+    Ok(gives_two(store, 15, 40, &[20], &[30])? && gives_two(store, 30, 41, &[30, 40], &[])?)
 }
 
 #[test]
 fn scan_of_a_range(rt: HostRuntime) -> Result<(), Fail> {
-    let mut store = tree(rt.alloc())?;
-    let session = Session::new(0)?;
-    let mut ends_within = ScanOp::new(session, range(Some(15), Some(40)));
-    assert!(rt; gives(&mut ends_within, &mut store, &[20]));
-    assert!(rt; gives(&mut ends_within, &mut store, &[30]));
-    assert!(rt; is_done(&mut ends_within, &mut store));
-    let mut ends_after = ScanOp::new(session, range(Some(30), Some(41)));
-    assert!(rt; gives(&mut ends_after, &mut store, &[30, 40]));
-    assert!(rt; gives(&mut ends_after, &mut store, &[]));
-    assert!(rt; is_done(&mut ends_after, &mut store));
+    assert!(rt; over(rt.alloc(), 8, &tree(), gives_ranges)?);
     Ok(())
 }
 
-#[test]
-fn scan_goes_on_by_the_saved_link(rt: HostRuntime) -> Result<(), Fail> {
-    let mut store = tree(rt.alloc())?;
-    let session = Session::new(0)?;
-    let mut op = ScanOp::new(session, range(None, None));
-    assert!(rt; gives(&mut op, &mut store, &[10, 20]));
+// Splits leaf 1 into page 5.
+fn split(store: &mut MapStore) -> bool {
     let mut left = leaf_of(1, None, Some(5), &[10], Some(10));
     left.split = true;
     let right = leaf_of(5, Some(1), Some(2), &[15, 20], Some(20));
     let mended = leaf_of(2, Some(5), Some(3), &[30, 40], Some(40));
-    assert!(rt; change(&mut store, &[left, right, mended]) == Ok(1));
-    assert!(rt; gives(&mut op, &mut store, &[30, 40]));
-    assert!(rt; gives(&mut op, &mut store, &[50, 60]));
-    assert!(rt; is_done(&mut op, &mut store));
-    let mut again = ScanOp::new(session, range(Some(12), Some(30)));
-    assert!(rt; gives(&mut again, &mut store, &[15, 20]));
-    assert!(rt; gives(&mut again, &mut store, &[]));
-    assert!(rt; is_done(&mut again, &mut store));
+    change(store, &[left, right, mended]) == Ok(1)
+}
+
+fn goes_on_by_the_link(store: &mut MapStore) -> Result<bool, Fault> {
+    let mut op = scan(None, None)?;
+    Ok(
+        gives(&mut op, store, &[10, 20])
+            && split(store)
+            && gives(&mut op, store, &[30, 40])
+            && gives(&mut op, store, &[50, 60])
+            && is_done(&mut op, store)
+            && gives_two(store, 12, 30, &[15, 20], &[])?,
+    )
+}
+
+#[test]
+fn scan_goes_on_by_the_saved_link(rt: HostRuntime) -> Result<(), Fail> {
+    assert!(rt; over(rt.alloc(), 8, &tree(), goes_on_by_the_link)?);
     Ok(())
+}
+
+// Whether another session is refused a cleanup latch of this block.
+fn keeps(store: &mut MapStore, other: Session, block: u32) -> bool {
+    latch(store, other, block, Mode::Cleanup) == Err(Fault::Blocked(block))
+}
+
+// Whether the leaf of a scan is kept from a cleanup, while the next one is latched by another session.
+fn is_kept(op: &mut ScanOp, store: &mut MapStore, other: Session) -> bool {
+    gives(op, store, &[10, 20])
+        && keeps(store, other, 1)
+        && latch(store, other, 2, Mode::Exclusive) == Ok(())
+        && keys_of(op, store).err() == Some(Fault::Blocked(2))
+        && keeps(store, other, 1)
+}
+
+fn stays_pinned(store: &mut MapStore) -> Result<bool, Fault> {
+    let other = session(1)?;
+    let mut op = scan(None, None)?;
+    if !is_kept(&mut op, store, other) {
+        return Ok(false);
+    }
+    release(store, other, 2);
+    Ok(
+        gives(&mut op, store, &[30, 40])
+            && latch(store, other, 1, Mode::Cleanup) == Ok(())
+            && keeps(store, other, 2),
+    )
 }
 
 #[test]
 fn leaf_stays_pinned_until_another_page_is_read(rt: HostRuntime) -> Result<(), Fail> {
-    let mut store = tree(rt.alloc())?;
-    let (session, other) = (Session::new(0)?, Session::new(1)?);
-    let mut op = ScanOp::new(session, range(None, None));
-    assert!(rt; gives(&mut op, &mut store, &[10, 20]));
-    assert!(rt; latch(&mut store, other, 1, Mode::Cleanup) == Err(Fault::Blocked(1)));
-    assert!(rt; latch(&mut store, other, 2, Mode::Exclusive) == Ok(()));
-    assert!(rt; keys_of(&mut op, &mut store).err() == Some(Fault::Blocked(2)));
-    assert!(rt; latch(&mut store, other, 1, Mode::Cleanup) == Err(Fault::Blocked(1)));
-    store.release(other, 2);
-    assert!(rt; gives(&mut op, &mut store, &[30, 40]));
-    assert!(rt; latch(&mut store, other, 1, Mode::Cleanup) == Ok(()));
-    assert!(rt; latch(&mut store, other, 2, Mode::Cleanup) == Err(Fault::Blocked(2)));
+    assert!(rt; over(rt.alloc(), 8, &tree(), stays_pinned)?);
     Ok(())
 }

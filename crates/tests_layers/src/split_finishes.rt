@@ -1,64 +1,54 @@
 //! Splits that are finished.
 
-use crate::plain::{copy_of, enter, latch, leave};
-use crate::trees::{bound, incomplete, leaf_of, meta, parent, stored};
+use crate::plain::{acts, copy_of, enter, latch, leave, pair, release, session};
+use crate::trees::{bound, incomplete, leaf_of, meta, over, parent};
 use index_model::{Fault, Session};
 use latch_table::Mode;
-use page_action::{MapStore, PageStore};
+use page_action::MapStore;
 use page_codec::Page;
 use split_finish::{FinishOp, FinishStep, Target};
-use std::alloc::Global;
 use std::test::{Fail, *};
 use tree_shape::links_on;
 
+// The neighbour on this block; 0 for none.
+fn neighbour(block: u32) -> Option<u32> {
+    if block == 0 { None } else { Some(block) }
+}
+
 // A leaf with one entry, its high key unless it is the last; 0 for no neighbour.
 fn leaf(block: u32, left: u32, right: u32, key: u8) -> Page {
-    let left = Some(left).filter(|b| *b > 0);
-    let right = Some(right).filter(|b| *b > 0);
-    let high = right.map(|_| key);
-    leaf_of(block, left, right, &[key], high)
+    let high = if right == 0 { None } else { Some(key) };
+    leaf_of(block, neighbour(left), neighbour(right), &[key], high)
 }
 
 // A leaf as the root, split into pages 1 and 2.
-fn split_root(alloc: Global) -> Result<MapStore, Fault> {
-    stored(
-        alloc,
-        12,
-        &[meta(1, 0), incomplete(leaf(1, 0, 2, 3)), leaf(2, 1, 0, 5)],
-    )
+fn split_root() -> [Page; 3] {
+    [meta(1, 0), incomplete(leaf(1, 0, 2, 3)), leaf(2, 1, 0, 5)]
 }
 
 // A root on page 1 with room over leaves from page 2 on, of which the first one's split is unfinished.
-fn split_leaf(alloc: Global) -> Result<MapStore, Fault> {
-    stored(
-        alloc,
-        12,
-        &[
-            meta(1, 1),
-            parent(1, &[(None, 2), (Some(5), 4), (Some(7), 5)]),
-            incomplete(leaf(2, 0, 3, 3)),
-            leaf(3, 2, 4, 5),
-            leaf(4, 3, 5, 7),
-            leaf(5, 4, 0, 9),
-        ],
-    )
+fn split_leaf() -> [Page; 6] {
+    [
+        meta(1, 1),
+        parent(1, &[(None, 2), (Some(5), 4), (Some(7), 5)]),
+        incomplete(leaf(2, 0, 3, 3)),
+        leaf(3, 2, 4, 5),
+        leaf(4, 3, 5, 7),
+        leaf(5, 4, 0, 9),
+    ]
 }
 
 // The same with one leaf more, under a full root.
-fn split_leaf_under_a_full_root(alloc: Global) -> Result<MapStore, Fault> {
-    stored(
-        alloc,
-        12,
-        &[
-            meta(1, 1),
-            parent(1, &[(None, 2), (Some(5), 4), (Some(7), 5), (Some(9), 6)]),
-            incomplete(leaf(2, 0, 3, 3)),
-            leaf(3, 2, 4, 5),
-            leaf(4, 3, 5, 7),
-            leaf(5, 4, 6, 9),
-            leaf(6, 5, 0, 11),
-        ],
-    )
+fn split_leaf_under_a_full_root() -> [Page; 7] {
+    [
+        meta(1, 1),
+        parent(1, &[(None, 2), (Some(5), 4), (Some(7), 5), (Some(9), 6)]),
+        incomplete(leaf(2, 0, 3, 3)),
+        leaf(3, 2, 4, 5),
+        leaf(4, 3, 5, 7),
+        leaf(5, 4, 6, 9),
+        leaf(6, 5, 0, 11),
+    ]
 }
 
 fn step(op: &mut FinishOp, store: &mut MapStore) -> Result<FinishStep, Fault> {
@@ -94,77 +84,120 @@ fn target(block: u32, key: u8) -> Target {
 }
 
 fn count_of(store: &mut MapStore, block: u32) -> usize {
-    copy_of(store, block).map_or(0, |page| links_on(&page).len())
+    match copy_of(store, block) {
+        Ok(page) => links_on(&page).len(),
+        Err(_) => 0,
+    }
 }
 
 fn child_of(store: &mut MapStore, block: u32, at: usize) -> u32 {
-    copy_of(store, block).map_or(0, |page| {
-        links_on(&page).get(at).map_or(0, |link| link.child)
-    })
+    let Ok(page) = copy_of(store, block) else {
+        return 0;
+    };
+    match links_on(&page).get(at) {
+        Some(link) => link.child,
+        None => 0,
+    }
 }
 
 fn is_incomplete(store: &mut MapStore, block: u32) -> bool {
-    copy_of(store, block).map_or(true, |page| page.split)
+    match copy_of(store, block) {
+        Ok(page) => page.split,
+        Err(_) => true,
+    }
+}
+
+// The page that the metapage names as the root, and its level.
+fn root_of(store: &mut MapStore) -> Option<(Option<u32>, u8)> {
+    match copy_of(store, 0) {
+        Ok(meta) => Some((meta.right, meta.level)),
+        Err(_) => None,
+    }
+}
+
+fn has_new_root(store: &mut MapStore) -> Result<bool, Fault> {
+    Ok(
+        finish(store, session(1)?, target(1, 3)) == Ok(1)
+            && acts(store) == 1
+            && root_of(store) == Some((Some(3), 1))
+            && child_of(store, 3, 0) == 1
+            && child_of(store, 3, 1) == 2
+            && !is_incomplete(store, 1),
+    )
 }
 
 #[test]
 fn new_root_over_a_split_leaf(rt: HostRuntime) -> Result<(), Fail> {
-    let mut store = split_root(rt.alloc())?;
-    let one = Session::new(1)?;
-    assert!(rt; finish(&mut store, one, target(1, 3)) == Ok(1));
-    assert!(rt; store.acts() == 1);
-    assert!(rt; copy_of(&mut store, 0).map(|page| page.right) == Ok(Some(3)));
-    assert!(rt; copy_of(&mut store, 0).map(|page| page.level) == Ok(1));
-    assert!(rt; child_of(&mut store, 3, 0) == 1);
-    assert!(rt; child_of(&mut store, 3, 1) == 2);
-    assert!(rt; is_incomplete(&mut store, 1) == false);
+    assert!(rt; over(rt.alloc(), 12, &split_root(), has_new_root)?);
     Ok(())
+}
+
+// Whether a downlink comes onto the parent; once more, there is nothing to do.
+fn has_downlink(store: &mut MapStore) -> Result<bool, Fault> {
+    let one = session(1)?;
+    Ok(
+        finish(store, one, target(2, 3)) == Ok(2)
+            && count_of(store, 1) == 4
+            && child_of(store, 1, 1) == 3
+            && !is_incomplete(store, 2)
+            && finish(store, one, target(2, 3)) == Ok(2)
+            && acts(store) == 1,
+    )
 }
 
 #[test]
 fn downlink_on_a_parent_with_room(rt: HostRuntime) -> Result<(), Fail> {
-    let mut store = split_leaf(rt.alloc())?;
-    let one = Session::new(1)?;
-    assert!(rt; finish(&mut store, one, target(2, 3)) == Ok(2));
-    assert!(rt; count_of(&mut store, 1) == 4);
-    assert!(rt; child_of(&mut store, 1, 1) == 3);
-    assert!(rt; is_incomplete(&mut store, 2) == false);
-    // Once more: there is nothing to do.
-    assert!(rt; finish(&mut store, one, target(2, 3)) == Ok(2));
-    assert!(rt; store.acts() == 1);
+    assert!(rt; over(rt.alloc(), 12, &split_leaf(), has_downlink)?);
     Ok(())
+}
+
+// Whether the page is up to the bound of this key.
+fn ends_at(store: &mut MapStore, block: u32, key: u8) -> bool {
+    match copy_of(store, block) {
+        Ok(page) => page.high == Some(bound(key)),
+        Err(_) => false,
+    }
+}
+
+// Page 1 keeps three of five downlinks, page 7 has two, and page 8 is the root over them.
+fn are_split(store: &mut MapStore) -> Result<bool, Fault> {
+    Ok(
+        finish(store, session(1)?, target(2, 3)) == Ok(4)
+            && acts(store) == 2
+            && count_of(store, 1) == 3
+            && count_of(store, 7) == 2
+            && child_of(store, 8, 1) == 7
+            && ends_at(store, 1, 7)
+            && !is_incomplete(store, 1),
+    )
 }
 
 #[test]
 fn full_parent_and_the_root_are_split(rt: HostRuntime) -> Result<(), Fail> {
-    let mut store = split_leaf_under_a_full_root(rt.alloc())?;
-    let one = Session::new(1)?;
-    assert!(rt; finish(&mut store, one, target(2, 3)) == Ok(4));
-    assert!(rt; store.acts() == 2);
-    // Page 1 keeps three of five downlinks, page 7 has two, and page 8 is the root over them.
-    assert!(rt; count_of(&mut store, 1) == 3);
-    assert!(rt; count_of(&mut store, 7) == 2);
-    assert!(rt; child_of(&mut store, 8, 1) == 7);
-    assert!(rt; copy_of(&mut store, 1).is_ok_and(|page| page.high == Some(bound(7))));
-    assert!(rt; is_incomplete(&mut store, 1) == false);
+    assert!(rt; over(rt.alloc(), 12, &split_leaf_under_a_full_root(), are_split)?);
     Ok(())
+}
+
+fn waits_and_reads_again(store: &mut MapStore) -> Result<bool, Fault> {
+    let (one, other) = pair(1, 2)?;
+    if latch(store, other, 1, Mode::Exclusive) != Ok(())
+        || finish(store, one, target(2, 2)) != Err(Fault::Blocked(1))
+    {
+        return Ok(false);
+    }
+    release(store, other, 1);
+    Ok(finish(store, one, target(2, 2)) == Ok(5) && child_of(store, 1, 1) == 3)
 }
 
 #[test]
 fn separator_is_read_again_and_latches_block(rt: HostRuntime) -> Result<(), Fail> {
-    let mut store = split_leaf(rt.alloc())?;
-    let (one, other) = (Session::new(1)?, Session::new(2)?);
-    assert!(rt; latch(&mut store, other, 1, Mode::Exclusive) == Ok(()));
-    assert!(rt; finish(&mut store, one, target(2, 2)) == Err(Fault::Blocked(1)));
-    store.release(other, 1);
-    assert!(rt; finish(&mut store, one, target(2, 2)) == Ok(5));
-    assert!(rt; child_of(&mut store, 1, 1) == 3);
+    assert!(rt; over(rt.alloc(), 12, &split_leaf(), waits_and_reads_again)?);
     Ok(())
 }
 
 // Three levels: on the way from the root, page 1, to leaf 4, whose split is unfinished, stands page 2, full, whose split is
 // unfinished too.
-fn two_splits(alloc: Global) -> Result<MapStore, Fault> {
+fn two_splits() -> [Page; 10] {
     let mut root = parent(1, &[(None, 2)]);
     root.level = 2;
     let mut left = incomplete(parent(2, &[(None, 4), (Some(5), 6), (Some(6), 7), (Some(7), 8)]));
@@ -172,37 +205,45 @@ fn two_splits(alloc: Global) -> Result<MapStore, Fault> {
     left.high = Some(bound(9));
     let mut right = parent(3, &[(None, 9)]);
     right.left = Some(2);
-    stored(
-        alloc,
-        12,
-        &[
-            meta(1, 2),
-            root,
-            left,
-            right,
-            incomplete(leaf(4, 0, 5, 3)),
-            leaf(5, 4, 6, 5),
-            leaf(6, 5, 7, 6),
-            leaf(7, 6, 8, 7),
-            leaf(8, 7, 9, 9),
-            leaf(9, 8, 0, 11),
-        ],
+    [
+        meta(1, 2),
+        root,
+        left,
+        right,
+        incomplete(leaf(4, 0, 5, 3)),
+        leaf(5, 4, 6, 5),
+        leaf(6, 5, 7, 6),
+        leaf(7, 6, 8, 7),
+        leaf(8, 7, 9, 9),
+        leaf(9, 8, 0, 11),
+    ]
+}
+
+// The page left of this one.
+fn left_of(store: &mut MapStore, block: u32) -> Option<u32> {
+    match copy_of(store, block) {
+        Ok(page) => page.left,
+        Err(_) => None,
+    }
+}
+
+// Page 3 is linked, then page 2 is split for page 5; its right half is page 10, left of page 3.
+fn are_both_finished(store: &mut MapStore) -> Result<bool, Fault> {
+    Ok(
+        finish(store, session(1)?, target(4, 3)) == Ok(12)
+            && acts(store) == 3
+            && child_of(store, 1, 0) == 2
+            && child_of(store, 1, 1) == 10
+            && child_of(store, 1, 2) == 3
+            && child_of(store, 2, 1) == 5
+            && left_of(store, 3) == Some(10)
+            && !is_incomplete(store, 2)
+            && !is_incomplete(store, 4),
     )
 }
 
 #[test]
 fn splits_above_are_finished_first(rt: HostRuntime) -> Result<(), Fail> {
-    let mut store = two_splits(rt.alloc())?;
-    let one = Session::new(1)?;
-    assert!(rt; finish(&mut store, one, target(4, 3)) == Ok(12));
-    assert!(rt; store.acts() == 3);
-    // Page 3 is linked, then page 2 is split for page 5; its right half is page 10, left of page 3.
-    assert!(rt; child_of(&mut store, 1, 0) == 2);
-    assert!(rt; child_of(&mut store, 1, 1) == 10);
-    assert!(rt; child_of(&mut store, 1, 2) == 3);
-    assert!(rt; child_of(&mut store, 2, 1) == 5);
-    assert!(rt; copy_of(&mut store, 3).map(|page| page.left) == Ok(Some(10)));
-    assert!(rt; is_incomplete(&mut store, 2) == false);
-    assert!(rt; is_incomplete(&mut store, 4) == false);
+    assert!(rt; over(rt.alloc(), 12, &two_splits(), are_both_finished)?);
     Ok(())
 }

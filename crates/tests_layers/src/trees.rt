@@ -1,10 +1,11 @@
 //! Entries, pages, and small trees of pages in memory.
 
-use crate::plain::{add, empty};
+use crate::plain::{add, empty, sessions};
 use arrayvec::ArrayVec;
 use index_model::{Bound, Entry, Fault, Key, Layout, Limits, Range, RowAddr};
 use page_action::{MapStore, PageStore, find_misplaced};
 use page_codec::{Downlink, Items, Page, PageState};
+use session_calls::Calls;
 use std::alloc::Global;
 
 /// Four items a page, and this many pages.
@@ -147,8 +148,15 @@ pub fn parent(block: u32, children: &[(Option<u8>, u32)]) -> Page {
     page(block, 1, None, None, Items::Downlinks(links))
 }
 
-/// These pages in memory, of an index that is made with this.
-pub fn stored_in(alloc: Global, limits: Limits, pages: &[Page]) -> Result<MapStore, Fault> {
+/// These pages in memory, of so many at most, of a unique index or another.
+pub fn stored_as(
+    alloc: Global,
+    most: u32,
+    unique: bool,
+    pages: &[Page],
+) -> Result<MapStore, Fault> {
+    let mut limits = limits(most);
+    limits.unique = unique;
     let mut store = empty(alloc, limits)?;
     for page in pages {
         add(&mut store, page.copy())?;
@@ -158,23 +166,40 @@ pub fn stored_in(alloc: Global, limits: Limits, pages: &[Page]) -> Result<MapSto
 
 /// These pages in memory, of so many at most.
 pub fn stored(alloc: Global, most: u32, pages: &[Page]) -> Result<MapStore, Fault> {
-    stored_in(alloc, limits(most), pages)
+    stored_as(alloc, most, false, pages)
 }
 
-/// These pages in memory, of so many at most, of a unique index.
-pub fn stored_unique(alloc: Global, most: u32, pages: &[Page]) -> Result<MapStore, Fault> {
-    let mut limits = limits(most);
-    limits.unique = true;
-    stored_in(alloc, limits, pages)
+/// Whether this holds of these pages in memory, of so many at most. A test that held a store would drop it at each comparison.
+pub fn over<F: FnOnce(&mut MapStore) -> Result<bool, Fault>>(
+    alloc: Global,
+    most: u32,
+    pages: &[Page],
+    is_right: F,
+) -> Result<bool, Fault>
+    requires { F.IsAlwaysCallable is_right }
+{
+    let mut store = stored(alloc, most, pages)?;
+    is_right(&mut store)
 }
 
-/// The metapage, and a leaf with these entries as the root, of so many pages at most.
-pub fn tree(alloc: Global, pages: u32, entries: &[Entry]) -> Result<MapStore, Fault> {
-    stored(
-        alloc,
-        pages,
-        &[meta(1, 0), leaf(1, None, None, entries, None)],
-    )
+/// The metapage, and a leaf with these entries as the root.
+pub fn tree(entries: &[Entry]) -> [Page; 2] {
+    [meta(1, 0), leaf(1, None, None, entries, None)]
+}
+
+/// Whether this holds of such a tree, of so many pages at most, and of the calls of so many sessions.
+pub fn over_calls<F: FnOnce(&mut MapStore, &mut Calls) -> bool>(
+    alloc: Global,
+    most: u32,
+    entries: &[Entry],
+    count: u32,
+    is_right: F,
+) -> Result<bool, Fault>
+    requires { F.IsAlwaysCallable is_right }
+{
+    let mut store = stored(alloc, most, &tree(entries))?;
+    let mut calls = sessions(alloc, count)?;
+    Ok(is_right(&mut store, &mut calls))
 }
 
 /// Changes pages as another session does; NoMemory where a store would not take them.

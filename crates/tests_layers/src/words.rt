@@ -1,22 +1,56 @@
 //! Keys, rows, entries, ranges, limits and faults.
 
 use crate::trees::keyed;
-use index_model::{Fault, Key, Limits, Range, RowAddr, Session};
+use index_model::{Entry, Fault, Key, Limits, Range, RowAddr, Session};
 use std::cmp::Ordering;
 use std::test::{Fail, *};
 
+// A key of these bytes, if it is one.
+fn key(bytes: &[u8]) -> Option<Key> {
+    Key::new(bytes).ok()
+}
+
+// The number of the session of this number, or how it is refused.
+fn session(number: u32) -> Result<u32, Fault> {
+    Ok(Session::new(number)?.number())
+}
+
+fn are_keys() -> bool {
+    let longest = keyed(&[9; 64], 7, 2);
+    longest.key.bytes() == &[9; 64][..]
+        && longest.key.len() == 64
+        && keyed(&[8, 9], 0, 1).key.cells()[..3] == [8, 9, 0][..]
+        && Key::new(&[9; 65]).err() == Some(Fault::KeyTooLong)
+        && (longest.row.block(), longest.row.offset()) == (7, 2)
+}
+
+fn are_rows_and_sessions() -> bool {
+    RowAddr::new(u32::MAX, 1) == Err(Fault::BadRow)
+        && RowAddr::new(0, 0) == Err(Fault::BadRow)
+        && session(63) == Ok(63)
+        && session(64) == Err(Fault::NoSession)
+}
+
 #[test]
 fn keys_rows_and_sessions(rt: HostRuntime) {
-    let longest = keyed(&[9; 64], 7, 2);
-    assert!(rt; longest.key.bytes() == &[9; 64][..]);
-    assert!(rt; longest.key.len() == 64);
-    assert!(rt; keyed(&[8, 9], 0, 1).key.cells()[..3] == [8, 9, 0][..]);
-    assert!(rt; Key::new(&[9; 65]).err() == Some(Fault::KeyTooLong));
-    assert!(rt; (longest.row.block(), longest.row.offset()) == (7, 2));
-    assert!(rt; RowAddr::new(u32::MAX, 1) == Err(Fault::BadRow));
-    assert!(rt; RowAddr::new(0, 0) == Err(Fault::BadRow));
-    assert!(rt; Session::new(63).map(Session::number) == Ok(63));
-    assert!(rt; Session::new(64) == Err(Fault::NoSession));
+    assert!(rt; are_keys() && are_rows_and_sessions());
+}
+
+fn from_cells(len: u8, cells: &[u8; 64]) -> Option<Key> {
+    Key::from_cells(len, cells)
+}
+
+// Cells with two bytes that aren't 0 are those of no shorter key.
+fn are_of_two_bytes(cells: &[u8; 64]) -> bool {
+    from_cells(2, cells) == key(&[8, 9])
+        && from_cells(3, cells) == key(&[8, 9, 0])
+        && from_cells(1, cells).is_none()
+        && from_cells(65, cells).is_none()
+}
+
+// With a last byte that isn't 0 they are those of the longest key alone.
+fn are_of_64_bytes(cells: &[u8; 64]) -> bool {
+    from_cells(63, cells).is_none() && from_cells(64, cells) == key(cells)
 }
 
 #[test]
@@ -24,32 +58,45 @@ fn keys_by_their_cells(rt: HostRuntime) {
     let mut cells = [0; 64];
     cells[0] = 8;
     cells[1] = 9;
-    assert!(rt; Key::from_cells(2, &cells) == Key::new(&[8, 9]).ok());
-    assert!(rt; Key::from_cells(3, &cells) == Key::new(&[8, 9, 0]).ok());
-    assert!(rt; Key::from_cells(1, &cells).is_none());
-    assert!(rt; Key::from_cells(65, &cells).is_none());
+    assert!(rt; are_of_two_bytes(&cells));
     cells[63] = 1;
-    assert!(rt; Key::from_cells(63, &cells).is_none());
-    assert!(rt; Key::from_cells(64, &cells) == Key::new(&cells).ok());
-    assert!(rt; Key::from_cells(0, &[0; 64]) == Some(Key::EMPTY));
+    assert!(rt; are_of_64_bytes(&cells));
+    assert!(rt; from_cells(0, &[0; 64]) == Some(Key::EMPTY));
+}
+
+// Whether the first of two entries is the lesser one, whichever of them is compared.
+fn is_less(lower: &Entry, upper: &Entry) -> bool {
+    lower.compare(upper) == Ordering::Less && upper.compare(lower) == Ordering::Greater
+}
+
+// Whether a greater byte at this place makes an entry greater, and fewer bytes make it less.
+fn is_compared_at(at: usize) -> bool {
+    let low = [7; 64];
+    let mut high = [7; 64];
+    if at >= 64 {
+        return false;
+    }
+    high[at] = 200;
+    let lower = keyed(&low, 9, 9);
+    is_less(&lower, &keyed(&high, 0, 1)) && is_less(&keyed(&low[..at], 9, 9), &lower)
 }
 
 #[test]
 fn keys_in_order_at_each_byte(rt: HostRuntime) {
     for at in 0..64 {
-        let low = [7; 64];
-        let mut high = [7; 64];
-        high[at] = 200;
-        let (lower, upper) = (keyed(&low, 9, 9), keyed(&high, 0, 1));
-        assert!(rt; lower.compare(&upper) == Ordering::Less, "byte {at}");
-        assert!(rt; upper.compare(&lower) == Ordering::Greater, "byte {at}");
-        let beginning = keyed(&low[..at], 9, 9);
-        assert!(rt; beginning.compare(&lower) == Ordering::Less, "{at} bytes");
-        assert!(rt;
-            lower.compare(&beginning) == Ordering::Greater,
-            "{at} bytes"
-        );
+        assert!(rt; is_compared_at(at), "byte {at}");
     }
+}
+
+// Whether one entry is below another one, by its place as a bound too, and the same as itself alone.
+fn is_before(low: &Entry, high: &Entry) -> bool {
+    let (lower, upper) = (low.bound(), high.bound());
+    low.compare(high) == Ordering::Less
+        && upper.compare(&lower) == Ordering::Greater
+        && lower.is_below(high)
+        && !lower.is_below(low)
+        && low.is_same(low)
+        && !low.is_same(high)
 }
 
 #[test]
@@ -63,50 +110,44 @@ fn entries_and_bounds_in_order(rt: HostRuntime) {
         keyed(&[2], 0, 1),
     ];
     for (low, high) in rising.iter().zip(rising.iter().skip(1)) {
-        assert!(rt; low.compare(high) == Ordering::Less);
-        let (lower, upper) = (low.bound(), high.bound());
-        assert!(rt; upper.compare(&lower) == Ordering::Greater);
-        assert!(rt; lower.is_below(high) && !lower.is_below(low));
-        assert!(rt; low.is_same(low) && !low.is_same(high));
+        assert!(rt; is_before(low, high));
         low.seen();
     }
+}
+
+// Whether these are the keys of the range from 1 to below 2, and its begin is where the first of them is.
+fn is_range(range: &Range) -> bool {
+    !range.contains(&keyed(&[0], 5, 5))
+        && range.contains(&keyed(&[1], 5, 5))
+        && range.contains(&keyed(&[1, 255], 5, 5))
+        && !range.contains(&keyed(&[2], 5, 5))
+        && range.start().is_below(&keyed(&[1], 0, 1))
+        && !range.start().is_below(&keyed(&[0], 5, 5))
 }
 
 #[test]
 fn ranges(rt: HostRuntime) {
     let from_1 = Range {
-        from: Key::new(&[1]).ok(),
-        below: Key::new(&[2]).ok(),
+        from: key(&[1]),
+        below: key(&[2]),
     };
-    for (key, is_in) in [
-        (&[0][..], false),
-        (&[1], true),
-        (&[1, 255], true),
-        (&[2], false),
-    ] {
-        assert!(rt; from_1.contains(&keyed(key, 5, 5)) == is_in);
-    }
-    assert!(rt; from_1.start().is_below(&keyed(&[1], 0, 1)));
-    assert!(rt; !from_1.start().is_below(&keyed(&[0], 5, 5)));
+    assert!(rt; is_range(&from_1));
+}
+
+fn are_valid(items: u32, pages: u32, log_bytes: u32) -> bool {
+    let limits = Limits {
+        items,
+        pages,
+        log_bytes,
+        unique: false,
+    };
+    limits.are_valid()
 }
 
 #[test]
 fn limits(rt: HostRuntime) {
-    for (items, pages, log_bytes, are_valid) in [
-        (4, 8, 65_536, true),
-        (50, 65_536, 16_777_216, true),
-        (3, 8, 65_536, false),
-        (4, 7, 65_536, false),
-        (4, 8, 65_537, false),
-    ] {
-        let limits = Limits {
-            items,
-            pages,
-            log_bytes,
-            unique: false,
-        };
-        assert!(rt; limits.are_valid() == are_valid);
-    }
+    assert!(rt; are_valid(4, 8, 65_536) && are_valid(50, 65_536, 16_777_216));
+    assert!(rt; !are_valid(3, 8, 65_536) && !are_valid(4, 7, 65_536) && !are_valid(4, 8, 65_537));
 }
 
 #[test]
