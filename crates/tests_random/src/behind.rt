@@ -1,20 +1,19 @@
 //! What is opened after a script whose device calls failed.
 
-use crate::crashes::{FOR_ALL, OverDevice, is_sound, opened, store_of};
-use crate::dead::sets_of;
+use crate::crashes::{FOR_ALL, OverDevice, is_sound, opened, opening, store_of, world_on};
 use crate::dice::Dice;
 use crate::judge::Judge;
 use crate::runs::{Run, is_right, judge_of, runs_alone};
 use device::{CrashImage, MemDevice};
-use index_model::{Fault, Range};
+use index_model::Range;
 use page_action::PageStore;
 use page_store::Store;
 use schedule::Event;
 use std::alloc::AllocError;
 use std::test::Fail;
 use tests_support::dead::Blocks;
-use tests_support::plain::{left, left_by, open_world, world as world_over};
-use world::{NotOpened, World};
+use tests_support::plain::{left, left_by};
+use world::World;
 
 /// What is counted of the runs of a script.
 #[derive(Clone, Copy, Debug, Default)]
@@ -84,6 +83,17 @@ fn works_on<S: PageStore>(
     is_right(run, world, judge, Event::Force)
 }
 
+/// The same with random entries of this seed; the device call that fails next is none of them.
+fn works_on_from<S: PageStore>(
+    run: Run,
+    world: &mut World<S, Blocks>,
+    judge: &mut Judge,
+    seed: u32,
+) -> bool {
+    let mut dice = Dice::new(seed.into());
+    works_on(run, world, judge, &mut dice).unwrap_or(false)
+}
+
 /// What a crash leaves of all that was done by an index in a store that works on; None if an answer isn't right.
 fn worked_on(
     run: Run,
@@ -91,13 +101,10 @@ fn worked_on(
     judge: &mut Judge,
     counted: &Counted,
 ) -> Result<Option<MemDevice>, Fail> {
-    let sets = sets_of(run.alloc, run.space)?;
-    let mut world = world_over(run.alloc, store, run.space.sessions, sets)?;
-    let mut dice = Dice::new(counted.opened.into());
-    if !works_on(run, &mut world, judge, &mut dice)? {
-        return Ok(None);
-    }
-    Ok(Some(left_by(run.alloc, &world, CrashImage::Drop)?))
+    let mut world = world_on(run, store)?;
+    let works = works_on_from(run, &mut world, judge, counted.opened);
+    let left = left_by(run.alloc, &world, CrashImage::Drop)?;
+    Ok(if works { Some(left) } else { None })
 }
 
 /// Whether the entries of what was opened are those after some prefix of the actions that holds every forced one, and the
@@ -137,27 +144,30 @@ fn is_right_after(
     counted.opened = counted.opened.saturating_add(1);
     let mut world = opened(run, FOR_ALL, found)?;
     let mut next = judge_of(run, &mut world)?;
-    let mut store = store_of(world);
-    if !judge.crashes(&next) || !is_sound(run.alloc, &mut store) {
-        return Ok(false);
+    is_right_behind(run, store_of(world), judge, &mut next, works, counted)
+}
+
+/// The same of the store that was opened, whose entries the second judge has begun with.
+fn is_right_behind(
+    run: Run,
+    mut store: Store<MemDevice>,
+    judge: &mut Judge,
+    next: &mut Judge,
+    works: bool,
+    counted: &Counted,
+) -> Result<bool, Fail> {
+    let is_right = judge.crashes(next) && is_sound(run.alloc, &mut store);
+    if !is_right || !works {
+        return Ok(is_right);
     }
-    Ok(!works || goes_on(run, store, &mut next, counted)?)
+    goes_on(run, store, next, counted)
 }
 
 /// The device that an opening gives back of which this call and each later one fails; None where it makes fewer calls.
-pub fn stopped_at(run: Run, mut found: MemDevice, call: u64) -> Result<Option<MemDevice>, Fail> {
-    found.stop_at(call);
-    let sets = sets_of(run.alloc, run.space)?;
-    match open_world(run.alloc, found, FOR_ALL, run.space.sessions, sets) {
+pub fn stopped_at(run: Run, found: MemDevice, call: u64) -> Result<Option<MemDevice>, Fail> {
+    match opening(run, FOR_ALL, (found, call))? {
         Ok(_) => Ok(None),
-        Err(
-            NotOpened {
-                fault: Fault::Io,
-                device,
-                ..
-            },
-        ) => Ok(Some(device)),
-        Err(not_opened) => Err(Fail::from(not_opened.fault)),
+        Err(device) => Ok(Some(device)),
     }
 }
 

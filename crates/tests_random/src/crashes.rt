@@ -13,7 +13,7 @@ use page_store::Store;
 use std::alloc::{AllocError, Global};
 use std::test::Fail;
 use tests_support::dead::Blocks;
-use tests_support::plain::{fail_at, left, left_by, open_world, stop_at};
+use tests_support::plain::{fail_at, left, left_by, open_world, stop_at, world};
 use tests_support::small::made_with;
 use world::{NotOpened, World};
 
@@ -43,6 +43,12 @@ pub fn opened(run: Run, frames: u32, device: MemDevice) -> Result<OverDevice, Fa
     }
 }
 
+/// A world over a store.
+pub fn world_on<S: PageStore + Drop>(run: Run, store: S) -> Result<World<S, Blocks>, Fault> {
+    let sets = sets_of(run.alloc, run.space)?;
+    world(run.alloc, store, run.space.sessions, sets)
+}
+
 /// An empty index on a device in memory, with so many frames.
 pub fn on_a_device(run: Run, frames: u32) -> Result<OverDevice, Fault> {
     opened(run, frames, made_with(run.alloc, &run.limits)?)
@@ -66,23 +72,51 @@ pub fn opened_again(
     dice: &mut Dice,
     tally: &mut Tally,
 ) -> Result<OverDevice, Fault> {
-    let mut found = left_by(run.alloc, world, image(dice))?;
-    if dice.roll(2) == 0 {
-        found.stop_at(u64::from(dice.roll(20)) + 1);
+    let found = left_by(run.alloc, world, image(dice))?;
+    let stops = if dice.roll(2) == 0 {
+        u64::from(dice.roll(20)) + 1
+    } else {
+        0
+    };
+    let left = left_by_opening(run, frames, (found, stops), dice, tally)?;
+    opened(run, frames, left)
+}
+
+/// What a crash leaves after an opening of which this device call and all later ones fail, or none for 0.
+fn left_by_opening(
+    run: Run,
+    frames: u32,
+    found: (MemDevice, u64),
+    dice: &mut Dice,
+    tally: &mut Tally,
+) -> Result<MemDevice, Fault> {
+    match opening(run, frames, found)? {
+        Ok(world) => left_by(run.alloc, &world, image(dice)),
+        Err(device) => {
+            tally.crash_opening();
+            left(run.alloc, &device, image(dice))
+        }
     }
+}
+
+/// An opening of which this device call and all later ones fail, or none for 0; the device where it is refused with `Io`.
+pub fn opening(
+    run: Run,
+    frames: u32,
+    found: (MemDevice, u64),
+) -> Result<Result<OverDevice, MemDevice>, Fault> {
     let sets = sets_of(run.alloc, run.space)?;
-    match open_world(run.alloc, found, frames, run.space.sessions, sets) {
-        Ok(world) => opened(run, frames, left_by(run.alloc, &world, image(dice))?),
+    let (mut device, stops) = found;
+    device.stop_at(stops);
+    match open_world(run.alloc, device, frames, run.space.sessions, sets) {
+        Ok(world) => Ok(Ok(world)),
         Err(
             NotOpened {
                 fault: Fault::Io,
                 device,
                 ..
             },
-        ) => {
-            tally.crash_opening();
-            opened(run, frames, left(run.alloc, &device, image(dice))?)
-        }
+        ) => Ok(Err(device)),
         Err(not_opened) => Err(not_opened.fault),
     }
 }

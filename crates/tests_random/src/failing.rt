@@ -138,14 +138,23 @@ fn replays<S: PageStore>(
 
 /// Whether the run in which the nth call fails, once, is right, and then what is opened after a crash of each kind.
 pub fn fails_once(run: Run, script: &Played, n: u64, counted: &mut Counted) -> Result<bool, Fail> {
-    let mut world = on_a_device(run, FOR_ALL)?;
-    let mut judge = judge_of(run, &mut world)?;
+    let mut world = looked_at(run)?;
     fail_at(&mut world, n);
     counted.failed = counted.failed.saturating_add(1);
-    if !replays(run, &mut world, &mut judge, script)? {
-        return Ok(false);
-    }
-    opens_right(run, &world, &mut judge, n, counted)
+    is_right_once(run, &mut world, script, n, counted)
+}
+
+/// The run of a world whose nth call fails, and what is opened after it.
+fn is_right_once(
+    run: Run,
+    world: &mut OverDevice,
+    script: &Played,
+    n: u64,
+    counted: &mut Counted,
+) -> Result<bool, Fail> {
+    let mut judge = judge_of(run, world)?;
+    let is_right = replays(run, world, &mut judge, script).unwrap_or(false);
+    Ok(is_right && opens_right(run, world, &mut judge, n, counted)?)
 }
 
 /// The same for a run in which all calls from the nth on fail; and then an opening is stopped at some of its calls, and what is
@@ -156,15 +165,25 @@ pub fn fails_for_good(
     n: u64,
     counted: &mut Counted,
 ) -> Result<bool, Fail> {
-    let mut world = on_a_device(run, FOR_ALL)?;
-    let mut judge = judge_of(run, &mut world)?;
+    let mut world = looked_at(run)?;
     stop_at(&mut world, n);
     counted.failed = counted.failed.saturating_add(1);
-    if !replays(run, &mut world, &mut judge, script)? {
-        return Ok(false);
-    }
-    if !opens_right(run, &world, &mut judge, n, counted)? {
-        return Ok(false);
-    }
-    stops_opening(run, &world, &mut judge, n, counted)
+    is_right_for_good(run, &mut world, script, n, counted)
+}
+
+/// The run of a world whose calls fail from the nth on, and what is opened after it.
+fn is_right_for_good(
+    run: Run,
+    world: &mut OverDevice,
+    script: &Played,
+    n: u64,
+    counted: &mut Counted,
+) -> Result<bool, Fail> {
+    let mut judge = judge_of(run, world)?;
+    let is_right = replays(run, world, &mut judge, script).unwrap_or(false);
+    Ok(
+        is_right
+            && opens_right(run, world, &mut judge, n, counted)?
+            && stops_opening(run, world, &mut judge, n, counted)?,
+    )
 }

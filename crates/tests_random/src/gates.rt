@@ -29,18 +29,30 @@ fn entry(place: u8) -> Entry {
 /// call.
 fn left_open(run: Run) -> Result<MemDevice, Fail> {
     let mut world = on_a_device(run, FOR_ALL)?;
-    for place in 0..4u8 {
-        put(&mut world, 0, entry(place), 4)?;
-    }
-    if !matches!(did(&mut world, Event::Force), Answer::Forced(4)) {
-        return Err(Fail::from(Fault::NoSession));
-    }
-    put(&mut world, 0, entry(4), 4)?;
+    let is_forced = forces_four(&mut world);
     fail_at(&mut world, 4);
-    if !matches!(did(&mut world, Event::Force), Answer::Refused(Fault::Io)) {
-        return Err(Fail::from(Fault::NoSession));
+    let is_refused = is_refused(&mut world);
+    let device = into_device(world);
+    if is_forced && is_refused {
+        Ok(device)
+    } else {
+        Err(Fail::from(Fault::NoSession))
     }
-    Ok(into_device(world))
+}
+
+/// Whether four inserts are forced, and a fifth one is made.
+fn forces_four<S: PageStore>(world: &mut World<S, Blocks>) -> bool {
+    for place in 0..4u8 {
+        if put(world, 0, entry(place), 4).is_err() {
+            return false;
+        }
+    }
+    matches!(did(world, Event::Force), Answer::Forced(4)) && put(world, 0, entry(4), 4).is_ok()
+}
+
+/// Whether a force is refused with `Io`.
+fn is_refused<S: PageStore>(world: &mut World<S, Blocks>) -> bool {
+    matches!(did(world, Event::Force), Answer::Refused(Fault::Io))
 }
 
 fn into_device(world: OverDevice) -> MemDevice {

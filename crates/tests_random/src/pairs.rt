@@ -47,13 +47,6 @@ fn event_after(event: Event, answer: &Answer) -> Option<Event> {
     }
 }
 
-/// The index of this world, which has no calls, opened again with some entries more.
-fn filled(run: Run, few: OverDevice, dice: &mut Dice, entries: u32) -> Result<OverDevice, Fault> {
-    let mut few = few;
-    let left = fill(run, &mut few, dice, entries)?;
-    opened(run, FEW, left)
-}
-
 /// Puts an entry, whatever that answers.
 fn puts<S: PageStore>(few: &mut World<S, Blocks>, entry: Entry) -> Result<(), Fault> {
     match put(few, 0, entry, 8) {
@@ -147,6 +140,48 @@ impl<S: PageStore + Drop> Pair<S> {
         Ok(is_right && self.agree(run) && is_full(&self.few, run.limits, &answer))
     }
 
+    /// A random event: whether it is right.
+    fn makes(&mut self, run: Run, dice: &mut Dice) -> Result<bool, AllocError> {
+        let event = dice.event(run.space);
+        self.one(run, event)
+    }
+
+    /// Forty random events: whether they are right.
+    fn makes_some(&mut self, run: Run, dice: &mut Dice) -> Result<bool, AllocError> {
+        for _ in 0..40 {
+            if !self.makes(run, dice)? {
+                return Ok(false);
+            }
+        }
+        Ok(true)
+    }
+
+    /// A force, which tells whether the log has failed: whether it is right, and whether all pages of the first are as they
+    /// should be, if its log has not failed.
+    fn is_kept(&mut self, run: Run) -> Result<bool, AllocError> {
+        Ok(
+            self.one(run, Event::Force)?
+                && (self.judge.is_stopped() || are_kept(&mut self.few, self.judge.pages())),
+        )
+    }
+
+    /// Whether the first, opened after a crash, has the entries and the pages after some prefix of the actions that holds
+    /// every forced one.
+    fn leads_on(&mut self, run: Run, tally: &mut Tally) -> Result<bool, AllocError> {
+        let next = judge_of(run, &mut self.few)?;
+        tally.join(self.judge.tally());
+        let part = self.past.part_of(next.pages(), self.judge.forced())?;
+        Ok(self.judge.crashes(&next) && part.is_some())
+    }
+
+    /// Watches both from now on.
+    fn is_watched(&mut self, run: Run) -> Result<(), AllocError> {
+        let (past, judge) = watched(run, &mut self.few)?;
+        self.past = past;
+        self.judge = judge;
+        Ok(())
+    }
+
     /// Whether both worlds have made the actions and run the calls that the judge knows.
     fn agree(&self, run: Run) -> bool {
         let actions = self.judge.actions() as u64;
@@ -158,25 +193,25 @@ impl<S: PageStore + Drop> Pair<S> {
 }
 
 impl Pair<Store<MemDevice>> {
-    /// A force, which tells whether the log has failed: whether it is right, and whether all pages of the first are as they
-    /// should be, if its log has not failed.
+    /// What [`Pair::is_kept`] says while no call is made to fail.
     fn looks(&mut self, run: Run) -> Result<bool, AllocError> {
         fail_at(&mut self.few, 0);
-        Ok(
-            self.one(run, Event::Force)?
-                && (self.judge.is_stopped() || are_kept(&mut self.few, self.judge.pages())),
-        )
+        self.is_kept(run)
+    }
+
+    /// Now and then a later device call is made to fail.
+    fn may_fail(&mut self, dice: &mut Dice) {
+        if dice.roll(48) == 0 {
+            fail_at(&mut self.few, u64::from(dice.roll(20)) + 1);
+        }
     }
 
     /// At most so many random events, few once the log has failed: whether all are right. Now and then a later device call is
     /// made to fail, and now and then all pages are looked at.
     fn runs(&mut self, run: Run, dice: &mut Dice, events: u32) -> Result<bool, AllocError> {
         for _ in 0..events {
-            if dice.roll(48) == 0 {
-                fail_at(&mut self.few, u64::from(dice.roll(20)) + 1);
-            }
-            let event = dice.event(run.space);
-            if !self.one(run, event)? || dice.roll(64) == 0 && !self.looks(run)? {
+            self.may_fail(dice);
+            if !self.makes(run, dice)? || dice.roll(64) == 0 && !self.looks(run)? {
                 return Ok(false);
             }
             if self.judge.is_stopped() && dice.roll(16) == 0 {
@@ -192,56 +227,62 @@ impl Pair<Store<MemDevice>> {
             return Ok(true);
         }
         stop_at(&mut self.few, u64::from(dice.roll(40)) + 1);
-        for _ in 0..40 {
-            let event = dice.event(run.space);
-            if !self.one(run, event)? {
-                return Ok(false);
-            }
-        }
-        Ok(true)
+        self.makes_some(run, dice)
     }
 
-    /// Whether this world, opened after a crash, has the entries and the pages after some prefix of the actions that holds
-    /// every forced one.
-    fn leads_to(&mut self, run: Run, few: &mut OverDevice) -> Result<bool, AllocError> {
-        let next = judge_of(run, few)?;
-        let part = self.past.part_of(next.pages(), self.judge.forced())?;
-        Ok(self.judge.crashes(&next) && part.is_some())
-    }
-
-    /// Random events and a crash, and what is opened after it; None where something isn't right.
+    /// Random events and a crash, after which the first is opened: whether all is right.
     fn crashes(
         &mut self,
         run: Run,
         dice: &mut Dice,
         tally: &mut Tally,
         events: u32,
-    ) -> Result<Option<OverDevice>, Fail> {
+    ) -> Result<bool, Fail> {
         if !self.runs(run, dice, events)? || !self.stops(run, dice)? {
-            return Ok(None);
+            return Ok(false);
         }
-        let mut few = opened_again(run, FEW, &self.few, dice, tally)?;
-        let is_right = self.leads_to(run, &mut few)?;
-        tally.join(self.judge.tally());
-        Ok(if is_right { Some(few) } else { None })
+        self.few = opened_again(run, FEW, &self.few, dice, tally)?;
+        Ok(self.leads_on(run, tally)?)
+    }
+
+    /// The first gets some entries more, and is opened again; the second stands beside it.
+    fn goes_on(&mut self, run: Run, dice: &mut Dice) -> Result<(), Fail> {
+        let left = fill(run, &mut self.few, dice, 60)?;
+        self.few = opened(run, FEW, left)?;
+        self.all = beside(run, &self.few)?;
+        self.is_watched(run)?;
+        Ok(())
+    }
+
+    /// So many crashes, each after at most so many events: whether all is right.
+    fn crashes_on(
+        &mut self,
+        run: Run,
+        dice: &mut Dice,
+        tally: &mut Tally,
+        [crashes, events]: [u32; 2],
+    ) -> Result<bool, Fail> {
+        for _ in 0..crashes {
+            if !self.crashes(run, dice, tally, events)? {
+                return Ok(false);
+            }
+            self.goes_on(run, dice)?;
+        }
+        Ok(true)
     }
 }
 
-/// Random events over this world, a crash, and what is opened after it, with some entries more; None where something isn't
-/// right.
-fn crashed(
-    run: Run,
-    few: OverDevice,
-    dice: &mut Dice,
-    tally: &mut Tally,
-    events: u32,
-) -> Result<Option<OverDevice>, Fail> {
+/// What a crash leaves of a new index that got some entries.
+fn left_by_filling(run: Run, dice: &mut Dice) -> Result<MemDevice, Fault> {
+    let mut few = on_a_device(run, FEW)?;
+    fill(run, &mut few, dice, 200)
+}
+
+/// A world with few frames over a new index with some entries, and one with frames for all beside it.
+fn pair_of(run: Run, dice: &mut Dice) -> Result<Pair<Store<MemDevice>>, Fail> {
+    let few = opened(run, FEW, left_by_filling(run, dice)?)?;
     let all = beside(run, &few)?;
-    let mut pair = Pair::new(run, few, all)?;
-    match pair.crashes(run, dice, tally, events)? {
-        Some(left) => Ok(Some(filled(run, left, dice, 60)?)),
-        None => Ok(None),
-    }
+    Ok(Pair::new(run, few, all)?)
 }
 
 /// The end of a run: whether it is right.
@@ -262,17 +303,12 @@ fn runs_right(
     run: Run,
     dice: &mut Dice,
     tally: &mut Tally,
-    crashes: u32,
-    events: u32,
+    counts: [u32; 2],
 ) -> Result<bool, Fail> {
-    let mut few = filled(run, on_a_device(run, FEW)?, dice, 200)?;
-    for _ in 0..crashes {
-        match crashed(run, few, dice, tally, events)? {
-            Some(left) => few = left,
-            None => return Ok(false),
-        }
-    }
-    Ok(ends(run, &mut few, dice, tally)?)
+    let mut pair = pair_of(run, dice)?;
+    let is_right = pair.crashes_on(run, dice, tally, counts)?;
+    let ends = ends(run, &mut pair.few, dice, tally).unwrap_or(false);
+    Ok(is_right && ends)
 }
 
 /// A run with few frames over a device with so many crashes, each after at most so many events. Before them, and after each
@@ -280,6 +316,6 @@ fn runs_right(
 pub fn crashed_with_few(run: Run, seed: u64, crashes: u32, events: u32) -> Result<Outcome, Fail> {
     let mut dice = Dice::new(seed);
     let mut tally = Tally::default();
-    let is_right = runs_right(run, &mut dice, &mut tally, crashes, events)?;
+    let is_right = runs_right(run, &mut dice, &mut tally, [crashes, events])?;
     Ok(Outcome { is_right, tally })
 }

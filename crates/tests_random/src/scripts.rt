@@ -45,6 +45,30 @@ const ALL: Range = Range {
     below: None,
 };
 
+/// A part of a script: one line or more.
+#[derive(Clone, Copy)]
+pub enum Part {
+    One(Line),
+    /// An insert of session 0 of the entry of this number and this row, run to its end.
+    Put(u16, u32),
+    /// Such an insert of a session is begun.
+    Insert(u32, u16, u32),
+    /// Entries of the keys from 0x61 on, so many.
+    Fill(u16),
+    /// So many entries of the key 0x61, and a force after each.
+    Forces(u16),
+    /// So many steps of a session's call.
+    Steps(u32, u32),
+    /// So many entries of a session's scan are taken.
+    Nexts(u32, u32),
+    /// A scan of all is begun, and steps of it are made until one doesn't go on.
+    Scan(u32),
+    /// A bulk delete by session 2 is run to its end.
+    Bulk(u32),
+    /// A cleanup by session 2 is run to its end.
+    Cleanup,
+}
+
 /// A script that is written.
 #[derive(Drop)]
 pub struct Script {
@@ -76,210 +100,218 @@ fn entry(number: u16, row: u32) -> Entry {
 }
 
 impl Script {
-    pub fn new(alloc: Global) -> Script {
-        Script {
+    /// These parts, one after the other.
+    fn of(alloc: Global, parts: &[Part]) -> Result<Script, AllocError> {
+        let mut script = Script {
             lines: Vec::new(alloc),
+        };
+        script.add_all(parts)?;
+        Ok(script)
+    }
+
+    fn add_all(&mut self, parts: &[Part]) -> Result<(), AllocError> {
+        for part in parts {
+            self.add(*part)?;
+        }
+        Ok(())
+    }
+
+    fn add(&mut self, part: Part) -> Result<(), AllocError> {
+        match part {
+            Part::One(line) => self.one(line),
+            Part::Put(number, row) => self.put(number, row),
+            Part::Insert(session, number, row) => self.one(Line::Insert(
+                session,
+                entry(number, row),
+            )),
+            Part::Fill(count) => self.fill(count),
+            Part::Forces(count) => self.forces(count),
+            Part::Steps(session, count) => self.many(&Line::Step(session), count),
+            Part::Nexts(session, count) => self.many(&Line::Next(session), count),
+            Part::Scan(session) => self.two(Line::Scan(session), Line::Run(session)),
+            Part::Bulk(set) => self.two(Line::Bulk(2, set), Line::Run(2)),
+            Part::Cleanup => self.two(Line::Cleanup(2), Line::Run(2)),
         }
     }
 
-    pub fn one(&mut self, line: Line) -> Result<(), AllocError> {
+    fn one(&mut self, line: Line) -> Result<(), AllocError> {
         self.lines.push(line)?;
         Ok(())
     }
 
-    /// Steps of the session's call until one doesn't go on.
-    pub fn run(&mut self, session: u32) -> Result<(), AllocError> {
-        self.one(Line::Run(session))
+    fn two(&mut self, first: Line, second: Line) -> Result<(), AllocError> {
+        self.one(first)?;
+        self.one(second)
     }
 
-    pub fn steps(&mut self, session: u32, count: u32) -> Result<(), AllocError> {
+    fn many(&mut self, line: &Line, count: u32) -> Result<(), AllocError> {
         for _ in 0..count {
-            self.one(Line::Step(session))?;
+            self.one(*line)?;
         }
         Ok(())
     }
 
-    pub fn nexts(&mut self, session: u32, count: u32) -> Result<(), AllocError> {
-        for _ in 0..count {
-            self.one(Line::Next(session))?;
-        }
-        Ok(())
+    fn put(&mut self, number: u16, row: u32) -> Result<(), AllocError> {
+        self.two(Line::Insert(0, entry(number, row)), Line::Run(0))
     }
 
-    pub fn insert(&mut self, session: u32, number: u16, row: u32) -> Result<(), AllocError> {
-        self.one(Line::Insert(session, entry(number, row)))
-    }
-
-    /// An insert by session 0, run to its end.
-    pub fn put(&mut self, number: u16, row: u32) -> Result<(), AllocError> {
-        self.insert(0, number, row)?;
-        self.run(0)
-    }
-
-    /// Entries of the keys from 0x61 on, so many.
-    pub fn fill(&mut self, count: u16) -> Result<(), AllocError> {
+    fn fill(&mut self, count: u16) -> Result<(), AllocError> {
         for n in 0..count {
             self.put(n.saturating_add(0x61), u32::from(n).saturating_add(1))?;
         }
         Ok(())
     }
 
-    /// A scan of all is begun.
-    pub fn scan(&mut self, session: u32) -> Result<(), AllocError> {
-        self.one(Line::Scan(session))
-    }
-
-    /// A bulk delete by session 2 is run to its end.
-    pub fn bulk(&mut self, set: u32) -> Result<(), AllocError> {
-        self.one(Line::Bulk(2, set))?;
-        self.run(2)
-    }
-
-    /// A cleanup by session 2 is run to its end.
-    pub fn cleanup(&mut self) -> Result<(), AllocError> {
-        self.one(Line::Cleanup(2))?;
-        self.run(2)
+    fn forces(&mut self, count: u16) -> Result<(), AllocError> {
+        for n in 0..count {
+            self.put(0x61, u32::from(n).saturating_add(1))?;
+            self.one(Line::Force)?;
+        }
+        Ok(())
     }
 }
 
 /// A split that another insert finishes.
 pub fn incomplete_split(alloc: Global) -> Result<Script, AllocError> {
-    let mut script = Script::new(alloc);
-    script.fill(4)?;
-    script.insert(1, 0x65, 5)?;
-    script.steps(1, 3)?;
-    script.one(Line::End(1))?;
-    script.one(Line::Force)?;
-    script.put(0x66, 6)?;
-    Ok(script)
+    let parts = [
+        Part::Fill(4),
+        Part::Insert(1, 0x65, 5),
+        Part::Steps(1, 3),
+        Part::One(Line::End(1)),
+        Part::One(Line::Force),
+        Part::Put(0x66, 6),
+    ];
+    Script::of(alloc, parts.as_slice())
 }
 
 /// A scan whose saved link leads on, beside inserts.
 pub fn saved_link(alloc: Global) -> Result<Script, AllocError> {
-    let mut script = Script::new(alloc);
-    script.fill(5)?;
-    script.put(0x60, 9)?;
-    script.scan(1)?;
-    script.run(1)?;
-    script.put(0x6180, 7)?;
-    script.nexts(1, 5)?;
-    script.run(1)?;
-    script.nexts(1, 3)?;
-    script.run(1)?;
-    Ok(script)
+    let parts = [
+        Part::Fill(5),
+        Part::Put(0x60, 9),
+        Part::Scan(1),
+        Part::Put(0x6180, 7),
+        Part::Nexts(1, 5),
+        Part::One(Line::Run(1)),
+        Part::Nexts(1, 3),
+        Part::One(Line::Run(1)),
+    ];
+    Script::of(alloc, parts.as_slice())
 }
 
 /// A scan on whose leaf a bulk delete, two cleanups and inserts go on.
 pub fn after_the_frontier(alloc: Global) -> Result<Script, AllocError> {
-    let mut script = Script::new(alloc);
-    script.fill(8)?;
-    script.bulk(FROM_4)?;
-    script.scan(1)?;
-    script.run(1)?;
-    script.nexts(1, 3)?;
-    script.cleanup()?;
-    script.steps(1, 1)?;
-    script.bulk(FROM_1)?;
-    script.one(Line::Flush)?;
-    script.cleanup()?;
-    for (number, row) in [(0x62, 9), (0x61, 9), (0x60, 9), (0x63, 3)] {
-        script.put(number, row)?;
-    }
-    script.run(1)?;
-    script.nexts(1, 3)?;
-    script.run(1)?;
-    Ok(script)
+    let parts = [
+        Part::Fill(8),
+        Part::Bulk(FROM_4),
+        Part::Scan(1),
+        Part::Nexts(1, 3),
+        Part::Cleanup,
+        Part::Steps(1, 1),
+        Part::Bulk(FROM_1),
+        Part::One(Line::Flush),
+        Part::Cleanup,
+        Part::Put(0x62, 9),
+        Part::Put(0x61, 9),
+        Part::Put(0x60, 9),
+        Part::Put(0x63, 3),
+        Part::One(Line::Run(1)),
+        Part::Nexts(1, 3),
+        Part::One(Line::Run(1)),
+    ];
+    Script::of(alloc, parts.as_slice())
 }
 
 /// A deleted page that is used again only when no call can lead to it.
 pub fn delayed_reuse(alloc: Global) -> Result<Script, AllocError> {
-    let mut script = Script::new(alloc);
-    script.fill(8)?;
-    script.bulk(FROM_4)?;
-    script.insert(1, 0x65, 9)?;
-    script.steps(1, 2)?;
-    script.cleanup()?;
-    script.one(Line::Force)?;
-    script.put(0x60, 9)?;
-    script.put(0x6080, 9)?;
-    script.cleanup()?;
-    script.run(1)?;
-    script.put(0x6040, 9)?;
-    script.put(0x6020, 9)?;
-    Ok(script)
+    let parts = [
+        Part::Fill(8),
+        Part::Bulk(FROM_4),
+        Part::Insert(1, 0x65, 9),
+        Part::Steps(1, 2),
+        Part::Cleanup,
+        Part::One(Line::Force),
+        Part::Put(0x60, 9),
+        Part::Put(0x6080, 9),
+        Part::Cleanup,
+        Part::One(Line::Run(1)),
+        Part::Put(0x6040, 9),
+        Part::Put(0x6020, 9),
+    ];
+    Script::of(alloc, parts.as_slice())
 }
 
 /// A bulk delete that waits for a scan.
 pub fn interlock(alloc: Global) -> Result<Script, AllocError> {
-    let mut script = Script::new(alloc);
-    script.fill(5)?;
-    script.scan(1)?;
-    script.run(1)?;
-    script.one(Line::Bulk(2, 1))?;
-    script.run(2)?;
-    script.one(Line::End(1))?;
-    script.run(2)?;
-    Ok(script)
+    let parts = [
+        Part::Fill(5),
+        Part::Scan(1),
+        Part::One(Line::Bulk(2, 1)),
+        Part::One(Line::Run(2)),
+        Part::One(Line::End(1)),
+        Part::One(Line::Run(2)),
+    ];
+    Script::of(alloc, parts.as_slice())
 }
 
 /// A bulk delete that goes back to a page that was split after it.
 pub fn going_back(alloc: Global) -> Result<Script, AllocError> {
-    let mut script = Script::new(alloc);
-    script.fill(8)?;
-    script.bulk(FROM_1)?;
-    script.cleanup()?;
-    script.put(0x69, 9)?;
-    script.put(0x6a, 10)?;
-    script.one(Line::Checkpoint)?;
-    script.one(Line::Bulk(2, FROM_9))?;
-    script.steps(2, 3)?;
-    script.put(0x6b, 11)?;
-    script.run(2)?;
-    Ok(script)
+    let parts = [
+        Part::Fill(8),
+        Part::Bulk(FROM_1),
+        Part::Cleanup,
+        Part::Put(0x69, 9),
+        Part::Put(0x6a, 10),
+        Part::One(Line::Checkpoint),
+        Part::One(Line::Bulk(2, FROM_9)),
+        Part::Steps(2, 3),
+        Part::Put(0x6b, 11),
+        Part::One(Line::Run(2)),
+    ];
+    Script::of(alloc, parts.as_slice())
 }
 
 /// Entries of keys that are there, of keys whose entries were deleted, and of one key by two sessions.
 pub fn one_entry_a_key(alloc: Global) -> Result<Script, AllocError> {
-    let mut script = Script::new(alloc);
-    script.fill(6)?;
-    script.put(0x61, 9)?;
-    script.put(0x64, 9)?;
-    script.bulk(FROM_4)?;
-    script.put(0x64, 9)?;
-    script.put(0x61, 9)?;
-    script.one(Line::Force)?;
-    script.one(Line::Insert(1, entry(0x70, 1)))?;
-    script.one(Line::Insert(2, entry(0x70, 2)))?;
-    script.steps(1, 2)?;
-    script.steps(2, 2)?;
-    script.run(1)?;
-    script.run(2)?;
-    script.one(Line::Checkpoint)?;
-    script.put(0x70, 2)?;
-    Ok(script)
+    let parts = [
+        Part::Fill(6),
+        Part::Put(0x61, 9),
+        Part::Put(0x64, 9),
+        Part::Bulk(FROM_4),
+        Part::Put(0x64, 9),
+        Part::Put(0x61, 9),
+        Part::One(Line::Force),
+        Part::Insert(1, 0x70, 1),
+        Part::Insert(2, 0x70, 2),
+        Part::Steps(1, 2),
+        Part::Steps(2, 2),
+        Part::One(Line::Run(1)),
+        Part::One(Line::Run(2)),
+        Part::One(Line::Checkpoint),
+        Part::Put(0x70, 2),
+    ];
+    Script::of(alloc, parts.as_slice())
 }
 
 /// Forces and a checkpoint between inserts.
 pub fn forces(alloc: Global) -> Result<Script, AllocError> {
-    let mut script = Script::new(alloc);
-    for n in 0..15u16 {
-        script.put(0x61, u32::from(n).saturating_add(1))?;
-        script.one(Line::Force)?;
-    }
-    script.put(0x61, 16)?;
-    script.one(Line::Checkpoint)?;
-    script.put(0x61, 16)?;
-    Ok(script)
+    let parts = [
+        Part::Forces(15),
+        Part::Put(0x61, 16),
+        Part::One(Line::Checkpoint),
+        Part::Put(0x61, 16),
+    ];
+    Script::of(alloc, parts.as_slice())
 }
 
 /// Inserts until no block is left.
 pub fn full(alloc: Global) -> Result<Script, AllocError> {
-    let mut script = Script::new(alloc);
-    script.fill(15)?;
-    script.scan(0)?;
-    script.run(0)?;
-    script.nexts(0, 4)?;
-    script.one(Line::End(0))?;
-    script.one(Line::Force)?;
-    Ok(script)
+    let parts = [
+        Part::Fill(15),
+        Part::Scan(0),
+        Part::Nexts(0, 4),
+        Part::One(Line::End(0)),
+        Part::One(Line::Force),
+    ];
+    Script::of(alloc, parts.as_slice())
 }

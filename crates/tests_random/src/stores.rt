@@ -97,19 +97,19 @@ fn pages_of(alloc: Global, store: &mut Store<MemDevice>) -> Result<Vec<Page>, Fa
     Ok(pages)
 }
 
-/// Opens what a crash has left. Half of the times the device stops inside of a first open, and crashes again.
-fn opened(
+/// What another crash leaves after an opening. Half of the times the device stops inside of it.
+fn left_by_opening(
     alloc: Global,
     found: MemDevice,
     dice: &mut Dice,
     tally: &mut StoreTally,
-) -> Result<Store<MemDevice>, Fault> {
+) -> Result<MemDevice, Fault> {
     let mut device = found;
     if dice.roll(2) == 0 {
         device.stop_at(u64::from(dice.roll(12)) + 1);
     }
-    let again = match open(alloc, device, FRAMES) {
-        Ok(store) => left_of(alloc, &store, image(dice))?,
+    match open(alloc, device, FRAMES) {
+        Ok(store) => left_of(alloc, &store, image(dice)),
         Err(
             Refused {
                 fault: Fault::Io,
@@ -117,10 +117,20 @@ fn opened(
             },
         ) => {
             count(&mut tally.opening);
-            left(alloc, &device, image(dice))?
+            left(alloc, &device, image(dice))
         }
-        Err(refused) => return Err(refused.fault),
-    };
+        Err(refused) => Err(refused.fault),
+    }
+}
+
+/// Opens what a crash has left, after an opening and another crash.
+fn opened(
+    alloc: Global,
+    found: MemDevice,
+    dice: &mut Dice,
+    tally: &mut StoreTally,
+) -> Result<Store<MemDevice>, Fault> {
+    let again = left_by_opening(alloc, found, dice, tally)?;
     match open(alloc, again, FRAMES) {
         Ok(store) => Ok(store),
         Err(refused) => Err(refused.fault),
@@ -335,6 +345,21 @@ impl Watched {
         Ok(if is_right { Some(again) } else { None })
     }
 
+    /// Whether a crash with each image but the one at this place leaves what is right.
+    fn crash_right(
+        &self,
+        next: usize,
+        dice: &mut Dice,
+        tally: &mut StoreTally,
+    ) -> Result<bool, Fail> {
+        for (at, image) in IMAGES.iter().enumerate() {
+            if at != next && self.crashes(*image, dice, tally)?.is_none() {
+                return Ok(false);
+            }
+        }
+        Ok(true)
+    }
+
     /// Whether the other began with the pages after some prefix of the acts that holds every durable one.
     fn leads_to(&self, again: &Watched, tally: &mut StoreTally) -> Result<bool, AllocError> {
         let durable = self.store.durable() as usize;
@@ -362,17 +387,10 @@ fn next_of(
         return Ok(None);
     }
     let next = dice.roll(3) as usize;
-    let mut chosen = None;
-    for at in 0..3usize {
-        let again = watched.crashes(IMAGES[at], dice, tally)?;
-        if again.is_none() {
-            return Ok(None);
-        }
-        if at == next {
-            chosen = again;
-        }
+    if !watched.crash_right(next, dice, tally)? {
+        return Ok(None);
     }
-    Ok(chosen)
+    watched.crashes(IMAGES[next], dice, tally)
 }
 
 /// A store over a new index of 64 pages.
