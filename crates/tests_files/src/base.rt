@@ -86,14 +86,6 @@ fn fill_all<S: PageStore>(index: &mut Index<S>) -> Result<(), Fault> {
     Ok(())
 }
 
-/// What a crash keeps of an index of three levels, unique or not, after a checkpoint and a commit: the last inserts stand in
-/// the log alone.
-pub fn sound(alloc: Global, unique: bool) -> Result<MemDevice, Fault> {
-    let mut index = empty(alloc, 32, unique)?;
-    fill_all(&mut index)?;
-    left(alloc, index)
-}
-
 /// Inserts five entries, with a checkpoint after them.
 fn fill_five<S: PageStore>(index: &mut Index<S>) -> Result<(), Fault> {
     for number in 1..6u8 {
@@ -106,9 +98,38 @@ fn fill_five<S: PageStore>(index: &mut Index<S>) -> Result<(), Fault> {
     Ok(())
 }
 
+/// What is in a sound index.
+#[derive(Clone, Copy)]
+enum Content {
+    All,
+    Five,
+}
+
+fn put<S: PageStore>(index: &mut Index<S>, content: Content) -> Result<(), Fault> {
+    match content {
+        Content::All => fill_all(index),
+        Content::Five => fill_five(index),
+    }
+}
+
+/// What a crash keeps of an index of so many pages, with this in it.
+fn filled(alloc: Global, pages: u32, unique: bool, content: Content) -> Result<MemDevice, Fault> {
+    let mut index = empty(alloc, pages, unique)?;
+    let done = put(&mut index, content);
+    let device = left(alloc, index)?;
+    match done {
+        Ok(()) => Ok(device),
+        Err(fault) => Err(fault),
+    }
+}
+
+/// What a crash keeps of an index of three levels, unique or not, after a checkpoint and a commit: the last inserts stand in
+/// the log alone.
+pub fn sound(alloc: Global, unique: bool) -> Result<MemDevice, Fault> {
+    filled(alloc, 32, unique, Content::All)
+}
+
 /// An index of five entries, after a checkpoint: the leaves 1 and 2 under the root 3.
 pub fn five(alloc: Global) -> Result<MemDevice, Fault> {
-    let mut index = empty(alloc, 16, false)?;
-    fill_five(&mut index)?;
-    left(alloc, index)
+    filled(alloc, 16, false, Content::Five)
 }

@@ -1,31 +1,81 @@
 //! Files that are cut, removed, linked, or aren't to be written. Each test has a file of its own.
 
-use crate::file_calls::{create, four_at, held, len, made, open, put_at, sync};
+use crate::file_calls::{
+    clear, close_file, create, created, four_at, has_sevens, held, is_gone, len, len_at, made,
+    open, opened, put_at, put_sevens, remove, sync,
+};
+use device::{FileDevice, Unknown};
 use index_model::Fault;
 use std::fs::{self, File, OpenFile, OpenOptions};
+use std::process::Abort;
 use std::rt::Files;
 use std::test::{Fail, *};
 
 /// A file, open for reading and writing.
-fn opened(rt: &impl Files<File = File>, path: &str) -> Result<File, Fail> {
+fn file(rt: &impl Files<File = File>, path: &str) -> Result<File, Fail> {
     Ok(OpenOptions::new().read(true).write(true).open(rt, path)?)
+}
+
+/// The device of the file at the path.
+fn held_at(rt: &impl Files<File = File>, path: &str) -> Result<FileDevice<Unknown>, Fail> {
+    Ok(held(file(rt, path)?)?)
+}
+
+/// The device of the file at the path, made anew.
+fn made_at(
+    rt: &impl Files<File = File>,
+    path: &str,
+    len: u64,
+    filled: u64,
+) -> Result<FileDevice<Unknown>, Fail> {
+    Ok(made(file(rt, path)?, len, filled)?)
+}
+
+/// Whether an open file isn't held.
+fn is_not_held(file: File) -> bool {
+    matches!(held(file), Err(Fault::Io))
+}
+
+/// Whether an open file isn't made anew.
+fn is_not_made(file: File, len: u64, filled: u64) -> bool {
+    matches!(made(file, len, filled), Err(Fault::Io))
+}
+
+/// A device has its file with all its bytes, and alone.
+fn has_it_alone<R: Abort + Files<File = File>>(
+    rt: &R,
+    device: &mut FileDevice<Unknown>,
+    path: &str,
+) -> Result<(), Fail> {
+    assert!(rt; len(device) == 8_192);
+    assert!(rt; four_at(device, 8_188) == Ok([7; 4]));
+    assert!(rt; is_not_held(file(rt, path)?));
+    assert!(rt; is_not_made(file(rt, path)?, 4_096, 4_096));
+    Ok(())
 }
 
 /// A file that is open is held with all its bytes, and by one device alone. What is no file isn't.
 #[test]
 fn open_already(rt: HostRuntime) -> Result<(), Fail> {
     let path = "files_open_already.bin";
-    fs::write(&rt, path, [7; 8_192].as_slice())?;
-    let mut device = held(opened(&rt, path)?)?;
-    assert!(rt; len(&device) == 8_192);
-    assert!(rt; four_at(&mut device, 8_188) == Ok([7; 4]));
-    assert!(rt; matches!(held(opened(&rt, path)?), Err(Fault::Io)));
-    assert!(rt; matches!(made(opened(&rt, path)?, 4_096, 4_096), Err(Fault::Io)));
-    drop(device);
-    assert!(rt; fs::read(&rt, path)?.as_slice() == [7; 8_192].as_slice());
-    assert!(rt; matches!(held(File::open(&rt, ".")?), Err(Fault::Io)));
-    fs::remove_file(&rt, path)?;
-    Ok(())
+    put_sevens(&rt, path)?;
+    let mut device = held_at(&rt, path)?;
+    let alone = has_it_alone(&rt, &mut device, path);
+    close_file(device);
+    alone?;
+    assert!(rt; has_sevens(&rt, path)?);
+    assert!(rt; is_not_held(File::open(&rt, ".")?));
+    remove(&rt, path)
+}
+
+/// Whether a device has so many bytes, zeros where they are read.
+fn is_empty(device: &mut FileDevice<Unknown>) -> bool {
+    for at in [0, 4_094, 8_188, 99_996] {
+        if four_at(device, at) != Ok([0; 4]) {
+            return false;
+        }
+    }
+    len(device) == 100_000
 }
 
 /// A file that is made anew has nothing left of what it held, whether its bytes are written or not.
@@ -33,26 +83,20 @@ fn open_already(rt: HostRuntime) -> Result<(), Fail> {
 fn made_anew(rt: HostRuntime) -> Result<(), Fail> {
     let path = "files_made_anew.bin";
     for filled in [0, 1, 4_096, 100_000, u64::MAX] {
-        fs::write(&rt, path, [7; 8_192].as_slice())?;
-        let mut device = made(opened(&rt, path)?, 100_000, filled)?;
-        assert!(rt; len(&device) == 100_000);
-        for at in [0, 4_094, 8_188, 99_996] {
-            assert!(rt; four_at(&mut device, at) == Ok([0; 4]));
-        }
-        drop(device);
-        assert!(rt; fs::metadata(&rt, path)?.len() == 100_000);
+        put_sevens(&rt, path)?;
+        assert!(rt; is_empty(&mut made_at(&rt, path, 100_000, filled)?));
+        assert!(rt; len_at(&rt, path)? == 100_000);
     }
-    assert!(rt; matches!(made(opened(&rt, path)?, 1 << 63, 0), Err(Fault::Io)));
-    fs::remove_file(&rt, path)?;
-    Ok(())
+    assert!(rt; is_not_made(file(&rt, path)?, 1 << 63, 0));
+    remove(&rt, path)
 }
 
 /// A folder is no file to open, and no path to make one at.
 #[test]
 fn folders(rt: HostRuntime) {
     for path in [".", "/"] {
-        assert!(rt; matches!(open(&rt, path), Err(Fault::Io)));
-        assert!(rt; matches!(create(&rt, path, 8_192), Err(Fault::Io)));
+        assert!(rt; opened(&rt, path) == Err(Fault::Io));
+        assert!(rt; created(&rt, path, 8_192) == Err(Fault::Io));
     }
 }
 
@@ -62,23 +106,27 @@ fn no_folder(rt: HostRuntime) -> Result<(), Fail> {
     let path = "files_no_folder.bin";
     fs::write(&rt, path, [1; 100].as_slice())?;
     for inside in ["files_no_folder/a.bin", "files_no_folder.bin/a.bin"] {
-        assert!(rt; matches!(create(&rt, inside, 8_192), Err(Fault::Io)));
-        assert!(rt; matches!(open(&rt, inside), Err(Fault::Io)));
+        assert!(rt; created(&rt, inside, 8_192) == Err(Fault::Io));
+        assert!(rt; opened(&rt, inside) == Err(Fault::Io));
     }
-    fs::remove_file(&rt, path)?;
-    Ok(())
+    remove(&rt, path)
 }
 
 /// No file is so long: none is left there.
 #[test]
 fn too_long(rt: HostRuntime) -> Result<(), Fail> {
     let path = "files_too_long.bin";
-    let _ = fs::remove_file(&rt, path);
+    clear(&rt, path);
     for len in [1 << 63, u64::MAX] {
-        assert!(rt; matches!(create(&rt, path, len), Err(Fault::Io)));
-        assert!(rt; !fs::exists(&rt, path)?);
+        assert!(rt; created(&rt, path, len) == Err(Fault::Io));
+        assert!(rt; is_gone(&rt, path)?);
     }
     Ok(())
+}
+
+/// Whether a device has no byte to read, and is synced.
+fn has_none(device: &mut FileDevice<Unknown>) -> bool {
+    len(device) == 0 && four_at(device, 0) == Err(Fault::DeviceTooSmall) && sync(device) == Ok(())
 }
 
 /// An empty file has no byte to read.
@@ -86,11 +134,23 @@ fn too_long(rt: HostRuntime) -> Result<(), Fail> {
 fn empty(rt: HostRuntime) -> Result<(), Fail> {
     let path = "files_empty.bin";
     fs::write(&rt, path, [].as_slice())?;
-    let mut device = open(&rt, path)?;
-    assert!(rt; len(&device) == 0);
-    assert!(rt; four_at(&mut device, 0) == Err(Fault::DeviceTooSmall));
-    assert!(rt; sync(&mut device) == Ok(()));
-    fs::remove_file(&rt, path)?;
+    assert!(rt; has_none(&mut open(&rt, path)?));
+    remove(&rt, path)
+}
+
+/// The four bytes from there on in the file that is there.
+fn four_in(rt: &impl Files<File = File>, path: &str, at: u64) -> Result<[u8; 4], Fault> {
+    let mut device = open(rt, path)?;
+    let four = four_at(&mut device, at);
+    close_file(device);
+    four
+}
+
+/// Lets nobody write the file at the path.
+fn make_read_only(rt: &impl Files<File = File>, path: &str) -> Result<(), Fail> {
+    let mut permissions = fs::metadata(rt, path)?.permissions();
+    permissions.set_readonly(true);
+    fs::set_permissions(rt, path, permissions)?;
     Ok(())
 }
 
@@ -99,21 +159,44 @@ fn empty(rt: HostRuntime) -> Result<(), Fail> {
 #[test]
 fn read_only(rt: HostRuntime) -> Result<(), Fail> {
     let path = "files_read_only.bin";
-    let _ = fs::remove_file(&rt, path);
-    fs::write(&rt, path, [7; 8_192].as_slice())?;
-    let mut permissions = fs::metadata(&rt, path)?.permissions();
-    permissions.set_readonly(true);
-    fs::set_permissions(&rt, path, permissions)?;
+    clear(&rt, path);
+    put_sevens(&rt, path)?;
+    make_read_only(&rt, path)?;
     let may_write = OpenOptions::new().write(true).open(&rt, path).is_ok();
-    match open(&rt, path) {
-        Ok(mut device) => {
-            assert!(rt; may_write);
-            assert!(rt; four_at(&mut device, 8_188) == Ok([7; 4]));
-        }
-        Err(fault) => assert!(rt; !may_write && fault == Fault::Io),
-    }
-    assert!(rt; fs::read(&rt, path)?.as_slice() == [7; 8_192].as_slice());
-    fs::remove_file(&rt, path)?;
+    let answer = if may_write {
+        Ok([7; 4])
+    } else {
+        Err(Fault::Io)
+    };
+    assert!(rt; four_in(&rt, path, 8_188) == answer);
+    assert!(rt; has_sevens(&rt, path)?);
+    remove(&rt, path)
+}
+
+/// Cuts the file at the path to so many bytes.
+fn set_len(rt: &impl Files<File = File>, path: &str, len: u64) -> Result<(), Fail> {
+    OpenOptions::new().write(true).open(rt, path)?.set_len(len)?;
+    Ok(())
+}
+
+/// What a device does whose file is cut to its half, and grows again.
+fn goes_on<R: Abort + Files<File = File>>(
+    rt: &R,
+    device: &mut FileDevice<Unknown>,
+    path: &str,
+) -> Result<(), Fail> {
+    assert!(rt; put_at(device, 0, [1, 2, 3, 4]) == Ok(()));
+    set_len(rt, path, 4_096)?;
+    assert!(rt; len(device) == 8_192);
+    assert!(rt; four_at(device, 8_188) == Err(Fault::Io));
+    // Two of the four bytes are there.
+    assert!(rt; four_at(device, 4_094) == Err(Fault::Io));
+    assert!(rt; four_at(device, 4_092) == Ok([0; 4]));
+    assert!(rt; four_at(device, 0) == Ok([1, 2, 3, 4]));
+    assert!(rt; put_at(device, 8_188, [5, 6, 7, 8]) == Ok(()));
+    assert!(rt; sync(device) == Ok(()));
+    assert!(rt; four_at(device, 8_188) == Ok([5, 6, 7, 8]));
+    assert!(rt; four_at(device, 4_096) == Ok([0; 4]));
     Ok(())
 }
 
@@ -122,26 +205,46 @@ fn read_only(rt: HostRuntime) -> Result<(), Fail> {
 #[test]
 fn cut(rt: HostRuntime) -> Result<(), Fail> {
     let path = "files_cut.bin";
-    let _ = fs::remove_file(&rt, path);
+    clear(&rt, path);
     let mut device = create(&rt, path, 8_192)?;
-    assert!(rt; put_at(&mut device, 0, [1, 2, 3, 4]) == Ok(()));
-    OpenOptions::new()
-        .write(true)
-        .open(&rt, path)?
-        .set_len(4_096)?;
-    assert!(rt; len(&device) == 8_192);
-    assert!(rt; four_at(&mut device, 8_188) == Err(Fault::Io));
-    // Two of the four bytes are there.
-    assert!(rt; four_at(&mut device, 4_094) == Err(Fault::Io));
-    assert!(rt; four_at(&mut device, 4_092) == Ok([0; 4]));
-    assert!(rt; four_at(&mut device, 0) == Ok([1, 2, 3, 4]));
-    assert!(rt; put_at(&mut device, 8_188, [5, 6, 7, 8]) == Ok(()));
-    assert!(rt; sync(&mut device) == Ok(()));
-    assert!(rt; four_at(&mut device, 8_188) == Ok([5, 6, 7, 8]));
-    assert!(rt; four_at(&mut device, 4_096) == Ok([0; 4]));
-    drop(device);
-    assert!(rt; len(&open(&rt, path)?) == 8_192);
-    fs::remove_file(&rt, path)?;
+    let goes = goes_on(&rt, &mut device, path);
+    close_file(device);
+    goes?;
+    assert!(rt; opened(&rt, path) == Ok(8_192));
+    remove(&rt, path)
+}
+
+/// Whether two devices differ, each of which is written and read.
+fn do_differ(old: &mut FileDevice<Unknown>, new: &mut FileDevice<Unknown>) -> bool {
+    put_at(old, 0, [1; 4]) == Ok(())
+        && put_at(new, 0, [2; 4]) == Ok(())
+        && sync(old) == Ok(())
+        && four_at(old, 0) == Ok([1; 4])
+        && four_at(new, 0) == Ok([2; 4])
+}
+
+/// Whether a device and a new one at its path differ.
+fn differs_from_new(
+    rt: &impl Files<File = File>,
+    old: &mut FileDevice<Unknown>,
+    path: &str,
+) -> Result<bool, Fail> {
+    let mut new = create(rt, path, 4_096)?;
+    let differ = do_differ(old, &mut new);
+    close_file(new);
+    Ok(differ)
+}
+
+/// Removes the file that a device stands for, and makes a new one: the path leads to that alone.
+fn stands_beside<R: Abort + Files<File = File>>(
+    rt: &R,
+    old: &mut FileDevice<Unknown>,
+    path: &str,
+) -> Result<(), Fail> {
+    remove(rt, path)?;
+    assert!(rt; opened(rt, path) == Err(Fault::Io));
+    assert!(rt; differs_from_new(rt, old, path)?);
+    assert!(rt; four_in(rt, path, 0) == Ok([2; 4]));
     Ok(())
 }
 
@@ -149,21 +252,37 @@ fn cut(rt: HostRuntime) -> Result<(), Fail> {
 #[test]
 fn removed(rt: HostRuntime) -> Result<(), Fail> {
     let path = "files_removed.bin";
-    let _ = fs::remove_file(&rt, path);
-    let mut old = create(&rt, path, 4_096)?;
-    fs::remove_file(&rt, path)?;
-    assert!(rt; matches!(open(&rt, path), Err(Fault::Io)));
-    let mut new = create(&rt, path, 4_096)?;
-    assert!(rt; put_at(&mut old, 0, [1; 4]) == Ok(()));
-    assert!(rt; put_at(&mut new, 0, [2; 4]) == Ok(()));
-    assert!(rt; sync(&mut old) == Ok(()));
-    assert!(rt; four_at(&mut old, 0) == Ok([1; 4]));
-    assert!(rt; four_at(&mut new, 0) == Ok([2; 4]));
-    drop(new);
-    let mut again = open(&rt, path)?;
-    assert!(rt; four_at(&mut again, 0) == Ok([2; 4]));
-    fs::remove_file(&rt, path)?;
+    clear(&rt, path);
+    let mut device = create(&rt, path, 4_096)?;
+    let stands = stands_beside(&rt, &mut device, path);
+    close_file(device);
+    stands?;
+    remove(&rt, path)
+}
+
+/// Gives the file of an open device another name, by which it is neither opened nor made.
+fn is_locked<R: Abort + Files<File = File>>(
+    rt: &R,
+    _: &FileDevice<Unknown>,
+    path: &str,
+    other: &str,
+) -> Result<(), Fail> {
+    fs::hard_link(rt, path, other)?;
+    assert!(rt; opened(rt, other) == Err(Fault::Io));
+    assert!(rt; created(rt, other, 4_096) == Err(Fault::Io));
     Ok(())
+}
+
+/// What the opening of the one path answers while the device of the other is open.
+fn opened_beside(
+    rt: &impl Files<File = File>,
+    other: &str,
+    path: &str,
+) -> Result<Result<u64, Fault>, Fault> {
+    let device = open(rt, other)?;
+    let answer = opened(rt, path);
+    close_file(device);
+    Ok(answer)
 }
 
 /// The lock is the file's, by whatever name it is opened.
@@ -171,17 +290,13 @@ fn removed(rt: HostRuntime) -> Result<(), Fail> {
 fn linked(rt: HostRuntime) -> Result<(), Fail> {
     let path = "files_linked.bin";
     let other = "files_linked_too.bin";
-    let _ = fs::remove_file(&rt, path);
-    let _ = fs::remove_file(&rt, other);
+    clear(&rt, path);
+    clear(&rt, other);
     let device = create(&rt, path, 4_096)?;
-    fs::hard_link(&rt, path, other)?;
-    assert!(rt; matches!(open(&rt, other), Err(Fault::Io)));
-    assert!(rt; matches!(create(&rt, other, 4_096), Err(Fault::Io)));
-    drop(device);
-    let first = open(&rt, other)?;
-    assert!(rt; matches!(open(&rt, path), Err(Fault::Io)));
-    drop(first);
-    fs::remove_file(&rt, path)?;
-    fs::remove_file(&rt, other)?;
-    Ok(())
+    let locked = is_locked(&rt, &device, path, other);
+    close_file(device);
+    locked?;
+    assert!(rt; opened_beside(&rt, other, path) == Ok(Err(Fault::Io)));
+    remove(&rt, path)?;
+    remove(&rt, other)
 }

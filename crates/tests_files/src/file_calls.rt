@@ -1,16 +1,18 @@
 //! Calls without their contracts. A test looks at the answers alone, and what a call promises would be carried, call by call, to
 //! the end of the test that makes it.
 
+use crate::plain::parents;
 use access_method::{Index, in_file};
-use amcheck::{CheckFault, Report, check_parents_one};
+use amcheck::{CheckFault, Report};
 use device::{Device, FileDevice, Unknown};
 use index_model::{Entry, Fault, Key, Limits, NoProgress, Range, RowAddr};
 use page_action::PageStore;
 use page_store::Store;
 use std::alloc::Global;
-use std::fs::File;
+use std::fs::{self, File};
 use std::rt::Files;
-use tests_support::plain::{begin_scan, end_scan, next};
+use std::test::Fail;
+use tests_support::plain::{begin_scan, end_scan, next, open as open_store};
 
 /// An index in a file.
 pub type InFile = Index<Store<FileDevice<Unknown>>>;
@@ -29,6 +31,20 @@ pub fn open(rt: &impl Files<File = File>, path: &str) -> Result<FileDevice<Unkno
     FileDevice::open(rt, path)
 }
 
+/// What the making of a new file of so many bytes answers. It is closed at once.
+pub fn created(rt: &impl Files<File = File>, path: &str, len: u64) -> Result<(), Fault> {
+    close_file(create(rt, path, len)?);
+    Ok(())
+}
+
+/// How many bytes the file that is there has, or what its opening is refused with. It is closed at once.
+pub fn opened(rt: &impl Files<File = File>, path: &str) -> Result<u64, Fault> {
+    let device = open(rt, path)?;
+    let bytes = len(&device);
+    close_file(device);
+    Ok(bytes)
+}
+
 /// A device over a file that is open.
 pub fn held(file: File) -> Result<FileDevice<Unknown>, Fault> {
     FileDevice::held(file)
@@ -37,6 +53,38 @@ pub fn held(file: File) -> Result<FileDevice<Unknown>, Fault> {
 /// A device over a file that is open, made anew.
 pub fn made(file: File, len: u64, filled: u64) -> Result<FileDevice<Unknown>, Fault> {
     FileDevice::made(file, len, filled)
+}
+
+/// Writes 8,192 bytes to the file at the path, each of them 7.
+pub fn put_sevens(rt: &impl Files<File = File>, path: &str) -> Result<(), Fail> {
+    fs::write(rt, path, [7; 8_192].as_slice())?;
+    Ok(())
+}
+
+/// Whether the file at the path has those bytes, and no others.
+pub fn has_sevens(rt: &(impl Files<File = File> + AllocGlobal), path: &str) -> Result<bool, Fail> {
+    Ok(fs::read(rt, path)?.as_slice() == [7; 8_192].as_slice())
+}
+
+/// How many bytes the system says that the file at the path has.
+pub fn len_at(rt: &impl Files<File = File>, path: &str) -> Result<u64, Fail> {
+    Ok(fs::metadata(rt, path)?.len())
+}
+
+/// Whether the system says that nothing is at the path.
+pub fn is_gone(rt: &impl Files<File = File>, path: &str) -> Result<bool, Fail> {
+    Ok(!fs::exists(rt, path)?)
+}
+
+/// Removes the file at the path.
+pub fn remove(rt: &impl Files<File = File>, path: &str) -> Result<(), Fail> {
+    fs::remove_file(rt, path)?;
+    Ok(())
+}
+
+/// Removes the file at the path, if there is one.
+pub fn clear(rt: &impl Files<File = File>, path: &str) {
+    let _ = fs::remove_file(rt, path);
 }
 
 /// Makes an empty index in a new file, and closes that.
@@ -94,6 +142,22 @@ pub fn open_index(
     in_file::open(rt, alloc, path, 16)
 }
 
+/// Lets an index go that isn't closed.
+pub fn let_go(index: InFile) {
+    drop(index);
+}
+
+/// Lets a device go: its file is closed.
+pub fn close_file(device: FileDevice<Unknown>) {
+    drop(device);
+}
+
+/// What the opening of the index in a file is refused with, or nothing. It is let go at once.
+pub fn opened_index(rt: &impl Files<File = File>, alloc: Global, path: &str) -> Result<(), Fault> {
+    let_go(open_index(rt, alloc, path)?);
+    Ok(())
+}
+
 /// The entry of this number: a key of two bytes, and a row.
 pub fn entry(number: u16) -> Entry {
     Entry {
@@ -120,18 +184,33 @@ pub fn count<S: PageStore>(index: &mut Index<S>) -> Result<u32, Fault> {
     Ok(given)
 }
 
+/// How many entries the verifier counts in the file, if it finds no damage.
+pub fn verified(rt: &impl Files<File = File>, alloc: Global, path: &str) -> Option<u32> {
+    match verify(rt, alloc, path) {
+        Ok(Report { entries, .. }) => Some(entries),
+        Err(_) => None,
+    }
+}
+
+/// What the verifier answers of the index on a device.
+fn verify_on<D: Device + Drop>(alloc: Global, device: D) -> Result<Report, CheckFault> {
+    match open_store(alloc, device, 16) {
+        Ok(store) => {
+            let mut store = store;
+            parents(alloc, &mut store)
+        }
+        Err(refused) => Err(CheckFault::Refused(refused.fault)),
+    }
+}
+
 /// What the verifier answers of the index in a file.
 pub fn verify(
     rt: &impl Files<File = File>,
     alloc: Global,
     path: &str,
 ) -> Result<Report, CheckFault> {
-    let device = match open(rt, path) {
-        Ok(device) => device,
-        Err(fault) => return Err(CheckFault::Refused(fault)),
-    };
-    match recovery::open(alloc, device, 16) {
-        Ok(mut store) => check_parents_one(alloc, &mut store, &NoProgress),
-        Err(refused) => Err(CheckFault::Refused(refused.fault)),
+    match open(rt, path) {
+        Ok(device) => verify_on(alloc, device),
+        Err(fault) => Err(CheckFault::Refused(fault)),
     }
 }

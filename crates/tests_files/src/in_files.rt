@@ -5,7 +5,7 @@ use crate::plain::{file, len};
 use crate::rows::{Kind, altered};
 use crate::table::Table;
 use crate::tally::Tally;
-use crate::trial::tried;
+use crate::trial::{Outcome, tried};
 use device::MemDevice;
 use index_model::Fault;
 use std::alloc::Global;
@@ -28,6 +28,20 @@ fn bytes_of(alloc: Global, device: &mut MemDevice) -> Result<Vec<u8>, Fault> {
     Ok(bytes)
 }
 
+/// What comes of an index in the file of this path, and what in memory.
+fn outcomes(
+    rt: &impl Files<File = File>,
+    alloc: Global,
+    path: &str,
+    device: MemDevice,
+) -> Result<(Outcome, Outcome), Fail> {
+    let mut device = device;
+    let bytes = bytes_of(alloc, &mut device);
+    let in_memory = tried(alloc, device);
+    fs::write(rt, path, bytes?.as_slice())?;
+    Ok((tried(alloc, file(rt, path)?), in_memory))
+}
+
 /// Runs rows on copies of this index, each in the file of this path and in memory: each call of each row goes right, in both
 /// as in the other, and each kind of outcome comes.
 fn run<R: Abort + Eprint + Files<File = File>>(
@@ -41,10 +55,9 @@ fn run<R: Abort + Eprint + Files<File = File>>(
     let mut table = table;
     let mut tally = Tally::new();
     for row in 0..ROWS {
-        let mut device = altered(alloc, base, kind, &mut table)?;
-        fs::write(rt, path, bytes_of(alloc, &mut device)?.as_slice())?;
-        let outcome = tried(alloc, file(rt, path)?);
-        assert!(rt; outcome == tried(alloc, device), "row {row}");
+        let device = altered(alloc, base, kind, &mut table)?;
+        let (outcome, in_memory) = outcomes(rt, alloc, path, device)?;
+        assert!(rt; outcome == in_memory, "row {row}");
         if let Some(what) = tally.counts(outcome) {
             assert!(rt; false, "{what}: row {row}");
         }

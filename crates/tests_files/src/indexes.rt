@@ -1,12 +1,16 @@
 //! Indexes whose file is too short, too long, cut or removed. Each test has a file of its own.
 
-use crate::file_calls::{InFile, count, create, entry, make, open_index, verify};
+use crate::file_calls::{
+    InFile, clear, close_file, count, create, entry, len_at, let_go, make, open_index,
+    opened_index, remove, verified, verify,
+};
 use access_method::Index;
-use amcheck::{CheckFault, Report};
+use amcheck::CheckFault;
 use index_model::{Fault, Limits};
 use page_action::PageStore;
 use std::alloc::Global;
 use std::fs::{self, File, OpenFile, OpenOptions};
+use std::process::Abort;
 use std::rt::Files;
 use std::test::{Fail, *};
 use tests_support::plain::{checkpoint_of as checkpoint, commit, insert};
@@ -21,12 +25,18 @@ const LIMITS: Limits = Limits {
 /// The bytes of its device: a superblock, the log, 64 pages.
 const LEN: u64 = 4_096 + 65_536 + 4_096 * 64;
 
+/// Makes an empty index in a new file.
+fn put_empty(rt: &impl Files<File = File>, path: &str) -> Result<(), Fault> {
+    clear(rt, path);
+    let mut device = create(rt, path, LEN)?;
+    let made = make(&mut device, &LIMITS);
+    close_file(device);
+    made
+}
+
 /// An empty index in a new file, open.
 fn made(rt: &impl Files<File = File>, alloc: Global, path: &str) -> Result<InFile, Fault> {
-    let _ = fs::remove_file(rt, path);
-    let mut device = create(rt, path, LEN)?;
-    make(&mut device, &LIMITS)?;
-    drop(device);
+    put_empty(rt, path)?;
     open_index(rt, alloc, path)
 }
 
@@ -43,34 +53,60 @@ fn set_len(rt: &impl Files<File = File>, path: &str, len: u64) -> Result<(), Fai
     Ok(())
 }
 
-/// How many entries the verifier counts in the file, if it finds no damage.
-fn verified(rt: &impl Files<File = File>, alloc: Global, path: &str) -> Option<u32> {
-    match verify(rt, alloc, path) {
-        Ok(Report { entries, .. }) => Some(entries),
-        Err(_) => None,
-    }
+/// Inserts so many entries, with a checkpoint after them.
+fn fill_home<S: PageStore>(index: &mut Index<S>, entries: u16) -> Result<(), Fault> {
+    fill(index, 0, entries)?;
+    checkpoint(index)?;
+    Ok(())
+}
+
+/// An index of 40 entries in a new file.
+fn put_forty(rt: &impl Files<File = File>, alloc: Global, path: &str) -> Result<(), Fault> {
+    let mut index = made(rt, alloc, path)?;
+    let filled = fill_home(&mut index, 40);
+    let_go(index);
+    filled
 }
 
 /// A file that lacks a byte holds no index; what stands after the pages of one is never read.
 #[test]
 fn lengths(rt: HostRuntime) -> Result<(), Fail> {
     let path = "files_lengths.idx";
-    let mut index = made(&rt, rt.alloc(), path)?;
-    fill(&mut index, 0, 40)?;
-    assert!(rt; checkpoint(&mut index).is_ok());
-    drop(index);
+    put_forty(&rt, rt.alloc(), path)?;
     for len in [0, 23, 4_096, LEN - 1] {
         let whole = fs::read(&rt, path)?;
         set_len(&rt, path, len)?;
-        assert!(rt; matches!(open_index(&rt, rt.alloc(), path), Err(Fault::BadSuper)));
-        assert!(rt; fs::metadata(&rt, path)?.len() == len);
+        assert!(rt; opened_index(&rt, rt.alloc(), path) == Err(Fault::BadSuper));
+        assert!(rt; len_at(&rt, path)? == len);
         fs::write(&rt, path, whole.as_slice())?;
     }
     assert!(rt; verified(&rt, rt.alloc(), path) == Some(40));
     set_len(&rt, path, LEN + 5_000)?;
     assert!(rt; verified(&rt, rt.alloc(), path) == Some(40));
-    fs::remove_file(&rt, path)?;
-    Ok(())
+    remove(&rt, path)
+}
+
+/// Fills an index and cuts its pages off: what a scan of all is answered.
+fn counted_in_cut<S: PageStore>(
+    rt: &impl Files<File = File>,
+    index: &mut Index<S>,
+    path: &str,
+) -> Result<Result<u32, Fault>, Fail> {
+    fill_home(index, 100)?;
+    set_len(rt, path, 4_096 + 65_536)?;
+    Ok(count(index))
+}
+
+/// Makes an index in a new file, fills it and cuts its pages off: what a scan of all is answered.
+fn cut_while_open(
+    rt: &impl Files<File = File>,
+    alloc: Global,
+    path: &str,
+) -> Result<Result<u32, Fault>, Fail> {
+    let mut index = made(rt, alloc, path)?;
+    let counted = counted_in_cut(rt, &mut index, path);
+    let_go(index);
+    counted
 }
 
 /// The pages of an open index are cut off, more than there are frames: who comes to one that has no frame is refused with `Io`;
@@ -78,13 +114,8 @@ fn lengths(rt: HostRuntime) -> Result<(), Fail> {
 #[test]
 fn cut(rt: HostRuntime) -> Result<(), Fail> {
     let path = "files_cut.idx";
-    let mut index = made(&rt, rt.alloc(), path)?;
-    fill(&mut index, 0, 100)?;
-    assert!(rt; checkpoint(&mut index).is_ok());
-    set_len(&rt, path, 4_096 + 65_536)?;
-    assert!(rt; count(&mut index) == Err(Fault::Io));
-    drop(index);
-    assert!(rt; matches!(open_index(&rt, rt.alloc(), path), Err(Fault::BadSuper)));
+    assert!(rt; cut_while_open(&rt, rt.alloc(), path)? == Err(Fault::Io));
+    assert!(rt; opened_index(&rt, rt.alloc(), path) == Err(Fault::BadSuper));
     set_len(&rt, path, LEN)?;
     assert!(rt;
         matches!(
@@ -92,24 +123,66 @@ fn cut(rt: HostRuntime) -> Result<(), Fail> {
             Err(CheckFault::Refused(Fault::PageDamaged(0)))
         )
     );
-    fs::remove_file(&rt, path)?;
-    Ok(())
+    remove(&rt, path)
+}
+
+/// Fills an index, removes its file in the midst of that, and answers how many entries there are.
+fn counted_in_removed<S: PageStore>(
+    rt: &impl Files<File = File>,
+    index: &mut Index<S>,
+    path: &str,
+) -> Result<u32, Fail> {
+    fill(index, 0, 50)?;
+    commit(index)?;
+    remove(rt, path)?;
+    fill(index, 50, 100)?;
+    commit(index)?;
+    checkpoint(index)?;
+    Ok(count(index)?)
+}
+
+/// Makes an index in a new file and fills it, and removes the file in the midst of that: how many entries there are.
+fn removed_while_open(
+    rt: &impl Files<File = File>,
+    alloc: Global,
+    path: &str,
+) -> Result<u32, Fail> {
+    let mut index = made(rt, alloc, path)?;
+    let counted = counted_in_removed(rt, &mut index, path);
+    let_go(index);
+    counted
 }
 
 /// An index goes on over a file that was removed; after its closing there is none.
 #[test]
 fn removed(rt: HostRuntime) -> Result<(), Fail> {
     let path = "files_removed.idx";
-    let mut index = made(&rt, rt.alloc(), path)?;
-    fill(&mut index, 0, 50)?;
-    assert!(rt; commit(&mut index).is_ok());
-    fs::remove_file(&rt, path)?;
-    fill(&mut index, 50, 100)?;
-    assert!(rt; commit(&mut index).is_ok() && checkpoint(&mut index).is_ok());
-    assert!(rt; count(&mut index) == Ok(100));
-    drop(index);
-    assert!(rt; matches!(open_index(&rt, rt.alloc(), path), Err(Fault::Io)));
+    assert!(rt; removed_while_open(&rt, rt.alloc(), path)? == 100);
+    assert!(rt; opened_index(&rt, rt.alloc(), path) == Err(Fault::Io));
     Ok(())
+}
+
+/// Fills an index, a commit after the first ten of its 20 entries. It is neither opened again nor verified.
+fn is_held<S: PageStore, R: Abort + Files<File = File>>(
+    rt: &R,
+    alloc: Global,
+    index: &mut Index<S>,
+    path: &str,
+) -> Result<(), Fail> {
+    fill(index, 0, 10)?;
+    commit(index)?;
+    assert!(rt; opened_index(rt, alloc, path) == Err(Fault::Io));
+    assert!(rt; matches!(verify(rt, alloc, path), Err(CheckFault::Refused(Fault::Io))));
+    fill(index, 10, 20)?;
+    Ok(())
+}
+
+/// Makes an index in a new file and fills it. While it is open, it is neither opened again nor verified.
+fn is_alone<R: Abort + Files<File = File>>(rt: &R, alloc: Global, path: &str) -> Result<(), Fail> {
+    let mut index = made(rt, alloc, path)?;
+    let held = is_held(rt, alloc, &mut index, path);
+    let_go(index);
+    held
 }
 
 /// An index that is open isn't opened again, nor verified, before it is closed: then it has what was committed, and no more than
@@ -117,19 +190,7 @@ fn removed(rt: HostRuntime) -> Result<(), Fail> {
 #[test]
 fn open_already(rt: HostRuntime) -> Result<(), Fail> {
     let path = "files_open.idx";
-    let mut index = made(&rt, rt.alloc(), path)?;
-    fill(&mut index, 0, 10)?;
-    assert!(rt; commit(&mut index).is_ok());
-    assert!(rt; matches!(open_index(&rt, rt.alloc(), path), Err(Fault::Io)));
-    assert!(rt;
-        matches!(
-            verify(&rt, rt.alloc(), path),
-            Err(CheckFault::Refused(Fault::Io))
-        )
-    );
-    fill(&mut index, 10, 20)?;
-    drop(index);
+    is_alone(&rt, rt.alloc(), path)?;
     assert!(rt; matches!(verified(&rt, rt.alloc(), path), Some(10..=20)));
-    fs::remove_file(&rt, path)?;
-    Ok(())
+    remove(&rt, path)
 }

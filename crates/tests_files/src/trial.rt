@@ -295,26 +295,47 @@ fn opens_again<D: Device + Drop>(
     }
 }
 
+/// Makes each call of an index, and opens it again: the first that goes wrong.
+fn wrong_in<D: Device + Drop>(
+    alloc: Global,
+    index: Index<Store<D>>,
+    entries: Option<u64>,
+    used: u32,
+) -> Option<&'static str> {
+    let mut trial = Trial { index, entries };
+    let wrong = trial.find_wrong();
+    let Trial { index, entries } = trial;
+    let opens = opens_again(alloc, into_device(index), entries, used);
+    if wrong.is_none() && !opens {
+        return Some("an open behind all calls");
+    }
+    wrong
+}
+
+/// Makes each call of the index in a store, and opens it again: the first that goes wrong.
+fn wrong_over<D: Device + Drop>(
+    alloc: Global,
+    store: Store<D>,
+    entries: Option<u64>,
+    used: u32,
+) -> Option<&'static str> {
+    match index_over(alloc, store) {
+        Ok(index) => wrong_in(alloc, index, entries, used),
+        Err(_) => Some("an index"),
+    }
+}
+
 /// Verifies the index, makes each call, and opens it again.
 fn tried_in<D: Device + Drop>(alloc: Global, store: Store<D>) -> Outcome {
     let mut store = store;
     let (outcome, entries) = begun(alloc, &mut store);
+    let used = store.used();
     if let Outcome::Wrong(_) = outcome {
         return outcome;
     }
-    let used = store.used();
-    let Ok(index) = index_over(alloc, store) else {
-        return Outcome::Wrong("an index");
-    };
-    let mut trial = Trial { index, entries };
-    if let Some(wrong) = trial.find_wrong() {
-        return Outcome::Wrong(wrong);
-    }
-    let Trial { index, entries } = trial;
-    if opens_again(alloc, into_device(index), entries, used) {
-        outcome
-    } else {
-        Outcome::Wrong("an open behind all calls")
+    match wrong_over(alloc, store, entries, used) {
+        Some(wrong) => Outcome::Wrong(wrong),
+        None => outcome,
     }
 }
 
