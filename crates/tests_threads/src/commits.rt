@@ -1,12 +1,11 @@
 //! Commits of many workers, which share a force.
 
-use crate::indexes::made;
-use crate::judged::ran;
+use crate::indexes::{fresh_calls, made};
+use crate::judged::{calls_in, gated, ran, records_of};
 use crate::lists::{entry, range};
-use crate::plain::run;
 use index_model::Limits;
 use session_calls::Answer;
-use sessions::{Gate, Job};
+use sessions::{Gate, Job, Record};
 use std::alloc::{AllocError, Global};
 use std::process::Abort;
 use std::sync::Wait;
@@ -42,14 +41,10 @@ fn calls_of(
     jobs: &[Job],
     workers: u32,
 ) -> Result<u64, Fail> {
-    let fresh = made(rt.alloc(), &LIMITS, workers)?
-        .into_store()
-        .into_device()
-        .calls();
+    let fresh = fresh_calls(rt.alloc(), &LIMITS, workers)?;
     let world = made(rt.alloc(), &LIMITS, workers)?;
     let (done, _) = ran(rt, world, jobs, workers, LIMITS.pages, false)?;
-    let calls = done.world.into_store().into_device().calls();
-    Ok(calls.saturating_sub(fresh))
+    Ok(calls_in(done).saturating_sub(fresh))
 }
 
 /// Eight workers force the log less than half as often as one does.
@@ -82,9 +77,7 @@ fn no_commit_is_left_waiting(rt: HostRuntime) -> Result<(), Fail> {
     ];
     for workers in [1, 2, 3, 8] {
         for jobs in [&lone[..], &idle[..], &mixed[..]] {
-            let world = made(rt.alloc(), &LIMITS, workers)?;
-            let (done, _) = ran(&rt, world, jobs, workers, LIMITS.pages, false)?;
-            assert_eq!(rt; done.history.len(), jobs.len());
+            assert_eq!(rt; records_of(&rt, &LIMITS, jobs, workers)?.len(), jobs.len());
         }
     }
     Ok(())
@@ -114,6 +107,16 @@ impl Gate for Waiting {
     }
 }
 
+/// Whether a record tells that an entry was added.
+fn tell_of_one(records: &[Record]) -> bool {
+    for record in records {
+        if matches!(&record.answer, Answer::Added { .. }) {
+            return true;
+        }
+    }
+    false
+}
+
 /// Of two workers the one that commits doesn't wait for the other, whose gate waits until the first one takes its next job.
 #[test]
 fn commit_waits_for_no_gate(rt: HostRuntime) -> Result<(), Fail> {
@@ -122,16 +125,8 @@ fn commit_waits_for_no_gate(rt: HostRuntime) -> Result<(), Fail> {
         third: AtomicBool::new(false),
         was_seen: AtomicBool::new(false),
     };
-    let world = made(rt.alloc(), &LIMITS, 2)?;
-    let done = match run(&rt, rt.alloc(), world, &jobs, 2, &gate) {
-        Ok(done) => done,
-        Err(not_run) => return Err(Fail::from(not_run.fault)),
-    };
+    let records = gated(&rt, &LIMITS, &jobs, &gate)?;
     assert!(rt; gate.was_seen.load(Ordering::SeqCst));
-    assert!(rt;
-        done.history
-            .iter()
-            .any(|record| matches!(&record.answer, Answer::Added { .. }))
-    );
+    assert!(rt; tell_of_one(records.as_slice()));
     Ok(())
 }

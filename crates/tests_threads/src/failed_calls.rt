@@ -1,12 +1,13 @@
 //! Runs of jobs during which calls of the device fail: one once, or one and all after it.
 
-use crate::indexes::{InMemory, all_entries, made, opened};
+use crate::indexes::{InMemory, all_entries, fresh_calls, made, opened};
 use crate::judge::{Addition, are_those_by, count, tells_of_failure};
-use crate::judged::ran;
+use crate::judged::{Done, calls_in, ran};
 use crate::lists::{entry, range};
-use crate::plain::{actions, is_sound_to_all};
+use crate::plain::{actions, is_left_sound_to_all};
 use device::{CrashImage, MemDevice};
 use index_model::Limits;
+use page_action::PageStore;
 use session_calls::Answer;
 use sessions::{Job, Record};
 use std::alloc::{AllocError, Global};
@@ -14,7 +15,9 @@ use std::process::Abort;
 use std::sync::Wait;
 use std::test::{Fail, *};
 use std::thread::Threads;
+use tests_support::dead::Blocks;
 use tests_support::plain::{fail_at, left_by, stop_at};
+use world::World;
 
 const LIMITS: Limits = Limits {
     items: 4,
@@ -58,9 +61,11 @@ fn will_fail(world: &mut InMemory, how: Failing, n: u64) {
     }
 }
 
-/// How many calls of its device a world has made.
-fn calls_of(world: InMemory) -> u64 {
-    world.into_store().into_device().calls()
+/// A new index, the nth call of whose device will fail.
+fn made_failing(alloc: Global, workers: u32, how: Failing, n: u64) -> Result<InMemory, Fail> {
+    let mut world = made(alloc, &LIMITS, workers)?;
+    will_fail(&mut world, how, n);
+    Ok(world)
 }
 
 /// What is counted of the runs.
@@ -85,6 +90,21 @@ fn last_forced(history: &[Record]) -> u64 {
     durable
 }
 
+/// The entries of an index are those that some prefix of the actions added, which holds the durable ones. Answers whether one
+/// is lacking.
+fn has_prefix<S: PageStore>(
+    rt: &(impl Abort + AllocGlobal + Print + Eprint),
+    world: &mut World<S, Blocks>,
+    added: &[Option<Addition>],
+    durable: u64,
+    last: u64,
+) -> Result<bool, Fail> {
+    let entries = all_entries(rt.alloc(), world)?;
+    let entries = entries.as_slice();
+    assert!(rt; (durable..last.saturating_add(1)).any(|k| are_those_by(entries, added, k)));
+    Ok(entries.len() < count(added))
+}
+
 /// Opens what a crash left: its entries are those that some prefix of the actions added, which holds the durable ones, and
 /// the verifier finds no damage.
 fn opens_right(
@@ -96,16 +116,57 @@ fn opens_right(
     counted: &mut Counted,
 ) -> Result<(), Fail> {
     let mut world = opened(rt.alloc(), found, 1)?;
-    let entries = all_entries(rt.alloc(), &mut world)?;
-    let entries = entries.as_slice();
-    assert!(rt; (durable..last.saturating_add(1)).any(|k| are_those_by(entries, added, k)));
-    let mut store = world.into_store();
-    assert!(rt; is_sound_to_all(rt, rt.alloc(), &mut store));
+    let is_losing = has_prefix(rt, &mut world, added, durable, last);
+    let is_sound = is_left_sound_to_all(rt, rt.alloc(), world);
+    assert!(rt; is_sound);
     counted.opened = counted.opened.saturating_add(1);
-    if entries.len() < count(added) {
+    if is_losing? {
         counted.losing = counted.losing.saturating_add(1);
     }
     Ok(())
+}
+
+/// Opens each image of a crash.
+fn open_right(
+    rt: &(impl Abort + AllocGlobal + Print + Eprint + Threads + Wait + Sync),
+    done: &Done,
+    added: &[Option<Addition>],
+    counted: &mut Counted,
+) -> Result<(), Fail> {
+    let durable = last_forced(done.history.as_slice());
+    let last = actions(&done.world);
+    for image in [CrashImage::Keep, CrashImage::Drop, CrashImage::Tear] {
+        let found = left_by(rt.alloc(), &done.world, image)?;
+        opens_right(rt, found, added, durable, last, counted)?;
+    }
+    Ok(())
+}
+
+/// Whether a record tells that a call of the device failed.
+fn do_tell(history: &[Record]) -> bool {
+    for record in history {
+        if tells_of_failure(record) {
+            return true;
+        }
+    }
+    false
+}
+
+/// Runs the jobs on this index, and opens each image of a crash. Answers whether a record tells that a call of the device
+/// failed, and how many calls there are.
+fn told_and_calls(
+    rt: &(impl Abort + AllocGlobal + Print + Eprint + Threads + Wait + Sync),
+    world: InMemory,
+    jobs: &[Job],
+    workers: u32,
+    counted: &mut Counted,
+) -> Result<(bool, u64), Fail> {
+    let (done, added) = ran(rt, world, jobs, workers, LIMITS.pages, true)?;
+    let is_right = open_right(rt, &done, added.as_slice(), counted);
+    let has_told = do_tell(done.history.as_slice());
+    let calls = calls_in(done);
+    is_right?;
+    Ok((has_told, calls))
 }
 
 /// Runs the jobs on a new index while the nth call of the device fails, if so many are made: exactly then a record tells of it.
@@ -118,18 +179,10 @@ fn fails_right(
     n: u64,
     counted: &mut Counted,
 ) -> Result<bool, Fail> {
-    let fresh = calls_of(made(rt.alloc(), &LIMITS, workers)?);
-    let mut world = made(rt.alloc(), &LIMITS, workers)?;
-    will_fail(&mut world, how, n);
-    let (done, added) = ran(rt, world, jobs, workers, LIMITS.pages, true)?;
-    let durable = last_forced(done.history.as_slice());
-    let last = actions(&done.world);
-    for image in [CrashImage::Keep, CrashImage::Drop, CrashImage::Tear] {
-        let found = left_by(rt.alloc(), &done.world, image)?;
-        opens_right(rt, found, added.as_slice(), durable, last, counted)?;
-    }
-    let has_told = done.history.as_slice().iter().any(tells_of_failure);
-    let has_failed = calls_of(done.world).saturating_sub(fresh) >= n;
+    let fresh = fresh_calls(rt.alloc(), &LIMITS, workers)?;
+    let world = made_failing(rt.alloc(), workers, how, n)?;
+    let (has_told, calls) = told_and_calls(rt, world, jobs, workers, counted)?;
+    let has_failed = calls.saturating_sub(fresh) >= n;
     assert_eq!(rt; has_told, has_failed, "{how:?} {n}");
     if has_failed {
         counted.failed = counted.failed.saturating_add(1);

@@ -8,7 +8,7 @@ use page_codec::needed_len;
 use page_store::Store;
 use schedule::Event;
 use session_calls::Answer;
-use std::alloc::Global;
+use std::alloc::{AllocError, Global};
 use std::test::Fail;
 use tests_support::dead::Blocks;
 use tests_support::plain::{create, device, one, open_world};
@@ -20,8 +20,7 @@ pub type InMemory = World<Store<MemDevice>, Blocks>;
 /// How many sets of dead rows there are: the first has those of block 1, the next those of block 2.
 pub const SETS: u32 = 2;
 
-/// The world of the index on a device, with so many sessions.
-pub fn opened(alloc: Global, device: MemDevice, sessions: u32) -> Result<InMemory, Fail> {
+fn sets(alloc: Global) -> Result<Vec<Blocks>, AllocError> {
     let mut sets = Vec::new(alloc);
     for block in 1..=SETS {
         sets.push(Blocks {
@@ -29,17 +28,38 @@ pub fn opened(alloc: Global, device: MemDevice, sessions: u32) -> Result<InMemor
             to: block,
         })?;
     }
+    Ok(sets)
+}
+
+/// The world of the index on a device, with so many sessions.
+pub fn opened(alloc: Global, device: MemDevice, sessions: u32) -> Result<InMemory, Fail> {
+    let sets = sets(alloc)?;
     match open_world(alloc, device, 64, sessions, sets) {
         Ok(world) => Ok(world),
         Err(not_opened) => Err(Fail::from(not_opened.fault)),
     }
 }
 
-/// A new one.
-pub fn made(alloc: Global, limits: &Limits, sessions: u32) -> Result<InMemory, Fail> {
+/// A device with an empty index.
+fn fresh(alloc: Global, limits: &Limits) -> Result<MemDevice, Fault> {
     let mut zeros = device(alloc, needed_len(limits))?;
     create(&mut zeros, limits)?;
-    opened(alloc, zeros, sessions)
+    Ok(zeros)
+}
+
+/// A new one.
+pub fn made(alloc: Global, limits: &Limits, sessions: u32) -> Result<InMemory, Fail> {
+    opened(alloc, fresh(alloc, limits)?, sessions)
+}
+
+/// How many calls of its device a world has made.
+pub fn device_calls(world: InMemory) -> u64 {
+    world.into_store().into_device().calls()
+}
+
+/// How many calls of its device a new one has made.
+pub fn fresh_calls(alloc: Global, limits: &Limits, sessions: u32) -> Result<u64, Fail> {
+    Ok(device_calls(made(alloc, limits, sessions)?))
 }
 
 /// All entries, by a scan of session 0.

@@ -92,14 +92,21 @@ pub fn has_each_once(
     Ok(are_calls(history, calls))
 }
 
+/// How many records a worker has.
+fn records_by(history: &[Record], worker: usize) -> u64 {
+    let mut count = 0u64;
+    for record in history {
+        if record.worker as usize == worker {
+            count = count.saturating_add(1);
+        }
+    }
+    count
+}
+
 fn are_calls(history: &[Record], calls: &[u64]) -> bool {
     let mut total = 0u64;
     for (worker, count) in calls.iter().enumerate() {
-        let own = history
-            .iter()
-            .filter(|record| record.worker as usize == worker)
-            .count();
-        if own as u64 != *count {
+        if records_by(history, worker) != *count {
             return false;
         }
         total = total.saturating_add(*count);

@@ -56,6 +56,38 @@ pub fn shuffled(alloc: Global, count: u16, seed: u32) -> Result<Vec<u16>, AllocE
     Ok(numbers)
 }
 
+/// The numbers below this.
+pub fn ascending(alloc: Global, count: u16) -> Result<Vec<u16>, AllocError> {
+    let mut numbers = Vec::new(alloc);
+    for number in 0..count {
+        numbers.push(number)?;
+    }
+    Ok(numbers)
+}
+
+/// So many inserts of each of these keys, with rows of the blocks from 0 on up to the last; then scans of them with these rooms.
+pub fn inserts_and_scans(
+    alloc: Global,
+    numbers: &[u16],
+    inserts: u32,
+    last: u32,
+    rooms: &[u32],
+) -> Result<Vec<Job>, AllocError> {
+    let mut jobs = Vec::new(alloc);
+    for number in numbers {
+        for place in 0..inserts {
+            jobs.push(Job::Insert(entry(*number, place.min(last))))?;
+        }
+    }
+    for room in rooms {
+        jobs.push(Job::Scan {
+            range: range(0, 100),
+            room: *room,
+        })?;
+    }
+    Ok(jobs)
+}
+
 /// Keys below this have rows that the two sets name; scans lie above.
 pub const DEAD_BELOW: u16 = 200;
 

@@ -53,18 +53,23 @@ pub fn abandon<S: PageStore, T: DeadRows + Drop>(world: &mut World<S, T>, sessio
     world.abandon(session)
 }
 
-/// Whether the verifier finds no damage, in this thread alone.
-pub fn is_sound<S: PageStore>(alloc: Global, store: &mut S) -> bool {
-    check_parents_one(alloc, store, &NoProgress).is_ok()
+/// Whether the verifier finds no damage in what a world leaves, in this thread alone.
+pub fn is_left_sound<S: PageStore + Drop, T: DeadRows + Drop>(
+    alloc: Global,
+    world: World<S, T>,
+) -> bool {
+    let mut store = world.into_store();
+    check_parents_one(alloc, &mut store, &NoProgress).is_ok()
 }
 
 /// Whether it finds none in many threads.
-pub fn is_sound_to_all<S: PageStore, R: Threads + Sync>(
+pub fn is_left_sound_to_all<S: PageStore + Drop, T: DeadRows + Drop, R: Threads + Sync>(
     rt: &R,
     alloc: Global,
-    store: &mut S,
+    world: World<S, T>,
 ) -> bool {
-    check_parents(rt, alloc, store, &NoProgress).is_ok()
+    let mut store = world.into_store();
+    check_parents(rt, alloc, &mut store, &NoProgress).is_ok()
 }
 
 // A live page on level 0, without links.
@@ -84,6 +89,12 @@ fn page(block: u32, right: Option<u32>, items: Items) -> Page {
     }
 }
 
+// The metapage and an empty leaf.
+fn add_two(store: &mut MapStore) -> Result<(), Fault> {
+    store.add(page(0, Some(1), Items::Meta))?;
+    store.add(page(1, None, Items::Entries(arrayvec::ArrayVec::new())))
+}
+
 /// The pages of an index without entries, four items a page.
 pub fn pages(alloc: Global) -> Result<MapStore, Fault> {
     let limits = Limits {
@@ -93,7 +104,6 @@ pub fn pages(alloc: Global) -> Result<MapStore, Fault> {
         unique: false,
     };
     let mut store = MapStore::new(alloc, limits)?;
-    store.add(page(0, Some(1), Items::Meta))?;
-    store.add(page(1, None, Items::Entries(arrayvec::ArrayVec::new())))?;
+    add_two(&mut store)?;
     Ok(store)
 }

@@ -1,8 +1,7 @@
 //! Runs of jobs by threads.
 
-use crate::indexes::made;
-use crate::judged::LIMITS;
-use crate::plain::{entry, run};
+use crate::judged::{LIMITS, gated};
+use crate::plain::entry;
 use session_calls::Answer;
 use sessions::{Gate, Job};
 use std::sync::atomic::{AtomicBool, Ordering};
@@ -47,15 +46,11 @@ fn two_workers_are_seen_beside_each_other(rt: HostRuntime) -> Result<(), Fail> {
         met_here: AtomicBool::new(false),
         met_there: AtomicBool::new(false),
     };
-    let world = made(rt.alloc(), &LIMITS, 2)?;
-    let done = match run(&rt, rt.alloc(), world, &jobs, 2, &gate) {
-        Ok(done) => done,
-        Err(not_run) => return Err(Fail::from(not_run.fault)),
-    };
+    let records = gated(&rt, &LIMITS, &jobs, &gate)?;
     assert!(rt; gate.met_here.load(Ordering::SeqCst));
     assert!(rt; gate.met_there.load(Ordering::SeqCst));
-    assert_eq!(rt; done.history.len(), 2);
-    for record in &done.history {
+    assert_eq!(rt; records.len(), 2);
+    for record in &records {
         assert!(rt; matches!(&record.answer, Answer::Added { .. }));
     }
     Ok(())
