@@ -15,7 +15,7 @@ mod rows;
 mod scans;
 mod upkeep;
 
-use std::fs::File;
+use std::fs::{self, File};
 use std::process::Abort;
 use std::rt::Files;
 use std::sync::Wait;
@@ -55,4 +55,21 @@ fn plays_with(
 ) -> Result<(), Fail> {
     let (script, printed) = script_of(rt.alloc(), parts)?;
     runs(rt, words, script.as_str(), printed.as_str(), "", 0)
+}
+
+/// Removes a file, if it is there.
+fn clear(rt: &impl Files<File = File>, path: &str) {
+    let _ = fs::remove_file(rt, path);
+}
+
+/// Removes a file, which is there.
+fn remove(rt: &impl Files<File = File>, path: &str) -> Result<(), Fail> {
+    fs::remove_file(rt, path)?;
+    Ok(())
+}
+
+/// Writes a file.
+fn write(rt: &impl Files<File = File>, path: &str, lines: &str) -> Result<(), Fail> {
+    fs::write(rt, path, lines)?;
+    Ok(())
 }

@@ -3,6 +3,7 @@
 use super::runs;
 use command_line::execute;
 use device::Unknown;
+use std::alloc::{AllocError, Global};
 use std::fs::File;
 use std::io::{self, Write};
 use std::rt::Files;
@@ -79,16 +80,21 @@ fn output_fails(rt: HostRuntime) -> Result<(), Fail> {
     Ok(())
 }
 
+/// A thousand times this text, and a last one.
+fn repeated(alloc: Global, text: &str, last: &str) -> Result<String, AllocError> {
+    let mut all = String::new(alloc);
+    for _ in 0..1_000 {
+        all.push_str(text)?;
+    }
+    all.push_str(last)?;
+    Ok(all)
+}
+
 /// Very many lines come out whole, also where a line is no event.
 #[test]
 fn long_output(rt: HostRuntime) -> Result<(), Fail> {
-    let mut script = String::new(rt.alloc());
-    let mut printed = String::new(rt.alloc());
-    for _ in 0..1_000 {
-        script.push_str("end 0\nforce\n")?;
-        printed.push_str("refused 12\nforced 0\n")?;
-    }
-    script.push_str("ends 0\n")?;
+    let script = repeated(rt.alloc(), "end 0\nforce\n", "ends 0\n")?;
+    let printed = repeated(rt.alloc(), "refused 12\nforced 0\n", "")?;
     runs(
         &rt,
         ["btidx", "play"].as_slice(),

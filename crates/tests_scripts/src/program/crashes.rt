@@ -1,7 +1,12 @@
 //! What stands after a crash.
 
 use super::runs;
+use std::fs::File;
+use std::process::Abort;
+use std::rt::Files;
+use std::sync::Wait;
 use std::test::*;
+use std::thread::Threads;
 
 /// What was forced stands after each crash, and acts are counted anew.
 #[test]
@@ -67,6 +72,25 @@ done 2
     )
 }
 
+/// A script with a force that is stopped prints this in the end.
+fn is_left(
+    rt: &(impl Abort + AllocGlobal + Print + Eprint + Files<File = File> + Threads + Wait + Sync),
+    script: &str,
+    last: &str,
+) -> Result<(), Fail> {
+    let printed = format!(in rt.alloc();
+        "added 1\nforced 1\nadded 2\nset\nrefused 2\nopened\n{last}"
+    )?;
+    runs(
+        rt,
+        ["btidx", "play"].as_slice(),
+        script,
+        printed.as_str(),
+        "",
+        0,
+    )
+}
+
 /// A force that is stopped at its first write, or at that of the gate, half of which is written or all.
 #[test]
 fn torn(rt: HostRuntime) -> Result<(), Fail> {
@@ -84,17 +108,7 @@ fn torn(rt: HostRuntime) -> Result<(), Fail> {
             "entry 61 (0,1)\nentry 62 (0,2)\ndone 2\n",
         ),
     ] {
-        let mut printed = String::new(rt.alloc());
-        printed.push_str("added 1\nforced 1\nadded 2\nset\nrefused 2\nopened\n")?;
-        printed.push_str(last)?;
-        runs(
-            &rt,
-            ["btidx", "play"].as_slice(),
-            script,
-            printed.as_str(),
-            "",
-            0,
-        )?;
+        is_left(&rt, script, last)?;
     }
     Ok(())
 }

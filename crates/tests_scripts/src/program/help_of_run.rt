@@ -1,16 +1,15 @@
 //! The help of `run`, beside what it tells of: the jobs that are read, and how they end.
 
 use super::help::{columns, filled, is_form_of, part, set};
-use super::jobs::made;
+use super::jobs::{made, unmake};
 use command_line::{JobLine, parse_job};
-use std::alloc::AllocError;
-use std::fs::{self, File};
+use std::fs::File;
 use std::process::Abort;
 use std::rt::Files;
 use std::sync::Wait;
 use std::test::*;
 use std::thread::Threads;
-use tests_player::{played, text};
+use tests_player::{Printed, played, text};
 
 const FILES: [&str; 2] = ["btidx_help_of_run.idx", "btidx_help_of_run.jobs"];
 
@@ -69,10 +68,10 @@ fn ran(
     let [path, jobs] = FILES;
     made(rt, path, jobs, line)?;
     let done = played(rt, ["btidx", "run", path, jobs].as_slice(), "");
-    assert_eq!(rt; done.status, 0);
-    fs::remove_file(rt, path)?;
-    fs::remove_file(rt, jobs)?;
-    Ok(done.out)
+    let Printed { out, status, .. } = done;
+    assert_eq!(rt; status, 0);
+    unmake(rt, path, jobs)?;
+    Ok(out)
 }
 
 /// The help's table of the jobs.
@@ -80,48 +79,90 @@ fn table<'a>(help: &'a str) -> &'a str {
     part(help, "Lines of a job file:")
 }
 
+/// Whether the run of a line prints first how its job ends, as it is shown.
+fn ends_as_shown(
+    rt: &(impl Abort + AllocGlobal + Print + Eprint + Files<File = File> + Threads + Wait + Sync),
+    line: &str,
+    shown: &str,
+) -> Result<bool, Fail> {
+    let out = ran(rt, line)?;
+    let first = text(&out).lines().next().unwrap_or("");
+    Ok(first.starts_with("job 0 worker 0 from 0 to ") && is_shown(shown, behind(first, 8)))
+}
+
+/// Whether a job of this form is read, and ends as it is shown. Marks it.
+fn is_job(
+    rt: &(impl Abort + AllocGlobal + Print + Eprint + Files<File = File> + Threads + Wait + Sync),
+    form: &str,
+    shown: &str,
+    seen: &mut [bool],
+) -> Result<bool, Fail> {
+    let line = filled(rt.alloc(), form, 0)?;
+    let number = number_read(line.as_bytes());
+    set(seen, number);
+    let is_right = ends_as_shown(rt, line.as_str(), shown)?;
+    Ok(is_right && number < JOBS)
+}
+
+/// Marks the jobs of the help's table. Answers the first that isn't read, or ends otherwise; nothing where there is none.
+fn mark_jobs<'a>(
+    rt: &(impl Abort + AllocGlobal + Print + Eprint + Files<File = File> + Threads + Wait + Sync),
+    help: &'a str,
+    seen: &mut [bool],
+) -> Result<&'a str, Fail> {
+    for shown in table(help).lines() {
+        if let Some((form, rest)) = columns(shown) {
+            if !is_job(rt, form, rest, seen)? {
+                return Ok(shown);
+            }
+        }
+    }
+    Ok("")
+}
+
 /// Each job that the help shows is read and ends as it is shown, and each that is read is shown.
 #[test]
 fn jobs_are_shown(rt: HostRuntime) -> Result<(), Fail> {
     let help = played(&rt, &["btidx", "run", "--help"], "");
     let mut seen = [false; JOBS];
-    for shown in table(text(&help.out)).lines() {
-        let Some((form, rest)) = columns(shown) else {
-            continue;
-        };
-        let line = filled(rt.alloc(), form, 0)?;
-        let number = number_read(line.as_bytes());
-        assert!(rt; number < JOBS, "{form}");
-        set(&mut seen, number);
-        let out = ran(&rt, line.as_str())?;
-        let first = text(&out).lines().next().unwrap_or("");
-        assert!(rt; first.starts_with("job 0 worker 0 from 0 to "), "{form}");
-        assert!(rt; is_shown(rest, behind(first, 8)), "{form}");
-    }
-    assert_eq!(rt; seen.iter().position(|is_seen| !*is_seen), None);
+    let wrong = mark_jobs(&rt, text(&help.out), &mut seen)?;
+    assert!(rt; wrong == "" && seen == [true; JOBS], "{wrong}");
     Ok(())
+}
+
+/// The number of the first of these lines that isn't of the form of its place, of the forms that are shown, or how many there are.
+fn form_of_each(forms: &str, lines: &str) -> (u32, bool) {
+    let mut count = 0u32;
+    let mut lines = lines.lines();
+    for form in forms.lines() {
+        if let Some((form, _)) = columns(form) {
+            if !is_form_of(form, lines.next().unwrap_or("")) {
+                return (count, false);
+            }
+            count = count.saturating_add(1);
+        }
+    }
+    (count, lines.next().is_none())
+}
+
+/// The first line, and what stands after it.
+fn first_line(lines: &str) -> (&str, &str) {
+    lines.split_once("\n").unwrap_or((lines, ""))
+}
+
+/// What is told of the run of one job, and of the lines after it: how many have the forms that are shown, and whether these are all.
+fn told<'a>(help: &str, out: &'a str) -> (&'a str, (u32, bool)) {
+    let forms = part(help, "the checkpoint behind them:");
+    let (first, rest) = first_line(out);
+    (first, form_of_each(forms, rest))
 }
 
 /// The lines after those of the jobs are those that the help shows, in their order.
 #[test]
 fn lines_after_the_jobs(rt: HostRuntime) -> Result<(), Fail> {
-    let help = played(&rt, &["btidx", "run", "--help"], "");
-    let forms = part(text(&help.out), "the checkpoint behind them:");
     let out = ran(&rt, "commit\n")?;
-    let mut lines = text(&out).lines();
-    assert_eq!(rt;
-        lines.next(),
-        Some("job 0 worker 0 from 0 to 0 committed 0")
-    );
-    let mut count = 0u32;
-    for form in forms.lines() {
-        let Some((form, _)) = columns(form) else {
-            continue;
-        };
-        assert!(rt; is_form_of(form, lines.next().unwrap_or("")), "{form}");
-        count = count.saturating_add(1);
-    }
-    assert_eq!(rt; count, 3);
-    assert_eq!(rt; lines.next(), None);
+    let help = played(&rt, &["btidx", "run", "--help"], "");
+    let (first, forms) = told(text(&help.out), text(&out));
+    assert!(rt; first == "job 0 worker 0 from 0 to 0 committed 0" && forms == (3, true));
     Ok(())
 }

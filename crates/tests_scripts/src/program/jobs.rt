@@ -1,7 +1,8 @@
 //! Runs of jobs over indexes in files. Each test has files of its own.
 
-use super::runs;
-use std::fs::{self, File};
+use super::{clear, remove, runs, write};
+use std::alloc::{AllocError, Global};
+use std::fs::File;
 use std::process::Abort;
 use std::rt::Files;
 use std::sync::Wait;
@@ -16,13 +17,18 @@ pub fn made(
     jobs: &str,
     lines: &str,
 ) -> Result<(), Fail> {
-    let _ = fs::remove_file(rt, path);
+    clear(rt, path);
     let words = [
         "btidx", "create", path, "--items", "4", "--pages", "64", "--log", "65536",
     ];
     runs(rt, words.as_slice(), "", "created\n", "", 0)?;
-    fs::write(rt, jobs, lines)?;
-    Ok(())
+    write(rt, jobs, lines)
+}
+
+/// Removes both files.
+pub fn unmake(rt: &impl Files<File = File>, path: &str, jobs: &str) -> Result<(), Fail> {
+    remove(rt, path)?;
+    remove(rt, jobs)
 }
 
 /// A run of jobs over a new index prints this.
@@ -36,9 +42,7 @@ fn prints(
     made(rt, path, jobs, lines)?;
     let words = ["btidx", "run", path, jobs];
     runs(rt, words.as_slice(), "", printed, "", 0)?;
-    fs::remove_file(rt, path)?;
-    fs::remove_file(rt, jobs)?;
-    Ok(())
+    unmake(rt, path, jobs)
 }
 
 #[test]
@@ -99,6 +103,15 @@ checkpointed 14
     prints(&rt, ["btidx_sets.idx", "btidx_sets.jobs"], lines, printed)
 }
 
+/// Whether a check prints a damage, and how it ends.
+fn damage_in(
+    rt: &(impl AllocGlobal + Files<File = File> + Threads + Wait + Sync),
+    path: &str,
+) -> (bool, u8) {
+    let checked = played(rt, ["btidx", "check", path].as_slice(), "");
+    (text(&checked.out).starts_with("damage "), checked.status)
+}
+
 /// A page whose right link leads to itself: the scan that meets it tells so, and the lines after it stand as ever.
 #[test]
 fn a_damaged_page(rt: HostRuntime) -> Result<(), Fail> {
@@ -118,19 +131,15 @@ checkpointed 6
     let words = ["btidx", "run", path, jobs];
     runs(&rt, words.as_slice(), "", added, "", 0)?;
     patch(&rt, path, 73_744, &[1, 0, 0, 0])?;
-    fs::write(&rt, jobs, "scan * * 10\n")?;
+    write(&rt, jobs, "scan * * 10\n")?;
     let refused = "job 0 worker 0 from 0 to 0 refused 17 1
 worker 0 calls 1
 history 1
 checkpointed 0
 ";
     runs(&rt, words.as_slice(), "", refused, "", 0)?;
-    let checked = played(&rt, ["btidx", "check", path].as_slice(), "");
-    assert!(rt; text(&checked.out).starts_with("damage "));
-    assert_eq!(rt; checked.status, 1);
-    fs::remove_file(&rt, path)?;
-    fs::remove_file(&rt, jobs)?;
-    Ok(())
+    assert_eq!(rt; damage_in(&rt, path), (true, 1));
+    unmake(&rt, path, jobs)
 }
 
 #[test]
@@ -139,19 +148,31 @@ fn no_job_is_done(rt: HostRuntime) -> Result<(), Fail> {
     prints(&rt, ["btidx_empty.idx", "btidx_empty.jobs"], "", printed)
 }
 
+/// A file of jobs with this line, which is none: no job of it is done.
+fn is_no_job(
+    rt: &(impl Abort + AllocGlobal + Print + Eprint + Files<File = File> + Threads + Wait + Sync),
+    line: &str,
+) -> Result<(), Fail> {
+    let [path, jobs] = ["btidx_no_job.idx", "btidx_no_job.jobs"];
+    let lines = format!(in rt.alloc(); "insert 61 (0,1)\n{line}\ncommit\n")?;
+    made(rt, path, jobs, lines.as_str())?;
+    let said = "btidx: line 2: not a job\n";
+    runs(rt, ["btidx", "run", path, jobs].as_slice(), "", "", said, 2)?;
+    let sound = "ok levels=1 pages=2 entries=0 halfdead=0 deleted=0 unfinished=0\n";
+    runs(rt, ["btidx", "check", path].as_slice(), "", sound, "", 0)?;
+    unmake(rt, path, jobs)
+}
+
+/// An insert of a key of 65 bytes.
+const LONG: &str =
+    "insert 6161616161616161616161616161616161616161616161616161616161616161616161616161616161616161616161616161616161616161616161616161616161 (0,1)";
+
 /// A line that is no job is told, and nothing is run: also one whose key is too long, or whose row there isn't.
 #[test]
 fn lines_that_are_no_jobs(rt: HostRuntime) -> Result<(), Fail> {
-    let [path, jobs] = ["btidx_no_job.idx", "btidx_no_job.jobs"];
-    let mut long = String::new(rt.alloc());
-    long.push_str("insert ")?;
-    for _ in 0..65 {
-        long.push_str("61")?;
-    }
-    long.push_str(" (0,1)")?;
-    let bad = [
+    for line in [
         "insert 61 (0,0)",
-        long.as_str(),
+        LONG,
         "",
         "# 61",
         "insert 61",
@@ -163,52 +184,46 @@ fn lines_that_are_no_jobs(rt: HostRuntime) -> Result<(), Fail> {
         "bulk (0,1) (0,0)",
         "cleanup 0",
         "force",
-    ];
-    for line in bad {
-        let mut lines = String::new(rt.alloc());
-        lines.push_str("insert 61 (0,1)\n")?;
-        lines.push_str(line)?;
-        lines.push_str("\ncommit\n")?;
-        made(&rt, path, jobs, lines.as_str())?;
-        let words = ["btidx", "run", path, jobs];
-        runs(
-            &rt,
-            words.as_slice(),
-            "",
-            "",
-            "btidx: line 2: not a job\n",
-            2,
-        )?;
-        let words = ["btidx", "check", path];
-        let sound = "ok levels=1 pages=2 entries=0 halfdead=0 deleted=0 unfinished=0\n";
-        runs(&rt, words.as_slice(), "", sound, "", 0)?;
+    ] {
+        is_no_job(&rt, line)?;
     }
-    fs::remove_file(&rt, path)?;
-    fs::remove_file(&rt, jobs)?;
     Ok(())
+}
+
+/// A run of these jobs over a new index is refused for its sizes.
+fn is_too_large(
+    rt: &(impl Abort + AllocGlobal + Print + Eprint + Files<File = File> + Threads + Wait + Sync),
+    words: &[&str],
+    files: [&str; 2],
+    lines: &str,
+) -> Result<(), Fail> {
+    let [path, jobs] = files;
+    made(rt, path, jobs, lines)?;
+    runs(rt, words, "", "", "btidx: refused 18 BadLimits\n", 2)
+}
+
+/// Runs of files one or both of which aren't there, and of one that has no job.
+fn are_refused(
+    rt: &(impl Abort + AllocGlobal + Print + Eprint + Files<File = File> + Threads + Wait + Sync),
+    path: &str,
+    jobs: &str,
+) -> Result<(), Fail> {
+    clear(rt, path);
+    clear(rt, jobs);
+    let words = ["btidx", "run", path, jobs];
+    runs(rt, words.as_slice(), "", "", "btidx: refused 2 Io\n", 2)?;
+    write(rt, jobs, "puts\n")?;
+    let said = "btidx: line 1: not a job\n";
+    runs(rt, words.as_slice(), "", "", said, 2)?;
+    write(rt, jobs, "commit\n")?;
+    runs(rt, words.as_slice(), "", "", "btidx: refused 2 Io\n", 2)
 }
 
 /// What is refused, and in which order: the job file, the index, the sizes.
 #[test]
 fn refused_runs(rt: HostRuntime) -> Result<(), Fail> {
     let [path, jobs] = ["btidx_no_run.idx", "btidx_no_run.jobs"];
-    let _ = fs::remove_file(&rt, path);
-    let _ = fs::remove_file(&rt, jobs);
-    let words = ["btidx", "run", path, jobs];
-    runs(&rt, words.as_slice(), "", "", "btidx: refused 2 Io\n", 2)?;
-    fs::write(&rt, jobs, "puts\n")?;
-    runs(
-        &rt,
-        words.as_slice(),
-        "",
-        "",
-        "btidx: line 1: not a job\n",
-        2,
-    )?;
-    fs::write(&rt, jobs, "commit\n")?;
-    runs(&rt, words.as_slice(), "", "", "btidx: refused 2 Io\n", 2)?;
-    let limits = "btidx: refused 18 BadLimits\n";
-    made(&rt, path, jobs, "commit\n")?;
+    are_refused(&rt, path, jobs)?;
     for [option, number] in [
         ["--workers", "0"],
         ["--workers", "65"],
@@ -216,56 +231,84 @@ fn refused_runs(rt: HostRuntime) -> Result<(), Fail> {
         ["--frames", "1025"],
     ] {
         let words = ["btidx", "run", path, jobs, option, number];
-        runs(&rt, words.as_slice(), "", "", limits, 2)?;
+        is_too_large(&rt, words.as_slice(), [path, jobs], "commit\n")?;
     }
     // More entries than scans may give in all.
-    made(&rt, path, jobs, "scan * * 1048576\nscan * * 1\n")?;
-    runs(&rt, words.as_slice(), "", "", limits, 2)?;
-    fs::remove_file(&rt, path)?;
-    fs::remove_file(&rt, jobs)?;
-    Ok(())
+    let words = ["btidx", "run", path, jobs];
+    let lines = "scan * * 1048576\nscan * * 1\n";
+    is_too_large(&rt, words.as_slice(), [path, jobs], lines)?;
+    unmake(&rt, path, jobs)
+}
+
+fn push_insert(alloc: Global, lines: &mut String, number: u32) -> Result<(), AllocError> {
+    let line = format!(in alloc; "insert {number} (0,1)\ncommit\n")?;
+    lines.push_str(line.as_str())
+}
+
+/// Inserts of 64 keys, with a commit after each.
+fn sixty_four(alloc: Global) -> Result<String, AllocError> {
+    let mut lines = String::new(alloc);
+    for number in 16..80u32 {
+        push_insert(alloc, &mut lines, number)?;
+    }
+    Ok(lines)
+}
+
+/// Makes an index and a file of these jobs.
+fn make_64(
+    rt: &(impl Abort + AllocGlobal + Print + Eprint + Files<File = File> + Threads + Wait + Sync),
+    path: &str,
+    jobs: &str,
+) -> Result<(), Fail> {
+    let lines = sixty_four(rt.alloc())?;
+    made(rt, path, jobs, lines.as_str())
+}
+
+/// How many lines have this in them.
+fn count_of(lines: &str, part: &str) -> usize {
+    lines.lines().filter(|line| line.contains(part)).count()
+}
+
+/// What eight workers tell of their jobs, and how that ends: the lines of inserts and of commits, those of workers, and whether the
+/// history has all.
+fn run_of_eight(
+    rt: &(impl AllocGlobal + Files<File = File> + Threads + Wait + Sync),
+    path: &str,
+    jobs: &str,
+) -> ([usize; 3], bool, u8) {
+    let words = ["btidx", "run", path, jobs, "--workers", "8"];
+    let ran = played(rt, words.as_slice(), "");
+    let printed = text(&ran.out);
+    let workers = printed
+        .lines()
+        .filter(|line| line.starts_with("worker "))
+        .count();
+    (
+        [
+            count_of(printed, " added "),
+            count_of(printed, " committed "),
+            workers,
+        ],
+        printed.contains("\nhistory 128\n"),
+        ran.status,
+    )
+}
+
+/// Whether a check finds 64 entries, and how it ends.
+fn has_64(
+    rt: &(impl AllocGlobal + Files<File = File> + Threads + Wait + Sync),
+    path: &str,
+) -> (bool, u8) {
+    let check = played(rt, ["btidx", "check", path, "--parents"].as_slice(), "");
+    (text(&check.out).contains(" entries=64 "), check.status)
 }
 
 /// Eight workers beside each other: each job has a line, and the index holds what they added.
 #[test]
 fn many_workers(rt: HostRuntime) -> Result<(), Fail> {
     let [path, jobs] = ["btidx_workers.idx", "btidx_workers.jobs"];
-    let mut lines = String::new(rt.alloc());
-    for number in 16..80u32 {
-        let line = format!(in rt.alloc(); "insert {number} (0,1)\ncommit\n")?;
-        lines.push_str(line.as_str())?;
-    }
-    made(&rt, path, jobs, lines.as_str())?;
-    let words = ["btidx", "run", path, jobs, "--workers", "8"];
-    let ran = played(&rt, words.as_slice(), "");
-    assert_eq!(rt; ran.status, 0);
-    let printed = text(&ran.out);
-    assert_eq!(rt;
-        printed
-            .lines()
-            .filter(|line| line.contains(" added "))
-            .count(),
-        64
-    );
-    assert_eq!(rt;
-        printed
-            .lines()
-            .filter(|line| line.contains(" committed "))
-            .count(),
-        64
-    );
-    assert_eq!(rt;
-        printed
-            .lines()
-            .filter(|line| line.starts_with("worker "))
-            .count(),
-        8
-    );
-    assert!(rt; printed.contains("\nhistory 128\n"));
-    let check = played(&rt, ["btidx", "check", path, "--parents"].as_slice(), "");
-    assert!(rt; text(&check.out).contains(" entries=64 "));
-    assert_eq!(rt; check.status, 0);
-    fs::remove_file(&rt, path)?;
-    fs::remove_file(&rt, jobs)?;
-    Ok(())
+    make_64(&rt, path, jobs)?;
+    assert_eq!(rt; run_of_eight(&rt, path, jobs), ([64, 64, 8], true, 0));
+    assert_eq!(rt; has_64(&rt, path), (true, 0));
+    unmake(&rt, path, jobs)
 }

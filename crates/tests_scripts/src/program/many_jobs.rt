@@ -1,15 +1,15 @@
 //! Four thousand jobs over indexes in files, a thousand on each, in runs of 1, 2, 4 and 8 workers. After each run the file is opened
 //! again, checked, and listed; what it lists is what the runs told of their jobs.
 
-use super::runs;
+use super::{clear, remove, runs, write};
 use std::alloc::{AllocError, Global};
-use std::fs::{self, File};
+use std::fs::File;
 use std::process::Abort;
 use std::rt::Files;
 use std::sync::Wait;
 use std::test::*;
 use std::thread::Threads;
-use tests_player::{played, text};
+use tests_player::{Printed, played, text};
 
 /// An index, and the file of its jobs; the stride from key to key, which has no divisor with the number of keys; and how many pages
 /// are held in memory.
@@ -61,6 +61,59 @@ fn is_dead_after(run: u16, key: u16) -> bool {
     key / KEYS + 1 == run && key % 3 != 0 && run < 3
 }
 
+fn add_insert(alloc: Global, jobs: &mut JobLines, key: u16) -> Result<(), AllocError> {
+    let entry = entry(alloc, key)?;
+    let line = format!(in alloc; "insert {entry}")?;
+    add(jobs, Asked::Insert(key), line.as_str())
+}
+
+fn add_scan(alloc: Global, jobs: &mut JobLines, key: u16) -> Result<(), AllocError> {
+    let line = format!(in alloc; "scan {key:04x} * 20")?;
+    add(jobs, Asked::Other, line.as_str())
+}
+
+fn add_bulk(alloc: Global, jobs: &mut JobLines, block: u16) -> Result<(), AllocError> {
+    let line = format!(in alloc; "bulk ({block},2) ({block},3)")?;
+    add(jobs, Asked::Other, line.as_str())
+}
+
+/// The jobs of a run for the key at this place.
+fn add_place(
+    alloc: Global,
+    jobs: &mut JobLines,
+    run: u16,
+    place: u16,
+    key: u16,
+) -> Result<(), AllocError> {
+    add_insert(alloc, jobs, key)?;
+    if place % 8 == 0 {
+        add_insert(alloc, jobs, key)?;
+    }
+    if place % 10 == 0 {
+        add_scan(alloc, jobs, key)?;
+    }
+    if place % 25 == 0 {
+        add(jobs, Asked::Other, "commit")?;
+    }
+    if place == KEYS / 2 && 0 < run && run < 3 {
+        add_bulk(alloc, jobs, run - 1)?;
+    }
+    if place == KEYS / 2 && run == 3 {
+        add(jobs, Asked::Other, "cleanup")?;
+    }
+    Ok(())
+}
+
+fn add_all(alloc: Global, jobs: &mut JobLines, run: u16, stride: u16) -> Result<(), AllocError> {
+    for place in 0..KEYS {
+        let key = run
+            .wrapping_mul(KEYS)
+            .wrapping_add(place.wrapping_mul(stride) % KEYS);
+        add_place(alloc, jobs, run, place, key)?;
+    }
+    Ok(())
+}
+
 /// The jobs of a run: each of its keys is inserted, each eighth twice; a scan after each tenth, a commit after each twenty-fifth;
 /// in the middle a bulk delete of rows of the run before, or in the last run a cleanup.
 fn jobs_of(alloc: Global, run: u16, stride: u16) -> Result<JobLines, AllocError> {
@@ -68,32 +121,7 @@ fn jobs_of(alloc: Global, run: u16, stride: u16) -> Result<JobLines, AllocError>
         text: String::new(alloc),
         asked: Vec::new(alloc),
     };
-    for place in 0..KEYS {
-        let key = run
-            .wrapping_mul(KEYS)
-            .wrapping_add(place.wrapping_mul(stride) % KEYS);
-        let entry = entry(alloc, key)?;
-        let insert = format!(in alloc; "insert {entry}")?;
-        add(&mut jobs, Asked::Insert(key), insert.as_str())?;
-        if place % 8 == 0 {
-            add(&mut jobs, Asked::Insert(key), insert.as_str())?;
-        }
-        if place % 10 == 0 {
-            let scan = format!(in alloc; "scan {key:04x} * 20")?;
-            add(&mut jobs, Asked::Other, scan.as_str())?;
-        }
-        if place % 25 == 0 {
-            add(&mut jobs, Asked::Other, "commit")?;
-        }
-        if place == KEYS / 2 && 0 < run && run < 3 {
-            let block = run - 1;
-            let bulk = format!(in alloc; "bulk ({block},2) ({block},3)")?;
-            add(&mut jobs, Asked::Other, bulk.as_str())?;
-        }
-        if place == KEYS / 2 && run == 3 {
-            add(&mut jobs, Asked::Other, "cleanup")?;
-        }
-    }
+    add_all(alloc, &mut jobs, run, stride)?;
     Ok(jobs)
 }
 
@@ -138,17 +166,12 @@ fn note_all(present: &mut [bool], asked: &[Asked], printed: &str) -> usize {
     next
 }
 
-/// Makes the run of this number, and notes what it tells.
-fn run(
-    rt: &(impl Abort + AllocGlobal + Print + Eprint + Files<File = File> + Threads + Wait + Sync),
+/// Runs the file of jobs by so many workers.
+fn ran(
+    rt: &(impl AllocGlobal + Files<File = File> + Threads + Wait + Sync),
     plan: Plan<'_>,
-    number: u16,
     workers: u32,
-    present: &mut [bool],
-) -> Result<(), Fail> {
-    let jobs = jobs_of(rt.alloc(), number, plan.stride)?;
-    let count = jobs.asked.len();
-    fs::write(rt, plan.jobs, jobs.text.as_str())?;
+) -> Result<Printed, AllocError> {
     let option = format!(in rt.alloc(); "{workers}")?;
     let words = [
         "btidx",
@@ -160,32 +183,108 @@ fn run(
         "--frames",
         plan.frames,
     ];
-    let ran = played(rt, words.as_slice(), "");
-    assert_eq!(rt; text(&ran.err), "");
-    assert_eq!(rt; ran.status, 0);
+    Ok(played(rt, words.as_slice(), ""))
+}
+
+/// Notes what a run tells. Whether it says nothing else, ends well, tells of each job what can be, and of as many in its history.
+fn is_right(
+    alloc: Global,
+    ran: &Printed,
+    present: &mut [bool],
+    asked: &[Asked],
+) -> Result<[bool; 4], AllocError> {
+    let count = asked.len();
+    let history = format!(in alloc; "\nhistory {count}\n")?;
     let printed = text(&ran.out);
-    assert_eq!(rt; note_all(present, jobs.asked.as_slice(), printed), count);
-    let history = format!(in rt.alloc(); "\nhistory {count}\n")?;
-    assert!(rt; printed.contains(history.as_str()));
-    Ok(())
+    Ok([
+        text(&ran.err) == "",
+        ran.status == 0,
+        note_all(present, asked, printed) == count,
+        printed.contains(history.as_str()),
+    ])
+}
+
+/// The same of a run of these jobs by so many workers.
+fn runs_right(
+    rt: &(impl AllocGlobal + Files<File = File> + Threads + Wait + Sync),
+    plan: Plan<'_>,
+    jobs: &JobLines,
+    workers: u32,
+    present: &mut [bool],
+) -> Result<[bool; 4], Fail> {
+    write(rt, plan.jobs, jobs.text.as_str())?;
+    let ran = ran(rt, plan, workers)?;
+    Ok(is_right(rt.alloc(), &ran, present, jobs.asked.as_slice())?)
+}
+
+/// The same of the run of this number.
+fn run(
+    rt: &(impl AllocGlobal + Files<File = File> + Threads + Wait + Sync),
+    plan: Plan<'_>,
+    number: u16,
+    workers: u32,
+    present: &mut [bool],
+) -> Result<[bool; 4], Fail> {
+    let jobs = jobs_of(rt.alloc(), number, plan.stride)?;
+    runs_right(rt, plan, &jobs, workers, present)
+}
+
+/// Adds the line of a key, as a list prints it.
+fn add_listed(alloc: Global, lines: &mut String, key: u16) -> Result<(), AllocError> {
+    let entry = entry(alloc, key)?;
+    lines.push_str("  ")?;
+    lines.push_str(entry.as_str())?;
+    lines.push_str("\n")
+}
+
+/// How many of the keys are there.
+fn count_of(present: &[bool]) -> usize {
+    present.iter().filter(|is_present| **is_present).count()
+}
+
+fn list_all(alloc: Global, lines: &mut String, present: &[bool]) -> Result<(), AllocError> {
+    let mut key = 0u16;
+    for is_present in present {
+        if *is_present {
+            add_listed(alloc, lines, key)?;
+        }
+        key = key.saturating_add(1);
+    }
+    lines.push_str("worker 0 calls 1\nhistory 1\ncheckpointed 0\n")
 }
 
 /// What a scan of everything prints, where these keys are there.
 fn listed(alloc: Global, present: &[bool]) -> Result<String, AllocError> {
-    let count = present.iter().filter(|is_present| **is_present).count();
-    let mut lines = String::new(alloc);
-    let head = format!(in alloc; "job 0 worker 0 from 0 to 0 scanned {count} finished\n")?;
-    lines.push_str(head.as_str())?;
-    for (key, is_present) in present.iter().enumerate() {
-        if *is_present {
-            let entry = entry(alloc, u16::try_from(key).unwrap_or(u16::MAX))?;
-            lines.push_str("  ")?;
-            lines.push_str(entry.as_str())?;
-            lines.push_str("\n")?;
-        }
-    }
-    lines.push_str("worker 0 calls 1\nhistory 1\ncheckpointed 0\n")?;
+    let count = count_of(present);
+    let mut lines = format!(in alloc; "job 0 worker 0 from 0 to 0 scanned {count} finished\n")?;
+    list_all(alloc, &mut lines, present)?;
     Ok(lines)
+}
+
+/// Whether a check of the file finds so many entries, and no damage.
+fn has_count(
+    rt: &(impl AllocGlobal + Files<File = File> + Threads + Wait + Sync),
+    path: &str,
+    count: usize,
+) -> Result<(bool, u8), AllocError> {
+    let entries = format!(in rt.alloc(); " entries={count} ")?;
+    let checked = played(rt, ["btidx", "check", path, "--parents"].as_slice(), "");
+    Ok((
+        text(&checked.out).contains(entries.as_str()),
+        checked.status,
+    ))
+}
+
+/// A scan of everything prints what is there.
+fn lists(
+    rt: &(impl Abort + AllocGlobal + Print + Eprint + Files<File = File> + Threads + Wait + Sync),
+    plan: Plan<'_>,
+    present: &[bool],
+) -> Result<(), Fail> {
+    write(rt, plan.jobs, "scan * * 1048576\n")?;
+    let lines = listed(rt.alloc(), present)?;
+    let words = ["btidx", "run", plan.path, plan.jobs];
+    runs(rt, words.as_slice(), "", lines.as_str(), "", 0)
 }
 
 /// Opens the file again, checks it, and lists it.
@@ -194,16 +293,49 @@ fn looks(
     plan: Plan<'_>,
     present: &[bool],
 ) -> Result<(), Fail> {
-    let words = ["btidx", "check", plan.path, "--parents"];
-    let checked = played(rt, words.as_slice(), "");
-    let count = present.iter().filter(|is_present| **is_present).count();
-    let entries = format!(in rt.alloc(); " entries={count} ")?;
-    assert!(rt; text(&checked.out).contains(entries.as_str()));
-    assert_eq!(rt; checked.status, 0);
-    fs::write(rt, plan.jobs, "scan * * 1048576\n")?;
-    let lines = listed(rt.alloc(), present)?;
-    let words = ["btidx", "run", plan.path, plan.jobs];
-    runs(rt, words.as_slice(), "", lines.as_str(), "", 0)
+    assert!(rt; has_count(rt, plan.path, count_of(present))? == (true, 0));
+    lists(rt, plan, present)
+}
+
+/// Whether each key of the run of this number is there. The rows of its bulk delete are gone after it.
+fn are_added(present: &mut [bool], number: u16) -> bool {
+    let mut all = true;
+    let mut key = 0u16;
+    for is_present in present.iter_mut() {
+        if key / KEYS == number && !*is_present {
+            all = false;
+        }
+        if is_dead_after(number, key) {
+            *is_present = false;
+        }
+        key = key.saturating_add(1);
+    }
+    all
+}
+
+/// Makes the run of this number, by so many workers. Each of its keys was added once, by this run.
+fn adds(
+    rt: &(impl Abort + AllocGlobal + Print + Eprint + Files<File = File> + Threads + Wait + Sync),
+    plan: Plan<'_>,
+    number: u16,
+    workers: u32,
+    present: &mut [bool],
+) -> Result<(), Fail> {
+    assert_eq!(rt; run(rt, plan, number, workers, present)?, [true; 4]);
+    assert!(rt; are_added(present, number));
+    looks(rt, plan, present)
+}
+
+/// Makes an empty index in a new file.
+fn create(
+    rt: &(impl Abort + AllocGlobal + Print + Eprint + Files<File = File> + Threads + Wait + Sync),
+    path: &str,
+) -> Result<(), Fail> {
+    clear(rt, path);
+    let words = [
+        "btidx", "create", path, "--items", "4", "--pages", "4096", "--log", "1048576",
+    ];
+    runs(rt, words.as_slice(), "", "created\n", "", 0)
 }
 
 /// A thousand jobs on one index: what each run tells is what is there after it.
@@ -211,29 +343,13 @@ fn a_thousand_jobs(
     rt: &(impl Abort + AllocGlobal + Print + Eprint + Files<File = File> + Threads + Wait + Sync),
     plan: Plan<'_>,
 ) -> Result<(), Fail> {
-    let _ = fs::remove_file(rt, plan.path);
-    let words = [
-        "btidx", "create", plan.path, "--items", "4", "--pages", "4096", "--log", "1048576",
-    ];
-    runs(rt, words.as_slice(), "", "created\n", "", 0)?;
+    create(rt, plan.path)?;
     let mut present = [false; ALL_KEYS];
-    let workers = [1, 2, 4, 8];
-    for (number, workers) in workers.iter().enumerate() {
-        let number = number as u16;
-        run(rt, plan, number, *workers, &mut present)?;
-        // Each of its keys was added once, by this run; the rows of its bulk delete are gone.
-        for (key, is_present) in present.iter_mut().enumerate() {
-            let key = key as u16;
-            assert!(rt; key / KEYS != number || *is_present);
-            if is_dead_after(number, key) {
-                *is_present = false;
-            }
-        }
-        looks(rt, plan, &present)?;
+    for (number, workers) in [(0, 1), (1, 2), (2, 4), (3, 8)] {
+        adds(rt, plan, number, workers, &mut present)?;
     }
-    fs::remove_file(rt, plan.path)?;
-    fs::remove_file(rt, plan.jobs)?;
-    Ok(())
+    remove(rt, plan.path)?;
+    remove(rt, plan.jobs)
 }
 
 // A thousand jobs a test: a test has a minute, also beside other work.

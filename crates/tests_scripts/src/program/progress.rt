@@ -1,7 +1,8 @@
 //! Lines that tell how far long work is.
 
-use super::runs;
-use std::fs::{self, File};
+use super::jobs::unmake;
+use super::{clear, runs, write};
+use std::fs::File;
 use std::process::Abort;
 use std::rt::Files;
 use std::sync::Wait;
@@ -12,7 +13,7 @@ use std::thread::Threads;
 #[test]
 fn progress_is_told_on_standard_error(rt: HostRuntime) -> Result<(), Fail> {
     let [path, jobs] = ["btidx_progress.idx", "btidx_progress.jobs"];
-    let _ = fs::remove_file(&rt, path);
+    clear(&rt, path);
     let create = [
         "btidx",
         "create",
@@ -33,7 +34,7 @@ fn progress_is_told_on_standard_error(rt: HostRuntime) -> Result<(), Fail> {
         "\r66 of 66 pages\n",
         0,
     )?;
-    fs::write(&rt, jobs, "insert 61 (0,1)\ninsert 62 (0,2)\ncommit\n")?;
+    write(&rt, jobs, "insert 61 (0,1)\ninsert 62 (0,2)\ncommit\n")?;
     let run = ["btidx", "run", path, jobs, "--progress"];
     let printed = "job 0 worker 0 from 0 to 1 added 1
 job 1 worker 0 from 1 to 2 added 2
@@ -44,9 +45,7 @@ checkpointed 2
 ";
     runs(&rt, run.as_slice(), "", printed, "\r3 of 3 jobs\n", 0)?;
     check_tells_progress(&rt, path)?;
-    fs::remove_file(&rt, path)?;
-    fs::remove_file(&rt, jobs)?;
-    Ok(())
+    unmake(&rt, path, jobs)
 }
 
 /// A check of the index, which has a metapage and a leaf of two entries, in many threads and in one.
@@ -66,7 +65,7 @@ fn check_tells_progress(
 #[test]
 fn refused_work_tells_no_progress(rt: HostRuntime) -> Result<(), Fail> {
     let path = "btidx_no_progress.idx";
-    let _ = fs::remove_file(&rt, path);
+    clear(&rt, path);
     let create = [
         "btidx",
         "create",
