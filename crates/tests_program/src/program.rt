@@ -10,13 +10,13 @@ mod old_files;
 mod plain;
 mod unique;
 
-use std::fs::File;
+use std::fs::{self, File};
 use std::process::Abort;
 use std::rt::Files;
 use std::sync::Wait;
 use std::test::*;
 use std::thread::Threads;
-use tests_player::{played, script_of, text};
+use tests_player::{patch, played, script_of, text};
 
 /// Runs the program on a script, and compares all that it prints.
 fn runs(
@@ -42,4 +42,26 @@ fn plays_with(
 ) -> Result<(), Fail> {
     let (script, printed) = script_of(rt.alloc(), parts)?;
     runs(rt, words, script.as_str(), printed.as_str(), "", 0)
+}
+
+/// Bytes, and from where on they are written over those of a file.
+type Patch<'a> = (u64, &'a [u8]);
+
+/// Writes these over those of a file.
+fn patches(rt: &impl Files<File = File>, path: &str, patches: &[Patch<'_>]) -> Result<(), Fail> {
+    for (at, bytes) in patches {
+        patch(rt, path, *at, bytes)?;
+    }
+    Ok(())
+}
+
+/// Removes a file, if it is there.
+fn clear(rt: &impl Files<File = File>, path: &str) {
+    let _ = fs::remove_file(rt, path);
+}
+
+/// Removes a file, which is there.
+fn remove(rt: &impl Files<File = File>, path: &str) -> Result<(), Fail> {
+    fs::remove_file(rt, path)?;
+    Ok(())
 }

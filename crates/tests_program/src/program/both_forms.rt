@@ -2,18 +2,20 @@
 //! done.
 
 use super::files::{checks, create, is_refused};
-use super::plain;
+use super::{plain, remove};
 use device::{CrashImage, Device, MemDevice};
-use index_model::{Entry, Fault, Key, RowAddr};
+use index_model::{DeadRows, Entry, Fault, Key, RowAddr};
+use page_action::PageStore;
 use schedule::Event;
 use std::alloc::Global;
-use std::fs::{self, File, OpenFile, OpenOptions};
+use std::fs::{File, OpenFile, OpenOptions};
 use std::os::unix::fs::FileExt;
 use std::process::Abort;
 use std::rt::Files;
 use std::sync::Wait;
 use std::test::*;
 use std::thread::Threads;
+use world::World;
 
 /// Files that are too short, and one that isn't there.
 #[test]
@@ -27,7 +29,7 @@ fn short_are_refused(rt: HostRuntime) -> Result<(), Fail> {
             .set_len(len)?;
         is_refused(&rt, path, "btidx: refused 14 BadSuper\n")?;
     }
-    fs::remove_file(&rt, path)?;
+    remove(&rt, path)?;
     is_refused(&rt, path, "btidx: refused 2 Io\n")
 }
 
@@ -39,10 +41,9 @@ fn entry(key: u8) -> Entry {
 }
 
 /// The root is split, and its call given up before a new root is made.
-fn left_split(alloc: Global) -> Result<plain::Memory, Fault> {
-    let mut world = plain::in_memory(alloc, plain::made(alloc)?)?;
+fn split_half<S: PageStore, T: DeadRows + Drop>(world: &mut World<S, T>) -> Result<(), Fault> {
     for key in [0x61, 0x62, 0x63, 0x64] {
-        plain::put(&mut world, entry(key))?;
+        plain::put(world, entry(key))?;
     }
     for event in [
         Event::Insert(1, entry(0x65)),
@@ -52,9 +53,18 @@ fn left_split(alloc: Global) -> Result<plain::Memory, Fault> {
         Event::End(1),
         Event::Force,
     ] {
-        plain::one(&mut world, event)?;
+        plain::one(world, event)?;
     }
-    Ok(world)
+    Ok(())
+}
+
+/// What a crash keeps of such an index.
+fn left_split(alloc: Global) -> Result<MemDevice, Fault> {
+    let mut world = plain::in_memory(alloc, plain::made(alloc)?)?;
+    match split_half(&mut world) {
+        Ok(()) => plain::crash(&world, alloc, CrashImage::Keep),
+        Err(fault) => Err(fault),
+    }
 }
 
 /// Reads a page's length of bytes. Refused with `DeviceTooSmall` where they lie after the end.
@@ -81,15 +91,18 @@ fn write(rt: &impl Files<File = File>, path: &str, device: &mut MemDevice) -> Re
     Ok(())
 }
 
+/// Writes such an index into a new file.
+fn write_split(rt: &(impl AllocGlobal + Files<File = File>), path: &str) -> Result<(), Fail> {
+    let mut device = left_split(rt.alloc())?;
+    write(rt, path, &mut device)
+}
+
 /// An unfinished split is no damage: what a crash keeps of one.
 #[test]
 fn unfinished_split_in_a_file(rt: HostRuntime) -> Result<(), Fail> {
     let path = "btidx_both_unfinished.idx";
-    let world = left_split(rt.alloc())?;
-    let mut device = plain::crash(&world, rt.alloc(), CrashImage::Keep)?;
-    write(&rt, path, &mut device)?;
+    write_split(&rt, path)?;
     let sound = "ok levels=1 pages=3 entries=5 halfdead=0 deleted=0 unfinished=1\n";
     checks(&rt, path, sound, 0)?;
-    fs::remove_file(&rt, path)?;
-    Ok(())
+    remove(&rt, path)
 }

@@ -2,13 +2,13 @@
 //! with parents and children and without, in many threads and in one. The page of block b stands at 69632 + 4096 b.
 
 use super::files::{check_ends, checks, create, fill};
+use super::{Patch, remove};
 use std::fs::{self, File};
 use std::process::Abort;
 use std::rt::Files;
 use std::sync::Wait;
 use std::test::*;
 use std::thread::Threads;
-use tests_player::patch;
 
 /// The entries of leaves 1 (61 to 63) and 2 (64 and 65), under the root 3.
 const FIVE: [u8; 5] = [0x61, 0x62, 0x63, 0x64, 0x65];
@@ -17,9 +17,6 @@ const FIVE: [u8; 5] = [0x61, 0x62, 0x63, 0x64, 0x65];
 const EIGHT: [u8; 8] = [0x61, 0x62, 0x63, 0x64, 0x65, 0x66, 0x67, 0x68];
 
 const FIVE_ARE: &str = "ok levels=2 pages=4 entries=5 halfdead=0 deleted=0 unfinished=0\n";
-
-/// Bytes, and from where on they are written over those of a file.
-type Patch<'a> = (u64, &'a [u8]);
 
 /// Makes a file with these entries, and alters it.
 fn altered(
@@ -30,10 +27,7 @@ fn altered(
 ) -> Result<(), Fail> {
     create(rt, path)?;
     fill(rt, path, keys)?;
-    for (at, bytes) in patches {
-        patch(rt, path, *at, bytes)?;
-    }
-    Ok(())
+    super::patches(rt, path, patches)
 }
 
 /// A check finds this damage, with parents and children and without.
@@ -46,8 +40,7 @@ fn is_found(
 ) -> Result<(), Fail> {
     altered(rt, path, keys, patches)?;
     checks(rt, path, printed, 1)?;
-    fs::remove_file(rt, path)?;
-    Ok(())
+    remove(rt, path)
 }
 
 /// A check with parents and children finds this damage, and one without them none.
@@ -62,8 +55,7 @@ fn is_found_of_parents(
     altered(rt, path, keys, patches)?;
     check_ends(rt, path, false, sound, 0)?;
     check_ends(rt, path, true, printed, 1)?;
-    fs::remove_file(rt, path)?;
-    Ok(())
+    remove(rt, path)
 }
 
 /// A right link, and a downlink, to a page of another level.
@@ -178,10 +170,9 @@ fn number_at(bytes: &[u8], at: usize) -> u32 {
 #[test]
 fn a_root_too_many(rt: HostRuntime) -> Result<(), Fail> {
     let path = "btidx_damage_10.idx";
-    let mut keys = [0; 14];
-    for (place, key) in keys.iter_mut().enumerate() {
-        *key = 0x61u8.saturating_add(u8::try_from(place).unwrap_or(0));
-    }
+    let keys = [
+        0x61, 0x62, 0x63, 0x64, 0x65, 0x66, 0x67, 0x68, 0x69, 0x6a, 0x6b, 0x6c, 0x6d, 0x6e,
+    ];
     let root: [Patch<'_>; 2] = [(69_641, &[1]), (69_648, &[3, 0, 0, 0])];
     altered(&rt, path, &keys, &root)?;
     let bytes = fs::read(&rt, path)?;
@@ -191,6 +182,5 @@ fn a_root_too_many(rt: HostRuntime) -> Result<(), Fail> {
     let right = number_at(bytes.as_slice(), 81_936);
     let printed = format!(in rt.alloc(); "damage 10 block {right}\n")?;
     checks(&rt, path, printed.as_str(), 1)?;
-    fs::remove_file(&rt, path)?;
-    Ok(())
+    remove(&rt, path)
 }

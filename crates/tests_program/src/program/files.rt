@@ -1,22 +1,24 @@
 //! Indexes in files. Each test has a file of its own.
 
-use super::{caller, plain, runs};
+use super::{Patch, caller, clear, in_a_file, patches, plain, remove, runs};
+use access_method::Index;
 use device::Unknown;
 use index_model::{Entry, Fault, Key, RowAddr};
+use page_action::PageStore;
+use std::alloc::Global;
 use std::fs::{self, File};
 use std::process::Abort;
 use std::rt::Files;
 use std::sync::Wait;
 use std::test::*;
 use std::thread::Threads;
-use tests_player::patch;
 
 /// Makes an empty index of 64 blocks with a log of 65,536 bytes in a new file.
 pub fn create(
     rt: &(impl Abort + AllocGlobal + Print + Eprint + Files<File = File> + Threads + Wait + Sync),
     path: &str,
 ) -> Result<(), Fail> {
-    let _ = fs::remove_file(rt, path);
+    clear(rt, path);
     let words = [
         "btidx", "create", path, "--items", "4", "--pages", "64", "--log", "65536",
     ];
@@ -30,17 +32,54 @@ fn entry(key: u8) -> Entry {
     }
 }
 
+fn insert_all<S: PageStore>(index: &mut Index<S>, keys: &[u8]) -> Result<(), Fault> {
+    for key in keys {
+        plain::insert(index, entry(*key))?;
+    }
+    Ok(())
+}
+
+/// What is done with the index in a file.
+#[derive(Clone, Copy)]
+pub enum Work<'a> {
+    /// Entries are inserted, with keys of one byte.
+    Insert(&'a [u8]),
+    /// What the caller of `in_a_file` adds, and lists.
+    Add,
+    List,
+}
+
+/// Does this, and answers whether it is done right.
+fn does<S: PageStore>(alloc: Global, index: &mut Index<S>, work: Work<'_>) -> Result<bool, Fault> {
+    match work {
+        Work::Insert(keys) => {
+            insert_all(index, keys)?;
+            Ok(true)
+        }
+        Work::Add => Ok(in_a_file::adds(index)),
+        Work::List => in_a_file::lists(alloc, index),
+    }
+}
+
+/// Opens the index in a file, has this done, and closes it. Answers whether it is done right, and what the closing does.
+pub fn opened(
+    rt: &(impl AllocGlobal + Files<File = File>),
+    path: &str,
+    work: Work<'_>,
+) -> Result<(bool, u64), Fault> {
+    let mut index = caller::open::<_, Unknown>(rt, rt.alloc(), path)?;
+    let done = does(rt.alloc(), &mut index, work);
+    let closed = caller::close(index);
+    Ok((done?, closed?))
+}
+
 /// Inserts entries into the index in a file, with keys of one byte, and makes a checkpoint. Answers the number of actions.
 pub fn fill(
     rt: &(impl AllocGlobal + Files<File = File>),
     path: &str,
     keys: &[u8],
 ) -> Result<u64, Fault> {
-    let mut index = caller::open::<_, Unknown>(rt, rt.alloc(), path)?;
-    for key in keys {
-        plain::insert(&mut index, entry(*key))?;
-    }
-    caller::close(index)
+    Ok(opened(rt, path, Work::Insert(keys))?.1)
 }
 
 /// A check of the file, with parents or without, prints this line and ends with this status, in many threads and in one.
@@ -118,8 +157,33 @@ fn fresh_file(rt: HostRuntime) -> Result<(), Fail> {
     assert!(rt; stand(bytes.as_slice(), 73_728, leaf));
     assert!(rt; are_zeros(bytes.as_slice(), 73_748, 331_776));
     checks(&rt, path, FRESH, 0)?;
-    fs::remove_file(&rt, path)?;
+    remove(&rt, path)
+}
+
+/// A check and a dump of this path are refused, and say this.
+fn are_refused(
+    rt: &(impl Abort + AllocGlobal + Print + Eprint + Files<File = File> + Threads + Wait + Sync),
+    path: &str,
+    said: &str,
+) -> Result<(), Fail> {
+    for command in ["check", "dump"] {
+        let words = ["btidx", command, path];
+        runs(rt, words.as_slice(), "", "", said, 2)?;
+    }
     Ok(())
+}
+
+/// No file for an index of so many items a page is made there.
+fn is_not_created(
+    rt: &(impl Abort + AllocGlobal + Print + Eprint + Files<File = File> + Threads + Wait + Sync),
+    path: &str,
+    items: &str,
+    said: &str,
+) -> Result<(), Fail> {
+    let words = [
+        "btidx", "create", path, "--items", items, "--pages", "64", "--log", "65536",
+    ];
+    runs(rt, words.as_slice(), "", "", said, 2)
 }
 
 #[test]
@@ -127,78 +191,70 @@ fn refused_files(rt: HostRuntime) -> Result<(), Fail> {
     let path = "btidx_refused.idx";
     create(&rt, path)?;
     // The path is there.
-    let again = [
-        "btidx", "create", path, "--items", "4", "--pages", "64", "--log", "65536",
-    ];
-    runs(&rt, again.as_slice(), "", "", "btidx: refused 2 Io\n", 2)?;
+    is_not_created(&rt, path, "4", "btidx: refused 2 Io\n")?;
     checks(&rt, path, FRESH, 0)?;
-    fs::remove_file(&rt, path)?;
+    remove(&rt, path)?;
     // The limits are tested first, and no file is made.
-    let few = [
-        "btidx", "create", path, "--items", "3", "--pages", "64", "--log", "65536",
-    ];
-    runs(
-        &rt,
-        few.as_slice(),
-        "",
-        "",
-        "btidx: refused 18 BadLimits\n",
-        2,
-    )?;
+    is_not_created(&rt, path, "3", "btidx: refused 18 BadLimits\n")?;
     // The path isn't there, or is a folder.
-    for command in ["check", "dump"] {
-        let words = ["btidx", command, path];
-        runs(&rt, words.as_slice(), "", "", "btidx: refused 2 Io\n", 2)?;
-        let words = ["btidx", command, "."];
-        runs(&rt, words.as_slice(), "", "", "btidx: refused 2 Io\n", 2)?;
+    for missing in [path, "."] {
+        are_refused(&rt, missing, "btidx: refused 2 Io\n")?;
     }
     // A file of 100 bytes.
     fs::write(&rt, path, [0; 100].as_slice())?;
-    for command in ["check", "dump"] {
-        let words = ["btidx", command, path];
-        runs(
-            &rt,
-            words.as_slice(),
-            "",
-            "",
-            "btidx: refused 14 BadSuper\n",
-            2,
-        )?;
-    }
-    fs::remove_file(&rt, path)?;
-    Ok(())
+    are_refused(&rt, path, "btidx: refused 14 BadSuper\n")?;
+    remove(&rt, path)
+}
+
+/// A check and a dump of a fresh file with these bytes altered are refused, and say this.
+fn is_altered(
+    rt: &(impl Abort + AllocGlobal + Print + Eprint + Files<File = File> + Threads + Wait + Sync),
+    path: &str,
+    altered: Patch<'_>,
+    said: &str,
+) -> Result<(), Fail> {
+    create(rt, path)?;
+    patches(rt, path, &[altered])?;
+    is_refused(rt, path, said)?;
+    runs(rt, ["btidx", "dump", path].as_slice(), "", "", said, 2)
+}
+
+/// A check of the file with these bytes altered prints this.
+fn checks_altered(
+    rt: &(impl Abort + AllocGlobal + Print + Eprint + Files<File = File> + Threads + Wait + Sync),
+    path: &str,
+    altered: Patch<'_>,
+    printed: &str,
+    status: u8,
+) -> Result<(), Fail> {
+    patches(rt, path, &[altered])?;
+    checks(rt, path, printed, status)
 }
 
 /// A fresh file with some bytes altered: what a check and a dump say.
 #[test]
 fn altered_files(rt: HostRuntime) -> Result<(), Fail> {
     let path = "btidx_altered.idx";
-    let altered: [(u64, &[u8], &str); 7] = [
-        (8, &[0, 0, 0, 0], "btidx: refused 15 BadVersion\n"),
-        (8, &[3, 0, 0, 0], "btidx: refused 15 BadVersion\n"),
-        (28, &[1], "btidx: refused 14 BadSuper\n"),
+    let altered: [(Patch<'_>, &str); 7] = [
+        ((8, &[0, 0, 0, 0]), "btidx: refused 15 BadVersion\n"),
+        ((8, &[3, 0, 0, 0]), "btidx: refused 15 BadVersion\n"),
+        ((28, &[1]), "btidx: refused 14 BadSuper\n"),
         // The number of items.
-        (12, &[51], "btidx: refused 18 BadLimits\n"),
+        ((12, &[51]), "btidx: refused 18 BadLimits\n"),
         // Open groups without images, and with more than there is room for.
-        (4_096, &[1, 0, 0, 0, 0], "btidx: refused 16 LogDamaged\n"),
-        (4_096, &[1, 16, 0, 0, 0], "btidx: refused 16 LogDamaged\n"),
-        (69_632, &[0; 4_096], "btidx: refused 17 PageDamaged 0\n"),
+        ((4_096, &[1, 0, 0, 0, 0]), "btidx: refused 16 LogDamaged\n"),
+        ((4_096, &[1, 16, 0, 0, 0]), "btidx: refused 16 LogDamaged\n"),
+        ((69_632, &[0; 4_096]), "btidx: refused 17 PageDamaged 0\n"),
     ];
-    for (at, bytes, said) in altered {
-        create(&rt, path)?;
-        patch(&rt, path, at, bytes)?;
-        is_refused(&rt, path, said)?;
-        runs(&rt, ["btidx", "dump", path].as_slice(), "", "", said, 2)?;
+    for (bytes, said) in altered {
+        is_altered(&rt, path, bytes, said)?;
     }
-    // The gate is closed, whatever stands after.
     create(&rt, path)?;
-    patch(&rt, path, 4_096, &[2, 16, 0, 0, 0])?;
-    checks(&rt, path, FRESH, 0)?;
+    // The gate is closed, whatever stands after.
+    checks_altered(&rt, path, (4_096, &[2, 16, 0, 0, 0]), FRESH, 0)?;
     // The root.
-    patch(&rt, path, 69_648, &[5, 0, 0, 0])?;
-    checks(&rt, path, "damage 1 block 5\n", 1)?;
-    fs::remove_file(&rt, path)?;
-    Ok(())
+    checks_altered(&rt, path, (69_648, &[5, 0, 0, 0]), "damage 1 block 5\n", 1)?;
+    remove(&rt, path)
 }
 
 /// An index of two levels stands in its file.
@@ -228,6 +284,5 @@ fn two_levels(rt: HostRuntime) -> Result<(), Fail> {
         "",
         0,
     )?;
-    fs::remove_file(&rt, path)?;
-    Ok(())
+    remove(&rt, path)
 }

@@ -1,9 +1,13 @@
 //! The caller that crates/access_method/CALLING.md shows.
 
-use super::caller::{add, close, list, make, open};
+use super::caller::{add, list, make};
+use super::files::{Work, opened};
+use super::{clear, remove};
+use access_method::Index;
 use device::Unknown;
 use index_model::{Entry, Fault, Key, Range, RowAddr};
-use std::fs;
+use page_action::PageStore;
+use std::alloc::Global;
 use std::test::*;
 
 const ALL: Range = Range {
@@ -18,24 +22,38 @@ fn entry(key: u8) -> Entry {
     }
 }
 
+/// Adds entries, one of them twice: whether each is told with the number of the actions that are durable then.
+pub fn adds<S: PageStore>(index: &mut Index<S>) -> bool {
+    for (key, durable) in [(0x62, 1), (0x61, 2), (0x61, 2), (0x63, 3)] {
+        if add(index, entry(key)) != Ok(durable) {
+            return false;
+        }
+    }
+    true
+}
+
+/// Whether the first two entries are listed, and then all.
+pub fn lists<S: PageStore>(alloc: Global, index: &mut Index<S>) -> Result<bool, Fault> {
+    let mut entries = Vec::new(alloc);
+    list(index, ALL, 2, &mut entries)?;
+    list(index, ALL, 9, &mut entries)?;
+    let listed = [
+        entry(0x61),
+        entry(0x62),
+        entry(0x61),
+        entry(0x62),
+        entry(0x63),
+    ];
+    Ok(entries.as_slice() == listed.as_slice())
+}
+
 #[test]
 fn made_and_opened(rt: HostRuntime) -> Result<(), Fail> {
     let path = "btidx_caller.idx";
-    let _ = fs::remove_file(&rt, path);
+    clear(&rt, path);
     make::<_, Unknown>(&rt, path)?;
     assert_eq!(rt; make::<_, Unknown>(&rt, path), Err(Fault::Io));
-    let mut index = open::<_, Unknown>(&rt, rt.alloc(), path)?;
-    for (key, durable) in [(0x62, 1), (0x61, 2), (0x61, 2), (0x63, 3)] {
-        assert_eq!(rt; add(&mut index, entry(key)), Ok(durable));
-    }
-    assert_eq!(rt; close(index), Ok(3));
-    let mut index = open::<_, Unknown>(&rt, rt.alloc(), path)?;
-    let mut entries = Vec::new(rt.alloc());
-    list(&mut index, ALL, 2, &mut entries)?;
-    list(&mut index, ALL, 9, &mut entries)?;
-    let listed = [0x61, 0x62, 0x61, 0x62, 0x63].map(entry);
-    assert!(rt; entries.as_slice() == listed.as_slice());
-    assert_eq!(rt; close(index), Ok(0));
-    fs::remove_file(&rt, path)?;
-    Ok(())
+    assert!(rt; opened(&rt, path, Work::Add) == Ok((true, 3)));
+    assert!(rt; opened(&rt, path, Work::List) == Ok((true, 0)));
+    remove(&rt, path)
 }

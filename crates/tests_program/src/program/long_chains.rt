@@ -2,16 +2,14 @@
 //! their bytes. The leaf at place k is block k + 1, and has one entry.
 
 use super::files::check_ends;
-use super::runs;
-use std::fs::{self, File, OpenFile, OpenOptions};
-use std::io;
+use super::{clear, patches, remove, runs};
+use std::fs::{File, OpenFile, OpenOptions};
 use std::os::unix::fs::FileExt;
 use std::process::Abort;
 use std::rt::Files;
 use std::sync::Wait;
 use std::test::*;
 use std::thread::Threads;
-use tests_player::patch;
 
 /// Pages of one level: these blocks, from the first on, and how many leaves are below each.
 #[derive(Clone, Copy)]
@@ -39,11 +37,12 @@ fn place_of(block: u32, at: u64) -> u64 {
 }
 
 fn put(page: &mut [u8; 4_096], at: usize, bytes: &[u8]) {
-    for (i, byte) in bytes.iter().enumerate() {
-        let place = at.saturating_add(i);
+    let mut place = at;
+    for byte in bytes {
         if place < page.len() {
             page[place] = *byte;
         }
+        place = place.saturating_add(1);
     }
 }
 
@@ -154,7 +153,7 @@ fn make(
     path: &str,
     leaves: u32,
 ) -> Result<(), Fail> {
-    let _ = fs::remove_file(rt, path);
+    clear(rt, path);
     let words = [
         "btidx", "create", path, "--items", "50", "--pages", "8192", "--log", "65536",
     ];
@@ -163,20 +162,16 @@ fn make(
 }
 
 /// The left link of the leaf at this place leads to the leaf itself.
-fn damage(rt: &impl Files<File = File>, path: &str, place: u32) -> io::Result<()> {
+fn damage(rt: &impl Files<File = File>, path: &str, place: u32) -> Result<(), Fail> {
     let block = place.saturating_add(1);
-    patch(rt, path, place_of(block, 12), &block.to_le_bytes())
+    patches(rt, path, &[(place_of(block, 12), &block.to_le_bytes())])
 }
 
 /// It leads to the leaf before it again.
-fn mend(rt: &impl Files<File = File>, path: &str, place: u32) -> io::Result<()> {
+fn mend(rt: &impl Files<File = File>, path: &str, place: u32) -> Result<(), Fail> {
     let left = if place == 0 { u32::MAX } else { place };
-    patch(
-        rt,
-        path,
-        place_of(place.saturating_add(1), 12),
-        &left.to_le_bytes(),
-    )
+    let at = place_of(place.saturating_add(1), 12);
+    patches(rt, path, &[(at, &left.to_le_bytes())])
 }
 
 /// A check finds this damage of the leaf at this place, in many threads and in one.
@@ -192,8 +187,19 @@ fn is_found(
     check_ends(rt, path, parents, printed.as_str(), 1)
 }
 
-/// Makes a file of 1,250 leaves. Those at two places are damaged: the first is found, and after it, mended, the second.
-fn are_found(
+/// The same of a file of 1,250 leaves, without parents, and then it is mended.
+fn is_found_and_mended(
+    rt: &(impl Abort + AllocGlobal + Print + Eprint + Files<File = File> + Threads + Wait + Sync),
+    path: &str,
+    number: u8,
+    place: u32,
+) -> Result<(), Fail> {
+    is_found(rt, path, false, number, place)?;
+    mend(rt, path, place)
+}
+
+/// Makes a file of 1,250 leaves, and damages those at two places, this one after the other.
+fn make_short(
     rt: &(impl Abort + AllocGlobal + Print + Eprint + Files<File = File> + Threads + Wait + Sync),
     path: &str,
     first: u32,
@@ -201,12 +207,20 @@ fn are_found(
 ) -> Result<(), Fail> {
     make(rt, path, 1_250)?;
     damage(rt, path, second)?;
-    damage(rt, path, first)?;
-    is_found(rt, path, false, 2, first)?;
-    mend(rt, path, first)?;
+    damage(rt, path, first)
+}
+
+/// Makes a file of 1,250 leaves. Those at two places are damaged: the first is found, and after it, mended, the second.
+fn are_found(
+    rt: &(impl Abort + AllocGlobal + Print + Eprint + Files<File = File> + Threads + Wait + Sync),
+    path: &str,
+    first: u32,
+    second: u32,
+) -> Result<(), Fail> {
+    make_short(rt, path, first, second)?;
+    is_found_and_mended(rt, path, 2, first)?;
     is_found(rt, path, false, 2, second)?;
-    fs::remove_file(rt, path)?;
-    Ok(())
+    remove(rt, path)
 }
 
 /// Makes a file of 5,000 leaves. Those at two places are damaged, and the root's second bound, the last byte of whose key is
@@ -218,8 +232,7 @@ fn make_damaged(
     make(rt, path, 5_000)?;
     damage(rt, path, 4_000)?;
     damage(rt, path, 1_500)?;
-    patch(rt, path, place_of(5_103, 186), &[0xff])?;
-    Ok(())
+    patches(rt, path, &[(place_of(5_103, 186), &[0xff])])
 }
 
 /// Of damages at several places that of the first leaf is found.
@@ -228,8 +241,7 @@ fn several_damages(rt: HostRuntime) -> Result<(), Fail> {
     let path = "btidx_several.idx";
     make_damaged(&rt, path)?;
     is_found(&rt, path, true, 2, 1_500)?;
-    fs::remove_file(&rt, path)?;
-    Ok(())
+    remove(&rt, path)
 }
 
 /// After it, mended, that of the second.
@@ -239,8 +251,7 @@ fn first_mended(rt: HostRuntime) -> Result<(), Fail> {
     make_damaged(&rt, path)?;
     mend(&rt, path, 1_500)?;
     is_found(&rt, path, true, 2, 4_000)?;
-    fs::remove_file(&rt, path)?;
-    Ok(())
+    remove(&rt, path)
 }
 
 /// After both, mended, that of the root.
@@ -251,8 +262,7 @@ fn both_mended(rt: HostRuntime) -> Result<(), Fail> {
     mend(&rt, path, 1_500)?;
     mend(&rt, path, 4_000)?;
     check_ends(&rt, path, true, "damage 7 block 5103\n", 1)?;
-    fs::remove_file(&rt, path)?;
-    Ok(())
+    remove(&rt, path)
 }
 
 /// Damages on both sides of places 255 and 256, and of borders of the pieces, of at least 256 places, into which the chain may
@@ -277,15 +287,10 @@ fn border_of_the_halves(rt: HostRuntime) -> Result<(), Fail> {
 #[test]
 fn both_ends(rt: HostRuntime) -> Result<(), Fail> {
     let path = "btidx_ends.idx";
-    make(&rt, path, 1_250)?;
-    damage(&rt, path, 1_249)?;
-    damage(&rt, path, 0)?;
-    is_found(&rt, path, false, 3, 0)?;
-    mend(&rt, path, 0)?;
-    is_found(&rt, path, false, 2, 1_249)?;
-    mend(&rt, path, 1_249)?;
+    make_short(&rt, path, 0, 1_249)?;
+    is_found_and_mended(&rt, path, 3, 0)?;
+    is_found_and_mended(&rt, path, 2, 1_249)?;
     let sound = "ok levels=3 pages=1277 entries=1250 halfdead=0 deleted=0 unfinished=0\n";
     check_ends(&rt, path, true, sound, 0)?;
-    fs::remove_file(&rt, path)?;
-    Ok(())
+    remove(&rt, path)
 }

@@ -1,7 +1,7 @@
 //! Unique indexes: an insert of a key that is there, in scripts and in jobs; the superblock says at 24 that an index is one.
 
 use super::files::checks;
-use super::{plays_with, runs};
+use super::{clear, patches, plays_with, remove, runs};
 use std::alloc::{AllocError, Global};
 use std::fs::{self, File};
 use std::process::Abort;
@@ -9,7 +9,7 @@ use std::rt::Files;
 use std::sync::Wait;
 use std::test::*;
 use std::thread::Threads;
-use tests_player::{patch, played, text};
+use tests_player::{played, text};
 
 /// A key that is there is refused with its row, whatever its own row is; the very entry is refused as that.
 const TWICE: &str = "> put 0 61 (0,1)
@@ -95,24 +95,32 @@ fn create(
     rt: &(impl Abort + AllocGlobal + Print + Eprint + Files<File = File> + Threads + Wait + Sync),
     path: &str,
 ) -> Result<(), Fail> {
-    let _ = fs::remove_file(rt, path);
+    clear(rt, path);
     let words = [
         "btidx", "create", path, "--unique", "--items", "4", "--pages", "64", "--log", "65536",
     ];
     runs(rt, words.as_slice(), "", "created\n", "", 0)
 }
 
+/// Makes the file of any index, and then that of a unique one: whether they differ in the number at 24 alone.
+fn differs_at_24(
+    rt: &(impl Abort + AllocGlobal + Print + Eprint + Files<File = File> + Threads + Wait + Sync),
+    path: &str,
+) -> Result<bool, Fail> {
+    super::files::create(rt, path)?;
+    let mut expected = fs::read(rt, path)?;
+    create(rt, path)?;
+    if let Some(byte) = expected.get_mut(24) {
+        *byte = 1;
+    }
+    Ok(fs::read(rt, path)?.as_slice() == expected.as_slice())
+}
+
 /// A fresh file differs from that of any index in the number at 24 alone. What is run over it learns from there that it is unique.
 #[test]
 fn in_a_file(rt: HostRuntime) -> Result<(), Fail> {
     let (path, jobs) = ("btidx_unique.idx", "btidx_unique.jobs");
-    super::files::create(&rt, path)?;
-    let mut expected = fs::read(&rt, path)?;
-    create(&rt, path)?;
-    if let Some(byte) = expected.get_mut(24) {
-        *byte = 1;
-    }
-    assert!(rt; fs::read(&rt, path)?.as_slice() == expected.as_slice());
+    assert!(rt; differs_at_24(&rt, path)?);
     fs::write(
         &rt,
         jobs,
@@ -133,8 +141,16 @@ worker 0 calls 4\nhistory 4\ncheckpointed 2\n";
     )?;
     let sound = "ok levels=1 pages=2 entries=2 halfdead=0 deleted=0 unfinished=0\n";
     checks(&rt, path, sound, 0)?;
-    fs::remove_file(&rt, path)?;
-    fs::remove_file(&rt, jobs)?;
+    remove(&rt, path)?;
+    remove(&rt, jobs)
+}
+
+/// Adds inserts of four rows of a key.
+fn push_four(alloc: Global, jobs: &mut String, key: u16) -> Result<(), AllocError> {
+    for row in 1..5u16 {
+        let line = format!(in alloc; "insert {key:04x} (0,{row})\n")?;
+        jobs.push_str(line.as_str())?;
+    }
     Ok(())
 }
 
@@ -142,10 +158,7 @@ worker 0 calls 4\nhistory 4\ncheckpointed 2\n";
 fn four_rows_each(alloc: Global) -> Result<String, AllocError> {
     let mut jobs = String::new(alloc);
     for key in 0..500u16 {
-        for row in 0..4u16 {
-            let line = format!(in alloc; "insert {key:04x} (0,{})\n", row + 1)?;
-            jobs.push_str(line.as_str())?;
-        }
+        push_four(alloc, &mut jobs, key)?;
     }
     Ok(jobs)
 }
@@ -155,29 +168,45 @@ fn count(lines: &str, part: &str) -> usize {
     lines.lines().filter(|line| line.contains(part)).count()
 }
 
+/// How many keys eight workers add and refuse where each is inserted four times, and how that ends.
+fn run_of_eight(
+    rt: &(impl AllocGlobal + Files<File = File> + Threads + Wait + Sync),
+    path: &str,
+    jobs: &str,
+) -> (usize, usize, u8) {
+    let words = ["btidx", "run", path, jobs, "--workers", "8"];
+    let run = played(rt, words.as_slice(), "");
+    let told = text(&run.out);
+    (
+        count(told, " added "),
+        count(told, " refused 21 (0,"),
+        run.status,
+    )
+}
+
+/// Whether a check with parents and children finds 500 entries, and no damage.
+fn has_500(
+    rt: &(impl AllocGlobal + Files<File = File> + Threads + Wait + Sync),
+    path: &str,
+) -> bool {
+    let check = played(rt, ["btidx", "check", path, "--parents"].as_slice(), "");
+    text(&check.out).contains(" entries=500 ") && check.status == 0
+}
+
 /// Eight workers insert four rows of each of 500 keys: one of each four is added, and no damage is found.
 #[test]
 fn eight_workers(rt: HostRuntime) -> Result<(), Fail> {
     let (path, jobs) = ("btidx_unique_many.idx", "btidx_unique_many.jobs");
-    let _ = fs::remove_file(&rt, path);
+    clear(&rt, path);
     let words = [
         "btidx", "create", path, "--unique", "--items", "50", "--pages", "64", "--log", "1048576",
     ];
     runs(&rt, words.as_slice(), "", "created\n", "", 0)?;
     fs::write(&rt, jobs, four_rows_each(rt.alloc())?.as_str())?;
-    let run = played(
-        &rt,
-        ["btidx", "run", path, jobs, "--workers", "8"].as_slice(),
-        "",
-    );
-    let told = text(&run.out);
-    assert!(rt; run.status == 0 && count(told, " added ") == 500, "{told}");
-    assert_eq!(rt; count(told, " refused 21 (0,"), 1_500);
-    let check = played(&rt, ["btidx", "check", path, "--parents"].as_slice(), "");
-    assert!(rt; check.status == 0 && text(&check.out).contains(" entries=500 "));
-    fs::remove_file(&rt, path)?;
-    fs::remove_file(&rt, jobs)?;
-    Ok(())
+    assert_eq!(rt; run_of_eight(&rt, path, jobs), (500, 1_500, 0));
+    assert!(rt; has_500(&rt, path));
+    remove(&rt, path)?;
+    remove(&rt, jobs)
 }
 
 /// Any other number than 0 and 1 is refused, and 1 too where the layout is the first: after a layout and sizes that there aren't.
@@ -192,13 +221,10 @@ fn other_numbers(rt: HostRuntime) -> Result<(), Fail> {
         (&[(24, &[2]), (8, &[3])], "btidx: refused 15 BadVersion\n"),
         (&[(24, &[2]), (12, &[51])], "btidx: refused 18 BadLimits\n"),
     ];
-    for (patches, said) in altered {
+    for (bytes, said) in altered {
         create(&rt, path)?;
-        for (at, bytes) in patches {
-            patch(&rt, path, *at, bytes)?;
-        }
+        patches(&rt, path, bytes)?;
         runs(&rt, ["btidx", "check", path].as_slice(), "", "", said, 2)?;
     }
-    fs::remove_file(&rt, path)?;
-    Ok(())
+    remove(&rt, path)
 }
