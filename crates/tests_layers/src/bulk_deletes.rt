@@ -91,9 +91,8 @@ fn are_gone(store: &mut MapStore) -> Result<bool, Fault> {
 }
 
 #[test]
-fn dead_entries_go(rt: HostRuntime) -> Result<(), Fail> {
-    assert!(rt; over(rt.alloc(), 8, &tree(), are_gone)?);
-    Ok(())
+fn dead_entries_go(rt: HostRuntime) {
+    assert!(rt; over(rt.alloc(), 8, &tree(), are_gone) == Ok(true));
 }
 
 // Where no entry is dead, nothing is written.
@@ -103,9 +102,8 @@ fn are_all_left(store: &mut MapStore) -> Result<bool, Fault> {
 }
 
 #[test]
-fn nothing_is_dead(rt: HostRuntime) -> Result<(), Fail> {
-    assert!(rt; over(rt.alloc(), 8, &tree(), are_all_left)?);
-    Ok(())
+fn nothing_is_dead(rt: HostRuntime) {
+    assert!(rt; over(rt.alloc(), 8, &tree(), are_all_left) == Ok(true));
 }
 
 // Whether it waits for this block.
@@ -130,9 +128,8 @@ fn is_kept(store: &mut MapStore) -> Result<bool, Fault> {
 }
 
 #[test]
-fn blocked_by_a_pin(rt: HostRuntime) -> Result<(), Fail> {
-    assert!(rt; over(rt.alloc(), 8, &tree(), is_kept)?);
-    Ok(())
+fn blocked_by_a_pin(rt: HostRuntime) {
+    assert!(rt; over(rt.alloc(), 8, &tree(), is_kept) == Ok(true));
 }
 
 // A root over two leaves, after the deleted page 1.
@@ -173,9 +170,8 @@ fn goes_back(store: &mut MapStore) -> Result<bool, Fault> {
 }
 
 #[test]
-fn going_back(rt: HostRuntime) -> Result<(), Fail> {
-    assert!(rt; over(rt.alloc(), 8, &tree_after_a_deleted_page(), goes_back)?);
-    Ok(())
+fn going_back(rt: HostRuntime) {
+    assert!(rt; over(rt.alloc(), 8, &tree_after_a_deleted_page(), goes_back) == Ok(true));
 }
 
 // Deletes the page, where so many calls have begun.
@@ -201,9 +197,8 @@ fn are_counted(store: &mut MapStore) -> Result<bool, Fault> {
 }
 
 #[test]
-fn deleted_pages(rt: HostRuntime) -> Result<(), Fail> {
-    assert!(rt; over(rt.alloc(), 8, &tree(), are_counted)?);
-    Ok(())
+fn deleted_pages(rt: HostRuntime) {
+    assert!(rt; over(rt.alloc(), 8, &tree(), are_counted) == Ok(true));
 }
 
 // A leaf without entries that leads there, of this cycle.

@@ -78,9 +78,8 @@ fn is_inserted_and_scanned(store: &mut MapStore, calls: &mut Calls) -> bool {
 }
 
 #[test]
-fn an_insert_and_a_scan(rt: HostRuntime) -> Result<(), Fail> {
-    assert!(rt; over_calls(rt.alloc(), 8, &[], 7, is_inserted_and_scanned)?);
-    Ok(())
+fn an_insert_and_a_scan(rt: HostRuntime) {
+    assert!(rt; over_calls(rt.alloc(), 8, &[], 7, is_inserted_and_scanned) == Ok(true));
 }
 
 fn is_given_up(store: &mut MapStore, calls: &mut Calls) -> bool {
@@ -92,9 +91,8 @@ fn is_given_up(store: &mut MapStore, calls: &mut Calls) -> bool {
 }
 
 #[test]
-fn a_call_is_given_up(rt: HostRuntime) -> Result<(), Fail> {
-    assert!(rt; over_calls(rt.alloc(), 8, &[], 7, is_given_up)?);
-    Ok(())
+fn a_call_is_given_up(rt: HostRuntime) {
+    assert!(rt; over_calls(rt.alloc(), 8, &[], 7, is_given_up) == Ok(true));
 }
 
 // The answer to the first of the next steps that isn't `Going`, and how many acts were done at each step that was.
@@ -210,9 +208,8 @@ fn is_alone(store: &mut MapStore, calls: &mut Calls) -> bool {
 }
 
 #[test]
-fn a_bulk_delete_runs_alone(rt: HostRuntime) -> Result<(), Fail> {
-    assert!(rt; over_calls(rt.alloc(), 8, &mixed(), 7, is_alone)?);
-    Ok(())
+fn a_bulk_delete_runs_alone(rt: HostRuntime) {
+    assert!(rt; over_calls(rt.alloc(), 8, &mixed(), 7, is_alone) == Ok(true));
 }
 
 // A bulk delete is given up; then there is no such set, or none any more.
@@ -226,9 +223,8 @@ fn bulk_delete_is_given_up(store: &mut MapStore, calls: &mut Calls) -> bool {
 }
 
 #[test]
-fn a_bulk_delete_is_given_up(rt: HostRuntime) -> Result<(), Fail> {
-    assert!(rt; over_calls(rt.alloc(), 8, &mixed(), 7, bulk_delete_is_given_up)?);
-    Ok(())
+fn a_bulk_delete_is_given_up(rt: HostRuntime) {
+    assert!(rt; over_calls(rt.alloc(), 8, &mixed(), 7, bulk_delete_is_given_up) == Ok(true));
 }
 
 fn is_counted(store: &mut MapStore, calls: &mut Calls) -> bool {

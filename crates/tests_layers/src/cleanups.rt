@@ -104,9 +104,8 @@ fn is_deleted(store: &mut MapStore) -> Result<bool, Fault> {
 }
 
 #[test]
-fn empty_leaf_leaves_the_tree(rt: HostRuntime) -> Result<(), Fail> {
-    assert!(rt; over(rt.alloc(), 8, &tree(PageState::Live), is_deleted)?);
-    Ok(())
+fn empty_leaf_leaves_the_tree(rt: HostRuntime) {
+    assert!(rt; over(rt.alloc(), 8, &tree(PageState::Live), is_deleted) == Ok(true));
 }
 
 // A half-dead page that was left after is unlinked; another session's running call keeps it from reuse.
@@ -122,9 +121,8 @@ fn is_unlinked(store: &mut MapStore) -> Result<bool, Fault> {
 }
 
 #[test]
-fn half_dead_page_is_found(rt: HostRuntime) -> Result<(), Fail> {
-    assert!(rt; over(rt.alloc(), 8, &tree(PageState::HalfDead), is_unlinked)?);
-    Ok(())
+fn half_dead_page_is_found(rt: HostRuntime) {
+    assert!(rt; over(rt.alloc(), 8, &tree(PageState::HalfDead), is_unlinked) == Ok(true));
 }
 
 // Another session's pin: the leaf is passed.
@@ -135,9 +133,8 @@ fn is_passed(store: &mut MapStore) -> Result<bool, Fault> {
 }
 
 #[test]
-fn pinned_leaf_is_passed(rt: HostRuntime) -> Result<(), Fail> {
-    assert!(rt; over(rt.alloc(), 8, &tree(PageState::Live), is_passed)?);
-    Ok(())
+fn pinned_leaf_is_passed(rt: HostRuntime) {
+    assert!(rt; over(rt.alloc(), 8, &tree(PageState::Live), is_passed) == Ok(true));
 }
 
 // Another session's latch of a sibling: the step may be made again.
@@ -155,9 +152,8 @@ fn waits_for_a_sibling(store: &mut MapStore) -> Result<bool, Fault> {
 }
 
 #[test]
-fn latched_sibling_blocks(rt: HostRuntime) -> Result<(), Fail> {
-    assert!(rt; over(rt.alloc(), 8, &tree(PageState::Live), waits_for_a_sibling)?);
-    Ok(())
+fn latched_sibling_blocks(rt: HostRuntime) {
+    assert!(rt; over(rt.alloc(), 8, &tree(PageState::Live), waits_for_a_sibling) == Ok(true));
 }
 
 // Entries came meanwhile: the leaf is passed, and they are not counted.

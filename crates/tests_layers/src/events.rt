@@ -9,7 +9,7 @@ use page_action::MapStore;
 use schedule::Event;
 use session_calls::{Answer, Calls};
 use std::alloc::Global;
-use std::test::{Fail, *};
+use std::test::*;
 
 // So many entries are inserted, of these keys in another order.
 const MOST: u8 = 22;
@@ -178,9 +178,8 @@ fn are_split_beside_scans(store: &mut MapStore, calls: &mut Calls) -> bool {
 }
 
 #[test]
-fn two_split_leaves_while_a_third_scans(rt: HostRuntime) -> Result<(), Fail> {
-    assert!(rt; over_calls(rt.alloc(), 32, &[], 3, are_split_beside_scans)?);
-    Ok(())
+fn two_split_leaves_while_a_third_scans(rt: HostRuntime) {
+    assert!(rt; over_calls(rt.alloc(), 32, &[], 3, are_split_beside_scans) == Ok(true));
 }
 
 // Whether this holds of an empty tree of so many pages at most, of the calls of so many sessions, and of a list for answers.
@@ -246,9 +245,8 @@ fn run_is_refused(store: &mut MapStore, calls: &mut Calls, answers: &mut Vec<Ans
 }
 
 #[test]
-fn refused_events_in_a_run(rt: HostRuntime) -> Result<(), Fail> {
-    assert!(rt; over_answers(rt.alloc(), 32, 2, run_is_refused)?);
-    Ok(())
+fn refused_events_in_a_run(rt: HostRuntime) {
+    assert!(rt; over_answers(rt.alloc(), 32, 2, run_is_refused) == Ok(true));
 }
 
 fn scan_is_ended(store: &mut MapStore, calls: &mut Calls, answers: &mut Vec<Answer>) -> bool {
@@ -271,9 +269,8 @@ fn scan_is_ended(store: &mut MapStore, calls: &mut Calls, answers: &mut Vec<Answ
 }
 
 #[test]
-fn sessions_of_another_owner(rt: HostRuntime) -> Result<(), Fail> {
-    assert!(rt; over_answers(rt.alloc(), 8, 2, scan_is_ended)?);
-    Ok(())
+fn sessions_of_another_owner(rt: HostRuntime) {
+    assert!(rt; over_answers(rt.alloc(), 8, 2, scan_is_ended) == Ok(true));
 }
 
 // Whether no second bulk delete began, and no call without a session or a set.
@@ -316,9 +313,8 @@ fn bulk_delete_is_refused(
 }
 
 #[test]
-fn a_bulk_delete_is_refused_in_order(rt: HostRuntime) -> Result<(), Fail> {
-    assert!(rt; over_answers(rt.alloc(), 32, 3, bulk_delete_is_refused)?);
-    Ok(())
+fn a_bulk_delete_is_refused_in_order(rt: HostRuntime) {
+    assert!(rt; over_answers(rt.alloc(), 32, 3, bulk_delete_is_refused) == Ok(true));
 }
 
 // Whether an event begins a call.
@@ -385,9 +381,8 @@ fn bulk_delete_waits(store: &mut MapStore, calls: &mut Calls) -> bool {
 }
 
 #[test]
-fn a_bulk_delete_waits_for_a_scan(rt: HostRuntime) -> Result<(), Fail> {
-    assert!(rt; over_calls(rt.alloc(), 32, &[], 3, bulk_delete_waits)?);
-    Ok(())
+fn a_bulk_delete_waits_for_a_scan(rt: HostRuntime) {
+    assert!(rt; over_calls(rt.alloc(), 32, &[], 3, bulk_delete_waits) == Ok(true));
 }
 
 // Two sessions insert entries of both sets, a third runs one bulk delete of the second set after the other, each of them one
@@ -438,9 +433,8 @@ fn are_inserted_beside_deletes(store: &mut MapStore, calls: &mut Calls) -> bool 
 }
 
 #[test]
-fn two_insert_while_a_third_deletes(rt: HostRuntime) -> Result<(), Fail> {
-    assert!(rt; over_calls(rt.alloc(), 32, &[], 3, are_inserted_beside_deletes)?);
-    Ok(())
+fn two_insert_while_a_third_deletes(rt: HostRuntime) {
+    assert!(rt; over_calls(rt.alloc(), 32, &[], 3, are_inserted_beside_deletes) == Ok(true));
 }
 
 // Whether no second vacuum begins beside this one.
@@ -461,7 +455,6 @@ fn vacuums_run_alone(store: &mut MapStore, calls: &mut Calls) -> bool {
 }
 
 #[test]
-fn one_vacuum_runs_at_a_time(rt: HostRuntime) -> Result<(), Fail> {
-    assert!(rt; over_calls(rt.alloc(), 32, &[], 3, vacuums_run_alone)?);
-    Ok(())
+fn one_vacuum_runs_at_a_time(rt: HostRuntime) {
+    assert!(rt; over_calls(rt.alloc(), 32, &[], 3, vacuums_run_alone) == Ok(true));
 }

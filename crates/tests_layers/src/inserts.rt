@@ -6,7 +6,7 @@ use index_model::{Entry, Fault, Session};
 use insert_split::{InsertOp, InsertStep};
 use page_action::MapStore;
 use page_codec::Page;
-use std::test::{Fail, *};
+use std::test::*;
 
 // A step of an insert, without its contract.
 fn step(op: &mut InsertOp, store: &mut MapStore) -> Result<InsertStep, Fault> {
@@ -63,9 +63,8 @@ fn are_split(store: &mut MapStore) -> Result<bool, Fault> {
 }
 
 #[test]
-fn leaves_and_roots_split(rt: HostRuntime) -> Result<(), Fail> {
-    assert!(rt; over(rt.alloc(), 8, &tree(&[]), are_split)?);
-    Ok(())
+fn leaves_and_roots_split(rt: HostRuntime) {
+    assert!(rt; over(rt.alloc(), 8, &tree(&[]), are_split) == Ok(true));
 }
 
 fn goes_on(op: &mut InsertOp, store: &mut MapStore) -> bool {
@@ -92,9 +91,8 @@ fn is_finished(store: &mut MapStore) -> Result<bool, Fault> {
 }
 
 #[test]
-fn another_insert_finishes_a_split(rt: HostRuntime) -> Result<(), Fail> {
-    assert!(rt; over(rt.alloc(), 8, &tree(&[]), is_finished)?);
-    Ok(())
+fn another_insert_finishes_a_split(rt: HostRuntime) {
+    assert!(rt; over(rt.alloc(), 8, &tree(&[]), is_finished) == Ok(true));
 }
 
 // Whether a leaf that one insert has latched is refused to another.
@@ -114,7 +112,6 @@ fn is_held(store: &mut MapStore) -> Result<bool, Fault> {
 }
 
 #[test]
-fn a_leaf_is_held_by_one(rt: HostRuntime) -> Result<(), Fail> {
-    assert!(rt; over(rt.alloc(), 8, &tree(&[]), is_held)?);
-    Ok(())
+fn a_leaf_is_held_by_one(rt: HostRuntime) {
+    assert!(rt; over(rt.alloc(), 8, &tree(&[]), is_held) == Ok(true));
 }

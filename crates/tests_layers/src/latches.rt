@@ -3,7 +3,7 @@
 use crate::plain::{pair, session};
 use index_model::{Fault, Session};
 use latch_table::{LatchTable, Mode};
-use std::test::{Fail, *};
+use std::test::*;
 
 fn latch(table: &mut LatchTable, session: Session, block: u32, mode: Mode) -> Result<(), Fault> {
     table.latch(session, block, mode)
@@ -42,9 +42,8 @@ fn are_beside_each_other(table: &mut LatchTable) -> Result<bool, Fault> {
 }
 
 #[test]
-fn sessions_beside_each_other(rt: HostRuntime) -> Result<(), Fail> {
-    assert!(rt; are_beside_each_other(&mut LatchTable::new())?);
-    Ok(())
+fn sessions_beside_each_other(rt: HostRuntime) {
+    assert!(rt; are_beside_each_other(&mut LatchTable::new()) == Ok(true));
 }
 
 fn cleanup_is_excluded(table: &mut LatchTable) -> Result<bool, Fault> {
@@ -65,9 +64,8 @@ fn cleanup_is_excluded(table: &mut LatchTable) -> Result<bool, Fault> {
 }
 
 #[test]
-fn pins_exclude_cleanup_alone(rt: HostRuntime) -> Result<(), Fail> {
-    assert!(rt; cleanup_is_excluded(&mut LatchTable::new())?);
-    Ok(())
+fn pins_exclude_cleanup_alone(rt: HostRuntime) {
+    assert!(rt; cleanup_is_excluded(&mut LatchTable::new()) == Ok(true));
 }
 
 fn are_eight(table: &mut LatchTable) -> Result<bool, Fault> {
@@ -81,9 +79,8 @@ fn are_eight(table: &mut LatchTable) -> Result<bool, Fault> {
 }
 
 #[test]
-fn eight_latches(rt: HostRuntime) -> Result<(), Fail> {
-    assert!(rt; are_eight(&mut LatchTable::new())?);
-    Ok(())
+fn eight_latches(rt: HostRuntime) {
+    assert!(rt; are_eight(&mut LatchTable::new()) == Ok(true));
 }
 
 // Whether these are the blocks that are pinned.
@@ -105,7 +102,6 @@ fn are_listed(table: &mut LatchTable) -> Result<bool, Fault> {
 }
 
 #[test]
-fn pinned_by_two_sessions(rt: HostRuntime) -> Result<(), Fail> {
-    assert!(rt; are_listed(&mut LatchTable::new())?);
-    Ok(())
+fn pinned_by_two_sessions(rt: HostRuntime) {
+    assert!(rt; are_listed(&mut LatchTable::new()) == Ok(true));
 }

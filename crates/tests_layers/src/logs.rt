@@ -295,9 +295,8 @@ fn has_room_for_fifteen(alloc: Global, log: &mut Log, device: &mut MemDevice) ->
 
 // One group of n images takes 6 + 4096 n bytes, so 65,536 bytes have room for 15.
 #[test]
-fn a_fresh_log_holds_fifteen_images(rt: HostRuntime) -> Result<(), Fail> {
-    assert!(rt; over(rt.alloc(), has_room_for_fifteen)?);
-    Ok(())
+fn a_fresh_log_holds_fifteen_images(rt: HostRuntime) {
+    assert!(rt; over(rt.alloc(), has_room_for_fifteen) == Ok(true));
 }
 
 // At last twice in one action, and one of another block.
@@ -314,9 +313,8 @@ fn takes_room_once(alloc: Global, log: &mut Log, device: &mut MemDevice) -> bool
 }
 
 #[test]
-fn a_second_image_of_a_block_takes_no_room(rt: HostRuntime) -> Result<(), Fail> {
-    assert!(rt; over(rt.alloc(), takes_room_once)?);
-    Ok(())
+fn a_second_image_of_a_block_takes_no_room(rt: HostRuntime) {
+    assert!(rt; over(rt.alloc(), takes_room_once) == Ok(true));
 }
 
 // Whether forty images of a block are appended.
@@ -343,9 +341,8 @@ fn has_one_image(alloc: Global, log: &mut Log, device: &mut MemDevice) -> bool {
 
 // A group has one image of the block, though there is room for 15 alone; the next one has it again.
 #[test]
-fn forty_images_of_a_block_are_one(rt: HostRuntime) -> Result<(), Fail> {
-    assert!(rt; over(rt.alloc(), has_one_image)?);
-    Ok(())
+fn forty_images_of_a_block_are_one(rt: HostRuntime) {
+    assert!(rt; over(rt.alloc(), has_one_image) == Ok(true));
 }
 
 fn keeps_the_image(alloc: Global, log: &mut Log, device: &mut MemDevice) -> bool {
@@ -363,9 +360,8 @@ fn keeps_the_image(alloc: Global, log: &mut Log, device: &mut MemDevice) -> bool
 // After a group of 13 images two fit: an action with a later image of a block that waits and two
 // of blocks that don't is refused, and the image that waits is the old one still.
 #[test]
-fn a_refused_append_replaces_no_image(rt: HostRuntime) -> Result<(), Fail> {
-    assert!(rt; over(rt.alloc(), keeps_the_image)?);
-    Ok(())
+fn a_refused_append_replaces_no_image(rt: HostRuntime) {
+    assert!(rt; over(rt.alloc(), keeps_the_image) == Ok(true));
 }
 
 // Whether the action before a reset is forgotten.
@@ -384,9 +380,8 @@ fn keeps_what_waits(alloc: Global, log: &mut Log, device: &mut MemDevice) -> boo
 
 // A reset forgets what was forced, and what waits still waits.
 #[test]
-fn a_reset_keeps_what_waits(rt: HostRuntime) -> Result<(), Fail> {
-    assert!(rt; over(rt.alloc(), keeps_what_waits)?);
-    Ok(())
+fn a_reset_keeps_what_waits(rt: HostRuntime) {
+    assert!(rt; over(rt.alloc(), keeps_what_waits) == Ok(true));
 }
 
 fn answers_stopped(_alloc: Global, log: &mut Log, device: &mut MemDevice) -> bool {
@@ -401,9 +396,8 @@ fn answers_stopped(_alloc: Global, log: &mut Log, device: &mut MemDevice) -> boo
 }
 
 #[test]
-fn a_stopped_log_answers_stopped(rt: HostRuntime) -> Result<(), Fail> {
-    assert!(rt; over(rt.alloc(), answers_stopped)?);
-    Ok(())
+fn a_stopped_log_answers_stopped(rt: HostRuntime) {
+    assert!(rt; over(rt.alloc(), answers_stopped) == Ok(true));
 }
 
 fn makes_no_call(alloc: Global, log: &mut Log, device: &mut MemDevice) -> bool {
@@ -414,9 +408,8 @@ fn makes_no_call(alloc: Global, log: &mut Log, device: &mut MemDevice) -> bool {
 }
 
 #[test]
-fn nothing_to_write_makes_no_call(rt: HostRuntime) -> Result<(), Fail> {
-    assert!(rt; over(rt.alloc(), makes_no_call)?);
-    Ok(())
+fn nothing_to_write_makes_no_call(rt: HostRuntime) {
+    assert!(rt; over(rt.alloc(), makes_no_call) == Ok(true));
 }
 
 // How many blocks have an image for a restart after a crash has opened the gate again.
@@ -436,9 +429,8 @@ fn is_taken_again(alloc: Global, log: &mut Log, device: &mut MemDevice) -> bool 
 // After a closed gate the old group still stands: had `reset` written that gate once more, a crash
 // could have left any byte there, and with a 1 the restart would have taken the old group again.
 #[test]
-fn an_open_gate_in_front_of_old_bytes_would_be_replayed(rt: HostRuntime) -> Result<(), Fail> {
-    assert!(rt; over(rt.alloc(), is_taken_again)?);
-    Ok(())
+fn an_open_gate_in_front_of_old_bytes_would_be_replayed(rt: HostRuntime) {
+    assert!(rt; over(rt.alloc(), is_taken_again) == Ok(true));
 }
 
 // How many blocks have an image for a restart where a fresh log has this gate before a group of none.

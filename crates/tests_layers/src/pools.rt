@@ -4,7 +4,7 @@ use crate::trees::marked;
 use buffer_pool::{Choice, Pool};
 use index_model::Fault;
 use std::alloc::Global;
-use std::test::{Fail, *};
+use std::test::*;
 
 /// Whether this holds of a pool of so many frames for eight blocks.
 fn over<F: FnOnce(&mut Pool) -> bool>(
@@ -118,9 +118,8 @@ fn holds_and_changes(pool: &mut Pool) -> bool {
 }
 
 #[test]
-fn pages_are_held_and_changed(rt: HostRuntime) -> Result<(), Fail> {
-    assert!(rt; over(rt.alloc(), 3, holds_and_changes)?);
-    Ok(())
+fn pages_are_held_and_changed(rt: HostRuntime) {
+    assert!(rt; over(rt.alloc(), 3, holds_and_changes) == Ok(true));
 }
 
 /// Whether blocks 1, 2 and 3 are brought.
@@ -161,9 +160,8 @@ fn is_order_kept(pool: &mut Pool) -> bool {
 }
 
 #[test]
-fn order_of_first_change(rt: HostRuntime) -> Result<(), Fail> {
-    assert!(rt; over(rt.alloc(), 3, is_order_kept)?);
-    Ok(())
+fn order_of_first_change(rt: HostRuntime) {
+    assert!(rt; over(rt.alloc(), 3, is_order_kept) == Ok(true));
 }
 
 // Whether three blocks are brought and changed.
@@ -200,9 +198,8 @@ fn are_two_written(pool: &mut Pool) -> bool {
 
 // A checkpoint writes the first two of three.
 #[test]
-fn first_two_are_written(rt: HostRuntime) -> Result<(), Fail> {
-    assert!(rt; over(rt.alloc(), 3, are_two_written)?);
-    Ok(())
+fn first_two_are_written(rt: HostRuntime) {
+    assert!(rt; over(rt.alloc(), 3, are_two_written) == Ok(true));
 }
 
 // Both are clean: the one that isn't pinned can be taken.
@@ -249,9 +246,8 @@ fn chooses_frames(pool: &mut Pool) -> bool {
 }
 
 #[test]
-fn frames_are_chosen(rt: HostRuntime) -> Result<(), Fail> {
-    assert!(rt; over(rt.alloc(), 2, chooses_frames)?);
-    Ok(())
+fn frames_are_chosen(rt: HostRuntime) {
+    assert!(rt; over(rt.alloc(), 2, chooses_frames) == Ok(true));
 }
 
 // What was looked at since the hand passed it keeps its frame, as long as another can be taken: the hand passes it, and takes
@@ -288,7 +284,6 @@ fn keeps_what_is_used(pool: &mut Pool) -> bool {
 }
 
 #[test]
-fn pages_that_are_looked_at_stay(rt: HostRuntime) -> Result<(), Fail> {
-    assert!(rt; over(rt.alloc(), 3, keeps_what_is_used)?);
-    Ok(())
+fn pages_that_are_looked_at_stay(rt: HostRuntime) {
+    assert!(rt; over(rt.alloc(), 3, keeps_what_is_used) == Ok(true));
 }

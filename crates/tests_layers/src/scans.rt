@@ -8,7 +8,7 @@ use latch_table::Mode;
 use page_action::MapStore;
 use page_codec::Page;
 use scan::{ScanOp, ScanStep};
-use std::test::{Fail, *};
+use std::test::*;
 
 // Three leaves under a root.
 fn tree() -> [Page; 5] {
@@ -87,9 +87,8 @@ fn gives_all(store: &mut MapStore) -> Result<bool, Fault> {
 }
 
 #[test]
-fn scan_of_all(rt: HostRuntime) -> Result<(), Fail> {
-    assert!(rt; over(rt.alloc(), 8, &tree(), gives_all)?);
-    Ok(())
+fn scan_of_all(rt: HostRuntime) {
+    assert!(rt; over(rt.alloc(), 8, &tree(), gives_all) == Ok(true));
 }
 
 // Whether a scan of this range gives the entries of two leaves, and is done then.
@@ -110,9 +109,8 @@ fn gives_ranges(store: &mut MapStore) -> Result<bool, Fault> {
 }
 
 #[test]
-fn scan_of_a_range(rt: HostRuntime) -> Result<(), Fail> {
-    assert!(rt; over(rt.alloc(), 8, &tree(), gives_ranges)?);
-    Ok(())
+fn scan_of_a_range(rt: HostRuntime) {
+    assert!(rt; over(rt.alloc(), 8, &tree(), gives_ranges) == Ok(true));
 }
 
 // Splits leaf 1 into page 5.
@@ -137,9 +135,8 @@ fn goes_on_by_the_link(store: &mut MapStore) -> Result<bool, Fault> {
 }
 
 #[test]
-fn scan_goes_on_by_the_saved_link(rt: HostRuntime) -> Result<(), Fail> {
-    assert!(rt; over(rt.alloc(), 8, &tree(), goes_on_by_the_link)?);
-    Ok(())
+fn scan_goes_on_by_the_saved_link(rt: HostRuntime) {
+    assert!(rt; over(rt.alloc(), 8, &tree(), goes_on_by_the_link) == Ok(true));
 }
 
 // Whether another session is refused a cleanup latch of this block.
@@ -171,7 +168,6 @@ fn stays_pinned(store: &mut MapStore) -> Result<bool, Fault> {
 }
 
 #[test]
-fn leaf_stays_pinned_until_another_page_is_read(rt: HostRuntime) -> Result<(), Fail> {
-    assert!(rt; over(rt.alloc(), 8, &tree(), stays_pinned)?);
-    Ok(())
+fn leaf_stays_pinned_until_another_page_is_read(rt: HostRuntime) {
+    assert!(rt; over(rt.alloc(), 8, &tree(), stays_pinned) == Ok(true));
 }

@@ -7,7 +7,7 @@ use latch_table::Mode;
 use page_action::MapStore;
 use page_codec::Page;
 use split_finish::{FinishOp, FinishStep, Target};
-use std::test::{Fail, *};
+use std::test::*;
 use tree_shape::links_on;
 
 // The neighbour on this block; 0 for none.
@@ -127,9 +127,8 @@ fn has_new_root(store: &mut MapStore) -> Result<bool, Fault> {
 }
 
 #[test]
-fn new_root_over_a_split_leaf(rt: HostRuntime) -> Result<(), Fail> {
-    assert!(rt; over(rt.alloc(), 12, &split_root(), has_new_root)?);
-    Ok(())
+fn new_root_over_a_split_leaf(rt: HostRuntime) {
+    assert!(rt; over(rt.alloc(), 12, &split_root(), has_new_root) == Ok(true));
 }
 
 // Whether a downlink comes onto the parent; once more, there is nothing to do.
@@ -146,9 +145,8 @@ fn has_downlink(store: &mut MapStore) -> Result<bool, Fault> {
 }
 
 #[test]
-fn downlink_on_a_parent_with_room(rt: HostRuntime) -> Result<(), Fail> {
-    assert!(rt; over(rt.alloc(), 12, &split_leaf(), has_downlink)?);
-    Ok(())
+fn downlink_on_a_parent_with_room(rt: HostRuntime) {
+    assert!(rt; over(rt.alloc(), 12, &split_leaf(), has_downlink) == Ok(true));
 }
 
 // Whether the page is up to the bound of this key.
@@ -173,9 +171,8 @@ fn are_split(store: &mut MapStore) -> Result<bool, Fault> {
 }
 
 #[test]
-fn full_parent_and_the_root_are_split(rt: HostRuntime) -> Result<(), Fail> {
-    assert!(rt; over(rt.alloc(), 12, &split_leaf_under_a_full_root(), are_split)?);
-    Ok(())
+fn full_parent_and_the_root_are_split(rt: HostRuntime) {
+    assert!(rt; over(rt.alloc(), 12, &split_leaf_under_a_full_root(), are_split) == Ok(true));
 }
 
 fn waits_and_reads_again(store: &mut MapStore) -> Result<bool, Fault> {
@@ -190,9 +187,8 @@ fn waits_and_reads_again(store: &mut MapStore) -> Result<bool, Fault> {
 }
 
 #[test]
-fn separator_is_read_again_and_latches_block(rt: HostRuntime) -> Result<(), Fail> {
-    assert!(rt; over(rt.alloc(), 12, &split_leaf(), waits_and_reads_again)?);
-    Ok(())
+fn separator_is_read_again_and_latches_block(rt: HostRuntime) {
+    assert!(rt; over(rt.alloc(), 12, &split_leaf(), waits_and_reads_again) == Ok(true));
 }
 
 // Three levels: on the way from the root, page 1, to leaf 4, whose split is unfinished, stands page 2, full, whose split is
@@ -243,7 +239,6 @@ fn are_both_finished(store: &mut MapStore) -> Result<bool, Fault> {
 }
 
 #[test]
-fn splits_above_are_finished_first(rt: HostRuntime) -> Result<(), Fail> {
-    assert!(rt; over(rt.alloc(), 12, &two_splits(), are_both_finished)?);
-    Ok(())
+fn splits_above_are_finished_first(rt: HostRuntime) {
+    assert!(rt; over(rt.alloc(), 12, &two_splits(), are_both_finished) == Ok(true));
 }

@@ -10,7 +10,7 @@ use latch_table::Mode;
 use page_action::{CallRoom, CallTable, DeletionNumbers, MapStore, PageStore};
 use page_codec::{Page, PageState};
 use std::alloc::Global;
-use std::test::{Fail, *};
+use std::test::*;
 
 // A page that was deleted when so many calls had begun.
 fn deleted(block: u32, deletion: u64) -> Page {
@@ -65,9 +65,8 @@ fn holds_pages(store: &mut MapStore) -> Result<bool, Fault> {
 }
 
 #[test]
-fn pages_and_acts(rt: HostRuntime) -> Result<(), Fail> {
-    assert!(rt; over(rt.alloc(), 8, &[], holds_pages)?);
-    Ok(())
+fn pages_and_acts(rt: HostRuntime) {
+    assert!(rt; over(rt.alloc(), 8, &[], holds_pages) == Ok(true));
 }
 
 // Whether a deleted page is free for a session's call; None where the block is none.
@@ -105,9 +104,8 @@ fn waits_for_calls(store: &mut MapStore) -> Result<bool, Fault> {
 }
 
 #[test]
-fn reuse_waits_for_calls(rt: HostRuntime) -> Result<(), Fail> {
-    assert!(rt; over(rt.alloc(), 8, &[meta(1, 0)], waits_for_calls)?);
-    Ok(())
+fn reuse_waits_for_calls(rt: HostRuntime) {
+    assert!(rt; over(rt.alloc(), 8, &[meta(1, 0)], waits_for_calls) == Ok(true));
 }
 
 // Whether a latch of one session keeps another one from page 5.
@@ -145,9 +143,8 @@ fn has_latches_and_cycles(store: &mut MapStore) -> Result<bool, Fault> {
 }
 
 #[test]
-fn latches_pins_and_cycles(rt: HostRuntime) -> Result<(), Fail> {
-    assert!(rt; over(rt.alloc(), 8, &[], has_latches_and_cycles)?);
-    Ok(())
+fn latches_pins_and_cycles(rt: HostRuntime) {
+    assert!(rt; over(rt.alloc(), 8, &[], has_latches_and_cycles) == Ok(true));
 }
 
 fn pin_call(calls: &mut CallTable, session: Session, block: u32) {
@@ -176,16 +173,16 @@ fn are_listed(calls: &mut CallTable) -> Result<bool, Fault> {
     Ok(are_pinned(calls, &[5]))
 }
 
-// A table of calls of which none has begun.
-fn table(alloc: Global) -> Result<CallTable, Fault> {
+// The same of a table of calls of which none has begun.
+fn are_listed_in(alloc: Global) -> Result<bool, Fault> {
     let numbers = DeletionNumbers::new(alloc, 8)?;
-    Ok(CallTable::new(numbers, CallRoom::new(alloc)?, 0))
+    let mut calls = CallTable::new(numbers, CallRoom::new(alloc)?, 0);
+    are_listed(&mut calls)
 }
 
 #[test]
-fn blocks_that_are_pinned(rt: HostRuntime) -> Result<(), Fail> {
-    assert!(rt; are_listed(&mut table(rt.alloc())?)?);
-    Ok(())
+fn blocks_that_are_pinned(rt: HostRuntime) {
+    assert!(rt; are_listed_in(rt.alloc()) == Ok(true));
 }
 
 // Begins six calls: calls 3 and 5 run, of sessions 0 and 2.
@@ -214,7 +211,6 @@ fn are_told_apart(store: &mut MapStore) -> Result<bool, Fault> {
 }
 
 #[test]
-fn calls_that_began_after(rt: HostRuntime) -> Result<(), Fail> {
-    assert!(rt; over(rt.alloc(), 8, &[meta(1, 0)], are_told_apart)?);
-    Ok(())
+fn calls_that_began_after(rt: HostRuntime) {
+    assert!(rt; over(rt.alloc(), 8, &[meta(1, 0)], are_told_apart) == Ok(true));
 }

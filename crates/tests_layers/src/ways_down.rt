@@ -7,7 +7,7 @@ use index_model::{Entry, Fault, Session};
 use latch_table::Mode;
 use page_action::{MapStore, PageStore};
 use page_codec::{Page, PageState};
-use std::test::{Fail, *};
+use std::test::*;
 use tree_shape::SearchKey;
 
 // The block of the page that is looked at.
@@ -27,9 +27,8 @@ fn is_read(store: &mut MapStore) -> Result<bool, Fault> {
 }
 
 #[test]
-fn page_is_read(rt: HostRuntime) -> Result<(), Fail> {
-    assert!(rt; over(rt.alloc(), 8, &tree(&[entry(1, 1, 1)]), is_read)?);
-    Ok(())
+fn page_is_read(rt: HostRuntime) {
+    assert!(rt; over(rt.alloc(), 8, &tree(&[entry(1, 1, 1)]), is_read) == Ok(true));
 }
 
 fn is_not_there(store: &mut MapStore) -> Result<bool, Fault> {
@@ -37,9 +36,8 @@ fn is_not_there(store: &mut MapStore) -> Result<bool, Fault> {
 }
 
 #[test]
-fn page_that_is_not_there(rt: HostRuntime) -> Result<(), Fail> {
-    assert!(rt; over(rt.alloc(), 8, &[], is_not_there)?);
-    Ok(())
+fn page_that_is_not_there(rt: HostRuntime) {
+    assert!(rt; over(rt.alloc(), 8, &[], is_not_there) == Ok(true));
 }
 
 // Where the page of a way on this level leads to the leaf of an entry.

@@ -7,7 +7,7 @@ use index_model::{Entry, Fault};
 use page_action::MapStore;
 use schedule::Event;
 use session_calls::{Answer, Calls};
-use std::test::{Fail, *};
+use std::test::*;
 
 // Whether an insert is the action of this number, with no split left unfinished; no number is asked for where it is 0.
 fn inserts(
@@ -77,9 +77,8 @@ fn all_run(store: &mut MapStore, calls: &mut Calls) -> bool {
 }
 
 #[test]
-fn calls_run_to_their_ends(rt: HostRuntime) -> Result<(), Fail> {
-    assert!(rt; over_calls(rt.alloc(), 8, &[], 3, all_run)?);
-    Ok(())
+fn calls_run_to_their_ends(rt: HostRuntime) {
+    assert!(rt; over_calls(rt.alloc(), 8, &[], 3, all_run) == Ok(true));
 }
 
 // Whether twenty entries are inserted, in another order than that of their keys.
@@ -110,7 +109,6 @@ fn are_all_there(store: &mut MapStore, calls: &mut Calls) -> bool {
 }
 
 #[test]
-fn inserts_split_full_pages(rt: HostRuntime) -> Result<(), Fail> {
-    assert!(rt; over_calls(rt.alloc(), 64, &[], 1, are_all_there)?);
-    Ok(())
+fn inserts_split_full_pages(rt: HostRuntime) {
+    assert!(rt; over_calls(rt.alloc(), 64, &[], 1, are_all_there) == Ok(true));
 }
