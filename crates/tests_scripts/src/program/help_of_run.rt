@@ -130,7 +130,7 @@ fn jobs_are_shown(rt: HostRuntime) -> Result<(), Fail> {
     Ok(())
 }
 
-/// The number of the first of these lines that isn't of the form of its place, of the forms that are shown, or how many there are.
+/// How many lines have the form of their place, up to the first that hasn't, and whether all have that are shown and no more.
 fn form_of_each(forms: &str, lines: &str) -> (u32, bool) {
     let mut count = 0u32;
     let mut lines = lines.lines();
