@@ -1,7 +1,7 @@
 //! What no clause says: sessions with their answers, over files and in memory.
 
 use access_method::Index;
-use device::{CrashImage, Device, MemDevice, Unknown};
+use device::{CrashImage, MemDevice, Unknown};
 use index_model::{Fault, Limits};
 use ledger_lines::{answer_lines, ledger};
 use page_store::Store;
@@ -84,9 +84,9 @@ fn left(alloc: Global, index: InMemory) -> Result<MemDevice, Fault> {
 }
 
 /// Has an index answer lines. What that promises ends here.
-fn answered<D: Device>(
+fn answered(
     alloc: Global,
-    index: &mut Index<Store<D>>,
+    index: &mut InMemory,
     input: &mut &[u8],
     out: &mut Vec<u8>,
 ) -> io::Result<()> {
@@ -94,42 +94,44 @@ fn answered<D: Device>(
 }
 
 /// What an index prints for these lines.
-fn answers<D: Device>(
-    alloc: Global,
-    index: &mut Index<Store<D>>,
-    lines: &[u8],
-) -> Result<Vec<u8>, Fail> {
+fn answers(alloc: Global, index: &mut InMemory, lines: &[u8]) -> io::Result<Vec<u8>> {
     let mut input = lines;
     let mut out = Vec::new(alloc);
     answered(alloc, index, &mut input, &mut out)?;
     Ok(out)
 }
 
-/// The first of these lines, counted from 1, that isn't answered so; 0 if all are.
-fn wrong<D: Device>(
-    alloc: Global,
-    index: &mut Index<Store<D>>,
-    rows: &[(&str, &str)],
-) -> Result<usize, Fail> {
-    for (place, (line, answer)) in rows.iter().enumerate() {
-        let printed = answers(alloc, index, line.as_bytes())?;
-        if text(&printed) != *answer {
-            return Ok(place + 1);
-        }
+/// Whether an index prints this for these lines.
+fn prints(alloc: Global, index: &mut InMemory, lines: &[u8], wanted: &str) -> bool {
+    match answers(alloc, index, lines) {
+        Ok(printed) => text(&printed) == wanted,
+        Err(_) => false,
     }
-    Ok(0)
 }
 
-/// Whether inserts of a key of 65 bytes are refused for that, the one with a bad row too.
-fn refuses_long_keys<D: Device>(alloc: Global, index: &mut Index<Store<D>>) -> Result<bool, Fail> {
-    let long = format!(in alloc; "insert {:0130} (0,1)", 0)?;
-    let long_first = format!(in alloc; "insert {:0130} (0,0)", 0)?;
-    let rows = [
-        (long.as_str(), "refused 6 KeyTooLong\n"),
-        (long_first.as_str(), "refused 6 KeyTooLong\n"),
-    ];
-    Ok(wrong(alloc, index, &rows)? == 0)
+/// The first of these lines, counted from 1, that isn't answered so; 0 if all are.
+fn wrong(alloc: Global, index: &mut InMemory, rows: &[(&str, &str)]) -> usize {
+    let mut place = 0usize;
+    for (line, answer) in rows {
+        place = place.saturating_add(1);
+        if !prints(alloc, index, line.as_bytes(), answer) {
+            return place;
+        }
+    }
+    0
 }
+
+/// Inserts of a key of 65 bytes, one with a bad row too: each is refused for its key.
+const LONG: [(&str, &str); 2] = [
+    (
+        "insert 0000000000000000000000000000000000000000000000000000000000000000000000000000000000000000000000000000000000000000000000000000000000 (0,1)",
+        "refused 6 KeyTooLong\n",
+    ),
+    (
+        "insert 0000000000000000000000000000000000000000000000000000000000000000000000000000000000000000000000000000000000000000000000000000000000 (0,0)",
+        "refused 6 KeyTooLong\n",
+    ),
+];
 
 /// Each kind of line, over a new file, and again over the same one, which holds what the first run left. The last line has no
 /// newline.
@@ -221,15 +223,25 @@ const REFUSED: [(&str, &str); 23] = [
     ("\n", "not a line\n"),
 ];
 
-/// Nothing is changed by them, nor by bytes that are no text.
+/// Whether an index refuses keys that are too long, those lines, and bytes that are no text.
+fn refuses(alloc: Global, index: &mut InMemory) -> [bool; 3] {
+    let lines = b"\xff\0insert 61 (0,1)\nlist * *\ncommit\n";
+    [
+        wrong(alloc, index, &LONG) == 0,
+        wrong(alloc, index, &REFUSED) == 0,
+        prints(alloc, index, lines, "not a line\ndone 0\ncommitted 0\n"),
+    ]
+}
+
+fn new_refuses(alloc: Global) -> Result<[bool; 3], Fault> {
+    let mut index = opened(alloc, made(alloc)?)?;
+    Ok(refuses(alloc, &mut index))
+}
+
+/// Nothing is changed by them.
 #[test]
 fn refusals(rt: HostRuntime) -> Result<(), Fail> {
-    let mut index = opened(rt.alloc(), made(rt.alloc())?)?;
-    assert!(rt; refuses_long_keys(rt.alloc(), &mut index)?);
-    assert_eq!(rt; wrong(rt.alloc(), &mut index, &REFUSED)?, 0);
-    let lines = b"\xff\0insert 61 (0,1)\nlist * *\ncommit\n";
-    let printed = answers(rt.alloc(), &mut index, lines)?;
-    assert_eq!(rt; text(&printed), "not a line\ndone 0\ncommitted 0\n");
+    assert_eq!(rt; new_refuses(rt.alloc()), Ok([true; 3]));
     Ok(())
 }
 
@@ -247,15 +259,17 @@ fn acknowledged(printed: &str) -> (usize, &'static str) {
 }
 
 /// Whether a list of all, over the index on this device, prints this.
-fn lists(alloc: Global, device: MemDevice, wanted: &str) -> Result<bool, Fail> {
+fn lists(alloc: Global, device: MemDevice, wanted: &str) -> Result<bool, Fault> {
     let mut index = opened(alloc, device)?;
-    let printed = answers(alloc, &mut index, b"list * *\n")?;
-    Ok(text(&printed) == wanted)
+    Ok(prints(alloc, &mut index, b"list * *\n", wanted))
 }
 
-/// Answers two inserts with a commit each over a device that stops at this call, and opens what a crash leaves: how many commits
-/// were told of; 3 where what is told or left isn't right, None where the index isn't opened.
-fn stops_at(alloc: Global, call: u64) -> Result<Option<usize>, Fail> {
+/// Answers two inserts with a commit each over a device that stops at this call: what is printed, and what a crash leaves; None
+/// where the index isn't opened.
+fn printed_and_left(
+    alloc: Global,
+    call: u64,
+) -> Result<Option<(io::Result<Vec<u8>>, Result<MemDevice, Fault>)>, Fault> {
     let mut device = made(alloc)?;
     stop_at(&mut device, call);
     let Ok(mut index) = opened(alloc, device) else {
@@ -263,7 +277,14 @@ fn stops_at(alloc: Global, call: u64) -> Result<Option<usize>, Fail> {
     };
     let lines = b"insert 61 (0,1)\ncommit\ninsert 62 (0,1)\ncommit\n";
     let printed = answers(alloc, &mut index, lines);
-    let found = left(alloc, index);
+    Ok(Some((printed, left(alloc, index))))
+}
+
+/// The same, and opens what a crash leaves: how many commits were told of; 3 where what is told or left isn't right.
+fn stops_at(alloc: Global, call: u64) -> Result<Option<usize>, Fail> {
+    let Some((printed, found)) = printed_and_left(alloc, call)? else {
+        return Ok(None);
+    };
     let (count, wanted) = acknowledged(text(&printed?));
     Ok(Some(if lists(alloc, found?, wanted)? {
         count

@@ -13,18 +13,17 @@ use tests_support::plain::{
 };
 use tests_support::small::{LEN, LIMITS, limits, made_with, marked};
 
-const IMAGES: [CrashImage; 3] = [CrashImage::Drop, CrashImage::Keep, CrashImage::Tear];
-
-/// A store of 16 frames over a new index of these limits: a metapage and an empty leaf.
-fn new_store(alloc: Global, limits: &Limits) -> Result<Store<MemDevice>, Fault> {
-    match open(alloc, made_with(alloc, limits)?, 16) {
+/// A store of 16 frames over the index on a device.
+fn opened(alloc: Global, device: MemDevice) -> Result<Store<MemDevice>, Fault> {
+    match open(alloc, device, 16) {
         Ok(store) => Ok(store),
         Err(refused) => Err(refused.fault),
     }
 }
 
-fn store(alloc: Global) -> Result<Store<MemDevice>, Fault> {
-    new_store(alloc, &LIMITS)
+/// A store over a new index of these limits: a metapage and an empty leaf.
+fn new_store(alloc: Global, limits: &Limits) -> Result<Store<MemDevice>, Fault> {
+    opened(alloc, made_with(alloc, limits)?)
 }
 
 /// The cycle of these bytes' page, 0 where zeros stand, 99 where they are no page's.
@@ -69,7 +68,7 @@ fn logged(alloc: Global, device: &mut MemDevice) -> Result<u32, Fault> {
 }
 
 fn cycle_of<S: PageStore>(store: &mut S, block: u32) -> Result<u32, Fault> {
-    page(store, block).map(|page| page.cycle)
+    Ok(page(store, block)?.cycle)
 }
 
 /// A call of a store.
@@ -96,6 +95,25 @@ enum Call {
     Durable,
     /// 1 where the log has failed.
     IsStopped,
+    /// One of all pages.
+    All(CallOfAll),
+}
+
+/// Calls of all the pages of a store, one after the other.
+#[derive(Clone, Copy)]
+enum CallOfAll {
+    /// Each gets a cycle, and is written.
+    Write,
+    /// Each gets a cycle, and then another, which is forced: 1 where all have what they got last.
+    ActTwice,
+    /// 1 where each has the cycle that it got first.
+    Have,
+    /// Sessions pin 16 of them: 1 where these are those that they were.
+    Pin,
+    /// One is pinned, and 15 are changed, so that 16 are in memory.
+    Crowd,
+    /// 1 where each has the cycle that it got last after that.
+    HaveCrowd,
 }
 
 fn begin<S: PageStore>(store: &mut S, session: u32) -> Result<u64, Fault> {
@@ -134,6 +152,7 @@ fn answer_of<S: PageStore>(store: &mut S, call: Call) -> Result<u64, Fault> {
         Call::Acts => Ok(store.acts()),
         Call::Durable => Ok(store.durable()),
         Call::IsStopped => Ok(u64::from(store.is_stopped())),
+        Call::All(call) => answer_of_all(store, call),
     }
 }
 
@@ -144,19 +163,80 @@ fn answer(store: &mut Store<MemDevice>, call: Call) -> Result<u64, Fault> {
     }
 }
 
+/// A call, and what it answers.
+type Row = (Call, Result<u64, Fault>);
+
 /// The first of these calls, counted from 1, that isn't answered so; 0 where all are.
-fn wrong(store: &mut Store<MemDevice>, rows: &[(Call, Result<u64, Fault>)]) -> usize {
-    for (place, (call, wanted)) in rows.iter().enumerate() {
+fn wrong(store: &mut Store<MemDevice>, rows: &[Row]) -> usize {
+    let mut place = 0usize;
+    for (call, wanted) in rows {
+        place = place.saturating_add(1);
         if answer(store, *call) != *wanted {
-            return place + 1;
+            return place;
         }
     }
     0
 }
 
+/// The same of three lists of calls of a new store, one after the other.
+fn wrong_of_new(alloc: Global, limits: &Limits, lists: [&[Row]; 3]) -> Result<[usize; 3], Fault> {
+    let mut store = new_store(alloc, limits)?;
+    let [first, second, third] = lists;
+    Ok([
+        wrong(&mut store, first),
+        wrong(&mut store, second),
+        wrong(&mut store, third),
+    ])
+}
+
+/// The same of one list, and the device of the store after it.
+fn device_after(alloc: Global, limits: &Limits, rows: &[Row]) -> Result<(usize, MemDevice), Fault> {
+    let mut store = new_store(alloc, limits)?;
+    let wrong = wrong(&mut store, rows);
+    Ok((wrong, device_of(store)))
+}
+
+/// Whether the pages of these blocks have these cycles.
+fn have_cycles(device: &mut MemDevice, cycles: &[(u32, u32)]) -> bool {
+    for (block, cycle) in cycles {
+        if cycle_at(device, *block) != *cycle {
+            return false;
+        }
+    }
+    true
+}
+
+/// Whether a crash leaves images of so many blocks in the log, and pages of these cycles at their places.
+fn leaves(
+    alloc: Global,
+    device: &MemDevice,
+    image: CrashImage,
+    images: u32,
+    cycles: &[(u32, u32)],
+) -> Result<bool, Fault> {
+    let mut found = left(alloc, device, image)?;
+    let are_logged = logged(alloc, &mut found) == Ok(images);
+    Ok(have_cycles(&mut found, cycles) && are_logged)
+}
+
+/// Whether each crash of a new store that has answered these calls so leaves this.
+fn leave(
+    alloc: Global,
+    rows: &[Row],
+    images: u32,
+    cycles: &[(u32, u32)],
+) -> Result<[bool; 4], Fault> {
+    let (wrong, device) = device_after(alloc, &LIMITS, rows)?;
+    Ok([
+        wrong == 0,
+        leaves(alloc, &device, CrashImage::Drop, images, cycles) == Ok(true),
+        leaves(alloc, &device, CrashImage::Keep, images, cycles) == Ok(true),
+        leaves(alloc, &device, CrashImage::Tear, images, cycles) == Ok(true),
+    ])
+}
+
 #[test]
 fn forced_acts_are_left(rt: HostRuntime) -> Result<(), Fail> {
-    let mut store = store(rt.alloc())?;
     let rows = [
         (Call::Room, Ok(15)),
         (Call::Act(1, 1), Ok(1)),
@@ -167,19 +247,12 @@ fn forced_acts_are_left(rt: HostRuntime) -> Result<(), Fail> {
         (Call::Room, Ok(13)),
         (Call::Acts, Ok(2)),
     ];
-    assert_eq!(rt; wrong(&mut store, &rows), 0);
-    let device = device_of(store);
-    for image in IMAGES {
-        let mut found = left(rt.alloc(), &device, image)?;
-        assert!(rt; logged(rt.alloc(), &mut found) == Ok(1));
-        assert!(rt; cycle_at(&mut found, 1) == 0);
-    }
+    assert!(rt; leave(rt.alloc(), &rows, 1, &[(1, 0)]) == Ok([true; 4]));
     Ok(())
 }
 
 #[test]
 fn a_checkpoint_brings_pages_home(rt: HostRuntime) -> Result<(), Fail> {
-    let mut store = store(rt.alloc())?;
     let rows = [
         (Call::Act(1, 7), Ok(1)),
         (Call::Act(2, 8), Ok(2)),
@@ -187,20 +260,12 @@ fn a_checkpoint_brings_pages_home(rt: HostRuntime) -> Result<(), Fail> {
         (Call::Durable, Ok(2)),
         (Call::Room, Ok(15)),
     ];
-    assert_eq!(rt; wrong(&mut store, &rows), 0);
-    let device = device_of(store);
-    for image in IMAGES {
-        let mut found = left(rt.alloc(), &device, image)?;
-        assert!(rt; logged(rt.alloc(), &mut found) == Ok(0));
-        for (block, cycle) in [(1, 7), (2, 8), (3, 0)] {
-            assert!(rt; cycle_at(&mut found, block) == cycle);
-        }
-    }
+    assert!(rt; leave(rt.alloc(), &rows, 0, &[(1, 7), (2, 8), (3, 0)]) == Ok([true; 4]));
     Ok(())
 }
 
 /// How a store goes on after a checkpoint that has failed, whose log has failed too.
-const STOPPED: [(Call, Result<u64, Fault>); 5] = [
+const STOPPED: [Row; 5] = [
     (Call::IsStopped, Ok(1)),
     (Call::Act(1, 8), Err(Fault::Stopped)),
     (Call::Checkpoint, Err(Fault::Stopped)),
@@ -209,34 +274,33 @@ const STOPPED: [(Call, Result<u64, Fault>); 5] = [
 ];
 
 /// The same where it can go on.
-const GOING: [(Call, Result<u64, Fault>); 2] = [
-    (Call::IsStopped, Ok(0)),
-    (Call::Checkpoint, Ok(1)),
-];
+const GOING: [Row; 2] = [(Call::IsStopped, Ok(0)), (Call::Checkpoint, Ok(1))];
 
 // Four calls force, one writes the page and one syncs it, two close the log; a ninth isn't made.
 #[test]
 fn each_call_of_a_checkpoint_fails(rt: HostRuntime) -> Result<(), Fail> {
     for n in 1..10 {
-        let mut store = store(rt.alloc())?;
         let rows = [
             (Call::Act(1, 7), Ok(1)),
             (Call::FailAt(n), Ok(0)),
             (Call::Checkpoint, if n < 9 { Err(Fault::Io) } else { Ok(1) }),
             (Call::FailAt(0), Ok(0)),
         ];
-        assert_eq!(rt; wrong(&mut store, &rows), 0);
-        if n <= 4 || n == 7 || n == 8 {
-            assert_eq!(rt; wrong(&mut store, &STOPPED), 0);
+        let then = if n <= 4 || n == 7 || n == 8 {
+            STOPPED.as_slice()
         } else {
-            assert_eq!(rt; wrong(&mut store, &GOING), 0);
-        }
+            GOING.as_slice()
+        };
+        assert_eq!(rt;
+            wrong_of_new(rt.alloc(), &LIMITS, [&rows, then, &[]]),
+            Ok([0; 3])
+        );
     }
     Ok(())
 }
 
 /// Three pages are changed, in the order 2, 3, 1, and made durable.
-const CHANGED: [(Call, Result<u64, Fault>); 5] = [
+const CHANGED: [Row; 5] = [
     (Call::Act(2, 7), Ok(1)),
     (Call::Act(3, 7), Ok(2)),
     (Call::Act(1, 7), Ok(3)),
@@ -245,7 +309,7 @@ const CHANGED: [(Call, Result<u64, Fault>); 5] = [
 ];
 
 /// They are flushed, and then there is nothing to flush.
-const FLUSHED: [(Call, Result<u64, Fault>); 5] = [
+const FLUSHED: [Row; 5] = [
     (Call::Flush, Ok(2)),
     (Call::Flush, Ok(3)),
     (Call::Flush, Ok(1)),
@@ -257,55 +321,76 @@ const FLUSHED: [(Call, Result<u64, Fault>); 5] = [
 #[test]
 fn flushes_go_on_after_a_failed_checkpoint(rt: HostRuntime) -> Result<(), Fail> {
     for written in 0..4usize {
-        let mut store = store(rt.alloc())?;
-        assert_eq!(rt; wrong(&mut store, &CHANGED), 0);
         let rows = [
             (Call::FailAt(written as u64 + 1), Ok(0)),
             (Call::Checkpoint, Err(Fault::Io)),
         ];
-        assert_eq!(rt; wrong(&mut store, &rows), 0);
         let flushed = &FLUSHED[..];
-        assert_eq!(rt; wrong(&mut store, &flushed[written..]), 0);
+        let lists = [&CHANGED[..], &rows, &flushed[written..]];
+        assert_eq!(rt; wrong_of_new(rt.alloc(), &LIMITS, lists), Ok([0; 3]));
     }
     Ok(())
 }
 
-/// Fifteen acts, each forced, fill the log: whether each has what is left of it.
-fn fills<S: PageStore>(store: &mut S) -> bool {
+/// Fifteen acts, each forced, fill the log: whether each has what is left of it. An act is refused then until a checkpoint is made.
+fn fills(store: &mut Store<MemDevice>) -> bool {
     for n in 0..15u32 {
         let number = u64::from(n) + 1;
-        if answer_of(store, Call::Room) != Ok(16 - number)
-            || answer_of(store, Call::Act(1, n)) != Ok(number)
-            || answer_of(store, Call::Force) != Ok(number)
-        {
+        let rows = [
+            (Call::Room, Ok(16 - number)),
+            (Call::Act(1, n), Ok(number)),
+            (Call::Force, Ok(number)),
+        ];
+        if wrong(store, &rows) != 0 {
             return false;
         }
     }
-    true
-}
-
-#[test]
-fn a_full_log_is_refused(rt: HostRuntime) -> Result<(), Fail> {
-    let mut store = store(rt.alloc())?;
     let rows = [
         (Call::Act(1, 15), Err(Fault::LogFull)),
         (Call::Checkpoint, Ok(15)),
         (Call::Act(1, 15), Ok(16)),
     ];
-    assert!(rt; fills(&mut store) && wrong(&mut store, &rows) == 0);
+    wrong(store, &rows) == 0
+}
+
+fn new_fills(alloc: Global) -> Result<bool, Fault> {
+    let mut store = new_store(alloc, &LIMITS)?;
+    Ok(fills(&mut store))
+}
+
+#[test]
+fn a_full_log_is_refused(rt: HostRuntime) -> Result<(), Fail> {
+    assert!(rt; new_fills(rt.alloc()) == Ok(true));
     Ok(())
+}
+
+/// Acts on block 1 forty times, and forces: whether each is answered right, with the room that is left.
+fn acts_on_one_block(store: &mut Store<MemDevice>) -> bool {
+    for n in 1..41u32 {
+        let rows = [(Call::Act(1, n), Ok(u64::from(n))), (Call::Room, Ok(14))];
+        if wrong(store, &rows) != 0 {
+            return false;
+        }
+    }
+    wrong(store, &[(Call::Force, Ok(40))]) == 0
+}
+
+/// How many blocks have an image in the log that a crash leaves of a store.
+fn logged_of(alloc: Global, store: &Store<MemDevice>) -> Result<u32, Fault> {
+    let mut found = left_of(alloc, store, CrashImage::Drop)?;
+    logged(alloc, &mut found)
+}
+
+/// Whether a new store does that right, and so many blocks then.
+fn new_acts_on_one_block(alloc: Global) -> Result<(bool, Result<u32, Fault>), Fault> {
+    let mut store = new_store(alloc, &LIMITS)?;
+    let is_right = acts_on_one_block(&mut store);
+    Ok((is_right, logged_of(alloc, &store)))
 }
 
 #[test]
 fn acts_on_one_block_wait_as_one_image(rt: HostRuntime) -> Result<(), Fail> {
-    let mut store = store(rt.alloc())?;
-    for n in 1..41u32 {
-        let rows = [(Call::Act(1, n), Ok(u64::from(n))), (Call::Room, Ok(14))];
-        assert_eq!(rt; wrong(&mut store, &rows), 0);
-    }
-    assert_eq!(rt; wrong(&mut store, &[(Call::Force, Ok(40))]), 0);
-    let mut found = left_of(rt.alloc(), &store, CrashImage::Drop)?;
-    assert!(rt; logged(rt.alloc(), &mut found) == Ok(1));
+    assert!(rt; new_acts_on_one_block(rt.alloc()) == Ok((true, Ok(1))));
     Ok(())
 }
 
@@ -346,52 +431,89 @@ fn acts_twice<S: PageStore>(store: &mut S) -> Result<bool, Fault> {
 /// Acts on all pages, and writes them.
 fn writes_all<S: PageStore>(store: &mut S) -> Result<u64, Fault> {
     act_on_all(store, 0)?;
-    checkpoint(store)
+    checkpoint(store)?;
+    Ok(0)
 }
 
-/// A store of 40 pages, all written.
-fn checkpointed(alloc: Global) -> Result<Store<MemDevice>, Fault> {
-    let mut store = new_store(alloc, &limits(MANY))?;
-    writes_all(&mut store)?;
-    Ok(store)
+/// Pins two pages by each of 8 sessions: whether they are those that they were.
+fn pins<S: PageStore>(store: &mut S) -> bool {
+    for n in 0..8u32 {
+        if pin(store, n, n + 1) != Ok(0) || pin(store, n, n + 9) != Ok(0) {
+            return false;
+        }
+    }
+    for block in 1..17u32 {
+        if cycle_of(store, block) != Ok(block) {
+            return false;
+        }
+    }
+    true
+}
+
+/// Pins block 39, and changes the blocks 1 to 15.
+fn crowd<S: PageStore>(store: &mut S) -> Result<u64, Fault> {
+    cycle_of(store, 39)?;
+    pin(store, 0, 39)?;
+    for block in 1..16u32 {
+        act(store, &[marked(block, block.saturating_add(100))])?;
+    }
+    Ok(0)
+}
+
+/// Whether the pages are as they were acted last after that.
+fn has_crowd<S: PageStore>(store: &mut S) -> bool {
+    for block in 1..40u32 {
+        let cycle = if block < 16 { block + 100 } else { block };
+        if cycle_of(store, block) != Ok(cycle) {
+            return false;
+        }
+    }
+    true
+}
+
+/// What such a call answers.
+fn answer_of_all<S: PageStore>(store: &mut S, call: CallOfAll) -> Result<u64, Fault> {
+    match call {
+        CallOfAll::Write => writes_all(store),
+        CallOfAll::ActTwice => Ok(u64::from(acts_twice(store)?)),
+        CallOfAll::Have => Ok(u64::from(has_all(store, 0))),
+        CallOfAll::Pin => Ok(u64::from(pins(store))),
+        CallOfAll::Crowd => crowd(store),
+        CallOfAll::HaveCrowd => Ok(u64::from(has_crowd(store))),
+    }
 }
 
 /// Whether what is opened after a crash has the pages of the second time.
 fn is_left(alloc: Global, device: &MemDevice, image: CrashImage) -> Result<bool, Fault> {
-    match open(alloc, left(alloc, device, image)?, 16) {
-        Ok(store) => {
-            let mut store = store;
-            Ok(has_all(&mut store, 100))
+    let mut store = opened(alloc, left(alloc, device, image)?)?;
+    Ok(has_all(&mut store, 100))
+}
+
+/// Whether each crash leaves the pages of the second time.
+fn are_left(alloc: Global, device: &MemDevice) -> bool {
+    for image in [CrashImage::Drop, CrashImage::Keep, CrashImage::Tear] {
+        if is_left(alloc, device, image) != Ok(true) {
+            return false;
         }
-        Err(refused) => Err(refused.fault),
     }
+    true
 }
 
 // 40 pages in 16 frames: each is as it was acted last, also after a crash.
 #[test]
 fn more_pages_than_frames(rt: HostRuntime) -> Result<(), Fail> {
-    let mut store = new_store(rt.alloc(), &limits(MANY))?;
-    assert!(rt; acts_twice(&mut store) == Ok(true));
-    let device = device_of(store);
-    for image in IMAGES {
-        assert!(rt; is_left(rt.alloc(), &device, image) == Ok(true));
-    }
+    let rows = [(Call::All(CallOfAll::ActTwice), Ok(1))];
+    let (wrong, device) = device_after(rt.alloc(), &limits(MANY), &rows)?;
+    assert!(rt; are_left(rt.alloc(), &device) && wrong == 0);
     Ok(())
 }
 
 // 16 frames hold the pages that 8 sessions pin, and one more has no frame.
 #[test]
 fn pinned_pages_stay(rt: HostRuntime) -> Result<(), Fail> {
-    let mut store = checkpointed(rt.alloc())?;
-    for n in 0..8u32 {
-        let rows = [(Call::Pin(n, n + 1), Ok(0)), (Call::Pin(n, n + 9), Ok(0))];
-        assert_eq!(rt; wrong(&mut store, &rows), 0);
-    }
-    for block in 1..17u32 {
-        let rows = [(Call::Cycle(block), Ok(u64::from(block)))];
-        assert_eq!(rt; wrong(&mut store, &rows), 0);
-    }
     let rows = [
+        (Call::All(CallOfAll::Write), Ok(0)),
+        (Call::All(CallOfAll::Pin), Ok(1)),
         (Call::Cycle(20), Err(Fault::NoFrame)),
         (Call::Act(20, 1), Err(Fault::NoFrame)),
         (Call::Act(5, 77), Ok(40)),
@@ -399,49 +521,43 @@ fn pinned_pages_stay(rt: HostRuntime) -> Result<(), Fail> {
         (Call::Cycle(20), Ok(20)),
         (Call::Cycle(5), Ok(77)),
     ];
-    assert_eq!(rt; wrong(&mut store, &rows), 0);
+    assert_eq!(rt;
+        wrong_of_new(rt.alloc(), &limits(MANY), [&rows, &[], &[]]),
+        Ok([0; 3])
+    );
     Ok(())
 }
 
 // A read that fails leaves all as it was.
 #[test]
 fn a_failed_fetch_is_made_again(rt: HostRuntime) -> Result<(), Fail> {
-    let mut store = checkpointed(rt.alloc())?;
     let rows = [
+        (Call::All(CallOfAll::Write), Ok(0)),
         (Call::FailAt(1), Ok(0)),
         (Call::Cycle(1), Err(Fault::Io)),
         (Call::Cycle(1), Ok(1)),
         (Call::IsStopped, Ok(0)),
+        (Call::All(CallOfAll::Have), Ok(1)),
     ];
-    assert_eq!(rt; wrong(&mut store, &rows), 0);
-    assert!(rt; has_all(&mut store, 0));
+    assert_eq!(rt;
+        wrong_of_new(rt.alloc(), &limits(MANY), [&rows, &[], &[]]),
+        Ok([0; 3])
+    );
     Ok(())
 }
 
-/// Pins block 39, and changes the blocks 1 to 15.
-fn crowd<S: PageStore>(store: &mut S) -> Result<(), Fault> {
-    cycle_of(store, 39)?;
-    pin(store, 0, 39)?;
-    for block in 1..16u32 {
-        act(store, &[marked(block, block.saturating_add(100))])?;
-    }
-    Ok(())
-}
-
-/// A store of 40 pages of which 16 are in memory: block 39, which is pinned, and the blocks 1 to 15, which were changed in this
-/// order.
-fn crowded(alloc: Global) -> Result<Store<MemDevice>, Fault> {
-    let mut store = checkpointed(alloc)?;
-    crowd(&mut store)?;
-    Ok(store)
-}
+/// A store of 40 pages, all written, of which 16 are in memory then: block 39, which is pinned, and the blocks 1 to 15, which were
+/// changed in this order.
+const CROWDED: [Row; 2] = [
+    (Call::All(CallOfAll::Write), Ok(0)),
+    (Call::All(CallOfAll::Crowd), Ok(0)),
+];
 
 // Block 20 comes for block 1, which is written before, and the next four of the changed ones after it: a quarter of the frames.
 // Then block 20 is read. What wasn't written by the call that failed is changed as before, and first in the order.
 #[test]
 fn pages_that_cannot_be_written_stay(rt: HostRuntime) -> Result<(), Fail> {
     for n in 1..8u64 {
-        let mut store = crowded(rt.alloc())?;
         let rows = [
             (Call::Force, Ok(54)),
             (Call::FailAt(n), Ok(0)),
@@ -450,12 +566,14 @@ fn pages_that_cannot_be_written_stay(rt: HostRuntime) -> Result<(), Fail> {
             (Call::IsStopped, Ok(0)),
             (Call::Flush, Ok(n.min(6))),
             (Call::Cycle(20), Ok(20)),
+            (Call::All(CallOfAll::HaveCrowd), Ok(1)),
         ];
-        assert_eq!(rt; wrong(&mut store, &rows), 0, "call {n}");
-        for block in 1..40u32 {
-            let cycle = if block < 16 { block + 100 } else { block };
-            assert_eq!(rt; cycle_of(&mut store, block), Ok(cycle), "call {n}");
-        }
+        let lists = [&CROWDED[..], &rows, &[]];
+        assert_eq!(rt;
+            wrong_of_new(rt.alloc(), &limits(MANY), lists),
+            Ok([0; 3]),
+            "call {n}"
+        );
     }
     Ok(())
 }
@@ -464,7 +582,6 @@ fn pages_that_cannot_be_written_stay(rt: HostRuntime) -> Result<(), Fail> {
 #[test]
 fn pages_that_cannot_be_forced_stay(rt: HostRuntime) -> Result<(), Fail> {
     for n in 1..12u64 {
-        let mut store = crowded(rt.alloc())?;
         let rows = [
             (Call::FailAt(n), Ok(0)),
             (
@@ -487,7 +604,12 @@ fn pages_that_cannot_be_forced_stay(rt: HostRuntime) -> Result<(), Fail> {
             ),
             (Call::Cycle(1), Ok(101)),
         ];
-        assert_eq!(rt; wrong(&mut store, &rows), 0, "call {n}");
+        let lists = [&CROWDED[..], &rows, &[]];
+        assert_eq!(rt;
+            wrong_of_new(rt.alloc(), &limits(MANY), lists),
+            Ok([0; 3]),
+            "call {n}"
+        );
     }
     Ok(())
 }

@@ -40,20 +40,31 @@ fn told(answer: &Answer) -> (&'static str, u64) {
     }
 }
 
-// The answers to these events.
-fn answers_to<S: PageStore>(
-    alloc: Global,
-    world: &mut World<S, Blocks>,
-    rows: &[(Event, &str, u64)],
-) -> Result<Vec<Answer>, Fault> {
-    let (mut events, mut answers) = (Vec::new(alloc), Vec::new(alloc));
+// These events.
+fn events_of(alloc: Global, rows: &[(Event, &str, u64)]) -> Result<Vec<Event>, Fault> {
+    let mut events = Vec::new(alloc);
     for (event, _, _) in rows {
         if events.push(*event).is_err() {
             return Err(Fault::NoMemory);
         }
     }
-    run(world, &events, &mut answers)?;
-    Ok(answers)
+    Ok(events)
+}
+
+// The first of these answers, counted from 1, that isn't so; 0 where all are, 99 where there are more or fewer.
+fn wrong_answer(answers: &[Answer], rows: &[(Event, &str, u64)]) -> usize {
+    let mut place = 0usize;
+    for (_, word, number) in rows {
+        let Some(answer) = answers.get(place) else {
+            return 99;
+        };
+        place = place.saturating_add(1);
+        let said = told(answer);
+        if said.0 != *word || said.1 != *number {
+            return place;
+        }
+    }
+    if answers.len() == rows.len() { 0 } else { 99 }
 }
 
 // The first of these events, counted from 1, that isn't answered so; 0 where all are, 99 where they can't be run.
@@ -62,21 +73,23 @@ fn wrong<S: PageStore>(
     world: &mut World<S, Blocks>,
     rows: &[(Event, &str, u64)],
 ) -> usize {
-    let Ok(answers) = answers_to(alloc, world, rows) else {
+    let Ok(events) = events_of(alloc, rows) else {
         return 99;
     };
-    for (place, (answer, (_, word, number))) in answers.iter().zip(rows).enumerate() {
-        let said = told(answer);
-        if said.0 != *word || said.1 != *number {
-            return place + 1;
-        }
-    }
-    if answers.len() == rows.len() { 0 } else { 99 }
+    let mut answers = Vec::new(alloc);
+    let is_run = run(world, &events, &mut answers).is_ok();
+    let wrong = wrong_answer(&answers, rows);
+    if is_run { wrong } else { 99 }
+}
+
+// The same of a new world of so many sessions.
+fn wrong_of_new(alloc: Global, sessions: u32, rows: &[(Event, &str, u64)]) -> Result<usize, Fault> {
+    let mut world = world(alloc, sessions)?;
+    Ok(wrong(alloc, &mut world, rows))
 }
 
 #[test]
 fn latched_leaf_blocks_others(rt: HostRuntime) -> Result<(), Fail> {
-    let mut world = world(rt.alloc(), 4)?;
     let rows = [
         (Event::Insert(0, entry(0x61, 1)), "begun", 0),
         (Event::Step(0), "going", 0),
@@ -96,13 +109,12 @@ fn latched_leaf_blocks_others(rt: HostRuntime) -> Result<(), Fail> {
         (Event::Step(2), "added", 3),
         (Event::Step(3), "ready", 3),
     ];
-    assert_eq!(rt; wrong(rt.alloc(), &mut world, &rows), 0);
+    assert_eq!(rt; wrong_of_new(rt.alloc(), 4, &rows), Ok(0));
     Ok(())
 }
 
 #[test]
 fn each_event_once(rt: HostRuntime) -> Result<(), Fail> {
-    let mut world = world(rt.alloc(), 2)?;
     let rows = [
         (Event::Step(0), "refused", 12),
         (Event::Insert(2, entry(0x61, 1)), "refused", 12),
@@ -123,7 +135,7 @@ fn each_event_once(rt: HostRuntime) -> Result<(), Fail> {
         (Event::End(0), "ended", 0),
         (Event::End(0), "refused", 12),
     ];
-    assert_eq!(rt; wrong(rt.alloc(), &mut world, &rows), 0);
+    assert_eq!(rt; wrong_of_new(rt.alloc(), 2, &rows), Ok(0));
     Ok(())
 }
 
@@ -158,29 +170,34 @@ fn reads<S: PageStore>(world: &mut World<S, Blocks>) -> [bool; 6] {
     ]
 }
 
+// What is read of a new world, and how many calls its store has begun then.
+fn reads_of_new(alloc: Global) -> Result<([bool; 6], u64), Fault> {
+    let mut world = world(alloc, 64)?;
+    let are_right = reads(&mut world);
+    let store = world.into_store();
+    Ok((are_right, store.begun()))
+}
+
 #[test]
 fn readers_and_abandon(rt: HostRuntime) -> Result<(), Fail> {
-    let mut world = world(rt.alloc(), 64)?;
-    assert_eq!(rt; reads(&mut world), [true; 6]);
-    assert!(rt; world.into_store().begun() == 1);
+    assert_eq!(rt; reads_of_new(rt.alloc()), Ok(([true; 6], 1)));
     Ok(())
 }
 
-// Why no world of so many sessions is made, with the store; NoMemory where one is.
-fn refused(alloc: Global, store: MapStore, sessions: u32) -> Result<(Fault, MapStore), Fault> {
+// Why no world of so many sessions is made, and how many pages the store has that comes back; NoMemory where one is.
+fn refused(alloc: Global, sessions: u32) -> Result<(Fault, u32), Fault> {
+    let store = pages(alloc, LIMITS)?;
     let sets: Vec<Blocks> = Vec::new(alloc);
     match World::new(alloc, store, sessions, sets) {
         Ok(_) => Err(Fault::NoMemory),
-        Err(not_made) => Ok((not_made.fault, not_made.store)),
+        Err(not_made) => Ok((not_made.fault, not_made.store.used())),
     }
 }
 
 #[test]
 fn one_to_64_sessions(rt: HostRuntime) -> Result<(), Fail> {
     for sessions in [0, 65] {
-        let (fault, store) = refused(rt.alloc(), pages(rt.alloc(), LIMITS)?, sessions)?;
-        assert!(rt; fault == Fault::BadLimits);
-        assert!(rt; store.used() == 2);
+        assert_eq!(rt; refused(rt.alloc(), sessions), Ok((Fault::BadLimits, 2)));
     }
     Ok(())
 }
@@ -198,22 +215,16 @@ fn law<D: Device>(world: &World<Store<D>, Blocks>) {
     world.crash_law();
 }
 
-// How many entries the root has, which is a leaf, of the index that a crash leaves; 99 where it is none.
-fn entries_left(
-    alloc: Global,
-    world: &World<Store<MemDevice>, Blocks>,
-    image: CrashImage,
-) -> Result<usize, Fault> {
-    let mut again = opened(alloc, left_by(alloc, world, image)?)?;
-    match page_in(&mut again, 1)?.items {
+// How many entries the root has, which is a leaf; 99 where it is none.
+fn entries_in<S: PageStore>(world: &mut World<S, Blocks>) -> Result<usize, Fault> {
+    match page_in(world, 1)?.items {
         Items::Entries(entries) => Ok(entries.len()),
         _ => Ok(99),
     }
 }
 
-#[test]
-fn forced_actions_are_left(rt: HostRuntime) -> Result<(), Fail> {
-    let mut world = opened(rt.alloc(), made(rt.alloc())?)?;
+// An action that is forced, and one that isn't: whether the events are answered right.
+fn acts_twice<S: PageStore>(alloc: Global, world: &mut World<S, Blocks>) -> bool {
     let rows = [
         (Event::Insert(0, entry(0x61, 1)), "begun", 0),
         (Event::Step(0), "going", 0),
@@ -225,14 +236,12 @@ fn forced_actions_are_left(rt: HostRuntime) -> Result<(), Fail> {
         (Event::Step(1), "going", 0),
         (Event::Step(1), "added", 2),
     ];
-    assert_eq!(rt; wrong(rt.alloc(), &mut world, &rows), 0);
-    assert!(rt; world.actions() == 2);
-    law(&world);
-    for image in [CrashImage::Drop, CrashImage::Keep, CrashImage::Tear] {
-        assert!(rt; entries_left(rt.alloc(), &world, image) == Ok(1));
-    }
-    assert!(rt; device_of(world.into_store()).len() == LEN);
-    Ok(())
+    wrong(alloc, world, &rows) == 0 && world.actions() == 2
+}
+
+// How long the device of a world is.
+fn len_of(world: World<Store<MemDevice>, Blocks>) -> u64 {
+    device_of(world.into_store()).len()
 }
 
 // Begins a call of session 0 and makes its steps, 16 at most: the last answer.
@@ -282,14 +291,6 @@ fn adds<S: PageStore>(world: &mut World<S, Blocks>, key: u8) -> bool {
     )
 }
 
-// What is opened after a crash.
-fn opened_again(
-    alloc: Global,
-    world: &World<Store<MemDevice>, Blocks>,
-) -> Result<World<Store<MemDevice>, Blocks>, Fault> {
-    opened(alloc, left_by(alloc, world, CrashImage::Drop)?)
-}
-
 // Whether session 0 adds the entries of the keys from 1 to below this one.
 fn adds_to<S: PageStore>(world: &mut World<S, Blocks>, end: u8) -> bool {
     for key in 1..end {
@@ -328,13 +329,34 @@ fn goes_on<S: PageStore>(alloc: Global, again: &mut World<S, Blocks>) -> [bool; 
     ]
 }
 
-#[test]
-fn split_leaf_is_opened_again(rt: HostRuntime) -> Result<(), Fail> {
-    let mut world = opened(rt.alloc(), made(rt.alloc())?)?;
-    assert_eq!(rt; splits(&mut world), [true; 4]);
-    let mut again = opened_again(rt.alloc(), &world)?;
-    assert_eq!(rt; goes_on(rt.alloc(), &mut again), [true; 4]);
-    Ok(())
+// Whether the index that is opened after a crash has what it should: five entries and then a sixth, after a split, or one.
+fn has_all<S: PageStore>(alloc: Global, again: &mut World<S, Blocks>, is_split: bool) -> bool {
+    if is_split {
+        goes_on(alloc, again) == [true; 4]
+    } else {
+        entries_in(again) == Ok(1)
+    }
+}
+
+// The same of what a crash leaves of an index.
+fn leaves_all(
+    alloc: Global,
+    world: &World<Store<MemDevice>, Blocks>,
+    image: CrashImage,
+    is_split: bool,
+) -> Result<bool, Fault> {
+    let mut again = opened(alloc, left_by(alloc, world, image)?)?;
+    Ok(has_all(alloc, &mut again, is_split))
+}
+
+// Whether each crash leaves one entry.
+fn leaves_one(alloc: Global, world: &World<Store<MemDevice>, Blocks>) -> bool {
+    for image in [CrashImage::Drop, CrashImage::Keep, CrashImage::Tear] {
+        if leaves_all(alloc, world, image, false) != Ok(true) {
+            return false;
+        }
+    }
+    true
 }
 
 // The first entry that a scan of session 1 gives, which has one ready, and whether it gives none after it.
@@ -366,13 +388,6 @@ fn runs_to_ends<S: PageStore>(world: &mut World<S, Blocks>) -> [bool; 3] {
         scanned(world) == Ok((Some(entry(0x61, 1)), true)),
         matches!(finish(world, 1, 0), Ok(Answer::Refused(Fault::NoSession))),
     ]
-}
-
-#[test]
-fn calls_run_to_their_ends(rt: HostRuntime) -> Result<(), Fail> {
-    let mut world = opened(rt.alloc(), made(rt.alloc())?)?;
-    assert_eq!(rt; runs_to_ends(&mut world), [true; 3]);
-    Ok(())
 }
 
 // Whether a step of the session's call, with the checkpoint that may go before it, answers this.
@@ -408,16 +423,13 @@ fn takes_turns<S: PageStore>(world: &mut World<S, Blocks>) -> bool {
     true
 }
 
-#[test]
-fn steps_are_taken_in_turns(rt: HostRuntime) -> Result<(), Fail> {
-    let mut world = opened(rt.alloc(), made(rt.alloc())?)?;
+// Both are begun.
+fn begins_two<S: PageStore>(alloc: Global, world: &mut World<S, Blocks>) -> bool {
     let rows = [
         (Event::Insert(0, entry(0x61, 1)), "begun", 0),
         (Event::Insert(1, entry(0x62, 2)), "begun", 0),
     ];
-    assert_eq!(rt; wrong(rt.alloc(), &mut world, &rows), 0);
-    assert!(rt; takes_turns(&mut world));
-    Ok(())
+    wrong(alloc, world, &rows) == 0
 }
 
 // No log has so much room, and the first action isn't durable: the call is given up.
@@ -429,13 +441,76 @@ fn is_given_up<S: PageStore>(world: &mut World<S, Blocks>) -> [bool; 3] {
     ]
 }
 
+// The first entry is put, and the insert of a second begun.
+fn has_begun<S: PageStore>(world: &mut World<S, Blocks>) -> bool {
+    is_put(world) && matches!(one(world, Event::Insert(0, entry(0x62, 2))), Answer::Begun)
+}
+
+// The device stops then.
+fn stops(world: &mut World<Store<MemDevice>, Blocks>) -> bool {
+    let has_begun = has_begun(world);
+    stop_at(world, 1);
+    is_given_up(world) == [true; 3] && has_begun
+}
+
+// What is done with a new index on a device.
+#[derive(Clone, Copy)]
+enum Deed {
+    ActsTwice,
+    Splits,
+    RunsToEnds,
+    TakesTurns,
+    Stops,
+}
+
+// Whether it is done right.
+fn does(alloc: Global, world: &mut World<Store<MemDevice>, Blocks>, deed: Deed) -> bool {
+    match deed {
+        Deed::ActsTwice => acts_twice(alloc, world) && leaves_one(alloc, world),
+        Deed::Splits => {
+            splits(world) == [true; 4]
+                && leaves_all(alloc, world, CrashImage::Drop, true) == Ok(true)
+        }
+        Deed::RunsToEnds => runs_to_ends(world) == [true; 3],
+        Deed::TakesTurns => begins_two(alloc, world) && takes_turns(world),
+        Deed::Stops => stops(world),
+    }
+}
+
+// The same of a new index, and how long its device is.
+fn new_does(alloc: Global, deed: Deed) -> Result<(bool, u64), Fault> {
+    let mut world = opened(alloc, made(alloc)?)?;
+    let is_right = does(alloc, &mut world, deed);
+    law(&world);
+    Ok((is_right, len_of(world)))
+}
+
+#[test]
+fn forced_actions_are_left(rt: HostRuntime) -> Result<(), Fail> {
+    assert_eq!(rt; new_does(rt.alloc(), Deed::ActsTwice), Ok((true, LEN)));
+    Ok(())
+}
+
+#[test]
+fn split_leaf_is_opened_again(rt: HostRuntime) -> Result<(), Fail> {
+    assert_eq!(rt; new_does(rt.alloc(), Deed::Splits), Ok((true, LEN)));
+    Ok(())
+}
+
+#[test]
+fn calls_run_to_their_ends(rt: HostRuntime) -> Result<(), Fail> {
+    assert_eq!(rt; new_does(rt.alloc(), Deed::RunsToEnds), Ok((true, LEN)));
+    Ok(())
+}
+
+#[test]
+fn steps_are_taken_in_turns(rt: HostRuntime) -> Result<(), Fail> {
+    assert_eq!(rt; new_does(rt.alloc(), Deed::TakesTurns), Ok((true, LEN)));
+    Ok(())
+}
+
 #[test]
 fn call_is_given_up_for_its_checkpoint(rt: HostRuntime) -> Result<(), Fail> {
-    let mut world = opened(rt.alloc(), made(rt.alloc())?)?;
-    let is_put = is_put(&mut world);
-    let begun = one(&mut world, Event::Insert(0, entry(0x62, 2)));
-    assert!(rt; is_put && matches!(begun, Answer::Begun));
-    stop_at(&mut world, 1);
-    assert_eq!(rt; is_given_up(&mut world), [true; 3]);
+    assert_eq!(rt; new_does(rt.alloc(), Deed::Stops), Ok((true, LEN)));
     Ok(())
 }

@@ -3,7 +3,7 @@
 use access_method::{Index, Inserted, ScanToken};
 use device::{Device, MemDevice};
 use index_model::{Entry, Fault, Key, Range, VacuumStats};
-use page_action::{MapStore, PageStore};
+use page_action::PageStore;
 use page_store::Store;
 use std::alloc::Global;
 use std::test::{Fail, *};
@@ -13,16 +13,6 @@ use tests_support::plain::{
     open_index, rescan,
 };
 use tests_support::small::{ALL, LEN, LIMITS, entry, keyed, limits, made, made_with, pages};
-
-// An empty index, made on a device in memory and opened.
-fn index(alloc: Global) -> Result<Index<Store<MemDevice>>, Fault> {
-    open_index(alloc, made(alloc)?, 16)
-}
-
-// An empty index without a device.
-fn in_memory(alloc: Global) -> Result<Index<MapStore>, Fault> {
-    index_over(alloc, pages(alloc, LIMITS)?)
-}
 
 // The number of the row that a scan gives, or 0 where it has given all; after 100 the number of a refusal.
 fn given<S: PageStore>(index: &mut Index<S>, token: ScanToken) -> u64 {
@@ -111,15 +101,6 @@ fn answer_in_turn<S: PageStore>(index: &mut Index<S>) -> [bool; 7] {
     ]
 }
 
-#[test]
-fn entries_are_given_in_order(rt: HostRuntime) -> Result<(), Fail> {
-    let mut index = index(rt.alloc())?;
-    assert_eq!(rt; answer_in_turn(&mut index), [true; 7]);
-    law(&index);
-    assert!(rt; index.into_device().len() == LEN);
-    Ok(())
-}
-
 // A leaf has room for 4 entries. The fifth splits it, and one action more finishes the split.
 fn splits<S: PageStore>(index: &mut Index<S>) -> [bool; 3] {
     [
@@ -127,13 +108,6 @@ fn splits<S: PageStore>(index: &mut Index<S>) -> [bool; 3] {
         commit(index) == Ok(8),
         scans(index, &[1, 2, 3, 4, 5, 6, 7, 0, 0]) == Ok(true),
     ]
-}
-
-#[test]
-fn a_split_leaf_is_scanned(rt: HostRuntime) -> Result<(), Fail> {
-    let mut index = index(rt.alloc())?;
-    assert_eq!(rt; splits(&mut index), [true; 3]);
-    Ok(())
 }
 
 // Whether an entry is added and forced.
@@ -144,16 +118,6 @@ fn keeps_one<S: PageStore>(index: &mut Index<S>) -> bool {
 // Why the index on a device isn't opened.
 fn refusal(alloc: Global, device: MemDevice, frames: u32) -> Option<Fault> {
     open_index(alloc, device, frames).err()
-}
-
-#[test]
-fn an_index_is_opened_again(rt: HostRuntime) -> Result<(), Fail> {
-    let mut first = index(rt.alloc())?;
-    assert!(rt; keeps_one(&mut first));
-    let mut again = open_index(rt.alloc(), first.into_device(), 16)?;
-    assert!(rt; scans(&mut again, &[1, 0]) == Ok(true));
-    assert!(rt; refusal(rt.alloc(), again.into_device(), 15) == Some(Fault::BadLimits));
-    Ok(())
 }
 
 // The tokens of a scan that has ended, and of one begun after it.
@@ -176,13 +140,6 @@ fn answers_to_tokens<S: PageStore>(index: &mut Index<S>) -> Result<[bool; 5], Fa
     ])
 }
 
-#[test]
-fn closed_tokens_are_refused(rt: HostRuntime) -> Result<(), Fail> {
-    let mut index = in_memory(rt.alloc())?;
-    assert!(rt; answers_to_tokens(&mut index) == Ok([true; 5]));
-    Ok(())
-}
-
 // Begins 63 scans, one more, and that one again after the first has ended.
 fn begins_63_scans<S: PageStore>(index: &mut Index<S>) -> Result<[bool; 3], Fault> {
     let first = begin_scan(index, ALL)?;
@@ -194,13 +151,6 @@ fn begins_63_scans<S: PageStore>(index: &mut Index<S>) -> Result<[bool; 3], Faul
         end_scan(index, first) == Ok(()),
         begin_scan(index, ALL).is_ok(),
     ])
-}
-
-#[test]
-fn at_most_63_scans(rt: HostRuntime) -> Result<(), Fail> {
-    let mut index = in_memory(rt.alloc())?;
-    assert!(rt; begins_63_scans(&mut index) == Ok([true; 3]));
-    Ok(())
 }
 
 // What an index answers whose log has failed: to an insert, to a scan that begins again and to one that begins.
@@ -226,15 +176,12 @@ fn stops<S: PageStore>(index: &mut Index<S>) -> Result<[bool; 7], Fault> {
     ])
 }
 
-#[test]
-fn a_failed_device_stops_the_index(rt: HostRuntime) -> Result<(), Fail> {
-    let mut device = made(rt.alloc())?;
-    // To open makes 7 calls of the device, the first insert reads two pages, the first commit makes 4: the next is the first
-    // of the second commit.
+// To open makes 7 calls of the device, the first insert reads two pages, the first commit makes 4: the next is the first of the
+// second commit.
+fn failing(alloc: Global) -> Result<MemDevice, Fault> {
+    let mut device = made(alloc)?;
     device.fail_at(14);
-    let mut index = open_index(rt.alloc(), device, 16)?;
-    assert!(rt; stops(&mut index) == Ok([true; 7]));
-    Ok(())
+    Ok(device)
 }
 
 // Inserts 9 entries, and deletes them and their pages: how many there were.
@@ -269,19 +216,7 @@ fn uses_again<S: PageStore>(index: &mut Index<S>) -> Result<[bool; 9], Fault> {
     ])
 }
 
-#[test]
-fn deleted_pages_are_used_again(rt: HostRuntime) -> Result<(), Fail> {
-    let mut index = index(rt.alloc())?;
-    assert!(rt; uses_again(&mut index) == Ok([true; 9]));
-    Ok(())
-}
-
 const MANY: u16 = 2_000;
-
-// An empty index over many pages with the smallest log, with so many of them in memory at once.
-fn wide(alloc: Global, frames: u32) -> Result<Index<Store<MemDevice>>, Fault> {
-    open_index(alloc, made_with(alloc, &limits(4_096))?, frames)
-}
 
 // The entry at this place in order.
 fn nth(place: u16) -> Entry {
@@ -300,7 +235,10 @@ fn gives_all<S: PageStore>(index: &mut Index<S>) -> Result<bool, Fault> {
 }
 
 // Inserts so many entries, not in order, into both: whether they answer the same, and leave no split unfinished.
-fn answer_alike<S: PageStore>(few: &mut Index<S>, many: &mut Index<S>) -> Result<bool, Fault> {
+fn answer_alike<S: PageStore, T: PageStore>(
+    few: &mut Index<S>,
+    many: &mut Index<T>,
+) -> Result<bool, Fault> {
     let mut place = 0u16;
     for _ in 0..MANY {
         // Each place once.
@@ -313,12 +251,11 @@ fn answer_alike<S: PageStore>(few: &mut Index<S>, many: &mut Index<S>) -> Result
     Ok(gives_all(few)? && gives_all(many)?)
 }
 
-#[test]
-fn few_frames_answer_as_many_do(rt: HostRuntime) -> Result<(), Fail> {
-    let mut few = wide(rt.alloc(), 16)?;
-    let mut many = wide(rt.alloc(), 1_024)?;
-    assert!(rt; answer_alike(&mut few, &mut many) == Ok(true));
-    Ok(())
+// An empty index over many pages with the smallest log, of which 1,024 are in memory at once, and one of which this one has few:
+// whether they answer alike.
+fn answers_as_many_do<S: PageStore>(alloc: Global, few: &mut Index<S>) -> Result<bool, Fault> {
+    let mut many = open_index(alloc, made_with(alloc, &limits(4_096))?, 1_024)?;
+    answer_alike(few, &mut many)
 }
 
 // Deletes the rows of block 1, which odd keys have, while even keys have rows of block 0: whether it counts and leaves what is
@@ -334,9 +271,126 @@ fn deletes_odd<S: PageStore>(index: &mut Index<S>) -> Result<[bool; 2], Fault> {
     ])
 }
 
+// What is done with an index.
+#[derive(Clone, Copy)]
+enum Deed {
+    AnswersInTurn,
+    Splits,
+    KeepsOne,
+    GivesOne,
+    AnswersToTokens,
+    Begins63Scans,
+    Stops,
+    UsesAgain,
+    AnswersAsManyDo,
+    DeletesOdd,
+}
+
+// Whether it is done right.
+fn does<S: PageStore>(alloc: Global, index: &mut Index<S>, deed: Deed) -> bool {
+    match deed {
+        Deed::AnswersInTurn => answer_in_turn(index) == [true; 7],
+        Deed::Splits => splits(index) == [true; 3],
+        Deed::KeepsOne => keeps_one(index),
+        Deed::GivesOne => scans(index, &[1, 0]) == Ok(true),
+        Deed::AnswersToTokens => answers_to_tokens(index) == Ok([true; 5]),
+        Deed::Begins63Scans => begins_63_scans(index) == Ok([true; 3]),
+        Deed::Stops => stops(index) == Ok([true; 7]),
+        Deed::UsesAgain => uses_again(index) == Ok([true; 9]),
+        Deed::AnswersAsManyDo => answers_as_many_do(alloc, index) == Ok(true),
+        Deed::DeletesOdd => deletes_odd(index) == Ok([true; 2]),
+    }
+}
+
+// The same of an index that is opened on a device, which comes back.
+fn opened_does(alloc: Global, device: MemDevice, deed: Deed) -> Result<(bool, MemDevice), Fault> {
+    let mut index = open_index(alloc, device, 16)?;
+    let is_right = does(alloc, &mut index, deed);
+    law(&index);
+    Ok((is_right, index.into_device()))
+}
+
+// The same, and how long the device is.
+fn device_does(alloc: Global, device: MemDevice, deed: Deed) -> Result<(bool, u64), Fault> {
+    let (is_right, device) = opened_does(alloc, device, deed)?;
+    Ok((is_right, device.len()))
+}
+
+// The same of a new index, made on a device in memory and opened.
+fn new_does(alloc: Global, deed: Deed) -> Result<(bool, u64), Fault> {
+    device_does(alloc, made(alloc)?, deed)
+}
+
+// The same of an empty index without a device.
+fn in_memory_does(alloc: Global, deed: Deed) -> Result<bool, Fault> {
+    let mut index = index_over(alloc, pages(alloc, LIMITS)?)?;
+    Ok(does(alloc, &mut index, deed))
+}
+
+#[test]
+fn entries_are_given_in_order(rt: HostRuntime) -> Result<(), Fail> {
+    assert_eq!(rt; new_does(rt.alloc(), Deed::AnswersInTurn), Ok((true, LEN)));
+    Ok(())
+}
+
+#[test]
+fn a_split_leaf_is_scanned(rt: HostRuntime) -> Result<(), Fail> {
+    assert_eq!(rt; new_does(rt.alloc(), Deed::Splits), Ok((true, LEN)));
+    Ok(())
+}
+
+// A new index keeps one entry, and what is opened on its device has it: and why that isn't opened with a frame less.
+fn opened_again(alloc: Global) -> Result<([bool; 2], Option<Fault>), Fault> {
+    let (is_kept, device) = opened_does(alloc, made(alloc)?, Deed::KeepsOne)?;
+    let (is_given, device) = opened_does(alloc, device, Deed::GivesOne)?;
+    Ok(([is_kept, is_given], refusal(alloc, device, 15)))
+}
+
+#[test]
+fn an_index_is_opened_again(rt: HostRuntime) -> Result<(), Fail> {
+    let wanted = ([true; 2], Some(Fault::BadLimits));
+    assert_eq!(rt; opened_again(rt.alloc()), Ok(wanted));
+    Ok(())
+}
+
+#[test]
+fn closed_tokens_are_refused(rt: HostRuntime) -> Result<(), Fail> {
+    assert_eq!(rt; in_memory_does(rt.alloc(), Deed::AnswersToTokens), Ok(true));
+    Ok(())
+}
+
+#[test]
+fn at_most_63_scans(rt: HostRuntime) -> Result<(), Fail> {
+    assert_eq!(rt; in_memory_does(rt.alloc(), Deed::Begins63Scans), Ok(true));
+    Ok(())
+}
+
+#[test]
+fn a_failed_device_stops_the_index(rt: HostRuntime) -> Result<(), Fail> {
+    let device = failing(rt.alloc())?;
+    assert_eq!(rt;
+        device_does(rt.alloc(), device, Deed::Stops),
+        Ok((true, LEN))
+    );
+    Ok(())
+}
+
+#[test]
+fn deleted_pages_are_used_again(rt: HostRuntime) -> Result<(), Fail> {
+    assert_eq!(rt; new_does(rt.alloc(), Deed::UsesAgain), Ok((true, LEN)));
+    Ok(())
+}
+
+#[test]
+fn few_frames_answer_as_many_do(rt: HostRuntime) -> Result<(), Fail> {
+    let device = made_with(rt.alloc(), &limits(4_096))?;
+    let done = device_does(rt.alloc(), device, Deed::AnswersAsManyDo)?;
+    assert!(rt; done.0);
+    Ok(())
+}
+
 #[test]
 fn dead_rows_are_deleted(rt: HostRuntime) -> Result<(), Fail> {
-    let mut index = index(rt.alloc())?;
-    assert!(rt; deletes_odd(&mut index) == Ok([true; 2]));
+    assert_eq!(rt; new_does(rt.alloc(), Deed::DeletesOdd), Ok((true, LEN)));
     Ok(())
 }

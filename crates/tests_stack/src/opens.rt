@@ -1,10 +1,10 @@
 //! Indexes that are made on a device, and opened again.
 
 use device::{CrashImage, MemDevice};
-use index_model::Fault;
+use index_model::{Fault, Limits};
 use page_action::PageStore;
+use page_store::Store;
 use std::alloc::Global;
-use std::process::Abort;
 use std::test::{Fail, *};
 use tests_support::plain::{
     act, checkpoint, create, device, device_of, force, left, open, page, read, write,
@@ -40,56 +40,94 @@ const LEAF: [u8; 20] = [
     0x42, 0x4c, 0x50, 0x32, 1, 0, 0, 0, 2, 0, 0, 0, 0xff, 0xff, 0xff, 0xff, 0xff, 0xff, 0xff, 0xff,
 ];
 
+/// Makes an index on a device: whether that is right, and the bytes that stand there then.
+fn has_empty_index(device: &mut MemDevice) -> [bool; 6] {
+    [
+        create(device, &limits(64)) == Ok(()),
+        bytes_at(device, 0) == begins(&SUPERBLOCK),
+        bytes_at(device, 4_096)[0] == 0,
+        bytes_at(device, 69_632) == begins(&METAPAGE),
+        bytes_at(device, 73_728) == begins(&LEAF),
+        bytes_at(device, 77_824) == [0; 48],
+    ]
+}
+
+fn new_has_empty_index(alloc: Global) -> Result<[bool; 6], Fault> {
+    let mut device = device(alloc, 331_776)?;
+    Ok(has_empty_index(&mut device))
+}
+
 #[test]
 fn an_empty_index(rt: HostRuntime) -> Result<(), Fail> {
-    let mut device = device(rt.alloc(), 331_776)?;
-    assert!(rt; create(&mut device, &limits(64)) == Ok(()));
-    assert!(rt; bytes_at(&mut device, 0) == begins(&SUPERBLOCK));
-    assert!(rt; bytes_at(&mut device, 4_096)[0] == 0);
-    assert!(rt; bytes_at(&mut device, 69_632) == begins(&METAPAGE));
-    assert!(rt; bytes_at(&mut device, 73_728) == begins(&LEAF));
-    assert!(rt; bytes_at(&mut device, 77_824) == [0; 48]);
+    assert_eq!(rt; new_has_empty_index(rt.alloc()), Ok([true; 6]));
     Ok(())
+}
+
+/// What is answered on a device a byte too short, and there to a number of items that is too small.
+fn short_answers(alloc: Global) -> Result<[Result<(), Fault>; 2], Fault> {
+    let mut short = device(alloc, 331_775)?;
+    let mut few = limits(64);
+    few.items = 3;
+    Ok([create(&mut short, &limits(64)), create(&mut short, &few)])
+}
+
+/// Each of the 70 calls of a create fails once, and a 71st isn't made: zeros, sync, gate, 62 blocks, two pages, sync, superblock,
+/// sync. The first call where the answer isn't that, or 0.
+fn wrong_call(device: &mut MemDevice) -> u64 {
+    for n in 1..72u64 {
+        device.fail_at(n);
+        let wanted = if n < 71 { Err(Fault::Io) } else { Ok(()) };
+        if create(device, &limits(64)) != wanted {
+            return n;
+        }
+    }
+    device.fail_at(0);
+    0
+}
+
+/// The same on a new device, and how many pages are in use after it.
+fn new_wrong_call(alloc: Global) -> Result<(u64, u32), Fault> {
+    let mut device = device(alloc, 331_776)?;
+    let wrong = wrong_call(&mut device);
+    Ok((wrong, used(alloc, device)))
 }
 
 #[test]
 fn refusals(rt: HostRuntime) -> Result<(), Fail> {
-    let mut short = device(rt.alloc(), 331_775)?;
-    assert!(rt; create(&mut short, &limits(64)) == Err(Fault::DeviceTooSmall));
-    let mut few = limits(64);
-    few.items = 3;
-    assert!(rt; create(&mut short, &few) == Err(Fault::BadLimits));
-    // Each of its 70 calls fails once, and a 71st isn't made: zeros, sync, gate, 62 blocks, two pages, sync, superblock, sync.
-    let mut device = device(rt.alloc(), 331_776)?;
-    for n in 1..72u64 {
-        device.fail_at(n);
-        let wanted = if n < 71 { Err(Fault::Io) } else { Ok(()) };
-        assert!(rt; create(&mut device, &limits(64)) == wanted, "call {n}");
-    }
-    device.fail_at(0);
-    assert!(rt; used(rt.alloc(), device) == 2);
+    let wanted = [Err(Fault::DeviceTooSmall), Err(Fault::BadLimits)];
+    assert!(rt; short_answers(rt.alloc()) == Ok(wanted));
+    assert_eq!(rt; new_wrong_call(rt.alloc()), Ok((0, 2)));
     Ok(())
 }
 
 const IMAGES: [CrashImage; 3] = [CrashImage::Drop, CrashImage::Keep, CrashImage::Tear];
 
+/// The store that is opened on a device.
+fn opened(alloc: Global, device: MemDevice, frames: u32) -> Result<Store<MemDevice>, Fault> {
+    match open(alloc, device, frames) {
+        Ok(store) => Ok(store),
+        Err(refused) => Err(refused.fault),
+    }
+}
+
 /// The number of the fault that an open is refused with, 0 where it isn't.
 fn refusal(alloc: Global, device: MemDevice, frames: u32) -> u8 {
-    match open(alloc, device, frames) {
-        Ok(_) => 0,
-        Err(refused) => refused.fault.number(),
+    match opened(alloc, device, frames).err() {
+        Some(fault) => fault.number(),
+        None => 0,
     }
+}
+
+/// The room, the pages in use, the durable acts and the limits of the store that is opened on a device.
+fn sizes(alloc: Global, device: MemDevice) -> Result<(u32, u32, u64, Limits), Fault> {
+    let store = opened(alloc, device, 16)?;
+    Ok((store.room(), store.used(), store.durable(), store.limits()))
 }
 
 #[test]
 fn an_empty_index_is_opened(rt: HostRuntime) -> Result<(), Fail> {
-    match open(rt.alloc(), made_with(rt.alloc(), &limits(64))?, 16) {
-        Ok(store) => {
-            assert!(rt; (store.room(), store.used(), store.durable()) == (15, 2, 0));
-            assert!(rt; store.limits() == limits(64));
-        }
-        Err(refused) => assert!(rt; refused.fault == Fault::Stopped),
-    }
+    let device = made_with(rt.alloc(), &limits(64))?;
+    assert!(rt; sizes(rt.alloc(), device) == Ok((15, 2, 0, limits(64))));
     Ok(())
 }
 
@@ -101,6 +139,15 @@ fn small_devices_and_frames(rt: HostRuntime) -> Result<(), Fail> {
     Ok(())
 }
 
+/// The same of a device on which these bytes are written before.
+fn refusal_after(alloc: Global, device: MemDevice, at: u64, bytes: &[u8]) -> Result<u8, Fault> {
+    let mut device = device;
+    let written = write(&mut device, at, bytes);
+    let number = refusal(alloc, device, 16);
+    written?;
+    Ok(number)
+}
+
 /// Over a sound index: an open gate, and 16 images, which don't fit; another level of the root; another version.
 #[test]
 fn hostile_indexes(rt: HostRuntime) -> Result<(), Fail> {
@@ -109,9 +156,8 @@ fn hostile_indexes(rt: HostRuntime) -> Result<(), Fail> {
         (69_632 + 4_096 + 9, &[1], 17),
         (8, &[3], 15),
     ] {
-        let mut device = made(rt.alloc())?;
-        write(&mut device, at, bytes)?;
-        assert!(rt; refusal(rt.alloc(), device, 16) == number);
+        let device = made(rt.alloc())?;
+        assert!(rt; refusal_after(rt.alloc(), device, at, bytes) == Ok(number));
     }
     Ok(())
 }
@@ -124,9 +170,8 @@ fn hostile_superblocks(rt: HostRuntime) -> Result<(), Fail> {
         let mut bytes = SUPERBLOCK;
         bytes[12] = items;
         bytes[16] = pages;
-        let mut device = device(rt.alloc(), LEN)?;
-        write(&mut device, 0, &bytes)?;
-        assert!(rt; refusal(rt.alloc(), device, 16) == number);
+        let device = device(rt.alloc(), LEN)?;
+        assert!(rt; refusal_after(rt.alloc(), device, 0, &bytes) == Ok(number));
     }
     Ok(())
 }
@@ -144,14 +189,11 @@ fn make_busy<S: PageStore>(store: &mut S) -> Result<(), Fault> {
 
 /// A device whose log holds these.
 fn busy_device(alloc: Global) -> Result<MemDevice, Fault> {
-    match open(alloc, made(alloc)?, 16) {
-        Ok(store) => {
-            let mut store = store;
-            make_busy(&mut store)?;
-            Ok(device_of(store))
-        }
-        Err(refused) => Err(refused.fault),
-    }
+    let mut store = opened(alloc, made(alloc)?, 16)?;
+    let busy = make_busy(&mut store);
+    let device = device_of(store);
+    busy?;
+    Ok(device)
 }
 
 /// How many pages a store has, and the cycles of the first two leaves; none where it refuses them.
@@ -163,36 +205,74 @@ fn cycles_in<S: PageStore>(store: &mut S) -> Option<(u32, u32, u32)> {
 
 /// The same of the index that is opened on the device; none where it is refused.
 fn cycles(alloc: Global, device: MemDevice) -> Option<(u32, u32, u32)> {
-    match open(alloc, device, 1_024) {
-        Ok(store) => {
-            let mut store = store;
-            cycles_in(&mut store)
+    let mut store = opened(alloc, device, 1_024).ok()?;
+    cycles_in(&mut store)
+}
+
+/// Whether each crash of a device leaves all that was forced.
+fn leaves_all(alloc: Global, device: &MemDevice) -> bool {
+    for image in IMAGES {
+        match left(alloc, device, image) {
+            Ok(found) => {
+                if cycles(alloc, found) != Some((3, 7, 6)) {
+                    return false;
+                }
+            }
+            Err(_) => return false,
         }
-        Err(_) => None,
+    }
+    true
+}
+
+/// Opens a device a call of which fails, the nth from now on: whether it's refused, up to the twelfth call, and what a crash leaves
+/// then has all that was forced. Answers also the device where it was refused.
+fn fails_right(alloc: Global, found: MemDevice, n: u64) -> (bool, Option<MemDevice>) {
+    match open(alloc, found, 16) {
+        Ok(store) => ((n, store.used()) == (13, 3), None),
+        Err(refused) => {
+            let are_left = leaves_all(alloc, &refused.device);
+            (
+                are_left && n < 13 && refused.fault == Fault::Io,
+                Some(refused.device),
+            )
+        }
     }
 }
 
-/// Opens a device a call of which fails, the nth from now on: so that it's refused, up to the twelfth call, and what a crash leaves
-/// then has all that was forced. Answers the device where it was refused.
-fn fails_right(
-    rt: &(impl Abort + AllocGlobal + Print + Eprint),
-    found: MemDevice,
+/// Whether that is so where the nth call fails and each later one.
+fn stops_right(
+    alloc: Global,
+    device: &MemDevice,
+    image: CrashImage,
     n: u64,
-) -> Result<Option<MemDevice>, Fail> {
-    match open(rt.alloc(), found, 16) {
-        Ok(store) => {
-            assert!(rt; (n, store.used()) == (13, 3));
-            Ok(None)
-        }
-        Err(refused) => {
-            assert!(rt; n < 13 && refused.fault == Fault::Io, "call {n}");
-            for again in IMAGES {
-                let twice = left(rt.alloc(), &refused.device, again)?;
-                assert!(rt; cycles(rt.alloc(), twice) == Some((3, 7, 6)), "call {n}");
+) -> Result<bool, Fault> {
+    let mut stopping = left(alloc, device, image)?;
+    stopping.stop_at(n);
+    Ok(fails_right(alloc, stopping, n).0)
+}
+
+/// Whether that is so where the nth call alone fails, and the next opening is undisturbed.
+fn goes_on(alloc: Global, device: &MemDevice, image: CrashImage, n: u64) -> Result<bool, Fault> {
+    let mut failing = left(alloc, device, image)?;
+    failing.fail_at(n);
+    match fails_right(alloc, failing, n) {
+        (is_right, Some(found)) => Ok(cycles(alloc, found) == Some((3, 7, 6)) && is_right),
+        (is_right, None) => Ok(is_right),
+    }
+}
+
+/// The first call of an open of what a crash leaves of a device that fails otherwise, or 0.
+fn wrong_opening(alloc: Global, device: &MemDevice) -> u64 {
+    for image in IMAGES {
+        for n in 1..14 {
+            if stops_right(alloc, device, image, n) != Ok(true)
+                || goes_on(alloc, device, image, n) != Ok(true)
+            {
+                return n;
             }
-            Ok(Some(refused.device))
         }
     }
+    0
 }
 
 // It reads the superblock, syncs, reads the log, writes two images and syncs them, closes the log by a write and a
@@ -200,25 +280,13 @@ fn fails_right(
 #[test]
 fn each_call_of_an_open_fails(rt: HostRuntime) -> Result<(), Fail> {
     let device = busy_device(rt.alloc())?;
-    for image in IMAGES {
-        for n in 1..14 {
-            let mut stopping = left(rt.alloc(), &device, image)?;
-            stopping.stop_at(n);
-            fails_right(&rt, stopping, n)?;
-            let mut failing = left(rt.alloc(), &device, image)?;
-            failing.fail_at(n);
-            // That call has failed, and the next opening is undisturbed.
-            if let Some(found) = fails_right(&rt, failing, n)? {
-                assert!(rt; cycles(rt.alloc(), found) == Some((3, 7, 6)), "call {n}");
-            }
-        }
-    }
+    assert_eq!(rt; wrong_opening(rt.alloc(), &device), 0);
     Ok(())
 }
 
 /// What an open finds: how many pages are in use, and 0 where it is refused.
 fn used(alloc: Global, device: MemDevice) -> u32 {
-    match open(alloc, device, 16) {
+    match opened(alloc, device, 16) {
         Ok(store) => store.used(),
         Err(_) => 0,
     }
@@ -234,19 +302,49 @@ fn may_be_used(n: u64, found: u32) -> bool {
     }
 }
 
-#[test]
-fn each_call_of_a_create_stops(rt: HostRuntime) -> Result<(), Fail> {
-    let device = busy_device(rt.alloc())?;
+/// Whether each crash leaves one of these.
+fn may_be_left(alloc: Global, stopped: &MemDevice, n: u64) -> bool {
+    for image in IMAGES {
+        match left(alloc, stopped, image) {
+            Ok(found) => {
+                if !may_be_used(n, used(alloc, found)) {
+                    return false;
+                }
+            }
+            Err(_) => return false,
+        }
+    }
+    true
+}
+
+/// Whether a create over what a crash leaves of a device stops so at the nth call.
+fn create_stops(
+    alloc: Global,
+    device: &MemDevice,
+    image: CrashImage,
+    n: u64,
+) -> Result<bool, Fault> {
+    let mut stopped = left(alloc, device, image)?;
+    stopped.stop_at(n);
+    let is_refused = create(&mut stopped, &LIMITS) == Err(Fault::Io);
+    Ok(may_be_left(alloc, &stopped, n) && is_refused)
+}
+
+/// The first call of such a create that stops otherwise, or 0.
+fn wrong_create(alloc: Global, device: &MemDevice) -> u64 {
     for image in IMAGES {
         for n in 1..15 {
-            let mut stopped = left(rt.alloc(), &device, image)?;
-            stopped.stop_at(n);
-            assert!(rt; create(&mut stopped, &LIMITS) == Err(Fault::Io));
-            for again in IMAGES {
-                let found = used(rt.alloc(), left(rt.alloc(), &stopped, again)?);
-                assert!(rt; may_be_used(n, found), "call {n}, found {found}");
+            if create_stops(alloc, device, image, n) != Ok(true) {
+                return n;
             }
         }
     }
+    0
+}
+
+#[test]
+fn each_call_of_a_create_stops(rt: HostRuntime) -> Result<(), Fail> {
+    let device = busy_device(rt.alloc())?;
+    assert_eq!(rt; wrong_create(rt.alloc(), &device), 0);
     Ok(())
 }
