@@ -1,10 +1,10 @@
 //! The command line.
 
 ghost use Rattle.std.specs.Prelude.{◌≡◌, [], false, IfOk, codes, unwrap_or};
-ghost use Rattle.clap.specs.Words.{app_of, found_of, first_value, one_text, rule_of, with_rule, with_subcommand};
+ghost use Rattle.clap.specs.Words.{app_of, found_of, first_value, one_text, rule_of};
 ghost use Rattle.clap.specs.declared.builder.command.Command.TheViews.{out-Command as fields_of};
 ghost use Rattle.command_line.specs.CommandLine.{HasFlag, HasLimits, HasNumber, HasRunSizes, HasSetting};
-ghost use Rattle.command_line.specs.Program.{check_app, create_app, dump_app, flag_rule, needed_rule, play_app, program_line, run_app, size_rule, start_app, with_file_apps, with_flag, with_index_sizes, with_needed_sizes, with_run_sizes, with_size, word_rule};
+ghost use Rattle.command_line.specs.Program.{check_app, create_app, dump_app, flag_rule, needed_rule, play_app, program_line, run_app, size_rule, start_app, with_file_apps, with_flag, with_index_sizes, with_needed_sizes, with_run_sizes, word_rule};
 
 use crate::engine::Setting;
 use crate::help::{FAULTS, JOBS, REPORT, SCRIPT};
@@ -31,24 +31,10 @@ const FRAMES: &str = "Pages that are held in memory: 16 to 1024";
 pub fn program<'a>(alloc: Global) -> Result<Command<'a>, AllocError>
     ensures { IfOk result (λ command. app_of command ≡ program_line) }
 {
-    let command = with_play(alloc, without_commands(alloc))?;
-    let command = with_run(alloc, command)?;
+    let command = without_commands(alloc)
+        .subcommand(play(alloc)?)?
+        .subcommand(run(alloc)?)?;
     with_file_commands(alloc, command)
-}
-
-// (What a function adds to a command is one thing or two: each more in one chain costs the prover twice as much.)
-fn with_play<'a>(alloc: Global, command: Command<'a>) -> Result<Command<'a>, AllocError>
-    ensures { IfOk result (λ whole. app_of whole
-        ≡ with_subcommand (app_of command.entry) play_app.top) }
-{
-    command.subcommand(play(alloc)?)
-}
-
-fn with_run<'a>(alloc: Global, command: Command<'a>) -> Result<Command<'a>, AllocError>
-    ensures { IfOk result (λ whole. app_of whole
-        ≡ with_subcommand (app_of command.entry) run_app.top) }
-{
-    command.subcommand(run(alloc)?)
 }
 
 // The program itself, of which a command is needed.
@@ -63,27 +49,14 @@ fn without_commands<'a>(alloc: Global) -> Command<'a>
         .after_help(FAULTS)
 }
 
-// The commands over an index in a file.
+// The commands over an index in a file. (Each more in one chain costs the prover more than the one before.)
 fn with_file_commands<'a>(alloc: Global, command: Command<'a>) -> Result<Command<'a>, AllocError>
     ensures { IfOk result (λ whole. app_of whole ≡ with_file_apps (app_of command.entry)) }
 {
-    let command = with_create(alloc, command)?;
-    let command = with_check(alloc, command)?;
-    command.subcommand(dump(alloc)?)
-}
-
-fn with_create<'a>(alloc: Global, command: Command<'a>) -> Result<Command<'a>, AllocError>
-    ensures { IfOk result (λ whole. app_of whole
-        ≡ with_subcommand (app_of command.entry) create_app.top) }
-{
-    command.subcommand(create(alloc)?)
-}
-
-fn with_check<'a>(alloc: Global, command: Command<'a>) -> Result<Command<'a>, AllocError>
-    ensures { IfOk result (λ whole. app_of whole
-        ≡ with_subcommand (app_of command.entry) check_app.top) }
-{
-    command.subcommand(check(alloc)?)
+    command
+        .subcommand(create(alloc)?)?
+        .subcommand(check(alloc)?)?
+        .subcommand(dump(alloc)?)
 }
 
 fn play<'a>(alloc: Global) -> Result<Command<'a>, AllocError>
@@ -93,19 +66,7 @@ fn play<'a>(alloc: Global) -> Result<Command<'a>, AllocError>
     let command = Command::new(alloc, "play")
         .about("Run a script from standard input over an index in memory")
         .after_help(SCRIPT);
-    let command = with_limits(alloc, command)?;
-    with_sessions(alloc, command)
-}
-
-// The frames and the sessions, each with what it is if none is given.
-fn with_sessions<'a>(alloc: Global, command: Command<'a>) -> Result<Command<'a>, AllocError>
-    ensures app { IfOk result (λ whole. app_of whole
-        ≡ with_size (codes "sessions") (codes "8")
-        (with_size (codes "frames") (codes "16") (app_of command.entry))) }
-    ensures local { (fields_of command.entry).has_globals ≡ false
-        → IfOk result (λ whole. (fields_of whole).has_globals ≡ false) }
-{
-    command
+    with_limits(alloc, command)?
         .arg(size(alloc, "frames", "16", FRAMES))?
         .arg(size(alloc, "sessions", "8", "Sessions: 1 to 64"))
 }
@@ -116,23 +77,11 @@ fn with_limits<'a>(alloc: Global, command: Command<'a>) -> Result<Command<'a>, A
     ensures local { (fields_of command.entry).has_globals ≡ false
         → IfOk result (λ whole. (fields_of whole).has_globals ≡ false) }
 {
-    let command = with_pages(alloc, command)?;
-    command
-        .arg(size(alloc, "log", "1048576", LOG))?
-        .arg(flag(alloc, "unique", UNIQUE))
-}
-
-// The first two of them.
-fn with_pages<'a>(alloc: Global, command: Command<'a>) -> Result<Command<'a>, AllocError>
-    ensures app { IfOk result (λ whole. app_of whole
-        ≡ with_size (codes "pages") (codes "64")
-        (with_size (codes "items") (codes "4") (app_of command.entry))) }
-    ensures local { (fields_of command.entry).has_globals ≡ false
-        → IfOk result (λ whole. (fields_of whole).has_globals ≡ false) }
-{
     command
         .arg(size(alloc, "items", "4", ITEMS))?
-        .arg(size(alloc, "pages", "64", PAGES))
+        .arg(size(alloc, "pages", "64", PAGES))?
+        .arg(size(alloc, "log", "1048576", LOG))?
+        .arg(flag(alloc, "unique", UNIQUE))
 }
 
 fn create<'a>(alloc: Global) -> Result<Command<'a>, AllocError>
@@ -152,23 +101,11 @@ fn with_needed_limits<'a>(alloc: Global, command: Command<'a>) -> Result<Command
     ensures local { (fields_of command.entry).has_globals ≡ false
         → IfOk result (λ whole. (fields_of whole).has_globals ≡ false) }
 {
-    let command = with_needed_pages(alloc, command)?;
-    command
-        .arg(needed_size(alloc, "log", LOG))?
-        .arg(flag(alloc, "unique", UNIQUE))
-}
-
-// The first two of them.
-fn with_needed_pages<'a>(alloc: Global, command: Command<'a>) -> Result<Command<'a>, AllocError>
-    ensures app { IfOk result (λ whole. app_of whole
-        ≡ with_rule (with_rule (app_of command.entry) (needed_rule (codes "items")))
-        (needed_rule (codes "pages"))) }
-    ensures local { (fields_of command.entry).has_globals ≡ false
-        → IfOk result (λ whole. (fields_of whole).has_globals ≡ false) }
-{
     command
         .arg(needed_size(alloc, "items", ITEMS))?
-        .arg(needed_size(alloc, "pages", PAGES))
+        .arg(needed_size(alloc, "pages", PAGES))?
+        .arg(needed_size(alloc, "log", LOG))?
+        .arg(flag(alloc, "unique", UNIQUE))
 }
 
 fn check<'a>(alloc: Global) -> Result<Command<'a>, AllocError>
@@ -184,7 +121,7 @@ fn check<'a>(alloc: Global) -> Result<Command<'a>, AllocError>
     with_progress(alloc, command)
 }
 
-// `--progress`.
+// `--progress`, in a function of its own: each argument more in one chain costs the prover more than the one before.
 fn with_progress<'a>(alloc: Global, command: Command<'a>) -> Result<Command<'a>, AllocError>
     ensures app { IfOk result (λ whole. app_of whole
         ≡ with_flag (codes "progress") (app_of command.entry)) }
@@ -201,22 +138,10 @@ fn run<'a>(alloc: Global) -> Result<Command<'a>, AllocError>
     let command = Command::new(alloc, "run")
         .about("Run the jobs of a file over the index in a file, with threads")
         .after_help(JOBS)
-        .arg(file(alloc))?;
-    let command = with_jobs(alloc, command)?;
-    with_run_sizes(alloc, command)
-}
-
-// The file of the jobs, and `--progress`.
-fn with_jobs<'a>(alloc: Global, command: Command<'a>) -> Result<Command<'a>, AllocError>
-    ensures app { IfOk result (λ whole. app_of whole
-        ≡ with_flag (codes "progress") (with_rule (app_of command.entry)
-        (word_rule (codes "jobs")))) }
-    ensures local { (fields_of command.entry).has_globals ≡ false
-        → IfOk result (λ whole. (fields_of whole).has_globals ≡ false) }
-{
-    command
+        .arg(file(alloc))?
         .arg(jobs(alloc))?
-        .arg(flag(alloc, "progress", PROGRESS))
+        .arg(flag(alloc, "progress", PROGRESS))?;
+    with_run_sizes(alloc, command)
 }
 
 // The sizes of a run, each with what it is if none is given.
