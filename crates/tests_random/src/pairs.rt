@@ -169,9 +169,10 @@ impl<S: PageStore + Drop> Pair<S> {
     /// every forced one.
     fn leads_on(&mut self, run: Run, tally: &mut Tally) -> Result<bool, AllocError> {
         let next = judge_of(run, &mut self.few)?;
-        tally.join(self.judge.tally());
         let part = self.past.part_of(next.pages(), self.judge.forced())?;
-        Ok(self.judge.crashes(&next) && part.is_some())
+        let is_right = self.judge.crashes(&next) && part.is_some();
+        tally.join(self.judge.tally());
+        Ok(is_right)
     }
 
     /// Watches both from now on.
