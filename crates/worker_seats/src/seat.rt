@@ -1,7 +1,7 @@
 //! A worker's seat.
 
 ghost use Rattle.std.specs.Prelude.{◌≡◌, ◌+◌, ◌++◌, ◌∷◌, [], true, length, Some, None, slice_get, slice_set};
-ghost use Rattle.worker_seats.specs.Seats.{seat_view, keeper_of, notes_by, known_by};
+ghost use Rattle.worker_seats.specs.Seats.{SeatFits, after_note, after_start, beside, keeper_in, keeper_of, known_by, notes_by, seat_in, seat_view};
 
 use crate::run::Run;
 use crate::seating::{Checks, Notes, Opening, SeatCell, SeatPass, Sitting, Starts};
@@ -50,9 +50,9 @@ pub fn check<J: Run, R: Wait>(
         pass,
         of,
     } = seat;
-    cell.join_pass::<Sitting>(keeper, pass);
-    cell.load_as::<Checks, R>(rt, keeper);
-    let pass = cell.split_pass::<Sitting>(keeper);
+    sit_down(cell, keeper, pass);
+    look(rt, cell, keeper);
+    let pass = leave(cell, keeper);
     Seat {
         worker,
         share,
@@ -86,9 +86,9 @@ pub fn start<J: Run, R: Wait>(
         pass,
         of,
     } = seat;
-    cell.join_pass::<Sitting>(keeper, pass);
-    cell.swap_as::<Starts, R>(rt, keeper, words(job));
-    let pass = cell.split_pass::<Sitting>(keeper);
+    sit_down(cell, keeper, pass);
+    begin(rt, cell, keeper, job);
+    let pass = leave(cell, keeper);
     Seat {
         worker,
         share,
@@ -126,9 +126,9 @@ pub fn end<J: Run, R: Wait>(
         pass,
         of,
     } = seat;
-    cell.join_pass::<Sitting>(keeper, pass);
-    cell.swap_as::<Notes, R>(rt, keeper, words(job));
-    let pass = cell.split_pass::<Sitting>(keeper);
+    sit_down(cell, keeper, pass);
+    note(rt, cell, keeper, job);
+    let pass = leave(cell, keeper);
     book.add(&mut share, 1);
     Seat {
         worker,
@@ -136,6 +136,66 @@ pub fn end<J: Run, R: Wait>(
         pass,
         of,
     }
+}
+
+// Brings a seat beside the keeper. (Each call of the cell is in a function of its own: three in one cost the prover six times
+// as much.)
+fn sit_down(cell: &SeatCell, keeper: &mut SeatPass, seat: SeatPass)
+    requires of { keeper.old.table_id ≡ cell.now.table.shared.table_id }
+    requires seat { seat.table_id ≡ keeper.old.table_id }
+    requires idle { seat.me.1 ≡ [] }
+    requires keeps { (known_by keeper.old).keeps ≡ true }
+    ensures of { keeper.new.table_id ≡ keeper.old.table_id }
+    ensures both { known_by keeper.new ≡ beside (known_by keeper.old) (known_by seat) }
+{
+    cell.join_pass::<Sitting>(keeper, seat);
+}
+
+// Parts the keeper from the seat that is beside it.
+fn leave(cell: &SeatCell, keeper: &mut SeatPass) -> SeatPass
+    requires of { keeper.old.table_id ≡ cell.now.table.shared.table_id }
+    requires keeps { (known_by keeper.old).keeps ≡ true }
+    ensures of { keeper.new.table_id ≡ keeper.old.table_id }
+    ensures keeper { known_by keeper.new ≡ keeper_in (known_by keeper.old) }
+    ensures cell { result.table_id ≡ keeper.old.table_id }
+    ensures seat { known_by result ≡ seat_in (known_by keeper.old) }
+    ensures idle { result.me.1 ≡ [] }
+{
+    cell.split_pass::<Sitting>(keeper)
+}
+
+// Looks at the cell: the seat beside the keeper fits.
+fn look<R: Wait>(rt: &R, cell: &SeatCell, keeper: &mut SeatPass)
+    requires of { keeper.old.table_id ≡ cell.now.table.shared.table_id }
+    requires keeps { (known_by keeper.old).keeps ≡ true }
+    ensures of { keeper.new.table_id ≡ keeper.old.table_id }
+    ensures same { known_by keeper.new ≡ known_by keeper.old }
+    ensures fits { (known_by keeper.old).sits ≡ true
+        → SeatFits (known_by keeper.old).log (known_by keeper.old).running (known_by keeper.old) }
+{
+    cell.load_as::<Checks, R>(rt, keeper);
+}
+
+// Begins the call of the seat that is beside the keeper.
+fn begin<R: Wait>(rt: &R, cell: &SeatCell, keeper: &mut SeatPass, job: u32)
+    requires of { keeper.old.table_id ≡ cell.now.table.shared.table_id }
+    requires keeps { (known_by keeper.old).keeps ≡ true }
+    requires sits { (known_by keeper.old).sits ≡ true }
+    ensures of { keeper.new.table_id ≡ keeper.old.table_id }
+    ensures known { known_by keeper.new ≡ after_start (known_by keeper.old) job }
+{
+    cell.swap_as::<Starts, R>(rt, keeper, words(job));
+}
+
+// Ends the call of the seat that is beside the keeper, with its note.
+fn note<R: Wait>(rt: &R, cell: &SeatCell, keeper: &mut SeatPass, job: u32)
+    requires of { keeper.old.table_id ≡ cell.now.table.shared.table_id }
+    requires keeps { (known_by keeper.old).keeps ≡ true }
+    requires sits { (known_by keeper.old).sits ≡ true }
+    ensures of { keeper.new.table_id ≡ keeper.old.table_id }
+    ensures known { known_by keeper.new ≡ after_note (known_by keeper.old) job }
+{
+    cell.swap_as::<Notes, R>(rt, keeper, words(job));
 }
 
 // The words of the cell after an exchange for this job.
