@@ -9,5 +9,6 @@ pub mod Stepped
 pub mod Checked
 pub mod Looked
 pub mod Named
+pub mod Shaped
 pub mod Kept
 pub mod Needed

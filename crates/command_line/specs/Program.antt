@@ -1,7 +1,10 @@
 -- The command line of the program, as clap reads it: the commands, and the arguments of each.
-use Rattle.std.specs.Prelude.{◌≡◌, Option, Some, List, [], ◌∷◌, true, pos, codes}
-use Rattle.clap.specs.Words.{App, Row, Rule, Text, fault_of, new_app, new_rule, subcommand_of, with_rule, with_subcommand}
+use Rattle.std.specs.Prelude.{◌≡◌, Option, Some, Result, List, [], ◌∷◌, true, false, IfOk, pos, codes}
+use Rattle.std.specs.declared.alloc.AllocError.{AllocError}
+use Rattle.clap.specs.Words.{App, Row, Rule, Text, app_of, fault_of, new_app, new_rule, subcommand_of, with_rule, with_subcommand}
 use Rattle.clap.specs.declared.builder.action.ArgAction.TheVariants.{SetTrue}
+use Rattle.clap.specs.declared.builder.command.Command.{Command}
+use Rattle.clap.specs.declared.builder.command.Command.TheViews.{out-Command}
 use Rattle.clap.specs.declared.builder.value_parser.ValueParser.{ValueParser}
 use Rattle.clap.specs.declared.builder.value_parser.ValueParser.TheVariants.{Signed}
 
@@ -78,6 +81,15 @@ with_file_apps app = with_subcommand (with_subcommand (with_subcommand app creat
 -- the whole command line
 abbrev pub program_line : App
 program_line = with_file_apps (with_subcommand (with_subcommand start_app play_app.top) run_app.top)
+
+-- the command has this shape, and all its arguments are its own
+pub record IsApp (command : Command) (app : App) : Type 0 where
+  pub shape : app_of command ≡ app
+  pub local : (out-Command command).has_globals ≡ false
+
+-- the command that was made, if one was, has this shape
+abbrev pub MakesApp : Result Command AllocError → App → Type 0
+MakesApp made app = IfOk made (λ command. IsApp command app)
 
 -- the words keep the command line: the kinds of error that clap has for them are none
 abbrev pub KeepsLine : List Text → Type 0

@@ -1,10 +1,9 @@
 //! The command line.
 
 ghost use Rattle.std.specs.Prelude.{◌≡◌, [], false, IfOk, codes, unwrap_or};
-ghost use Rattle.clap.specs.Words.{app_of, found_of, first_value, one_text, rule_of};
-ghost use Rattle.clap.specs.declared.builder.command.Command.TheViews.{out-Command as fields_of};
+ghost use Rattle.clap.specs.Words.{App, app_of, found_of, first_value, new_app, one_text, rule_of, with_rule, with_subcommand};
 ghost use Rattle.command_line.specs.CommandLine.{HasFlag, HasLimits, HasNumber, HasRunSizes, HasSetting};
-ghost use Rattle.command_line.specs.Program.{check_app, create_app, dump_app, flag_rule, needed_rule, play_app, program_line, run_app, size_rule, start_app, with_file_apps, with_flag, with_index_sizes, with_needed_sizes, with_run_sizes, word_rule};
+ghost use Rattle.command_line.specs.Program.{MakesApp, check_app, create_app, dump_app, needed_rule, play_app, program_line, run_app, start_app, with_flag, with_index_sizes, with_needed_sizes, with_size, word_rule};
 
 use crate::engine::Setting;
 use crate::help::{FAULTS, JOBS, REPORT, SCRIPT};
@@ -25,202 +24,209 @@ const UNIQUE: &str =
 
 const PROGRESS: &str = "Tell on standard error how far it is";
 
+const WORKERS: &str = "Threads, each with a session: 1 to 64";
+
 const FRAMES: &str = "Pages that are held in memory: 16 to 1024";
+
+// A command, or no memory for it. Each step takes and gives one, so that only the step itself may leave at two places: a `?`
+// costs the prover seconds at each place where a command is held.
+type Made<'a> = Result<Command<'a>, AllocError>;
 
 /// The whole command line.
 pub fn program<'a>(alloc: Global) -> Result<Command<'a>, AllocError>
     ensures { IfOk result (λ command. app_of command ≡ program_line) }
 {
-    let command = without_commands(alloc)
-        .subcommand(play(alloc)?)?
-        .subcommand(run(alloc)?)?;
-    with_file_commands(alloc, command)
+    let made = start(alloc);
+    let made = with_command(made, play(alloc));
+    let made = with_command(made, run(alloc));
+    let made = with_command(made, create(alloc));
+    let made = with_command(made, check(alloc));
+    with_command(made, dump(alloc))
 }
 
 // The program itself, of which a command is needed.
-fn without_commands<'a>(alloc: Global) -> Command<'a>
-    ensures { app_of result ≡ start_app }
+fn start<'a>(alloc: Global) -> Made<'a>
+    ensures { MakesApp result start_app }
 {
-    Command::new(alloc, "btidx")
+    let command = Command::new(alloc, "btidx")
         .about("A B-link tree index that survives crashes.")
         .subcommand_required(true)
         .arg_required_else_help(true)
         .disable_help_subcommand(true)
-        .after_help(FAULTS)
+        .after_help(FAULTS);
+    Ok(command)
 }
 
-// The commands over an index in a file. (Each more in one chain costs the prover more than the one before.)
-fn with_file_commands<'a>(alloc: Global, command: Command<'a>) -> Result<Command<'a>, AllocError>
-    ensures { IfOk result (λ whole. app_of whole ≡ with_file_apps (app_of command.entry)) }
+fn play<'a>(alloc: Global) -> Made<'a>
+    ensures { MakesApp result play_app }
 {
-    command
-        .subcommand(create(alloc)?)?
-        .subcommand(check(alloc)?)?
-        .subcommand(dump(alloc)?)
-}
-
-fn play<'a>(alloc: Global) -> Result<Command<'a>, AllocError>
-    ensures app { IfOk result (λ command. app_of command ≡ play_app) }
-    ensures local { IfOk result (λ command. (fields_of command).has_globals ≡ false) }
-{
-    let command = Command::new(alloc, "play")
-        .about("Run a script from standard input over an index in memory")
-        .after_help(SCRIPT);
-    with_limits(alloc, command)?
-        .arg(size(alloc, "frames", "16", FRAMES))?
-        .arg(size(alloc, "sessions", "8", "Sessions: 1 to 64"))
+    let about = "Run a script from standard input over an index in memory";
+    let made = with_limits(alloc, explained(alloc, "play", about, SCRIPT));
+    let made = with_size(alloc, made, "frames", "16", FRAMES);
+    with_size(alloc, made, "sessions", "8", "Sessions: 1 to 64")
 }
 
 // The sizes of an index, each with what it is if none is given, and whether it is unique.
-fn with_limits<'a>(alloc: Global, command: Command<'a>) -> Result<Command<'a>, AllocError>
-    ensures app { IfOk result (λ whole. app_of whole ≡ with_index_sizes (app_of command.entry)) }
-    ensures local { (fields_of command.entry).has_globals ≡ false
-        → IfOk result (λ whole. (fields_of whole).has_globals ≡ false) }
+fn with_limits<'a>(alloc: Global, made: Made<'a>) -> Made<'a>
+    ensures { (app : App) → MakesApp made.entry app → MakesApp result (with_index_sizes app) }
 {
-    command
-        .arg(size(alloc, "items", "4", ITEMS))?
-        .arg(size(alloc, "pages", "64", PAGES))?
-        .arg(size(alloc, "log", "1048576", LOG))?
-        .arg(flag(alloc, "unique", UNIQUE))
+    let made = with_size(alloc, made, "items", "4", ITEMS);
+    let made = with_size(alloc, made, "pages", "64", PAGES);
+    let made = with_size(alloc, made, "log", "1048576", LOG);
+    with_flag(alloc, made, "unique", UNIQUE)
 }
 
-fn create<'a>(alloc: Global) -> Result<Command<'a>, AllocError>
-    ensures app { IfOk result (λ command. app_of command ≡ create_app) }
-    ensures local { IfOk result (λ command. (fields_of command).has_globals ≡ false) }
+fn create<'a>(alloc: Global) -> Made<'a>
+    ensures { MakesApp result create_app }
 {
-    let command = Command::new(alloc, "create")
-        .about("Make an empty index in a new file")
-        .arg(file(alloc))?
-        .arg(flag(alloc, "progress", PROGRESS))?;
-    with_needed_limits(alloc, command)
+    let made = with_file(
+        alloc,
+        named(alloc, "create", "Make an empty index in a new file"),
+    );
+    let made = with_flag(alloc, made, "progress", PROGRESS);
+    with_needed_limits(alloc, made)
 }
 
 // The sizes of a new index, each of which is needed, and whether it is unique.
-fn with_needed_limits<'a>(alloc: Global, command: Command<'a>) -> Result<Command<'a>, AllocError>
-    ensures app { IfOk result (λ whole. app_of whole ≡ with_needed_sizes (app_of command.entry)) }
-    ensures local { (fields_of command.entry).has_globals ≡ false
-        → IfOk result (λ whole. (fields_of whole).has_globals ≡ false) }
+fn with_needed_limits<'a>(alloc: Global, made: Made<'a>) -> Made<'a>
+    ensures { (app : App) → MakesApp made.entry app → MakesApp result (with_needed_sizes app) }
 {
-    command
-        .arg(needed_size(alloc, "items", ITEMS))?
-        .arg(needed_size(alloc, "pages", PAGES))?
-        .arg(needed_size(alloc, "log", LOG))?
-        .arg(flag(alloc, "unique", UNIQUE))
+    let made = with_needed_size(alloc, made, "items", ITEMS);
+    let made = with_needed_size(alloc, made, "pages", PAGES);
+    let made = with_needed_size(alloc, made, "log", LOG);
+    with_flag(alloc, made, "unique", UNIQUE)
 }
 
-fn check<'a>(alloc: Global) -> Result<Command<'a>, AllocError>
-    ensures app { IfOk result (λ command. app_of command ≡ check_app) }
-    ensures local { IfOk result (λ command. (fields_of command).has_globals ≡ false) }
+fn check<'a>(alloc: Global) -> Made<'a>
+    ensures { MakesApp result check_app }
 {
-    let command = Command::new(alloc, "check")
-        .about("Look for damage in the index in a file")
-        .after_help(REPORT)
-        .arg(file(alloc))?
-        .arg(flag(alloc, "parents", "Compare parents and children too"))?
-        .arg(flag(alloc, "one-thread", "Judge the pages in one thread"))?;
-    with_progress(alloc, command)
+    let about = "Look for damage in the index in a file";
+    let made = with_file(alloc, explained(alloc, "check", about, REPORT));
+    let made = with_flag(alloc, made, "parents", "Compare parents and children too");
+    let made = with_flag(alloc, made, "one-thread", "Judge the pages in one thread");
+    with_flag(alloc, made, "progress", PROGRESS)
 }
 
-// `--progress`, in a function of its own: each argument more in one chain costs the prover more than the one before.
-fn with_progress<'a>(alloc: Global, command: Command<'a>) -> Result<Command<'a>, AllocError>
-    ensures app { IfOk result (λ whole. app_of whole
-        ≡ with_flag (codes "progress") (app_of command.entry)) }
-    ensures local { (fields_of command.entry).has_globals ≡ false
-        → IfOk result (λ whole. (fields_of whole).has_globals ≡ false) }
+fn run<'a>(alloc: Global) -> Made<'a>
+    ensures { MakesApp result run_app }
 {
-    command.arg(flag(alloc, "progress", PROGRESS))
+    let about = "Run the jobs of a file over the index in a file, with threads";
+    let made = with_file(alloc, explained(alloc, "run", about, JOBS));
+    let made = with_word(alloc, made, "jobs", "JOBS", "The file of the jobs");
+    let made = with_flag(alloc, made, "progress", PROGRESS);
+    let made = with_size(alloc, made, "workers", "1", WORKERS);
+    with_size(alloc, made, "frames", "64", FRAMES)
 }
 
-fn run<'a>(alloc: Global) -> Result<Command<'a>, AllocError>
-    ensures app { IfOk result (λ command. app_of command ≡ run_app) }
-    ensures local { IfOk result (λ command. (fields_of command).has_globals ≡ false) }
+fn dump<'a>(alloc: Global) -> Made<'a>
+    ensures { MakesApp result dump_app }
 {
-    let command = Command::new(alloc, "run")
-        .about("Run the jobs of a file over the index in a file, with threads")
-        .after_help(JOBS)
-        .arg(file(alloc))?
-        .arg(jobs(alloc))?
-        .arg(flag(alloc, "progress", PROGRESS))?;
-    with_run_sizes(alloc, command)
+    let about = "Print each page of the index in a file, with its items";
+    with_file(alloc, named(alloc, "dump", about))
 }
 
-// The sizes of a run, each with what it is if none is given.
-fn with_run_sizes<'a>(alloc: Global, command: Command<'a>) -> Result<Command<'a>, AllocError>
-    ensures app { IfOk result (λ whole. app_of whole ≡ with_run_sizes (app_of command.entry)) }
-    ensures local { (fields_of command.entry).has_globals ≡ false
-        → IfOk result (λ whole. (fields_of whole).has_globals ≡ false) }
+// A command of this name.
+fn named<'a>(alloc: Global, name: &'a str, about: &'a str) -> Made<'a>
+    ensures { MakesApp result (new_app name.entry.now) }
 {
-    command
-        .arg(size(
-            alloc,
-            "workers",
-            "1",
-            "Threads, each with a session: 1 to 64",
-        ))?
-        .arg(size(alloc, "frames", "64", FRAMES))
+    Ok(Command::new(alloc, name).about(about))
 }
 
-fn dump<'a>(alloc: Global) -> Result<Command<'a>, AllocError>
-    ensures app { IfOk result (λ command. app_of command ≡ dump_app) }
-    ensures local { IfOk result (λ command. (fields_of command).has_globals ≡ false) }
+// ... with more help behind its arguments.
+fn explained<'a>(alloc: Global, name: &'a str, about: &'a str, more: &'a str) -> Made<'a>
+    ensures { MakesApp result (new_app name.entry.now) }
 {
-    Command::new(alloc, "dump")
-        .about("Print each page of the index in a file, with its items")
-        .arg(file(alloc))
+    Ok(Command::new(alloc, name).about(about).after_help(more))
 }
 
-fn file<'a>(alloc: Global) -> Arg<'a>
-    ensures rule { rule_of result ≡ word_rule (codes "path") }
-    ensures local { result.global ≡ false }
+// One command more.
+fn with_command<'a>(made: Made<'a>, added: Made<'a>) -> Made<'a>
+    ensures { (app more : App) → MakesApp made.entry app → MakesApp added.entry more
+        → MakesApp result (with_subcommand app more.top) }
 {
-    Arg::new(alloc, "path")
-        .value_name("PATH")
+    let added = added?;
+    made?.subcommand(added)
+}
+
+// The file of the index.
+fn with_file<'a>(alloc: Global, made: Made<'a>) -> Made<'a>
+    ensures { (app : App) → MakesApp made.entry app
+        → MakesApp result (with_rule app (word_rule (codes "path"))) }
+{
+    with_word(alloc, made, "path", "PATH", "The file of the index")
+}
+
+// A word that is needed.
+fn with_word<'a>(
+    alloc: Global,
+    made: Made<'a>,
+    name: &'a str,
+    shown: &'a str,
+    help: &'a str,
+) -> Made<'a>
+    ensures { (app : App) → MakesApp made.entry app
+        → MakesApp result (with_rule app (word_rule name.entry.now)) }
+{
+    let arg = Arg::new(alloc, name)
+        .value_name(shown)
         .required(true)
-        .help("The file of the index")
+        .help(help);
+    with(made, arg)
 }
 
-fn jobs<'a>(alloc: Global) -> Arg<'a>
-    ensures rule { rule_of result ≡ word_rule (codes "jobs") }
-    ensures local { result.global ≡ false }
+// `--NAME`.
+fn with_flag<'a>(alloc: Global, made: Made<'a>, name: &'a str, help: &'a str) -> Made<'a>
+    ensures { (app : App) → MakesApp made.entry app
+        → MakesApp result (with_flag name.entry.now app) }
 {
-    Arg::new(alloc, "jobs")
-        .value_name("JOBS")
-        .required(true)
-        .help("The file of the jobs")
-}
-
-fn flag<'a>(alloc: Global, name: &'a str, help: &'a str) -> Arg<'a>
-    ensures rule { rule_of result ≡ flag_rule name.entry.now }
-    ensures local { result.global ≡ false }
-{
-    Arg::new(alloc, name)
+    let arg = Arg::new(alloc, name)
         .long(name)
         .action(ArgAction::SetTrue)
-        .help(help)
+        .help(help);
+    with(made, arg)
 }
 
-fn needed_size<'a>(alloc: Global, name: &'a str, help: &'a str) -> Arg<'a>
-    ensures rule { rule_of result ≡ needed_rule name.entry.now }
-    ensures local { result.global ≡ false }
+// `--NAME N`, which is needed.
+fn with_needed_size<'a>(alloc: Global, made: Made<'a>, name: &'a str, help: &'a str) -> Made<'a>
+    ensures { (app : App) → MakesApp made.entry app
+        → MakesApp result (with_rule app (needed_rule name.entry.now)) }
 {
-    Arg::new(alloc, name)
+    let arg = Arg::new(alloc, name)
         .long(name)
         .value_name("N")
         .value_parser(value_parser!(u32))
         .required(true)
-        .help(help)
+        .help(help);
+    with(made, arg)
 }
 
-fn size<'a>(alloc: Global, name: &'a str, value: &'a str, help: &'a str) -> Arg<'a>
-    ensures rule { rule_of result ≡ size_rule name.entry.now value.entry.now }
-    ensures local { result.global ≡ false }
+// `--NAME N`, which is this if none is given.
+fn with_size<'a>(
+    alloc: Global,
+    made: Made<'a>,
+    name: &'a str,
+    value: &'a str,
+    help: &'a str,
+) -> Made<'a>
+    ensures { (app : App) → MakesApp made.entry app
+        → MakesApp result (with_size name.entry.now value.entry.now app) }
 {
-    Arg::new(alloc, name)
+    let arg = Arg::new(alloc, name)
         .long(name)
         .value_name("N")
         .value_parser(value_parser!(u32))
         .default_value(value)
-        .help(help)
+        .help(help);
+    with(made, arg)
+}
+
+// One argument more, of this command alone.
+fn with<'a>(made: Made<'a>, arg: Arg<'a>) -> Made<'a>
+    requires { arg.global ≡ false }
+    ensures { (app : App) → MakesApp made.entry app
+        → MakesApp result (with_rule app (rule_of arg.entry)) }
+{
+    made?.arg(arg)
 }
 
 /// The sizes on a command line of `play`.
