@@ -25,8 +25,6 @@ mod halves;
 #[cfg(test)]
 mod inserts;
 #[cfg(test)]
-mod judged_pages;
-#[cfg(test)]
 mod latches;
 #[cfg(test)]
 mod layouts;
@@ -34,8 +32,6 @@ mod layouts;
 mod logs;
 #[cfg(test)]
 mod plain;
-#[cfg(test)]
-mod plain_damages;
 #[cfg(test)]
 mod pools;
 #[cfg(test)]

@@ -5,11 +5,12 @@ use command_line::execute;
 use device::Unknown;
 use std::alloc::{AllocError, Global};
 use std::fs::{File, OpenOptions};
+use std::io::{self, Write};
 use std::os::unix::fs::FileExt;
 use std::rt::Files;
+use std::str;
 use std::sync::Wait;
 use std::thread::Threads;
-use std::{io, str};
 
 /// What the program printed, and the status that it ended with.
 #[derive(Drop)]
@@ -25,18 +26,30 @@ pub fn played<R: AllocGlobal + Files<File = File> + Threads + Wait + Sync>(
     words: &[&str],
     script: &str,
 ) -> Printed {
-    let mut input = script.as_bytes();
     let mut out = Vec::new(rt.alloc());
+    let (err, status) = played_to(rt, words, script, &mut out);
+    Printed { out, err, status }
+}
+
+/// Runs the program on a script, with this for its output. Answers what it printed on standard error, and its status. (Each call
+/// of `execute` costs the prover a minute, so the tests make none but this.)
+pub fn played_to<R: AllocGlobal + Files<File = File> + Threads + Wait + Sync, O: Write>(
+    rt: &R,
+    words: &[&str],
+    script: &str,
+    out: &mut O,
+) -> (Vec<u8>, u8) {
+    let mut input = script.as_bytes();
     let mut err = Vec::new(rt.alloc());
     let status = execute::<_, Unknown, _, _, _, _>(
         rt,
         rt.alloc(),
         words,
         &mut input,
-        &mut out,
+        out,
         &mut err,
     ).status;
-    Printed { out, err, status }
+    (err, status)
 }
 
 /// Writes bytes over those of a file.

@@ -21,15 +21,9 @@ mod judge;
 #[cfg(test)]
 mod pages;
 #[cfg(test)]
-mod pairs;
-#[cfg(test)]
-mod past;
-#[cfg(test)]
 mod runs;
 #[cfg(test)]
 mod scripts;
-#[cfg(test)]
-mod stores;
 #[cfg(test)]
 mod tally;
 #[cfg(test)]

@@ -1,8 +1,6 @@
 //! Command lines, and outputs that are long or fail.
 
 use super::runs;
-use command_line::execute;
-use device::Unknown;
 use std::alloc::{AllocError, Global};
 use std::fs::File;
 use std::io::{self, Write};
@@ -10,7 +8,7 @@ use std::rt::Files;
 use std::sync::Wait;
 use std::test::*;
 use std::thread::Threads;
-use tests_player::{Printed, played, text};
+use tests_player::{Printed, played, played_to, text};
 
 #[test]
 fn command_lines(rt: HostRuntime) -> Result<(), Fail> {
@@ -51,19 +49,9 @@ fn into_narrow(
     rt: &(impl AllocGlobal + Files<File = File> + Threads + Wait + Sync),
     script: &str,
 ) -> Printed {
-    let mut input = script.as_bytes();
     let taken = Vec::new(rt.alloc());
     let mut out = Narrow { taken, most: 12 };
-    let mut err = Vec::new(rt.alloc());
-    let words = ["btidx", "play"];
-    let status = execute::<_, Unknown, _, _, _, _>(
-        rt,
-        rt.alloc(),
-        &words,
-        &mut input,
-        &mut out,
-        &mut err,
-    ).status;
+    let (err, status) = played_to(rt, &["btidx", "play"], script, &mut out);
     let out = out.taken;
     Printed { out, err, status }
 }
