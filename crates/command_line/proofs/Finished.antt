@@ -1,6 +1,6 @@
 -- What is printed of a run that is done.
 use Rattle.std.proofs.Common.{◌≡◌, ◌++◌, ◌∷◌, ℕ, List, [], Option, refl, subst}
-use Rattle.sessions.specs.Doing.{IsEventDone}
+use Rattle.shared_world.specs.Doing.{IsEventDone}
 use Rattle.sessions.specs.declared.outcome.Finished.{Finished}
 use Rattle.command_line.proofs.Imports.{Result, Ok, Err, IfOk, OnOk, Appends, DeviceGhosts, SetGhosts, Fault, Ghosts, Checkpoint, Answer, NotMade, Store, Job, inside, World, answer_text, run_text}
 use Rattle.command_line.proofs.Imports.{PrintsDone, PrintsRun, end_after, last_text, IsWorldOfFile, PrintsRunOnFile, End, Done}

@@ -5,8 +5,8 @@ use Rattle.text_forms.specs.Spelling.{is_one_of, words_of}
 use Rattle.text_forms.specs.Values.{IsEntryOfBytes, IsRangeOfBytes, AreRows, entry_words, range_words}
 use Rattle.command_line.specs.declared.job_line.JobLine.{JobLine}
 use Rattle.command_line.specs.declared.job_line.JobLine.TheVariants.{Insert, Scan, Bulk, Cleanup, Commit, Checkpoint}
-use Rattle.sessions.specs.declared.job.Job.{Job}
-use Rattle.sessions.specs.declared.job.Job.TheVariants.{Insert as InsertJob, Scan as ScanJob, Bulk as BulkJob, Cleanup as CleanupJob, Commit as CommitJob, Checkpoint as CheckpointJob}
+use Rattle.shared_world.specs.declared.job.Job.{Job}
+use Rattle.shared_world.specs.declared.job.Job.TheVariants.{Insert as InsertJob, Scan as ScanJob, Bulk as BulkJob, Cleanup as CleanupJob, Commit as CommitJob, Checkpoint as CheckpointJob}
 
 -- the words of a line
 abbrev pub job_words : JobLine → List (List ℕ)

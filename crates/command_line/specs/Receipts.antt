@@ -5,7 +5,7 @@ use Rattle.text_forms.specs.Dumping.{entry_line}
 use Rattle.text_forms.specs.Printing.{numbered, answer_text}
 use Rattle.session_calls.specs.declared.answer.Answer.{Answer}
 use Rattle.session_calls.specs.declared.answer.Answer.TheVariants.{Done, Ended, Forced}
-use Rattle.sessions.specs.declared.record.Record.{Record}
+use Rattle.shared_world.specs.declared.record.Record.{Record}
 use Rattle.sessions.specs.declared.outcome.Receipt.{Receipt}
 
 -- how many entries a scan gave and how it ended, and these entries

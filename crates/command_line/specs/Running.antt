@@ -6,9 +6,9 @@ use Rattle.page_action.specs.declared.page_store.PageStore.{Ghosts}
 use Rattle.schedule.specs.declared.event.Event.TheVariants.{Checkpoint}
 use Rattle.session_calls.specs.declared.answer.Answer.{Answer}
 use Rattle.session_calls.specs.declared.answer.Answer.TheVariants.{Refused as NotMade}
-use Rattle.sessions.specs.Doing.{IsEventDone}
+use Rattle.shared_world.specs.Doing.{IsEventDone}
 use Rattle.sessions.specs.Finishing.{IsFinished}
-use Rattle.sessions.specs.declared.job.Job.{Job}
+use Rattle.shared_world.specs.declared.job.Job.{Job}
 use Rattle.sessions.specs.declared.outcome.Finished.{Finished}
 use Rattle.world.specs.Worlds.{inside}
 use Rattle.world.specs.declared.world.World.{World}

@@ -6,7 +6,7 @@ ghost use Rattle.text_forms.specs.Spelling.{lines_of};
 
 use crate::dead::{DeadList, listed};
 use crate::job_line::{JobLine, parse_job};
-use sessions::Job;
+use shared_world::Job;
 use std::alloc::Global;
 use text_forms::{Rows, first_line};
 

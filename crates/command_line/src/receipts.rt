@@ -6,7 +6,8 @@ ghost use Rattle.command_line.specs.Receipts.{scanned_text, outcome_text, record
 
 use index_model::Entry;
 use session_calls::Answer;
-use sessions::{Receipt, Record};
+use sessions::Receipt;
+use shared_world::Record;
 use std::io::{self, Write};
 use text_forms::{print_answer, print_entries};
 

@@ -1,64 +1,33 @@
 -- What several proofs of this crate import, passed on from one place. Declares nothing.
 pub use Rattle.std.proofs.Math.Logic.{∥∥₁_map}
 pub use Rattle.std.proofs.lemmas.Bool.Decides.{nat_tests}
-pub use Rattle.std.proofs.lemmas.List.{append-nil, length-map, length-take-le}
+pub use Rattle.std.proofs.lemmas.List.{length-map, length-take-le}
 pub use Rattle.std.proofs.lemmas.List.Sums.{count_by-le-length, sum_by-cons, sum_by_push}
 pub use Rattle.std.proofs.lemmas.Option.{slice_get_read}
-pub use Rattle.std.specs.List.{AllByRecursion, sum_by}
-pub use Rattle.index_model.proofs.Histories.{at_some_moment_later}
-pub use Rattle.index_model.specs.Actions.{Action, Effect, ThereAtSomeMoment}
-pub use Rattle.index_model.specs.Calls.{AskScan, Call, Running}
-pub use Rattle.index_model.specs.Faults.{HasCause}
+pub use Rattle.std.specs.List.{sum_by}
+pub use Rattle.index_model.specs.Actions.{Action}
+pub use Rattle.index_model.specs.Calls.{Call}
 pub use Rattle.index_model.specs.declared.dead_rows.DeadRows.{Ghosts as SetGhosts}
 pub use Rattle.index_model.specs.declared.entry.Entry.{Entry}
-pub use Rattle.index_model.specs.declared.fault.Fault.{Fault}
-pub use Rattle.index_model.specs.declared.fault.Fault.TheVariants.{Blocked, NoSession}
-pub use Rattle.page_action.specs.States.{Backing, Continues, IsLater, State}
+pub use Rattle.page_action.specs.States.{IsLater}
 pub use Rattle.page_action.specs.declared.page_store.PageStore.{Ghosts}
-pub use Rattle.session_calls.specs.Ops.{IsCaused, ends_call, is_last}
-pub use Rattle.session_calls.specs.Sessions.{AnswerMeans, AnswersEnd, AnswersStep, GivesLess, RunsUntilLast, act_count, is_busy, ready_count}
-pub use Rattle.session_calls.specs.Slots.{has_call, one_vacuums, slot_has_call, slot_of}
-pub use Rattle.session_calls.specs.TheoremCalls.{DeadSets, acts_of, asked_by, begun_call}
-pub use Rattle.session_calls.specs.declared.answer.Answer.{Answer}
-pub use Rattle.session_calls.specs.declared.answer.Answer.TheVariants.{Added, Begun, Checkpointed, Done, Ended, Finished, Flushed, Forced, Gave, Going, Ready, Refused}
-pub use Rattle.session_calls.specs.declared.op.Op.{Op}
-pub use Rattle.session_calls.specs.declared.op.Op.TheVariants.{Bulk as Bulks, Cleanup as Cleanups, Insert as Inserts, Scan as Scans}
-pub use Rattle.session_calls.specs.declared.request.Request.{Request}
-pub use Rattle.schedule.proofs.Fitting.{goes_does}
-pub use Rattle.schedule.specs.CallLists.{OneCallRuns, RefusedCallsFit, refused_call}
-pub use Rattle.schedule.specs.Events.{AnswersBeginning, AnswersEvent, AnswersUpkeep, CallMoves, EventAlways, MovesOn, OthersStay, Stays, UpkeepIsDone, causes_of_begun_at, kept_answer}
-pub use Rattle.schedule.specs.Making.{EventDoes, EventEffect}
-pub use Rattle.schedule.specs.TheoremCrashes.{KeepsHistory}
-pub use Rattle.schedule.specs.TheoremKinds.{BeginsCall, Checkpoints, Flushes, Forces, GivesUp, Kind, MaintainsStore, Move, MovesCall, Takes, Upkeep, kind_of}
-pub use Rattle.schedule.specs.TheoremMoments.{IsRunningCall, Moment, StoreAndSlots, snapshot_of}
-pub use Rattle.schedule.specs.TheoremRuns.{EventFollows, Fits, ForEachHistory}
-pub use Rattle.schedule.specs.declared.event.Event.{Event}
-pub use Rattle.schedule.specs.declared.event.Event.TheVariants.{Checkpoint, End, Next, Step}
-pub use Rattle.whole_calls.proofs.Tellings.{begins_told, keeps_silent, one_runs, runs_has_call}
-pub use Rattle.whole_calls.specs.OneStep.{HasStepped, IsGivenUpFor, IsMadeAsStep, OneStepAlways, OneStepIsRun, cut_short}
-pub use Rattle.world.specs.Worlds.{SameSessions, WorldFits, WorldKeeps, inside}
+pub use Rattle.schedule.specs.TheoremMoments.{StoreAndSlots}
+pub use Rattle.world.specs.Worlds.{WorldFits, WorldKeeps}
 pub use Rattle.world.specs.declared.world.World.{World}
-pub use Rattle.worker_seats.proofs.Counting.{last_or, noted_within, sum_over_snoc}
+pub use Rattle.worker_seats.proofs.Counting.{last_or, sum_over_snoc}
 pub use Rattle.worker_seats.proofs.Queueing.{forks_of, is_else, is_here, nat_cases, under, weigh-append}
-pub use Rattle.worker_seats.proofs.Rows.{get_front, get_last, get_snoc, get_there, get_within, set_cases, set_else, set_here, some_snoc}
-pub use Rattle.worker_seats.specs.Queue.{at_alone, below, jobs_in, sum_below, sum_over, times, weigh}
-pub use Rattle.worker_seats.specs.Seats.{keeper_of, known_by, notes_by}
-pub use Rattle.worker_seats.specs.declared.run.Run.{Ghosts as RunGhosts}
+pub use Rattle.worker_seats.proofs.Rows.{get_snoc, get_there, get_within, set_else, set_here, some_snoc}
+pub use Rattle.worker_seats.specs.Queue.{at_alone, below, jobs_in, sum_over, times, weigh}
+pub use Rattle.worker_seats.specs.Seats.{keeper_of, known_by}
 pub use Rattle.worker_seats.specs.declared.seating.SeatView.{SeatView}
-pub use Rattle.sessions.specs.Acted.{AreOfPending, AreOfRecord, AreOfRunning, EndsCall, HasActed, IsKnown, KeepsRunning}
-pub use Rattle.sessions.specs.Doing.{HasTaken, IsEventDone, IsFullScan, MayBeDone, given_after}
-pub use Rattle.sessions.specs.Finishing.{AreIdle, HasRun, IsFinished, IsReceiptFor, handed_of, jobs_of_records, receipt_of, records_of}
-pub use Rattle.sessions.specs.Handed.{ComesOf, Handed, IsAsHanded}
-pub use Rattle.sessions.specs.Jobs.{IsRoomOf, IsWithinRoom, ScanIsFull, begins, event_of, request_of, room_of, upkeep_of}
-pub use Rattle.sessions.specs.Kept.{HasEndedBy, IsBlocked, IsCut, IsInTime, IsOurs, IsPending, IsSince, KeepsAll, KeepsFitting, Lists, ListsCall, ListsUpkeep, MatchesPending, RecordFollows}
-pub use Rattle.sessions.specs.Kept.{RunsJob, ending_by, record_of}
-pub use Rattle.sessions.specs.Notes.{job_of, jobs_of, note_of, notes_of}
-pub use Rattle.sessions.specs.Transitions.{IsPath, LockMoment, OfRecord, OfSession, Owner, Transition, gift_of, gifts_of, is_owner, owned_by}
-pub use Rattle.sessions.specs.Turns.{HasNotedAt, SeatMeans, SitsOn, TurnMeans, is_begun}
-pub use Rattle.sessions.specs.declared.job.Job.{Job}
-pub use Rattle.sessions.specs.declared.job.Job.TheVariants.{Scan}
-pub use Rattle.sessions.specs.declared.jobs.Jobs.{Ghosts as JobGhosts}
+pub use Rattle.shared_world.specs.Ended.{HasRun, jobs_of_records}
+pub use Rattle.sessions.specs.Finishing.{IsFinished, IsReceiptFor, receipt_of, records_of}
+pub use Rattle.shared_world.specs.Handed.{Handed, handed_of}
+pub use Rattle.shared_world.specs.Jobs.{room_of}
+pub use Rattle.shared_world.specs.Kept.{KeepsFitting}
+pub use Rattle.shared_world.specs.Notes.{job_of, jobs_of}
+pub use Rattle.shared_world.specs.Turns.{SeatMeans, SitsOn}
+pub use Rattle.shared_world.specs.declared.job.Job.{Job}
 pub use Rattle.sessions.specs.declared.outcome.Receipt.{Receipt}
-pub use Rattle.sessions.specs.declared.record.Pending.{Pending}
-pub use Rattle.sessions.specs.declared.record.Record.{Record}
-pub use Rattle.sessions.specs.declared.shared.Shared.{Shared}
+pub use Rattle.shared_world.specs.declared.record.Pending.{Pending}
+pub use Rattle.shared_world.specs.declared.record.Record.{Record}

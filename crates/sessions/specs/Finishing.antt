@@ -1,26 +1,24 @@
 -- What a run may be asked for, and what it answers.
-use Rattle.std.specs.Prelude.{◌≡◌, ◌==◌, ℕ, ◌<◌, ◌≤◌, Bool, true, false, Option, Some, List, [], map, length, slice_get, IfSome}
+use Rattle.std.specs.Prelude.{◌≡◌, ◌==◌, ℕ, ◌<◌, ◌≤◌, true, Option, Some, List, [], length, slice_get, IfSome}
 use Rattle.std.specs.List.{sum, sum_by, count_by}
-use Rattle.index_model.specs.Actions.{Action}
-use Rattle.index_model.specs.Calls.{Call}
-use Rattle.index_model.specs.declared.entry.Entry.{Entry}
 use Rattle.index_model.specs.declared.dead_rows.DeadRows.{Ghosts as SetGhosts}
 use Rattle.index_model.specs.declared.fault.Fault.{Fault}
 use Rattle.index_model.specs.declared.fault.Fault.TheVariants.{BadLimits, SessionBusy, NoMemory}
 use Rattle.page_action.specs.declared.page_store.PageStore.{Ghosts}
 use Rattle.session_calls.specs.Slots.{has_call}
 use Rattle.session_calls.specs.declared.op.Op.{Op}
-use Rattle.worker_seats.specs.Queue.{below, times, weigh}
+use Rattle.worker_seats.specs.Queue.{times}
 use Rattle.world.specs.Worlds.{WorldFits, WorldKeeps, inside}
 use Rattle.world.specs.declared.world.World.{World}
-use Rattle.sessions.specs.declared.job.Job.{Job}
+use Rattle.shared_world.specs.declared.job.Job.{Job}
 use Rattle.sessions.specs.declared.outcome.Finished.{Finished}
 use Rattle.sessions.specs.declared.outcome.Receipt.{Receipt}
-use Rattle.sessions.specs.declared.record.Record.{Record}
-use Rattle.sessions.specs.Acted.{HasActed}
-use Rattle.sessions.specs.Handed.{Handed, ComesOf}
-use Rattle.sessions.specs.Jobs.{room_of}
-use Rattle.sessions.specs.Kept.{KeepsAll}
+use Rattle.shared_world.specs.declared.record.Record.{Record}
+use Rattle.shared_world.specs.Acted.{HasActed}
+use Rattle.shared_world.specs.Ended.{AreIdle, jobs_of_records}
+use Rattle.shared_world.specs.Handed.{ComesOf, handed_of}
+use Rattle.shared_world.specs.Jobs.{room_of}
+use Rattle.shared_world.specs.Kept.{KeepsAll}
 
 -- 1 to 64 workers, no more than there are sessions; and 65,536 jobs at most, whose scans may give 1,048,576 entries at most in all
 pub record IsWithinLimits (sessions : ℕ) (jobs : List Job) (workers : ℕ) : Type 0 where
@@ -30,20 +28,12 @@ pub record IsWithinLimits (sessions : ℕ) (jobs : List Job) (workers : ℕ) : T
   pub few_jobs : length jobs ≤ 65536
   pub little_room : sum_by room_of jobs ≤ 1048576
 
--- no session has a call
-abbrev pub AreIdle : List (Option Op) → Type 0
-AreIdle slots = (session : ℕ) → has_call slots session ≡ false
-
 -- why a run is refused: a limit is passed; else a session has a call; else there is no memory for it, or no thread
 abbrev pub RunIsRefusedFor : Fault → List (Option Op) → List Job → ℕ → Type 0
 RunIsRefusedFor BadLimits slots jobs workers = IsWithinLimits (length slots) jobs workers → ⊥
 RunIsRefusedFor SessionBusy slots jobs workers = IsWithinLimits (length slots) jobs workers × ((session : ℕ) × (has_call slots session ≡ true))
 RunIsRefusedFor NoMemory slots jobs workers = IsWithinLimits (length slots) jobs workers × AreIdle slots
 RunIsRefusedFor fault slots jobs workers = ⊥
-
--- the jobs of these records
-abbrev pub jobs_of_records : List Record → List ℕ
-jobs_of_records records = map (λ r. r.job) records
 
 -- how many of these records are of this worker
 abbrev pub records_of : ℕ → List Record → ℕ
@@ -59,26 +49,6 @@ pub record IsReceiptFor (records : List Record) (job : ℕ) (receipt : Receipt) 
   pub found : slice_get records receipt.place ≡ Some record_of
   pub job_is : record_of.job ≡ job
   pub told : receipt ≡ receipt_of receipt.place record_of
-
--- what is known of a world that is handed in now
-abbrev pub handed_of : {S T : Type 0} → Ghosts S → SetGhosts T → World S T → Handed
-handed_of g rows world = record {
-  state = g.state world.store;
-  backing = g.backing world.store;
-  slots = world.calls.slots.items;
-  sets = (inside rows world).sets;
-}
-
--- All jobs are done: what is kept under the lock is so with no job pending, and so is what was done for each record; no session has a call, the
--- records are those of the jobs that were handed out, and each is of one of the workers.
-pub record HasRun {S T : Type 0} (g : Ghosts S) (rows : SetGhosts T) (stood kept_then : (Entry → Bool) → List Action → List Call → Type 0)
-    (handed : Handed) (jobs : List Job) (workers : ℕ) (world : World S T) (start : ℕ) (records : List Record) : Type 0 where
-  pub kept : ∥ KeepsAll g stood kept_then jobs (inside rows world) start [] records ∥₁
-  pub acted : ∥ HasActed g handed jobs (inside rows world) [] records ∥₁
-  pub comes : ∥ ComesOf g handed start (inside rows world) ∥₁
-  pub idle : AreIdle world.calls.slots.items
-  pub all : (h : ℕ → ℕ) → weigh h (below (length jobs)) ≡ weigh h (jobs_of_records records)
-  pub within : (place : ℕ) (r : Record) → slice_get records place ≡ Some r → r.worker < workers
 
 -- ... and each has its receipt
 pub record IsFinished {S T : Type 0} (g : Ghosts S) (rows : SetGhosts T) (jobs : List Job) (workers : ℕ) (world : World S T) (done : Finished S T) : Type 0 where

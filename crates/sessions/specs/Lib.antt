@@ -1,11 +1,2 @@
-pub mod Acted
-pub mod Doing
 pub mod Finishing
-pub mod Handed
-pub mod Jobs
-pub mod Kept
-pub mod Notes
 pub mod Ready
-pub mod Standing
-pub mod Transitions
-pub mod Turns

@@ -3,7 +3,7 @@ use Rattle.std.specs.Prelude.{Bool, true, false, nat_lt, vec_len, vec_capacity}
 use Rattle.index_model.specs.declared.dead_rows.DeadRows.{Ghosts as SetGhosts}
 use Rattle.page_action.specs.declared.page_store.PageStore.{Ghosts as StoreGhosts}
 use Rattle.worker_seats.specs.declared.run.Run.{Ghosts as RunGhosts}
-use Rattle.sessions.specs.declared.jobs.Jobs.{Ghosts as JobGhosts}
+use Rattle.shared_world.specs.declared.jobs.Jobs.{Ghosts as JobGhosts}
 use Rattle.sessions.specs.declared.slot.Slot.{Slot}
 use Rattle.sessions.specs.declared.slot.Slot.TheVariants.{Waiting, Open, Closed}
 

@@ -2,22 +2,21 @@
 
 ghost use Rattle.std.specs.Prelude.{◌≡◌, ◌≤◌, ◌<◌, ◌+◌, [], IfOk, IfErr, length, vec_capacity};
 ghost use Rattle.world.specs.Worlds.{inside};
-ghost use Rattle.sessions.specs.Finishing.{AreIdle, HasRun};
-ghost use Rattle.sessions.specs.Handed.{IsAsHanded};
-ghost use Rattle.sessions.specs.Standing.{Stands};
+ghost use Rattle.shared_world.specs.Ended.{AreIdle, HasRun};
+ghost use Rattle.shared_world.specs.Handed.{IsAsHanded};
+ghost use Rattle.shared_world.specs.Standing.{Stands};
 
 use crate::context::RunContext;
 use crate::crew::Number;
 use crate::door::Door;
 use crate::gate::Gate;
 use crate::hire::hire;
-use crate::jobs::Jobs;
-use crate::record::Record;
 use crate::run_room::Room;
 use crate::slot::Slot;
 use crate::ticket::{JobList, JobTicket};
 use index_model::DeadRows;
 use page_action::PageStore;
+use shared_world::{Jobs, Record};
 use std::sync::{Mutex, Wait};
 use std::thread;
 use std::thread::{PromisedHandle, Threads};

@@ -4,11 +4,11 @@ ghost use Rattle.std.specs.Prelude.{◌≡◌};
 
 use crate::door::Door;
 use crate::gate::Gate;
-use crate::jobs::Jobs;
 use crate::slot::Slot;
 use crate::ticket::{JobList, JobTicket};
 use index_model::DeadRows;
 use page_action::PageStore;
+use shared_world::Jobs;
 use std::sync::{Mutex, Wait};
 use worker_seats::{JobQueue, SeatCell};
 

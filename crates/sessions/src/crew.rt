@@ -6,12 +6,12 @@ ghost use Rattle.worker_seats.specs.Seats.{known_by};
 
 use crate::context::RunContext;
 use crate::gate::Gate;
-use crate::jobs::Jobs;
 use crate::ready::{is_open, is_waiting};
 use crate::ticket::{JobList, JobTicket};
 use crate::worker::work;
 use index_model::DeadRows;
 use page_action::PageStore;
+use shared_world::Jobs;
 use std::sync::Wait;
 use std::thread::Promise;
 use worker_seats::{QueuePass, Seat, Worker};

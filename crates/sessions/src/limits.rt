@@ -3,13 +3,14 @@
 ghost use Rattle.std.specs.Prelude.{◌≡◌, ◌≤◌, ℕ, true, false, IfSome, None, length};
 ghost use Rattle.std.specs.List.{sum_by};
 ghost use Rattle.session_calls.specs.Slots.{has_call};
-ghost use Rattle.sessions.specs.Finishing.{AreIdle, RunIsRefusedFor, IsWithinLimits};
-ghost use Rattle.sessions.specs.Jobs.{room_of};
+ghost use Rattle.shared_world.specs.Ended.{AreIdle};
+ghost use Rattle.sessions.specs.Finishing.{RunIsRefusedFor, IsWithinLimits};
+ghost use Rattle.shared_world.specs.Jobs.{room_of};
 
-use crate::job::Job;
 use crate::ticket::room_of;
 use index_model::{DeadRows, Fault};
 use page_action::PageStore;
+use shared_world::Job;
 use world::World;
 
 // How many entries these jobs may give in all.

@@ -1,7 +1,7 @@
 //! What a run answers.
 
-use crate::record::Record;
 use index_model::Fault;
+use shared_world::Record;
 use world::World;
 
 /// Which worker did a job, and the place of its record.

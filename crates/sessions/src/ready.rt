@@ -3,10 +3,10 @@
 ghost use Rattle.std.specs.Prelude.{◌≡◌};
 ghost use Rattle.sessions.specs.Ready.{is_open, may_record};
 
-use crate::jobs::Jobs;
 use crate::slot::Slot;
 use index_model::DeadRows;
 use page_action::PageStore;
+use shared_world::Jobs;
 
 /// Whether a worker may do an event: the lock was opened, and there is room for one record more.
 pub fn is_ready<S: PageStore, T: DeadRows + Drop, J: Jobs>(slot: &Slot<S, T, J>) -> bool

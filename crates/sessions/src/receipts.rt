@@ -3,10 +3,10 @@
 ghost use Rattle.std.specs.Prelude.{◌≡◌, ◌<◌, ℕ, Some, IfSome, length, replicate, slice_get, vec_len};
 ghost use Rattle.std.specs.List.{sum};
 ghost use Rattle.sessions.specs.Finishing.{receipt_of, records_of};
-ghost use Rattle.sessions.specs.declared.record.Record.{Record as DoneJob};
+ghost use Rattle.shared_world.specs.declared.record.Record.{Record as DoneJob};
 
 use crate::outcome::Receipt;
-use crate::record::Record;
+use shared_world::Record;
 use std::alloc::Global;
 
 /// Room for the receipts of so many jobs, and a count of 0 for each worker. None where there is no memory for it.

@@ -1,6 +1,6 @@
 //! Which commits share a force: those of a round.
 
-use crate::job::Job;
+use shared_world::Job;
 use std::sync::{Condvar, Mutex, Wait};
 
 // How many workers are at work, and how far the rounds are.

@@ -5,9 +5,8 @@ ghost use Rattle.crossbeam_queue.specs.Passes.{view};
 ghost use Rattle.worker_seats.specs.Queue.{queue_view};
 ghost use Rattle.worker_seats.specs.Seats.{keeper_of, known_by};
 
-use crate::jobs::Jobs;
-use crate::record::{Pending, Record};
 use crate::ticket::{JobList, JobTicket};
+use shared_world::{Jobs, Pending, Record};
 use std::alloc::Global;
 use std::sync::ledger::{Book, Share};
 use worker_seats::{QueuePass, Seat, SeatPass, Worker};

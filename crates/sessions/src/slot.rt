@@ -1,9 +1,8 @@
 //! What the lock holds.
 
-use crate::jobs::Jobs;
-use crate::shared::Shared;
 use index_model::DeadRows;
 use page_action::PageStore;
+use shared_world::{Jobs, Shared};
 
 /// What the lock holds: nothing until all workers have started, and nothing where one can't be.
 #[derive(Drop)]

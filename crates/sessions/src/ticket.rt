@@ -1,10 +1,10 @@
 //! What the queue hands out for a job.
 
 ghost use Rattle.std.specs.Prelude.{◌≡◌, ◌<◌, ◌^◌, [], ℕ, Some, IfSome, length, slice_get, vec_len, vec_capacity};
-ghost use Rattle.sessions.specs.Jobs.{IsRoomOf, room_of};
+ghost use Rattle.shared_world.specs.Jobs.{IsRoomOf, room_of};
 
-use crate::job::Job;
 use index_model::Entry;
+use shared_world::Job;
 use std::alloc::Global;
 use std::marker::{Brand, PhantomData};
 use worker_seats::Ticket;
@@ -12,7 +12,7 @@ use worker_seats::Ticket;
 /// A list of jobs. A run picks its own before it makes its queue, whose tickets name it.
 pub trait JobList {
     ghost use Rattle.std.specs.Prelude.{List};
-    ghost use Rattle.sessions.specs.declared.job.Job.{Job};
+    ghost use Rattle.shared_world.specs.declared.job.Job.{Job};
 
     /// The jobs, by their numbers.
     ghost list: { List Job };

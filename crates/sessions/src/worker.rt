@@ -4,21 +4,19 @@ ghost use Rattle.std.specs.Prelude.{◌≡◌, ◌<◌, ◌++◌, ◌∷◌, [],
 ghost use Rattle.crossbeam_queue.specs.Passes.{view, IsPassOf};
 ghost use Rattle.worker_seats.specs.Queue.{KnowsAll, jobs_in};
 ghost use Rattle.worker_seats.specs.Seats.{known_by};
-ghost use Rattle.sessions.specs.Jobs.{IsRoomOf};
-ghost use Rattle.sessions.specs.Turns.{SeatMeans, SitsOn};
+ghost use Rattle.shared_world.specs.Jobs.{IsRoomOf};
+ghost use Rattle.shared_world.specs.Turns.{SeatMeans, SitsOn};
 
 use crate::baton::Stint;
 use crate::context::RunContext;
 use crate::gate::Gate;
-use crate::job::Job;
-use crate::jobs::Jobs;
 use crate::ready::is_ready;
-use crate::shared::Turn;
 use crate::slot::Slot;
 use crate::ticket::{JobList, JobTicket};
 use index_model::{DeadRows, Entry};
 use page_action::PageStore;
 use session_calls::Answer;
+use shared_world::{Job, Jobs, Turn};
 use std::sync::Wait;
 use std::thread;
 use worker_seats::{Pops, QueuePass, Seat};

@@ -3,7 +3,7 @@
 use crate::hands::{Act, Line, Told, act_by_hand};
 use crate::plain::{ALL, entry, pages};
 use page_action::MapStore;
-use sessions::{Job, Record};
+use shared_world::{Job, Record};
 use std::alloc::{AllocError, Global};
 use std::process::Abort;
 use std::test::{Fail, *};

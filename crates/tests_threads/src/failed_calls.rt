@@ -9,7 +9,7 @@ use device::{CrashImage, MemDevice};
 use index_model::Limits;
 use page_action::PageStore;
 use session_calls::Answer;
-use sessions::{Job, Record};
+use shared_world::{Job, Record};
 use std::alloc::{AllocError, Global};
 use std::process::Abort;
 use std::sync::Wait;

@@ -3,7 +3,8 @@
 use crate::indexes::SETS;
 use index_model::{Entry, Fault, Key, Range, RowAddr};
 use session_calls::Answer;
-use sessions::{Job, Receipt, Record};
+use sessions::Receipt;
+use shared_world::{Job, Record};
 use std::alloc::{AllocError, Global};
 
 /// An entry, and the action that added it.

@@ -1,7 +1,7 @@
 //! Lists of jobs.
 
 use index_model::{Entry, Key, Range, RowAddr};
-use sessions::Job;
+use shared_world::Job;
 use std::alloc::{AllocError, Global};
 
 /// The key of two bytes, and a row of this block.

@@ -5,7 +5,8 @@ use index_model::{DeadRows, Entry, Fault, Key, Layout, Limits, NoProgress, Range
 use page_action::{MapStore, PageStore};
 use page_codec::{Items, Page, PageState};
 use session_calls::Answer;
-use sessions::{Finished, Gate, Job, NotRun, run_jobs};
+use sessions::{Finished, Gate, NotRun, run_jobs};
+use shared_world::Job;
 use std::alloc::Global;
 use std::sync::Wait;
 use std::thread::Threads;

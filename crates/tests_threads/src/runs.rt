@@ -3,7 +3,8 @@
 use crate::judged::{LIMITS, gated};
 use crate::plain::entry;
 use session_calls::Answer;
-use sessions::{Gate, Job};
+use sessions::Gate;
+use shared_world::Job;
 use std::sync::atomic::{AtomicBool, Ordering};
 use std::test::{Fail, *};
 

@@ -1,5 +1,5 @@
 use Rattle.std.proofs.Common.{List, Option, slice_get, refl, ap, ◌∙◌, sym}
-use Rattle.sessions.specs.declared.record.Pending.{Pending}
+use Rattle.shared_world.specs.declared.record.Pending.{Pending}
 use Rattle.sessions.proofs.Hiring.{none_snoc}
 use Rattle.sessions.proofs.hire.hire.Goals as goal
 

@@ -1,6 +1,6 @@
 use Rattle.worker_seats.specs.Seats.{no_table}
 use Rattle.world.specs.Worlds.{WorldFits, WorldKeeps}
-use Rattle.sessions.specs.Finishing.{handed_of}
+use Rattle.shared_world.specs.Handed.{handed_of}
 use Rattle.tests_threads.proofs.hands.act_by_hand.Given as goal
 
 abbrev pub ghosts-act_named-J-Jobs : goal.ghosts-act_named-J-Jobs

@@ -1,8 +1,8 @@
 use Rattle.std.proofs.Common.{◌+◌, ◌++◌, ◌∷◌, [], List, Option, None, slice_get, sym, ap, ◌∙◌, arith}
 use Rattle.worker_seats.specs.declared.seating.SeatView.{SeatView}
 use Rattle.worker_seats.specs.Seats.{keeper_of}
-use Rattle.sessions.specs.declared.record.Pending.{Pending}
-use Rattle.sessions.specs.Notes.{jobs_of}
+use Rattle.shared_world.specs.declared.record.Pending.{Pending}
+use Rattle.shared_world.specs.Notes.{jobs_of}
 use Rattle.sessions.proofs.Hiring.{jobs_of_snoc, none_snoc}
 use Rattle.tests_threads.proofs.hands.seated.Goals as goal
 

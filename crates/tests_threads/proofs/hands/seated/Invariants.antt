@@ -1,7 +1,7 @@
 use Rattle.std.proofs.Common.{◌≡◌, ◌+◌, [], ℕ, Some, slice_get, vec_len, vec_capacity}
 use Rattle.worker_seats.specs.Seats.{keeper_of, known_by}
-use Rattle.sessions.specs.Notes.{jobs_of}
-use Rattle.sessions.specs.declared.record.Pending.{Pending}
+use Rattle.shared_world.specs.Notes.{jobs_of}
+use Rattle.shared_world.specs.declared.record.Pending.{Pending}
 use Rattle.tests_threads.proofs.hands.seated.Given as goal
 
 abbrev pub invariant-loop-w : goal.invariant-loop-w

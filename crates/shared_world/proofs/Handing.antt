@@ -1,0 +1,38 @@
+-- What is known of a world as it was handed in, after an event.
+use Rattle.std.proofs.Common.{◌≡◌, ◌∙◌, ℕ, List, map, Option, length, ap, subst}
+use Rattle.page_action.proofs.Laters.{later_trans}
+use Rattle.schedule.proofs.Keeping.{Laws}
+use Rattle.shared_world.proofs.Imports.{SetGhosts, Continues, State, Backing, IsLater, Ghosts, StoreAndSlots, Op, SameSessions, inside, World, Handed, IsAsHanded, ComesOf}
+
+-- an event has made this world of that one: its sessions and sets are the same, and its device is a later one
+pub record IsNext {S : Type 0} (g : Ghosts S) (w v : StoreAndSlots S) : Type 0 where
+  pub sessions : length v.slots ≡ length w.slots
+  pub sets : v.sets ≡ w.sets
+  pub later : IsLater (g.backing w.store) (g.backing v.store)
+
+-- an event of a world does so
+pub is_next : {S T : Type 0} {g : Ghosts S} (rows : SetGhosts T) {old new : World S T} → Laws g → Continues g.follows old.store new.store → SameSessions old new
+    → IsNext g (inside rows old) (inside rows new)
+is_next rows {old} {new} laws steps same = record {
+  sessions = same.sessions;
+  sets = ap (λ s. map rows.is_in s.items) same.sets;
+  later = laws.follows_later old.store new.store (steps old.store (laws.follows_same old.store));
+}
+
+-- the world that was handed in has become this one, by one event more
+pub comes_on : {S : Type 0} (g : Ghosts S) (first : Handed) (start : ℕ) (w v : StoreAndSlots S) → IsNext g w v → ComesOf g first start w → ComesOf g first start v
+comes_on g first start w v next c = record {
+  start_is = c.start_is;
+  sessions_are = next.sessions ∙ c.sessions_are;
+  sets_are = next.sets ∙ c.sets_are;
+  later = later_trans first.backing (g.backing w.store) (g.backing v.store) c.later next.later;
+}
+
+-- a world as it was handed in, so many actions being there
+pub comes_first : {S : Type 0} (g : Ghosts S) (laws : Laws g) (handed : Handed) (start : ℕ) (w : StoreAndSlots S) → start ≡ (g.state w.store).acts → IsAsHanded g handed w → ComesOf g handed start w
+comes_first g laws handed start w is was = record {
+  start_is = is ∙ ap (λ (st : State). st.acts) was.state_is;
+  sessions_are = ap (λ (l : List (Option Op)). length l) was.slots_are;
+  sets_are = was.sets_are;
+  later = subst (λ (b : Backing). IsLater b (g.backing w.store)) was.backing_is (laws.follows_later w.store w.store (laws.follows_same w.store));
+}

@@ -1,0 +1,14 @@
+pub mod Imports
+pub mod Noting
+pub mod Handing
+pub mod Sharing
+pub mod Keeping
+pub mod Meanings
+pub mod Happening
+pub mod Stepping
+pub mod Asking
+pub mod Owning
+pub mod Acting
+pub mod Transiting
+pub mod Beginning
+pub mod Ending

@@ -1,0 +1,152 @@
+-- What was done for each record and for each job that runs, whatever the pages are: events of its own, from the world as it was handed in.
+use Rattle.std.specs.Prelude.{◌≡◌, ◌⊎◌, ℕ, suc, ◌<◌, false, true, Option, Some, List, [], ◌∷◌, ◌++◌, length, slice_get, vec_capacity}
+use Rattle.std.specs.List.{AllByRecursion}
+use Rattle.index_model.specs.declared.entry.Entry.{Entry}
+use Rattle.index_model.specs.declared.fault.Fault.{Fault}
+use Rattle.page_action.specs.declared.page_store.PageStore.{Ghosts}
+use Rattle.session_calls.specs.Ops.{is_last}
+use Rattle.session_calls.specs.Sessions.{ready_count, slot_add}
+use Rattle.session_calls.specs.Slots.{slot_of}
+use Rattle.session_calls.specs.declared.answer.Answer.{Answer}
+use Rattle.session_calls.specs.declared.answer.Answer.TheVariants.{Begun, Ended, Checkpointed, Refused}
+use Rattle.schedule.specs.TheoremKinds.{kind_of}
+use Rattle.schedule.specs.TheoremMoments.{StoreAndSlots}
+use Rattle.schedule.specs.declared.event.Event.{Event}
+use Rattle.schedule.specs.declared.event.Event.TheVariants.{Step, Next, End, Checkpoint}
+use Rattle.whole_calls.specs.Made.{HasItsRoom}
+use Rattle.whole_calls.specs.OneStep.{cut_short}
+use Rattle.shared_world.specs.declared.job.Job.{Job}
+use Rattle.shared_world.specs.declared.record.Record.{Record}
+use Rattle.shared_world.specs.declared.record.Pending.{Pending}
+use Rattle.shared_world.specs.Handed.{Handed, IsAsHanded}
+use Rattle.shared_world.specs.Jobs.{event_of, IsRoomOf, IsWithinRoom, ScanIsFull}
+use Rattle.shared_world.specs.Transitions.{LockMoment, Transition, IsPath, Owner, OfRecord, OfSession, owned_by, gifts_of}
+
+-- no record is made after it
+abbrev pub IsUnrecorded : {S : Type 0} → Transition S → Type 0
+IsUnrecorded t = t.behind.recorded ≡ t.before.recorded
+
+-- the record at this place is made after it; so many actions there are then
+pub record MakesRecord {S : Type 0} (g : Ghosts S) (place to : ℕ) (t : Transition S) : Type 0 where
+  pub place_is : t.before.recorded ≡ place
+  pub next_is : t.behind.recorded ≡ suc place
+  pub to_is : (g.state t.behind.here.store).acts ≡ to
+
+-- the event that begins the job, or does it whole; so many records and actions there were before
+pub record IsBeginning {S : Type 0} (g : Ghosts S) (session : ℕ) (job : Job) (seen from : ℕ) (answer : Answer) (t : Transition S) : Type 0 where
+  pub event_is : t.event ≡ event_of session job
+  pub answer_is : t.answer ≡ answer
+  pub seen_is : t.before.recorded ≡ seen
+  pub from_is : (g.state t.before.here.store).acts ≡ from
+
+-- before a step the log has room for five images, or its whole room; a checkpoint is made only where it hasn't
+abbrev pub HasRoomForStep : {S : Type 0} → Ghosts S → Transition S → Type 0
+HasRoomForStep g t = HasItsRoom 5 (kind_of t.event) (g.state t.before.here.store).limits (g.backing t.before.here.store)
+
+-- an event that leaves a session's call running: a step, or asking for the next entry, whose answer isn't the last; or a checkpoint that is
+-- made before a step
+abbrev pub EventKeepsCall : ℕ → Event → Answer → Type 0
+EventKeepsCall session (Step of) answer = (of ≡ session) × (is_last answer ≡ false)
+EventKeepsCall session (Next of) answer = (of ≡ session) × (is_last answer ≡ false)
+EventKeepsCall session Checkpoint (Checkpointed count) = Unit {0}
+EventKeepsCall session event answer = ⊥
+
+-- ... with no record made
+pub record KeepsRunning {S : Type 0} (g : Ghosts S) (session : ℕ) (t : Transition S) : Type 0 where
+  pub goes : EventKeepsCall session t.event t.answer
+  pub room : HasRoomForStep g t
+  pub unrecorded : IsUnrecorded t
+
+-- what was done for a job whose call runs: it began, each event since has left it running, and these entries were given
+pub record AreOfRunning {S : Type 0} (g : Ghosts S) (session : ℕ) (job : Job) (seen from : ℕ) (given : List Entry) (ts : List (Transition S)) : Type 0 where
+  pub first : Transition S
+  pub more : List (Transition S)
+  pub are : ts ≡ first ∷ more
+  pub begun : IsBeginning g session job seen from Begun first
+  pub unrecorded : IsUnrecorded first
+  pub on : AllByRecursion (KeepsRunning g session) more
+  pub given_is : given ≡ gifts_of more
+
+-- the last step of a call: the one that gave its last answer
+pub record IsLastStep {S : Type 0} (g : Ghosts S) (place : ℕ) (r : Record) (t : Transition S) : Type 0 where
+  pub event_is : t.event ≡ Step r.worker
+  pub answer_is : t.answer ≡ r.answer
+  pub last : is_last r.answer ≡ true
+  pub room : HasRoomForStep g t
+  pub makes : MakesRecord g place r.to t
+
+-- a scan is given up whose room is full: it had one entry more ready
+pub record IsCutOff {S : Type 0} (g : Ghosts S) (job : Job) (place : ℕ) (r : Record) (t : Transition S) : Type 0 where
+  pub event_is : t.event ≡ End r.worker
+  pub answer_is : t.answer ≡ Ended
+  pub told : r.answer ≡ Ended
+  pub full : ScanIsFull job r.given.items
+  pub more : 0 < ready_count (slot_of t.before.here.slots r.worker)
+  pub makes : MakesRecord g place r.to t
+
+-- a checkpoint before a step is refused with a fault, and the call is given up for that
+pub record IsGivenUp {S : Type 0} (g : Ghosts S) (place : ℕ) (r : Record) (c t : Transition S) : Type 0 where
+  pub fault : Fault
+  pub checkpoint : c.event ≡ Checkpoint
+  pub refused : c.answer ≡ Refused fault
+  pub room : HasRoomForStep g c
+  pub unrecorded : IsUnrecorded c
+  pub event_is : t.event ≡ End r.worker
+  pub told : r.answer ≡ cut_short (slot_add (slot_of c.before.here.slots r.worker)) fault
+  pub makes : MakesRecord g place r.to t
+
+-- what ended the call of a record
+abbrev pub EndsCall : {S : Type 0} → Ghosts S → Job → ℕ → Record → List (Transition S) → Type 0
+EndsCall g job place r (t ∷ []) = IsLastStep g place r t ⊎ IsCutOff g job place r t
+EndsCall g job place r (c ∷ t ∷ []) = IsGivenUp g place r c t
+EndsCall g job place r ts = ⊥
+
+-- what was done for a record by one event: a commit, a checkpoint, or a beginning that was refused
+pub record IsDoneAtOnce {S : Type 0} (g : Ghosts S) (job : Job) (place : ℕ) (r : Record) (ts : List (Transition S)) : Type 0 where
+  pub one : Transition S
+  pub are : ts ≡ one ∷ []
+  pub begins : IsBeginning g r.worker job r.seen r.from r.answer one
+  pub never : r.answer ≡ Begun → ⊥
+  pub none : r.given.items ≡ []
+  pub makes : MakesRecord g place r.to one
+
+-- ... by the events of a call, which ran and has ended
+pub record IsDoneByCall {S : Type 0} (g : Ghosts S) (job : Job) (place : ℕ) (r : Record) (ts : List (Transition S)) : Type 0 where
+  pub ran : List (Transition S)
+  pub last : List (Transition S)
+  pub are : ts ≡ ran ++ last
+  pub runs : AreOfRunning g r.worker job r.seen r.from r.given.items ran
+  pub ends : EndsCall g job place r last
+
+-- these were done for the record at this place, and nothing else; it gave no more than its room holds
+pub record AreOfRecord {S : Type 0} (g : Ghosts S) (jobs : List Job) (place : ℕ) (r : Record) (ts : List (Transition S)) : Type 0 where
+  pub job : Job
+  pub job_is : slice_get jobs r.job ≡ Some job
+  pub most : IsWithinRoom job r.given.items
+  pub done : IsDoneAtOnce g job place r ts ⊎ IsDoneByCall g job place r ts
+
+-- ... for the job that a session runs, which has a room of its size
+pub record AreOfPending {S : Type 0} (g : Ghosts S) (jobs : List Job) (session : ℕ) (p : Pending) (ts : List (Transition S)) : Type 0 where
+  pub job : Job
+  pub job_is : slice_get jobs p.job ≡ Some job
+  pub room : IsRoomOf job (vec_capacity p.given)
+  pub runs : AreOfRunning g session job p.seen p.from p.given.items ts
+
+-- it is a record that is there, or a job that runs
+abbrev pub IsKnown : List (Option Pending) → List Record → Owner → Type 0
+IsKnown pending records (OfRecord place) = place < length records
+IsKnown pending records (OfSession session) = (p : Pending) × (slice_get pending session ≡ Some (Some p))
+
+-- Transitions lead from the world as it was handed in to what it is now. Each belongs to a record or to a job that runs; those of a record are
+-- its job done, with its answer, its given entries and its interval, and those of a job that runs are its call so far.
+pub record HasActed {S : Type 0} (g : Ghosts S) (handed : Handed) (jobs : List Job) (now : StoreAndSlots S) (pending : List (Option Pending)) (records : List Record) : Type 0 where
+  pub first : LockMoment S
+  pub transitions : List (Transition S)
+  pub owners : List Owner
+  pub handed_in : IsAsHanded g handed first.here
+  pub unrecorded : first.recorded ≡ 0
+  pub path : IsPath g first transitions (record { here = now; recorded = length records })
+  pub long : length owners ≡ length transitions
+  pub known : AllByRecursion (IsKnown pending records) owners
+  pub recorded : (place : ℕ) (r : Record) → slice_get records place ≡ Some r → AreOfRecord g jobs place r (owned_by (OfRecord place) owners transitions)
+  pub running : (session : ℕ) (p : Pending) → slice_get pending session ≡ Some (Some p) → AreOfPending g jobs session p (owned_by (OfSession session) owners transitions)

@@ -1,0 +1,61 @@
+-- What is known of a world as it was handed in, and holds of it on.
+use Rattle.std.specs.Prelude.{◌≡◌, ℕ, true, false, List, [], Option, length}
+use Rattle.index_model.specs.declared.layout.Layout.TheVariants.{One}
+use Rattle.index_model.specs.declared.dead_rows.DeadRows.{Ghosts as SetGhosts}
+use Rattle.page_action.specs.States.{State, Backing, IsLater}
+use Rattle.page_action.specs.declared.page_store.PageStore.{Ghosts}
+use Rattle.session_calls.specs.TheoremCalls.{DeadSets}
+use Rattle.session_calls.specs.declared.op.Op.{Op}
+use Rattle.schedule.specs.TheoremMoments.{StoreAndSlots}
+use Rattle.world.specs.Worlds.{inside}
+use Rattle.world.specs.declared.world.World.{World}
+
+-- all that is seen of its store: pages, calls and holdings, and the log and the device; what its sessions ran, and the sets of dead rows
+pub record Handed : Type 0 where
+  pub state : State
+  pub backing : Backing
+  pub slots : List (Option Op)
+  pub sets : DeadSets
+
+-- where none is
+abbrev pub nothing_handed : Handed
+nothing_handed = record {
+  state = record {
+    limits = record { layout = One; unique = false; items = 0; pages = 0; log_bytes = 0 };
+    frames = 0;
+    pages = [];
+    counted = [];
+    acts = 0;
+    begun = 0;
+    running = [];
+    last_cycle = 0;
+    cycle = 0;
+    table = [];
+  };
+  backing = record { durable = 0; room = 0; promised = 0; stopped = false; honest = true; failures = 0; changed = []; waiting = [] };
+  slots = [];
+  sets = [];
+}
+
+-- a world as it was handed in
+pub record IsAsHanded {S : Type 0} (g : Ghosts S) (handed : Handed) (first : StoreAndSlots S) : Type 0 where
+  pub state_is : g.state first.store ≡ handed.state
+  pub backing_is : g.backing first.store ≡ handed.backing
+  pub slots_are : first.slots ≡ handed.slots
+  pub sets_are : first.sets ≡ handed.sets
+
+-- the world handed in has become this one: its sessions and sets are the same, and its device is a later one
+pub record ComesOf {S : Type 0} (g : Ghosts S) (handed : Handed) (start : ℕ) (now : StoreAndSlots S) : Type 0 where
+  pub start_is : start ≡ handed.state.acts
+  pub sessions_are : length now.slots ≡ length handed.slots
+  pub sets_are : now.sets ≡ handed.sets
+  pub later : IsLater handed.backing (g.backing now.store)
+
+-- what is known of a world that is handed in now
+abbrev pub handed_of : {S T : Type 0} → Ghosts S → SetGhosts T → World S T → Handed
+handed_of g rows world = record {
+  state = g.state world.store;
+  backing = g.backing world.store;
+  slots = world.calls.slots.items;
+  sets = (inside rows world).sets;
+}

@@ -1,0 +1,10 @@
+pub mod Acted
+pub mod Doing
+pub mod Ended
+pub mod Handed
+pub mod Jobs
+pub mod Kept
+pub mod Notes
+pub mod Standing
+pub mod Transitions
+pub mod Turns

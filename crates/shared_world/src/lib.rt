@@ -1,0 +1,14 @@
+//! A world under one lock, with the jobs that are done on it: each event in one hold, and a record of each job.
+#![tactic(auto)]
+
+mod job;
+mod jobs;
+mod opening;
+mod record;
+mod shared;
+
+pub use job::Job;
+pub use jobs::Jobs;
+pub use opening::{ended, first};
+pub use record::{Pending, Record};
+pub use shared::{Shared, Turn};

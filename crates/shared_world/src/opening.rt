@@ -1,0 +1,96 @@
+//! What lies under the lock as a run begins, and what is taken out at its end.
+
+ghost use Rattle.std.specs.Prelude.{◌≡◌, ◌≤◌, ◌<◌, ◌+◌, [], ℕ, IfSome, None, length, Some, slice_get, vec_len};
+ghost use Rattle.crossbeam_queue.specs.Passes.{view};
+ghost use Rattle.worker_seats.specs.Queue.{KnowsAll, jobs_in, sum_over, weigh};
+ghost use Rattle.worker_seats.specs.Seats.{keeper_of, known_by};
+ghost use Rattle.world.specs.Worlds.{inside};
+ghost use Rattle.shared_world.specs.Ended.{AreIdle, HasRun};
+ghost use Rattle.shared_world.specs.Handed.{IsAsHanded};
+ghost use Rattle.shared_world.specs.Notes.{jobs_of};
+ghost use Rattle.shared_world.specs.Standing.{Stands};
+ghost use Rattle.shared_world.specs.declared.record.Pending.{Pending as WaitingJob};
+
+use crate::jobs::Jobs;
+use crate::record::{Pending, Record};
+use crate::shared::Shared;
+use index_model::DeadRows;
+use page_action::PageStore;
+use std::sync::Wait;
+use std::sync::ledger::{Book, Share};
+use worker_seats::{QueuePass, Seat, SeatCell, SeatPass, tally_up};
+use world::World;
+
+/// What lies under the lock as a run begins: no job is recorded, and none runs.
+pub fn first<S: PageStore, T: DeadRows + Drop, J: Jobs>(
+    world: World<S, T>,
+    history: Vec<Record>,
+    pending: Vec<Option<Pending>>,
+    book: Book<J>,
+    keeper: SeatPass,
+) -> Shared<S, T, J>
+    requires stood { Stands S.PageStore J.stood J.kept_then (inside T.DeadRows world) }
+    requires handed { IsAsHanded S.PageStore J.handed (inside T.DeadRows world) }
+    requires rests { AreIdle world.calls.slots.items }
+    requires history { history.items ≡ [] }
+    requires pending { (session : ℕ) (p : WaitingJob)
+        → slice_get pending.items session ≡ Some (Some p) → ⊥ }
+    requires seats { vec_len pending ≤ length world.calls.slots.items }
+    requires workers { vec_len pending ≡ J.workers }
+    requires book { book.total ≡ 0 }
+    requires room { keeper.table_id ≡ J.seats }
+    requires keeper { known_by keeper ≡ keeper_of [] (jobs_of pending.items) }
+    ensures world { result.world ≡ world }
+    ensures start { result.start ≡ (S.state world.store).acts }
+    ensures history { result.history ≡ history }
+{
+    let start = world.actions();
+    Shared {
+        world,
+        start,
+        history,
+        pending,
+        book,
+        keeper,
+    }
+}
+
+/// What a run has left, told with all seats, and every part of the ledger and of the queue: the world, how many actions there were
+/// as it began, and the records of the jobs.
+pub fn ended<S: PageStore, T: DeadRows + Drop, J: Jobs, X, R: Wait>(
+    rt: &R,
+    cell: &SeatCell,
+    shared: Shared<S, T, J>,
+    seats: Vec<Seat<J>>,
+    all: Share<J>,
+    pass: &QueuePass<X>,
+) -> (World<S, T>, u64, Vec<Record>)
+    requires cell { cell.now.table.shared.table_id ≡ J.seats }
+    requires workers { vec_len seats ≡ J.workers }
+    requires ranked { (k : ℕ) → IfSome (slice_get seats.items k) (λ s. s.worker ≡ k) }
+    requires rests { (k : ℕ) → IfSome (slice_get seats.items k)
+        (λ s. (known_by s.pass).job ≡ None) }
+    requires parts { all.parts + vec_len seats ≡ J.parts }
+    requires amount { all.amount ≡ 0 }
+    requires whole { (view pass.now).parts ≡ 1024 }
+    requires pushed { (view pass.now).pushed ≡ length J.jobs }
+    requires empty { KnowsAll (view pass.now) [] }
+    requires popped { (h : ℕ → ℕ) → weigh h (view pass.now).popped
+        ≡ sum_over (λ s. weigh h (jobs_in (known_by s.pass).notes)) seats.items }
+    ensures world { result.0 ≡ shared.world }
+    ensures start { result.1 ≡ shared.start }
+    ensures history { result.2 ≡ shared.history }
+    ensures done { HasRun S.PageStore T.DeadRows J.stood J.kept_then J.handed J.jobs J.workers
+        result.0 result.1 result.2.items }
+{
+    let Shared {
+        world,
+        start,
+        history,
+        pending: _,
+        mut book,
+        mut keeper,
+    } = shared;
+    tally_up(rt, cell, &mut keeper, &mut book, seats, all, pass);
+    (world, start, history)
+}
