@@ -2,7 +2,7 @@
 
 use crate::behind::Counted;
 use crate::dice::Space;
-use crate::failing::{fails_for_good, fails_once, play};
+use crate::failing::{fails, play};
 use crate::gates::stops_right;
 use crate::runs::Run;
 use crate::scripts::{
@@ -47,8 +47,8 @@ fn each_fails<R: Abort>(rt: &R, run: Run, script: &Script) -> Result<(), Fail> {
     let script = play(run, script)?;
     for call in 0..script.calls {
         let n = call.saturating_add(1);
-        let once = fails_once(run, &script, n, &mut counted)?;
-        let for_good = fails_for_good(run, &script, n, &mut counted)?;
+        let once = fails(run, &script, n, false, &mut counted)?;
+        let for_good = fails(run, &script, n, true, &mut counted)?;
         assert!(rt; once && for_good, "{n}: {once} {for_good} {counted:?}");
     }
     assert!(rt;

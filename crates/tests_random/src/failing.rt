@@ -136,54 +136,44 @@ fn replays<S: PageStore>(
     Ok(has_failed)
 }
 
-/// Whether the run in which the nth call fails, once, is right, and then what is opened after a crash of each kind.
-pub fn fails_once(run: Run, script: &Played, n: u64, counted: &mut Counted) -> Result<bool, Fail> {
+/// From the nth device call on one fails, or all.
+fn will_fail(world: &mut OverDevice, n: u64, for_good: bool) {
+    if for_good {
+        stop_at(world, n);
+    } else {
+        fail_at(world, n);
+    }
+}
+
+/// Whether the run in which the nth call fails, once or with all after it, is right, and then what is opened after a crash of each
+/// kind. If all fail, an opening is stopped at some of its calls too, and what is opened after that is right.
+pub fn fails(
+    run: Run,
+    script: &Played,
+    n: u64,
+    for_good: bool,
+    counted: &mut Counted,
+) -> Result<bool, Fail> {
     let mut world = looked_at(run)?;
-    fail_at(&mut world, n);
+    will_fail(&mut world, n, for_good);
     counted.failed = counted.failed.saturating_add(1);
-    is_right_once(run, &mut world, script, n, counted)
+    is_right_then(run, &mut world, script, n, for_good, counted)
 }
 
 /// The run of a world whose nth call fails, and what is opened after it.
-fn is_right_once(
+fn is_right_then(
     run: Run,
     world: &mut OverDevice,
     script: &Played,
     n: u64,
+    for_good: bool,
     counted: &mut Counted,
 ) -> Result<bool, Fail> {
     let mut judge = judge_of(run, world)?;
-    let is_right = replays(run, world, &mut judge, script).unwrap_or(false);
-    Ok(is_right && opens_right(run, world, &mut judge, n, counted)?)
-}
-
-/// The same for a run in which all calls from the nth on fail; and then an opening is stopped at some of its calls, and what is
-/// opened after that is right too.
-pub fn fails_for_good(
-    run: Run,
-    script: &Played,
-    n: u64,
-    counted: &mut Counted,
-) -> Result<bool, Fail> {
-    let mut world = looked_at(run)?;
-    stop_at(&mut world, n);
-    counted.failed = counted.failed.saturating_add(1);
-    is_right_for_good(run, &mut world, script, n, counted)
-}
-
-/// The run of a world whose calls fail from the nth on, and what is opened after it.
-fn is_right_for_good(
-    run: Run,
-    world: &mut OverDevice,
-    script: &Played,
-    n: u64,
-    counted: &mut Counted,
-) -> Result<bool, Fail> {
-    let mut judge = judge_of(run, world)?;
-    let is_right = replays(run, world, &mut judge, script).unwrap_or(false);
-    Ok(
-        is_right
-            && opens_right(run, world, &mut judge, n, counted)?
-            && stops_opening(run, world, &mut judge, n, counted)?,
-    )
+    let is_right = replays(run, world, &mut judge, script).unwrap_or(false)
+        && opens_right(run, world, &mut judge, n, counted)?;
+    if !is_right || !for_good {
+        return Ok(is_right);
+    }
+    stops_opening(run, world, &mut judge, n, counted)
 }

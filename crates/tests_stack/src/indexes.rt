@@ -53,26 +53,57 @@ fn set_len(rt: &impl Files<File = File>, path: &str, len: u64) -> Result<(), Fai
     Ok(())
 }
 
-/// Inserts so many entries, with a checkpoint after them.
-fn fill_home<S: PageStore>(index: &mut Index<S>, entries: u16) -> Result<(), Fault> {
+/// Inserts so many entries, with a checkpoint after them. Answers their number.
+fn fill_home<S: PageStore>(index: &mut Index<S>, entries: u16) -> Result<u32, Fault> {
     fill(index, 0, entries)?;
     checkpoint(index)?;
-    Ok(())
+    Ok(u32::from(entries))
 }
 
-/// An index of 40 entries in a new file.
-fn put_forty(rt: &impl Files<File = File>, alloc: Global, path: &str) -> Result<(), Fault> {
+/// What is done with an index that is open.
+#[derive(Clone, Copy)]
+enum Work {
+    /// It gets 40 entries.
+    Fill,
+    Cut,
+    Remove,
+    Hold,
+}
+
+/// Does this with an open index; answers a number of entries.
+fn does<S: PageStore, R: Abort + Files<File = File>>(
+    rt: &R,
+    alloc: Global,
+    index: &mut Index<S>,
+    path: &str,
+    work: Work,
+) -> Result<Result<u32, Fault>, Fail> {
+    match work {
+        Work::Fill => Ok(fill_home(index, 40)),
+        Work::Cut => counted_in_cut(rt, index, path),
+        Work::Remove => counted_in_removed(rt, index, path),
+        Work::Hold => is_held(rt, alloc, index, path),
+    }
+}
+
+/// Makes an index in a new file, does this with it, and lets it go. The one function that holds such an index.
+fn with_new<R: Abort + Files<File = File>>(
+    rt: &R,
+    alloc: Global,
+    path: &str,
+    work: Work,
+) -> Result<Result<u32, Fault>, Fail> {
     let mut index = made(rt, alloc, path)?;
-    let filled = fill_home(&mut index, 40);
+    let done = does(rt, alloc, &mut index, path, work);
     let_go(index);
-    filled
+    done
 }
 
 /// A file that lacks a byte holds no index; what stands after the pages of one is never read.
 #[test]
 fn lengths(rt: HostRuntime) -> Result<(), Fail> {
     let path = "files_lengths.idx";
-    put_forty(&rt, rt.alloc(), path)?;
+    assert!(rt; with_new(&rt, rt.alloc(), path, Work::Fill)? == Ok(40));
     for len in [0, 23, 4_096, LEN - 1] {
         let whole = fs::read(&rt, path)?;
         set_len(&rt, path, len)?;
@@ -97,24 +128,12 @@ fn counted_in_cut<S: PageStore>(
     Ok(count(index))
 }
 
-/// Makes an index in a new file, fills it and cuts its pages off: what a scan of all is answered.
-fn cut_while_open(
-    rt: &impl Files<File = File>,
-    alloc: Global,
-    path: &str,
-) -> Result<Result<u32, Fault>, Fail> {
-    let mut index = made(rt, alloc, path)?;
-    let counted = counted_in_cut(rt, &mut index, path);
-    let_go(index);
-    counted
-}
-
 /// The pages of an open index are cut off, more than there are frames: who comes to one that has no frame is refused with `Io`;
 /// with its old length the file holds zeros there, and no index.
 #[test]
 fn cut(rt: HostRuntime) -> Result<(), Fail> {
     let path = "files_cut.idx";
-    assert!(rt; cut_while_open(&rt, rt.alloc(), path)? == Err(Fault::Io));
+    assert!(rt; with_new(&rt, rt.alloc(), path, Work::Cut)? == Err(Fault::Io));
     assert!(rt; opened_index(&rt, rt.alloc(), path) == Err(Fault::BadSuper));
     set_len(&rt, path, LEN)?;
     assert!(rt;
@@ -131,58 +150,38 @@ fn counted_in_removed<S: PageStore>(
     rt: &impl Files<File = File>,
     index: &mut Index<S>,
     path: &str,
-) -> Result<u32, Fail> {
+) -> Result<Result<u32, Fault>, Fail> {
     fill(index, 0, 50)?;
     commit(index)?;
     remove(rt, path)?;
     fill(index, 50, 100)?;
     commit(index)?;
     checkpoint(index)?;
-    Ok(count(index)?)
-}
-
-/// Makes an index in a new file and fills it, and removes the file in the midst of that: how many entries there are.
-fn removed_while_open(
-    rt: &impl Files<File = File>,
-    alloc: Global,
-    path: &str,
-) -> Result<u32, Fail> {
-    let mut index = made(rt, alloc, path)?;
-    let counted = counted_in_removed(rt, &mut index, path);
-    let_go(index);
-    counted
+    Ok(count(index))
 }
 
 /// An index goes on over a file that was removed; after its closing there is none.
 #[test]
 fn removed(rt: HostRuntime) -> Result<(), Fail> {
     let path = "files_removed.idx";
-    assert!(rt; removed_while_open(&rt, rt.alloc(), path)? == 100);
+    assert!(rt; with_new(&rt, rt.alloc(), path, Work::Remove)? == Ok(100));
     assert!(rt; opened_index(&rt, rt.alloc(), path) == Err(Fault::Io));
     Ok(())
 }
 
-/// Fills an index, a commit after the first ten of its 20 entries. It is neither opened again nor verified.
+/// Fills an index, a commit after the first ten of its 20 entries. It is neither opened again nor verified. Answers 20.
 fn is_held<S: PageStore, R: Abort + Files<File = File>>(
     rt: &R,
     alloc: Global,
     index: &mut Index<S>,
     path: &str,
-) -> Result<(), Fail> {
+) -> Result<Result<u32, Fault>, Fail> {
     fill(index, 0, 10)?;
     commit(index)?;
     assert!(rt; opened_index(rt, alloc, path) == Err(Fault::Io));
     assert!(rt; matches!(verify(rt, alloc, path), Err(CheckFault::Refused(Fault::Io))));
     fill(index, 10, 20)?;
-    Ok(())
-}
-
-/// Makes an index in a new file and fills it. While it is open, it is neither opened again nor verified.
-fn is_alone<R: Abort + Files<File = File>>(rt: &R, alloc: Global, path: &str) -> Result<(), Fail> {
-    let mut index = made(rt, alloc, path)?;
-    let held = is_held(rt, alloc, &mut index, path);
-    let_go(index);
-    held
+    Ok(Ok(20))
 }
 
 /// An index that is open isn't opened again, nor verified, before it is closed: then it has what was committed, and no more than
@@ -190,7 +189,7 @@ fn is_alone<R: Abort + Files<File = File>>(rt: &R, alloc: Global, path: &str) ->
 #[test]
 fn open_already(rt: HostRuntime) -> Result<(), Fail> {
     let path = "files_open.idx";
-    is_alone(&rt, rt.alloc(), path)?;
+    assert!(rt; with_new(&rt, rt.alloc(), path, Work::Hold)? == Ok(20));
     assert!(rt; matches!(verified(&rt, rt.alloc(), path), Some(10..=20)));
     remove(&rt, path)
 }
