@@ -21,7 +21,21 @@ use std::rt::Files;
 use std::sync::Wait;
 use std::test::*;
 use std::thread::Threads;
-use tests_player::{played, script_of, text};
+use tests_player::{Printed, played, script_of, text};
+
+/// Compares all that was printed.
+fn has_printed(
+    rt: &impl Abort,
+    played: &Printed,
+    printed: &str,
+    said: &str,
+    status: u8,
+) -> Result<(), Fail> {
+    assert_eq!(rt; text(&played.out), printed);
+    assert_eq!(rt; text(&played.err), said);
+    assert_eq!(rt; played.status, status);
+    Ok(())
+}
 
 /// Runs the program on a script, and compares all that it prints.
 fn runs(
@@ -33,10 +47,7 @@ fn runs(
     status: u8,
 ) -> Result<(), Fail> {
     let played = played(rt, words, script);
-    assert_eq!(rt; text(&played.out), printed);
-    assert_eq!(rt; text(&played.err), said);
-    assert_eq!(rt; played.status, status);
-    Ok(())
+    has_printed(rt, &played, printed, said, status)
 }
 
 /// Runs a script, and compares all that it prints.
