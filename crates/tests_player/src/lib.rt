@@ -1,8 +1,11 @@
 //! Runs the program `btidx` on a script, and alters files, for the crates of tests. No product stands on it.
 #![tactic(auto)]
 
+mod help_forms;
+
 use command_line::execute;
 use device::Unknown;
+pub use help_forms::{columns, filled, is_form_of, mark_seen, part};
 use std::alloc::{AllocError, Global};
 use std::fs::{File, OpenOptions};
 use std::io::{self, Write};

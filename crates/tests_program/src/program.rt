@@ -16,7 +16,7 @@ use std::rt::Files;
 use std::sync::Wait;
 use std::test::*;
 use std::thread::Threads;
-use tests_player::{Printed, patch, played, script_of, text};
+use tests_player::{Printed, patch, played, text};
 
 /// Compares all that was printed.
 fn has_printed(
@@ -43,16 +43,6 @@ fn runs(
 ) -> Result<(), Fail> {
     let played = played(rt, words, script);
     has_printed(rt, &played, printed, said, status)
-}
-
-/// Runs a script with these words, and compares all that it prints.
-fn plays_with(
-    rt: &(impl Abort + AllocGlobal + Print + Eprint + Files<File = File> + Threads + Wait + Sync),
-    words: &[&str],
-    parts: &[&str],
-) -> Result<(), Fail> {
-    let (script, printed) = script_of(rt.alloc(), parts)?;
-    runs(rt, words, script.as_str(), printed.as_str(), "", 0)
 }
 
 /// Bytes, and from where on they are written over those of a file.

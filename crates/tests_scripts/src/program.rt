@@ -5,14 +5,11 @@ mod crashes;
 mod deletes;
 mod examples;
 mod help;
-mod help_of_run;
 mod inserts;
-mod jobs;
 mod lines;
-mod many_jobs;
-mod progress;
 mod rows;
 mod scans;
+mod unique;
 mod upkeep;
 
 use std::fs::{self, File};

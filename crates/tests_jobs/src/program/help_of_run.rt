@@ -1,6 +1,5 @@
 //! The help of `run`, beside what it tells of: the jobs that are read, and how they end.
 
-use super::help::{columns, filled, is_form_of, part, set};
 use super::jobs::{made, unmake};
 use command_line::{JobLine, parse_job};
 use std::fs::File;
@@ -9,7 +8,7 @@ use std::rt::Files;
 use std::sync::Wait;
 use std::test::*;
 use std::thread::Threads;
-use tests_player::{Printed, played, text};
+use tests_player::{Printed, columns, filled, is_form_of, mark_seen, part, played, text};
 
 const FILES: [&str; 2] = ["btidx_help_of_run.idx", "btidx_help_of_run.jobs"];
 
@@ -99,7 +98,7 @@ fn is_job(
 ) -> Result<bool, Fail> {
     let line = filled(rt.alloc(), form, 0)?;
     let number = number_read(line.as_bytes());
-    set(seen, number);
+    mark_seen(seen, number);
     let is_right = ends_as_shown(rt, line.as_str(), shown)?;
     Ok(is_right && number < JOBS)
 }
