@@ -38,9 +38,9 @@ impl Start for Unknown {
 }
 
 /// A file, which held what `S` says when it was opened. The file's lock is held as long as this value stands, so that no
-/// other one stands for the same file, in this process or another. A write that fails leaves any bytes in its range. After a
-/// failed write or sync each call answers `Io`, as what the file holds then is not known: a later sync must not make it look
-/// firm.
+/// other one is opened at the same file, in this process or another. A duplicate of the descriptor shares the lock: see
+/// [`FileDevice::held`]. A write that fails leaves any bytes in its range. After a failed write or sync each call answers `Io`,
+/// as what the file holds then is not known: a later sync must not make it look firm.
 #[derive(Drop)]
 pub struct FileDevice<S: Start> {
     file: File,
@@ -146,6 +146,10 @@ impl<S: Start> FileDevice<S> {
     /// A file that is open already, for reading and writing, with all its bytes; or a block device. It is synced first, so
     /// that what it holds stands through a crash. Refused with `Io` where another has the file's lock, where it is neither
     /// a file nor a block device, or a call fails: nothing is changed then, and it is closed.
+    ///
+    /// A lock is one open file's. Duplicates of a descriptor, also a forked child's, are of one open file and share its lock:
+    /// each of them is taken here. So the caller hands in an open file of which nobody has a duplicate that is used, that
+    /// nobody unlocks, and that doesn't append.
     pub fn held(file: File) -> Result<FileDevice<S>, Fault>
         ensures held { IfOk result (λ d. after_calls (S.Start.bytes d.len) d.events.list
             ≡ first (S.Start.bytes d.len)) }
