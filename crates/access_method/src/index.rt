@@ -3,16 +3,19 @@
 ghost use Rattle.std.specs.Prelude.{◌≡◌, ◌<◌, IfSome, length};
 ghost use Rattle.access_method.specs.Counted.{counted};
 ghost use Rattle.access_method.specs.Tokens.{SeatsAgree, NoneVacuums, IsFreeSeat};
+ghost use Rattle.vacuum.specs.Counts.{deleted_count, free_count};
 
+use crate::info::IndexInfo;
 use crate::token::{ScanToken, Seat};
 use device::Device;
-use index_model::{DeadRows, Entry, Fault, Range, RowAddr, VacuumStats};
+use index_model::{DeadRows, Entry, Fault, Range, RowAddr, Session, VacuumStats};
 use page_action::PageStore;
 use page_store::Store;
 use recovery::Refused;
 use schedule::{checkpoint, force};
 use session_calls::{Answer, Calls};
 use std::alloc::Global;
+use vacuum::count_deleted;
 use whole_calls::{Inserted, bulk_delete, clean_up, give, give_up, insert, open};
 
 // How many images of pages the log has room for before a step: an act takes four at most, and a force that it makes one more.
@@ -92,9 +95,24 @@ fn free_seat(seats: &[Option<Seat>]) -> Option<usize>
     None
 }
 
+// How many blocks are deleted, and how many of these may be used again while session 63 runs no call.
+fn deleted_pages<S: PageStore>(store: &S) -> (u32, u32)
+    ensures deleted { result.0 ≡ deleted_count (S.state store.now)
+        (length (S.state store.now).pages) }
+    ensures free { result.1 ≡ free_count (S.state store.now) 63
+        (length (S.state store.now).pages) }
+{
+    match Session::new(63) {
+        Ok(session) => count_deleted(store, session),
+        Err(_) => (0, 0),
+    }
+}
+
 impl<S: PageStore> Index<S> {
-    ghost use Rattle.std.specs.Prelude.{◌≡◌, ◌≢◌, [], true, false, None, Some, Ok, Err, IfOk, IfErr, IsOk, OnOk, OnErr, OnSome, ◌<◌};
+    ghost use Rattle.std.specs.Prelude.{◌≡◌, ◌≢◌, [], true, false, None, Some, Ok, Err, IfOk, IfErr, IsOk, OnOk, OnErr, OnSome, ◌<◌, length};
     ghost use Rattle.access_method.specs.declared.token.ScanToken.{ScanToken};
+    ghost use Rattle.index_model.specs.Formats.{sizes_of};
+    ghost use Rattle.vacuum.specs.Counts.{deleted_count, free_count};
     ghost use Rattle.page_action.specs.Contents.{entry_on_live_leaf};
     ghost use Rattle.page_action.specs.Room.{LogIsClosed};
     ghost use Rattle.index_model.specs.Faults.{HasCause};
@@ -263,6 +281,28 @@ impl<S: PageStore> Index<S> {
         ensures tokens { SameTokens self.old self.new }
     {
         count(checkpoint(&mut self.store))
+    }
+
+    /// What the index is: its sizes, its pages, and whether it has stopped. It makes no call of the device, and goes over the
+    /// numbers of the blocks in use.
+    pub fn info(&self) -> IndexInfo
+        ensures limits { result.limits ≡ sizes_of (S.state self.now.store).limits }
+        ensures used { result.pages_used ≡ length (S.state self.now.store).pages }
+        ensures deleted { result.pages_deleted ≡ deleted_count (S.state self.now.store)
+            (length (S.state self.now.store).pages) }
+        // Session 63 runs no call now.
+        ensures free { result.pages_free ≡ free_count (S.state self.now.store) 63
+            (length (S.state self.now.store).pages) }
+        ensures stopped { result.is_stopped ≡ (S.backing self.now.store).stopped }
+    {
+        let (pages_deleted, pages_free) = deleted_pages(&self.store);
+        IndexInfo {
+            limits: self.store.limits(),
+            pages_used: self.store.used(),
+            pages_deleted,
+            pages_free,
+            is_stopped: self.store.is_stopped(),
+        }
     }
 
     // The seat of an open token.
@@ -460,6 +500,7 @@ impl<D: Device> Index<Store<D>> {
     ghost use Rattle.recovery.specs.Opening.{AreFrames, IsNoMemoryOrIo, IsRefusal};
     ghost use Rattle.tree_acts.specs.TheoremKeys.{IsTreeFor};
     ghost use Rattle.world.specs.Reopening.{IsIndexAfterPrefix};
+    ghost use Rattle.access_method.specs.Files.{IsOpenFault};
     ghost use Rattle.access_method.specs.Indexes.{IndexFits, IndexKeeps, IndexBegins, index_device};
 
     /// Opens the index on the device, after any crash, for so many pages in memory at once (16 to 1,024). Refused as `open` of
@@ -486,6 +527,7 @@ impl<D: Device> Index<Store<D>> {
         ensures cause { IfErr result (λ refused.
             IsIoOr (IsRefusal (D.is_honest refused.device) frames (D.trace device) (D.trace refused.device))
             (D.failures device) (D.failures refused.device) refused.fault) }
+        ensures fault { IfErr result (λ refused. IsOpenFault refused.fault) }
     {
         match recovery::open(alloc, device, frames) {
             Ok(store) => match Index::new(alloc, store) {

@@ -4,6 +4,7 @@
 mod draft;
 pub mod in_file;
 mod index;
+mod info;
 mod token;
 mod watched;
 
@@ -13,6 +14,7 @@ pub use index::{Index, NotMade};
 pub use index_model::{
     DeadRows, Entry, Fault, Key, Limits, NoProgress, Progress, Range, RowAddr, VacuumStats,
 };
+pub use info::IndexInfo;
 pub use page_action::PageStore;
 pub use token::ScanToken;
 pub use whole_calls::Inserted;

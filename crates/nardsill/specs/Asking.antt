@@ -1,12 +1,14 @@
 -- What a call of C's spells.
-use Rattle.std.specs.Prelude.{◌≡◌, ◌⊎◌, ℕ, ◌≤◌, ◌<◌, ◌%◌, ◌==◌, nat_le, Bool, true, false, Option, Some, None, List, take}
+use Rattle.std.specs.Prelude.{◌≡◌, ◌⊎◌, ℕ, ◌≤◌, ◌<◌, ◌%◌, ◌==◌, nat_le, Bool, true, false, not, Option, Some, None, List, take}
 use Rattle.index_model.specs.Row.{Row, IsRow}
 use Rattle.index_model.specs.declared.entry.Entry.{Entry}
 use Rattle.index_model.specs.declared.fault.Fault.{Fault}
 use Rattle.index_model.specs.declared.fault.Fault.TheVariants.{KeyTooLong, BadRow}
+use Rattle.index_model.specs.declared.limits.Limits.{Limits}
 use Rattle.index_model.specs.declared.range.Range.{Range}
 use Rattle.access_method.specs.declared.token.ScanToken.{ScanToken}
 use Rattle.nardsill.specs.declared.ask.Ask.{Ask}
+use Rattle.nardsill.specs.declared.ask.MakeAsk.{MakeAsk}
 use Rattle.nardsill.specs.declared.ask.Token.{Token}
 
 -- the row that a call spells, if there is such a row
@@ -20,6 +22,15 @@ token_asked ask = record { number = ask.number; session = ask.session }
 -- ... and which one that is asked for an entry
 abbrev pub token_of : Token → ScanToken
 token_of token = record { number = token.number; session = token.session }
+
+-- the limits that a making spells: its index is unique unless that is 0
+abbrev pub limits_asked : MakeAsk → Limits
+limits_asked ask = record {
+  items = ask.items;
+  pages = ask.pages;
+  log_bytes = ask.log_bytes;
+  unique = not (ask.unique == 0);
+}
 
 -- a call spells this entry
 pub record SpellsEntry (ask : Ask) (entry : Entry) : Type 0 where

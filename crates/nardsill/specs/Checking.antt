@@ -1,5 +1,5 @@
 -- What a check of a file that C has open tells.
-use Rattle.std.specs.Prelude.{◌≡◌, ℕ, true, IsTrue, List, Result, Ok, Err, OnOk}
+use Rattle.std.specs.Prelude.{◌≡◌, ◌≢◌, ℕ, true, IsTrue, List, Result, Ok, Err, OnOk}
 use Rattle.access_method.specs.Files.{bytes_before}
 use Rattle.amcheck.specs.Answers.{IsAnswer}
 use Rattle.amcheck.specs.declared.report.CheckFault.{CheckFault}
@@ -64,6 +64,7 @@ pub record IsJudged {D : Type 0} (d : DeviceGhosts D) (g : Ghosts (Store D d)) (
   pub answer : (g.backing last).honest ≡ true → IsAnswer true (g.state store).limits.unique (g.state store).pages outcome
   pub tree : (g.backing last).honest ≡ true → OnOk outcome (IsTreeFor (g.state store).limits (g.state store).pages)
 
--- where it isn't refused, it was judged
-abbrev pub IsChecked : {D : Type 0} (d : DeviceGhosts D) → Ghosts (Store D d) → (ℕ → List ℕ) → Checked → Type 0
-IsChecked d g held checked = checked.status ≡ 0 → IsJudged d g held checked
+-- where 0 is answered, it was judged; else a fault is told
+pub record IsChecked {D : Type 0} (d : DeviceGhosts D) (g : Ghosts (Store D d)) (held : ℕ → List ℕ) (checked : Checked) : Type 0 where
+  pub judged : checked.status ≡ 0 → IsJudged d g held checked
+  pub refused : checked.status ≢ 0 → (fault : Fault) × IsCheckRefusal fault checked

@@ -3,5 +3,8 @@ pub mod Meanings
 pub mod Naming
 pub mod Serving
 pub mod Giving
+pub mod Making
 pub mod Taking
+pub mod Informing
 pub mod Checking
+pub mod Owning

@@ -1,5 +1,5 @@
 -- How an answer tells what a call came to.
-use Rattle.std.specs.Prelude.{◌≡◌, ℕ, true, false, Option, Some, None, Result, Ok, Err, take, unwrap_or}
+use Rattle.std.specs.Prelude.{◌≡◌, ℕ, true, false, Option, Some, None, Result, Ok, Err, length, take, unwrap_or}
 use Rattle.index_model.specs.Faults.{number_of, block_of, row_of}
 use Rattle.index_model.specs.Row.{Row}
 use Rattle.index_model.specs.declared.entry.Entry.{Entry}
@@ -61,6 +61,7 @@ pub record AnswersDurable (actions : ℕ) (answer : Answer) : Type 0 where
 pub record IsEntryGiven (entry : Entry) (given : Given) : Type 0 where
   pub status : given.status ≡ 0
   pub is_given : given.is_given ≡ true
+  pub len : given.len ≡ length entry.key
   pub key : take given.len given.key ≡ entry.key
   pub block : given.block ≡ entry.row.block
   pub offset : given.offset ≡ entry.row.offset

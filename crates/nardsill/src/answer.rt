@@ -5,8 +5,8 @@ ghost use Rattle.nardsill.specs.Meanings.{GivesNone, AnswersFault, SpellsStats, 
 
 use index_model::{Fault, VacuumStats};
 
-/// An answer: 0, or the number of a fault with the page or the row that it names, and what the call tells. A field that a call
-/// doesn't tell is 0.
+/// An answer: 0, or the number of a fault with the page or the row that it names, and what the call tells. `nardsill_proved.h`
+/// says which fields each call tells.
 #[repr(C)]
 #[derive(Clone, Copy)]
 pub struct Answer {
@@ -28,6 +28,8 @@ pub struct Answer {
     /// The row that a fault names.
     pub block: u32,
     pub offset: u16,
+    /// The descriptor that an opening has of the file.
+    pub descriptor: i32,
 }
 
 /// What a scan gives: an entry, or none where it has given all; or the number of a fault with the page that it names.
@@ -57,6 +59,7 @@ pub const DONE: Answer = Answer {
     pages_free: 0,
     block: 0,
     offset: 0,
+    descriptor: 0,
 };
 
 /// The page that a fault names, or 0.

@@ -2,7 +2,7 @@
 
 ghost use Rattle.std.specs.Prelude.{◌≡◌, ◌≤◌, ◌<◌, true, IfErr, IfOk, MatchResult, take};
 ghost use Rattle.index_model.specs.Row.{IsRow};
-ghost use Rattle.nardsill.specs.Asking.{SpellsNoEntry, SpellsNoRange, SpellsEntry, SpellsRange, end_asked, has_below, has_from, row_asked, token_asked};
+ghost use Rattle.nardsill.specs.Asking.{SpellsNoEntry, SpellsNoRange, SpellsEntry, SpellsRange, end_asked, has_below, has_from, limits_asked, row_asked, token_asked};
 
 use access_method::ScanToken;
 use index_model::{Entry, Fault, Key, Limits, Range, RowAddr};
@@ -36,14 +36,19 @@ pub struct Token {
     pub session: u32,
 }
 
-/// An opening: which file, how many pages are held in memory; and where it makes a new index, of which sizes, and whether unique.
+/// An opening: which file, and how many pages are held in memory.
 #[repr(C)]
 #[derive(Drop)]
 pub struct OpenAsk {
     pub descriptor: i32,
     pub frames: u32,
-    /// 0 where an index is there.
-    pub is_new: u32,
+}
+
+/// A making: in which file, of which sizes, and whether unique.
+#[repr(C)]
+#[derive(Drop)]
+pub struct MakeAsk {
+    pub descriptor: i32,
     pub items: u32,
     pub pages: u32,
     pub log_bytes: u32,
@@ -91,9 +96,11 @@ impl Ask {
     }
 }
 
-impl OpenAsk {
+impl MakeAsk {
     /// The sizes of a new index, and whether it is unique.
-    pub fn limits(&self) -> Limits {
+    pub fn limits(&self) -> Limits
+        ensures { result ≡ limits_asked self.now }
+    {
         Limits {
             items: self.items,
             pages: self.pages,

@@ -1,8 +1,9 @@
 //! A handle of C's.
 
-ghost use Rattle.std.specs.Prelude.{◌≡◌, None};
+ghost use Rattle.std.specs.Prelude.{◌≡◌, IfSome, None};
 
 use crate::dead::Dead;
+use crate::loose::Loose;
 use access_method::Index;
 use device::{FileDevice, Unknown};
 use page_store::Store;
@@ -30,6 +31,17 @@ impl Handle {
             index: None,
             dead: Dead { rows: None },
         }
+    }
+}
+
+/// One with no index, and no row named, in a block of its own. None where there is no memory for it.
+pub fn made(alloc: Global) -> Option<Loose<Handle, Global>>
+    ensures empty { IfSome result (λ handle. handle.value.index ≡ None) }
+    ensures none { IfSome result (λ handle. handle.value.dead.rows ≡ None) }
+{
+    match Box::new(alloc, Handle::new(alloc)) {
+        Ok(handle) => Some(Loose::of(handle)),
+        Err(_) => None,
     }
 }
 

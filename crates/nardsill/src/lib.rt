@@ -1,17 +1,21 @@
 //! An index in a file that C has open, by calls of C.
 //!
-//! Five functions are called from C, and from nowhere else. C gives a handle that `nardsill_proved_new` has made, to one call at
-//! a time, and for an opening a pointer to the number of a file that it has open for reading and writing. `embedding/` has the
-//! header and the wrapper that programs use.
+//! Seven functions are called from C, and from nowhere else. C gives a handle that `nardsill_proved_new` has made, to one call at
+//! a time. For a making, an opening and a check it gives a pointer to the number of a file that it has open for reading and
+//! writing. `embedding/` has the header and the wrapper that programs use.
 #![tactic(auto)]
 
 ghost use types.Logic.{sem};
 ghost use Rattle.std.specs.Ptr.{lies_at};
 ghost use Rattle.std.specs.Borrow.{full_share};
-ghost use Rattle.std.specs.Prelude.{◌≡◌};
+ghost use Rattle.std.specs.Box.Ownership.{box_owns};
+ghost use Rattle.std.specs.Prelude.{◌≡◌, ◌⊎◌, ◌==◌, None};
 ghost use Rattle.nardsill.specs.Asking.{token_of};
 ghost use Rattle.nardsill.specs.Checking.{IsChecked};
 ghost use Rattle.nardsill.specs.Giving.{GivesNext};
+ghost use Rattle.nardsill.specs.Informing.{IsInformed};
+ghost use Rattle.nardsill.specs.Making.{IsMade};
+ghost use Rattle.nardsill.specs.Owning.{owned_if};
 ghost use Rattle.nardsill.specs.Serving.{IsServed};
 ghost use Rattle.nardsill.specs.Taking.{IsTaken};
 ghost use Rattle.nardsill.specs.contracts.handle.Handle.{the_row};
@@ -22,21 +26,27 @@ mod ask;
 mod calls;
 mod checking;
 mod dead;
+mod facts;
 mod giving;
 mod handle;
+mod loose;
+mod making;
 mod opening;
 
 use crate::answer::{Answer, Given};
-use crate::ask::{Ask, OpenAsk, Token};
+use crate::ask::{Ask, MakeAsk, OpenAsk, Token};
 use crate::calls::serve;
 use crate::checking::{CheckAsk, Checked, check};
+use crate::facts::{Facts, inform};
 use crate::giving::give;
-use crate::handle::Handle;
+use crate::handle::{Handle, made};
+use crate::loose::Loose;
+use crate::making::make;
 use crate::opening::take;
 use device::{Device, FileDevice, Start, Unknown};
 use page_action::PageStore;
 use page_store::Store;
-use std::alloc::Global;
+use std::alloc::{Allocator, Global};
 use std::fs::File;
 
 /// What C sees of a handle: nothing. No value of it is ever made.
@@ -48,18 +58,43 @@ pub struct Shell {
 
 /// A handle with no index in it, at `out`. Answers 0, or 1 where there is no memory.
 #[unsafe(no_mangle)]
-pub extern "C" fn nardsill_proved_new(alloc: Global, out: &mut *mut Shell) -> u32 {
-    match Box::new(alloc, Handle::new(alloc)) {
-        Ok(handle) => {
-            *out = Box::into_raw(handle) as *mut Shell;
+pub extern "C" fn nardsill_proved_new(alloc: Global, out: &mut *mut Shell) -> u32
+    ensures answer { (result ≡ 0) ⊎ (result ≡ 1) }
+    ensures* handle { ∃ₛ (λ (v : Handle). sem 𝓛 (owned_if (result == 0)
+        (box_owns (⟦<Global as Allocator>⟧.dealloc_token alloc) the_row out.new v))
+        ∗ ⌜ (v.index ≡ None) × (v.dead.rows ≡ None) ⌝) }
+{
+    match made(alloc) {
+        Some(Loose { at, alloc: _ }) => {
+            *out = at as *mut Shell;
             0
         }
-        Err(_) => 1,
+        None => 1,
     }
 }
 
-/// Opens the index in a file that C has open, by another handle of the same open file; C closes its own. Makes an empty index
-/// there before, if that is asked for.
+/// Makes an empty index in a file that C has open, by another handle of the same open file; C closes its own.
+#[unsafe(no_mangle)]
+pub unsafe extern "C" fn nardsill_proved_make(
+    at: *mut Shell,
+    file: *mut File,
+    ask: MakeAsk,
+) -> Answer
+    ghost both: { Handle × File }
+    requires* handle { sem 𝓛 (lies_at the_row full_share at both.0) }
+    requires* file { sem 𝓛 (lies_at file_row full_share file both.1) }
+    ensures* handle { ∃ₛ (λ (v : Handle). sem 𝓛 (lies_at the_row full_share at v) ∗ ⌜ (v ≡ both.0)
+        × IsMade ⟦<FileDevice<Unknown> as Device>⟧ ask result ⌝) }
+    ensures* file { sem 𝓛 (lies_at file_row full_share file both.1) }
+{
+    make(
+        unsafe { &mut *(at as *mut Handle) },
+        unsafe { &mut *file },
+        ask,
+    )
+}
+
+/// Opens the index in a file that C has open, by another handle of the same open file; C closes its own.
 #[unsafe(no_mangle)]
 pub unsafe extern "C" fn nardsill_proved_take(
     at: *mut Shell,
@@ -103,6 +138,17 @@ pub unsafe extern "C" fn nardsill_proved_next(at: *mut Shell, token: Token) -> G
         value.index v.index ⌝) }
 {
     give(unsafe { &mut *(at as *mut Handle) }, token)
+}
+
+/// What the index of a handle is.
+#[unsafe(no_mangle)]
+pub unsafe extern "C" fn nardsill_proved_info(at: *mut Shell) -> Facts
+    ghost value: { Handle }
+    requires* { sem 𝓛 (lies_at the_row full_share at value) }
+    ensures* { ∃ₛ (λ (v : Handle). sem 𝓛 (lies_at the_row full_share at v) ∗ ⌜ (v ≡ value)
+        × IsInformed ⟦<Store<FileDevice<Unknown>> as PageStore>⟧ result value.index ⌝) }
+{
+    inform(unsafe { &mut *(at as *mut Handle) })
 }
 
 /// Judges the index in a file that C has open, by another handle of the same open file; C closes its own.

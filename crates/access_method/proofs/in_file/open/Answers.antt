@@ -1,7 +1,6 @@
 use Rattle.std.specs.Prelude.{length}
 use Rattle.std.proofs.Common.{ap, sym, subst, ◌∙◌}
 use Rattle.access_method.proofs.Imports.{Trace, HasIndex}
-use Rattle.access_method.proofs.Opened.{open_fault}
 use Rattle.access_method.proofs.in_file.open.Goals as goal
 
 -- the file is as long as it was, so what it held when it was opened is what the device began with
@@ -13,4 +12,4 @@ returns-in-Ok-clause-begins g c =
     c.in-Ok.ensures.begins honest c.in-Ok.ensures.range limits pages (subst (HasIndex limits pages) same index) tree
 
 pub returns-in-Err-clause-fault : goal.returns-in-Err-clause-fault
-returns-in-Err-clause-fault g c = open_fault _ _ _ _ _ _ _ c.in-Err.ensures.cause
+returns-in-Err-clause-fault g c = c.in-Err.ensures.fault

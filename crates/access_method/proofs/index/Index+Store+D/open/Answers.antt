@@ -1,6 +1,8 @@
-use Rattle.std.proofs.Common.{◌≡◌, inl, inr, ap, subst, ◌∙◌, IsTrue}
+use Rattle.std.proofs.Common.{◌≡◌, inl, inr, ap, sym, subst, ◌∙◌, IsTrue}
 use Rattle.access_method.proofs.Imports.{State, state_of, device_of, IsUnused}
 use Rattle.world.proofs.Opened.{freshly_unused, tree_opened}
+use Rattle.access_method.specs.Files.{IsOpenFault}
+use Rattle.access_method.proofs.Opened.{open_fault}
 use Rattle.access_method.proofs.Seats.{same_start, same_kept}
 use Rattle.access_method.proofs.index.Index+Store+D.open.Goals as goal
 
@@ -39,3 +41,9 @@ returns-in-Err-clause-begins g c honest frames limits pages index tree = c.in-Er
 
 pub returns-in-Ok-new-clause-frames : goal.returns-in-Ok-new-clause-frames
 returns-in-Ok-new-clause-frames g c = ap (λ s. (state_of g.D.Device s).frames) c.in-Ok-new.ensures.store ∙ ap (λ (st : State). st.frames) c.in-Ok.ensures.opened.is
+
+pub returns-in-Err-new-clause-fault : goal.returns-in-Err-new-clause-fault
+returns-in-Err-new-clause-fault g c = subst IsOpenFault (sym c.in-Err-new.ensures.fault) tt
+
+pub returns-in-Err-clause-fault : goal.returns-in-Err-clause-fault
+returns-in-Err-clause-fault g c = open_fault _ _ _ _ _ _ _ c.in-Err.ensures.cause

@@ -1,0 +1,92 @@
+-- `nardsill_proved_info` lends what lies at the pointer to `inform`, and has it back when that returns.
+use Rattle.std.proofs.Common.{◌≡◌, List, [], ◌∷◌, ◌++◌, refl, sym, ap, ◌∙◌}
+use mir.Syntax.{Fn, named}
+use mir.Val.{Val, vptr}
+use base.Fraction.{full_share}
+use base.Fml.{Lft, GName, ftrue, flft, flent}
+use prog.Wp.{Env, WpFn}
+use base.Logic.{SProp, sep, ex, emp, never, id⊢, ex_i}
+use contract.Monad.{fact, fact_i}
+use denote.Lend.{lends_ref, ref_back}
+use denote.Steps.{nothing, peeks, heard}
+use denote.Triple.Clauses.{ensured, Lasts, lasts}
+use Rattle.nardsill.specs.Informing.{IsInformed}
+use denote.Memory.{part_at}
+use types.Logic.{sem}
+use types.Kit.{use0, use3, ‵, raw, ◌⊛◌, some, later, prop, at_ret, ◌$◌, ◌∵◌, !, qed, by, move, keep, drop, use1, split, join, fsplit, fjoin, pick, rewrite, regoal, await}
+use types.Tokens.{lft_new, lft_end}
+use types.Run.{stop, addr, of_opd, no_more, and_then, first, blocks, exec, returns, enter}
+use types.ByLocal.{alloc_all, pass_all, free_all, look_at, get, through, sets, sets_last, lands_as, env}
+use types.SemTy.{Body}
+use contract.Running.{tables}
+use denote.Exit.{yes}
+use denote.RattleType.{RattleType, owns}
+use denote.Memory.{mem}
+use denote.Laws.{Is, shows}
+use denote.Ref.{MutBor, MutRef}
+use denote.RawPtr.{Ptr, RawPtr, rawptr_vals, rawptr_Tells, lies_at, in_a_block}
+use denote.Signature.{types_at, plain}
+use denote.Triple.Spec.{triple_of}
+use denote.Triple.Call.{calls_at}
+use denote.Triple.Walked.{Stays, stay_dropped, walk_of, Goes-dropped}
+use denote.Triple.Table.{framed}
+use Rattle.nardsill.proofs.nardsill_proved_info.Code.Mir as steps
+use Rattle.std.proofs.raw_atomic.Walks.{proved_at, leaves}
+use Rattle.nardsill.specs.contracts.handle.Handle as inner
+use Rattle.nardsill.specs.contracts.facts.Facts as answer
+use Rattle.nardsill.proofs.facts.Facts.TheLaws as answer_laws
+use Rattle.nardsill.specs.contracts.facts.inform as callee
+use Rattle.nardsill.proofs.facts.inform.Met.{met}
+use Rattle.nardsill.specs.contracts.nardsill_proved_info.{ended, clauses}
+use Rattle.nardsill.specs.contracts.nardsill_proved_info.Key.{name as #self}
+use Rattle.nardsill.proofs.nardsill_proved_info.Statement.{statement}
+use Rattle.nardsill.proofs.nardsill_proved_info.Code as code
+use Rattle.device.specs.contracts.file.FileDevice as file_device
+use Rattle.device.specs.contracts.file.FileDeviceDevice.TheImpl as device
+use Rattle.device.specs.contracts.file.Unknown as unknown
+use Rattle.device.specs.contracts.file.UnknownStart.TheImpl as start
+use Rattle.page_store.specs.contracts.store.StorePageStore.TheImpl as store
+
+pub nardsill_proved_info_spec : {M : Type 1} → statement M
+nardsill_proved_info_spec 𝓤 𝓛 𝓜 𝓡 wired =
+    let H = 𝓛.H in let 𝓣 = tables 𝓤 H 𝓜 𝓡 𝓡.env in let R : RattleType = inner.the_row in
+    let G = store.ghosts (file_device.the_row unknown.the_row start.ghosts) (device.ghosts unknown.the_row start.ghosts start.dict)
+    (device.dict unknown.the_row start.ghosts start.dict) in let c = clauses 𝓛 𝓜.mem 𝓡.returns in let fn : Fn = code.function in
+    let hs : Stays ended.signature.params ended.kept = (stay_dropped (plain (λ _. RawPtr)) yes, tt) in
+    proved_at 𝓛 ended hs c 𝓜 𝓡
+    (Goes-dropped 𝓛 0 (plain (λ _. RawPtr)) yes (λ κs x f. refl), tt) #self fn (code.unfolded 𝓤 H 𝓜 𝓡 wired) (λ z are.
+    let Post : Val → SProp 𝓤 = (walk_of 𝓛 ended hs c).post z in let p : Ptr = z.0.3.0 in let vss = z.0.4 in let h = z.1 in
+    qed 𝓛 ((‵ ftrue ⊛ ‵ (owns (types_at ended.signature.params z.0.0) z.0.3 vss)) ∷ ‵ (lies_at R full_share p h) ∷ []) ∵
+    move ! (1 ∷ []) $ in_a_block ! p (λ (r : Ptr). lies_at R full_share r h) (id⊢ 𝓤 (never 𝓤)) (λ b o e.
+    move ! (1 ∷ []) $ split ! $ move ! (1 ∷ []) $ fsplit ! $ keep ! (3 ∷ []) $
+    regoal ! (λ (us : List Val). prop (WpFn 𝓤 H 𝓣.C 𝓣.Λ fn us Post)) (λ i. (rawptr_Tells p vss.0 are.0 ∙ ap rawptr_vals e) i ++ []) refl $
+    enter ! 𝓣.C 𝓣.Λ fn (vptr b o ∷ []) Post $ alloc_all ! (λ l. pass_all ! refl ((tt, tt), tt) $ let Ev : Env 𝓤 H = env fn.locals l in
+    lft_new ! tt (λ α. let κ : Lft = α ∷ [] in move ! (1 ∷ 0 ∷ []) $
+    use1 𝓛 (later (some (λ (γ : GName).
+    ‵ ((MutRef (named 0) κ R).own_val (record { ref_ptr = (b, o); ghost_name = γ; now = h }) (vptr b o ∷ [])) ⊛ ‵
+    (flent κ (Body (mem R) b o γ))))) (lends_ref 𝓛 R (named 0) κ h b o) $ await ! tt $ pick ! (λ γ. split ! $
+    first ! $ blocks ! $ sets ! (of_opd ! (get ! refl)) refl (tt, tt) $ sets ! (of_opd ! (get ! refl)) refl (tt, tt) $ sets_last !
+    (addr ! (through ! refl (stop !))) refl (tt, tt) $ exec ! 𝓣.C 𝓣.Λ Ev steps.t-2 (at_ret Ev Post) $
+    sets ! (of_opd ! (get ! refl)) refl (tt, tt) $
+    let k = triple_of 𝓛 callee.signature (callee.spec 𝓛 𝓜.mem 𝓡.returns) in let x : MutBor R.Denot = record { ref_ptr = (b, o); ghost_name = γ; now = h } in
+    let y : k.Ghost = (((κ, tt), (full_share, tt), tt, (x, tt), (vptr b o ∷ [], tt)), tt) in
+    nothing ! $ move ! (1 ∷ 0 ∷ []) $ fjoin ! $
+    nothing ! $ move ! (3 ∷ 0 ∷ []) $ join ! $ join ! $ nothing ! $ move ! (1 ∷ 0 ∷ []) $ join ! $ use1 𝓛 (raw (k.pre y)) (id⊢ 𝓤 (k.pre y)) $
+    calls_at ! (λ f. framed 𝓤 H 𝓜 𝓣 f) k (met 𝓤 𝓛 𝓜 𝓡 (code.calls-nardsill::facts::inform 𝓡.env wired)) y (and_then ! (get ! refl) (no_more !)) (λ v.
+    use1 𝓛 (later (some (λ (r : (answer.the_row).Denot).
+    ((‵ (flft κ full_share) ⊛ ‵ ftrue) ⊛ ‵ ((answer.the_row).own_val r (v ∷ []))) ⊛ raw
+    (ensured 𝓛 callee.ended (callee.clauses 𝓛 𝓜.mem 𝓡.returns) (κ, tt) (x, tt) tt r)))) (id⊢ 𝓤 _) $ await ! tt $ pick ! (λ r.
+    split ! $ move ! (1 ∷ []) $
+    use1 𝓛 (some (λ (ls : Lasts callee.ended (κ, tt) (x, tt)).
+    ‵ (lasts callee.ended (κ, tt) (x, tt) ls) ⊛ raw (fact 𝓤 ((ls.0 ≡ h) × IsInformed G r h.index)))) (id⊢ 𝓤 _) $ pick !
+    (λ ls. split ! $ move ! (1 ∷ []) $ heard ! ((ls.0 ≡ h) × IsInformed G r h.index) (λ told.
+    fsplit ! $ move ! (1 ∷ []) $ drop ! $ fsplit ! $ move ! (1 ∷ []) $ drop ! $ move ! (1 ∷ []) $ split ! $ split ! $ lft_end ! tt $ move ! (1 ∷ []) $ drop ! $ move ! (0 ∷ 3 ∷ 2 ∷ []) $
+    use3 𝓛 (later (‵ (part_at R full_share ls.0 b o))) (ref_back 𝓛 R κ γ ls.0 b o) $ await ! tt $ move ! (1 ∷ []) $
+    peeks ! answer.the_row (Is answer.the_row) (shows 𝓛 answer.the_row) r (v ∷ []) (λ is. lands_as ! refl refl (((answer_laws.the_row_laws).lawful 𝓛).typed r (v ∷ []) is).0 $
+    returns ! (look_at ! 0 refl) $ free_all ! refl $
+    rewrite ! 1 (λ (q : Ptr). ‵ (lies_at R full_share q ls.0)) (sym e) refl $
+    use0 𝓛 (raw (fact 𝓤 ((ls.0 ≡ h) × IsInformed G r h.index))) (fact_i 𝓤 ((ls.0 ≡ h) × IsInformed G r h.index) (emp 𝓤) told) $ move ! (2 ∷ 0 ∷ []) $ join ! $
+    use1 𝓛 (raw (ex 𝓤 (λ (u : R.Denot). sep 𝓤 (sem 𝓛 (lies_at R full_share p u)) (fact 𝓤 ((u ≡ h) × IsInformed G r h.index)))))
+    (ex_i 𝓤 (λ (u : R.Denot). sep 𝓤 (sem 𝓛 (lies_at R full_share p u)) (fact 𝓤 ((u ≡ h) × IsInformed G r h.index))) ls.0) $
+    move ! (1 ∷ []) $ nothing ! $ nothing ! $ fjoin ! $ nothing ! $
+    by ! (leaves 𝓛 ended hs c z v r (tt, tt) (tt, tt))))))))))))
