@@ -29,6 +29,7 @@ mod dead;
 mod facts;
 mod giving;
 mod handle;
+mod layout;
 mod loose;
 mod making;
 mod opening;
