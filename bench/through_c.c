@@ -103,7 +103,7 @@ static void run(nardsill *index, struct work w) {
 }
 
 static void run_check(struct work w) {
-    nardsill_report report;
+    nardsill_report report = NARDSILL_REPORT;
     uint64_t start = now();
     need(nardsill_check(path, w.frames, &report), "check");
     need(report.damage ? NARDSILL_PAGE_DAMAGED : 0, "check");
@@ -119,8 +119,11 @@ int main(int argc, char **argv) {
                      (uint32_t)strtoul(argv[3], 0, 10), !strcmp(argv[4], "ascending"), !strcmp(argv[5], "insert")};
     if (!w.commit_every) w.commit_every = 1;
     nardsill *index;
+    nardsill_limits limits = NARDSILL_LIMITS;
+    limits.pages = 65536;
+    limits.log_bytes = 16777216;
     unlink(path);
-    need(nardsill_create(path, &(nardsill_limits){50, 65536, 16777216, 0}), "create");
+    need(nardsill_create(path, &limits), "create");
     need(nardsill_open(path, w.frames, &index), "open");
     run(index, w);
     need(nardsill_close(index), "close");

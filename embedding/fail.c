@@ -1,61 +1,86 @@
 /* Calls of the file that fail: what each call answers then, and what is there behind the next opening. */
 #define _GNU_SOURCE
-#include "nardsill.h"
+#include "testing.h"
 #include <dirent.h>
-#include <errno.h>
-#include <stdio.h>
-#include <stdlib.h>
+#include <fcntl.h>
+#include <sys/file.h>
 #include <sys/stat.h>
 #include <sys/types.h>
 #include <unistd.h>
 
-static int no_sync, no_read, folder_syncs, wrong_closes;
+#define PATH "fail.idx"
+#define DRAFT PATH ".nardsill-draft"
+
+/* Which calls fail now, and with which number. */
+static int no_sync, no_folder_sync, no_read, no_write, no_link, no_rename;
+/* The folders that were synced, each with whether the file had its name then; closings of what isn't open. */
+static int folder_syncs, nameless_syncs, wrong_closes, was_locked;
+static ino_t synced_folder;
 
 int __real_fdatasync(int fd);
 int __real_fsync(int fd);
 int __real_close(int fd);
+int __real_link(const char *from, const char *to);
+int __real_renameat2(int from_fd, const char *from, int to_fd, const char *to, unsigned flags);
 ssize_t __real_pread(int fd, void *out, size_t count, off_t at);
+ssize_t __real_pwrite(int fd, const void *from, size_t count, off_t at);
 
-static int refuse(void) {
-    errno = EIO;
+static int refuse(int error) {
+    errno = error;
     return -1;
 }
 
-int __wrap_fdatasync(int fd) { return no_sync ? refuse() : __real_fdatasync(fd); }
+int __wrap_fdatasync(int fd) { return no_sync ? refuse(no_sync) : __real_fdatasync(fd); }
 
-/* Counts the syncs of a folder in which the file has its name. */
+/* Notes the syncs of a folder. */
 int __wrap_fsync(int fd) {
     struct stat synced;
-    if (no_sync) return refuse();
-    if (!fstat(fd, &synced) && S_ISDIR(synced.st_mode) && !access("fail.idx", F_OK)) folder_syncs++;
+    if (no_sync) return refuse(no_sync);
+    if (!fstat(fd, &synced) && S_ISDIR(synced.st_mode)) {
+        if (no_folder_sync) return refuse(no_folder_sync);
+        folder_syncs++;
+        synced_folder = synced.st_ino;
+        nameless_syncs += access(PATH, F_OK) && access("fail-folder/" PATH, F_OK);
+        /* Nobody may use the index before its name is durable. */
+        int other = open(PATH, O_RDWR);
+        was_locked = other < 0 || flock(other, LOCK_EX | LOCK_NB);
+        if (other >= 0) __real_close(other);
+    }
     return __real_fsync(fd);
 }
 
-/* Counts the closings of what isn't open. */
 int __wrap_close(int fd) {
     int status = __real_close(fd);
     if (status && errno == EBADF) wrong_closes++;
     return status;
 }
 
-ssize_t __wrap_pread(int fd, void *out, size_t count, off_t at) { return no_read ? refuse() : __real_pread(fd, out, count, at); }
+int __wrap_link(const char *from, const char *to) { return no_link ? refuse(no_link) : __real_link(from, to); }
 
-static void is(int want, int got, int line) {
-    if (want == got) return;
-    fprintf(stderr, "fail.c, line %d: %d, not %d\n", line, got, want);
-    exit(1);
+int __wrap_renameat2(int from_fd, const char *from, int to_fd, const char *to, unsigned flags) {
+    return no_rename ? refuse(no_rename) : __real_renameat2(from_fd, from, to_fd, to, flags);
 }
-#define IS(want, call) is(want, call, __LINE__)
+
+ssize_t __wrap_pread(int fd, void *out, size_t count, off_t at) { return no_read ? refuse(no_read) : __real_pread(fd, out, count, at); }
+
+ssize_t __wrap_pwrite(int fd, const void *from, size_t count, off_t at) { return no_write ? refuse(no_write) : __real_pwrite(fd, from, count, at); }
 
 /* How many descriptors the process has open. */
 static int open_descriptors(void) {
     int count = 0;
     DIR *folder = opendir("/proc/self/fd");
-    if (!folder) return -1;
     while (readdir(folder)) count++;
     closedir(folder);
     return count;
 }
+
+/* The call is refused with Io, for this reason, in errno and in the fault. */
+#define FAILS(why, call)                        \
+    do {                                        \
+        IS(NARDSILL_IO, call);                  \
+        IS(why, errno);                         \
+        IS(why, nardsill_last_fault()->error);  \
+    } while (0)
 
 /* How a scan of all entries ends, and how many it gave. */
 static int count(nardsill *index, int *entries) {
@@ -69,52 +94,183 @@ static int count(nardsill *index, int *entries) {
     return status;
 }
 
-int main(void) {
-    nardsill *index;
-    nardsill_row row = {1, 1};
+static void syncs(void) {
+    nardsill *index = made(PATH, 0);
+    nardsill_details details = NARDSILL_DETAILS;
+    nardsill_row row;
     uint64_t actions;
     int entries;
-    int descriptors = open_descriptors();
-    unlink("fail.idx");
-    IS(0, nardsill_create("fail.idx", 0));
-    IS(1, folder_syncs);
-    IS(0, nardsill_open("fail.idx", 16, &index));
-    IS(0, nardsill_insert(index, "a", 1, row, 0));
+    IS(0, insert(index, "a", 1, 1));
     IS(0, nardsill_commit(index, &actions));
-    IS(0, nardsill_insert(index, "b", 1, row, 0));
-    no_sync = 1;
-    IS(NARDSILL_IO, nardsill_commit(index, &actions));
-    IS(EIO, errno);
+    IS(0, insert(index, "b", 1, 1));
+    no_sync = EIO;
+    FAILS(EIO, nardsill_commit(index, &actions));
     no_sync = 0;
+    IS(0, nardsill_info(index, &details));
+    IS(1, details.stopped);
     /* It has stopped, whatever the file would answer now. */
     IS(NARDSILL_STOPPED, nardsill_commit(index, &actions));
-    IS(NARDSILL_STOPPED, nardsill_insert(index, "c", 1, row, 0));
+    IS(NARDSILL_STOPPED, insert(index, "c", 1, 1));
     IS(1000 + NARDSILL_STOPPED, count(index, &entries));
+    IS(NARDSILL_STOPPED, nardsill_get(index, "a", 1, &row));
     IS(NARDSILL_STOPPED, nardsill_vacuum(index, 0));
     IS(NARDSILL_STOPPED, nardsill_close(index));
-    IS(0, nardsill_open("fail.idx", 16, &index));
+    IS(0, nardsill_open(PATH, 16, &index));
     IS(NARDSILL_DONE, count(index, &entries));
-    if (entries != 1 && entries != 2) IS(2, entries);
-    IS(0, nardsill_close(index));
-    /* A read that fails ends its call alone. */
-    IS(0, nardsill_open("fail.idx", 16, &index));
-    no_read = 1;
-    IS(NARDSILL_IO, count(index, &entries));
-    no_read = 0;
-    IS(NARDSILL_DONE, count(index, &entries));
-    IS(0, nardsill_close(index));
-    no_sync = 1;
-    unlink("made.idx");
-    IS(NARDSILL_IO, nardsill_create("made.idx", 0));
+    HOLDS(entries == 1 || entries == 2);
+    /* A closing tells that its checkpoint failed. */
+    IS(0, insert(index, "d", 1, 1));
+    no_sync = ENOSPC;
+    FAILS(ENOSPC, nardsill_close(index));
+    FAILS(ENOSPC, nardsill_open(PATH, 16, &index));
     no_sync = 0;
-    if (!access("made.idx", F_OK) || !access("made.idx.nardsill-draft", F_OK)) IS(0, 1);
-    /* What is refused at its beginning lets its descriptor go too. */
-    IS(NARDSILL_IO, nardsill_open("no.idx", 16, &index));
-    IS(NARDSILL_IO, nardsill_create("fail.idx", 0));
-    IS(NARDSILL_BAD_LIMITS, nardsill_open("fail.idx", 15, &index));
+    HOLDS(!index);
+}
+
+static void reads_and_writes(void) {
+    nardsill *index;
+    int entries;
+    uint64_t actions;
+    IS(0, nardsill_open(PATH, 16, &index));
+    no_read = EIO;
+    FAILS(EIO, (int)count(index, &entries));
+    no_read = 0;
+    /* A read that fails ends its call alone. */
+    IS(NARDSILL_DONE, count(index, &entries));
+    IS(0, insert(index, "e", 1, 1));
+    no_write = ENOSPC;
+    FAILS(ENOSPC, nardsill_commit(index, &actions));
+    no_write = 0;
+    IS(NARDSILL_STOPPED, nardsill_close(index));
+    /* A file that was cut fails with no number of its own. */
+    IS(0, nardsill_open(PATH, 16, &index));
+    IS(0, truncate(PATH, 4096 + 1048576));
+    FAILS(EIO, (int)count(index, &entries));
+    HOLDS(nardsill_close(index) != 77);
+    IS(NARDSILL_BAD_SUPER, nardsill_open(PATH, 16, &index));
+    unlink(PATH);
+}
+
+/* The folder of the path is synced, once, and the file has its name by then and its lock still. */
+static void folders(void) {
+    struct stat folder;
+    unlink(PATH);
+    folder_syncs = nameless_syncs = 0;
+    IS(0, nardsill_create(PATH, 0));
+    HOLDS(folder_syncs == 1 && !nameless_syncs && was_locked && !stat(".", &folder) && folder.st_ino == synced_folder);
+    mkdir("fail-folder", 0777);
+    unlink("fail-folder/" PATH);
+    unlink(PATH);
+    IS(0, nardsill_create("fail-folder/" PATH, 0));
+    HOLDS(folder_syncs == 2 && !nameless_syncs && !stat("fail-folder", &folder) && folder.st_ino == synced_folder);
+    unlink("fail-folder/" PATH);
+    rmdir("fail-folder");
+    no_folder_sync = EIO;
+    FAILS(EIO, nardsill_create(PATH, 0));
+    no_folder_sync = 0;
+    HOLDS(access(PATH, F_OK) && access(DRAFT, F_OK));
+    no_sync = EIO;
+    FAILS(EIO, nardsill_create(PATH, 0));
+    no_sync = 0;
+    HOLDS(access(PATH, F_OK) && access(DRAFT, F_OK));
+}
+
+/* Another file comes to the path just before the draft is placed there. */
+static void names(void) {
+    no_link = EEXIST;
+    FAILS(EEXIST, nardsill_create(PATH, 0));
+    no_link = 0;
+    HOLDS(access(PATH, F_OK) && access(DRAFT, F_OK));
+    /* Where there are no hard links the draft is moved, over nothing. */
+    no_link = EPERM;
+    IS(0, nardsill_create(PATH, 0));
+    HOLDS(!access(PATH, F_OK) && access(DRAFT, F_OK));
+    FAILS(EEXIST, nardsill_create(PATH, 0));
+    unlink(PATH);
+    no_rename = EINVAL;
+    FAILS(EINVAL, nardsill_create(PATH, 0));
+    no_link = no_rename = 0;
+    HOLDS(access(PATH, F_OK) && access(DRAFT, F_OK));
+}
+
+/* What stands at the draft's name: left by a maker that was stopped, or another's. */
+static void drafts(void) {
+    nardsill *index;
+    int entries;
+    unlink(PATH);
+    FILE *left = fopen(DRAFT, "w");
+    fputs("half of an index", left);
+    fclose(left);
+    IS(0, nardsill_create(PATH, 0));
+    HOLDS(access(DRAFT, F_OK));
+    /* A maker was stopped after it had placed the file: the name is made durable before the index is used. */
+    IS(0, link(PATH, DRAFT));
+    folder_syncs = 0;
+    no_folder_sync = EIO;
+    FAILS(EIO, nardsill_open(PATH, 16, &index));
+    HOLDS(!index && !access(DRAFT, F_OK));
+    no_folder_sync = 0;
+    IS(0, nardsill_open(PATH, 16, &index));
+    HOLDS(folder_syncs == 1 && access(DRAFT, F_OK));
+    IS(0, insert(index, "a", 1, 1));
+    IS(0, nardsill_close(index));
+    /* Such a whole file under another name is no draft to be written over. */
+    IS(0, rename(PATH, "fail-moved.idx"));
+    IS(0, link("fail-moved.idx", DRAFT));
+    IS(0, nardsill_create(PATH, 0));
+    IS(0, nardsill_open("fail-moved.idx", 16, &index));
+    IS(NARDSILL_DONE, count(index, &entries));
+    IS(1, entries);
+    IS(0, nardsill_close(index));
+    unlink(PATH);
+    /* Another maker's draft, a link and a folder stay as they are. */
+    int fd = open(DRAFT, O_RDWR | O_CREAT, 0666);
+    IS(0, flock(fd, LOCK_EX));
+    IS(NARDSILL_LOCKED, nardsill_create(PATH, 0));
+    HOLDS(!access(DRAFT, F_OK) && access(PATH, F_OK));
+    __real_close(fd);
+    unlink(DRAFT);
+    IS(0, symlink("fail-moved.idx", DRAFT));
+    FAILS(EEXIST, nardsill_create(PATH, 0));
+    unlink(DRAFT);
+    mkdir(DRAFT, 0777);
+    FAILS(EEXIST, nardsill_create(PATH, 0));
+    rmdir(DRAFT);
+    IS(0, nardsill_open("fail-moved.idx", 16, &index));
+    IS(NARDSILL_DONE, count(index, &entries));
+    IS(1, entries);
+    IS(0, nardsill_close(index));
+    unlink("fail-moved.idx");
+}
+
+/* What is refused at its beginning says why. */
+static void refusals(void) {
+    nardsill *index;
+    nardsill_report report = NARDSILL_REPORT;
+    FAILS(ENOENT, nardsill_open("no.idx", 16, &index));
+    FAILS(ENOENT, nardsill_check("no.idx", 16, &report));
+    FAILS(ENOENT, nardsill_create("no/folder.idx", 0));
+    mkdir("fail-folder", 0777);
+    FAILS(EISDIR, nardsill_open("fail-folder", 16, &index));
+    FAILS(EEXIST, nardsill_create("fail-folder", 0));
+    rmdir("fail-folder");
+    char name[400];
+    memset(name, 'x', sizeof name);
+    name[399] = 0;
+    FAILS(ENAMETOOLONG, nardsill_create(name, 0));
+}
+
+int main(void) {
+    int descriptors = open_descriptors();
+    syncs();
+    reads_and_writes();
+    folders();
+    names();
+    drafts();
+    refusals();
     IS(0, wrong_closes);
     IS(descriptors, open_descriptors());
-    unlink("fail.idx");
+    unlink(PATH);
     puts("fail: all is as it must be");
     return 0;
 }

@@ -33,16 +33,27 @@ static struct nardsill_ask random_ask(void) {
     return ask;
 }
 
+/* A file that isn't the number that is told is refused, and nothing is touched. */
+static int refuses_another_number(struct nardsill_shell *shell) {
+    int file = 0;
+    return nardsill_proved_take(shell, &file, (struct nardsill_open_ask){1, 16}).status == NARDSILL_BAD_VERSION
+        && nardsill_proved_make(shell, &file, (struct nardsill_make_ask){1, 4, 8, 65536, 0}).status == NARDSILL_BAD_VERSION
+        && nardsill_proved_check(shell, &file, (struct nardsill_check_ask){1, 16}).status == NARDSILL_BAD_VERSION;
+}
+
+static int is_informed(struct nardsill_shell *shell) {
+    struct nardsill_facts facts = nardsill_proved_info(shell);
+    return !facts.status && facts.items == 4 && facts.pages == 1024 && facts.pages_used <= 1024 && facts.pages_free < facts.pages_used;
+}
+
 int main(int argc, char **argv) {
     long rounds = argc > 1 ? atol(argv[1]) : 300000, seen[22] = {0};
     nardsill *index;
-    nardsill_limits limits = {4, 1024, 65536, 0};
+    nardsill_limits limits = {sizeof limits, 4, 1024, 65536, 0};
     unlink("fuzz.idx");
     if (nardsill_create("fuzz.idx", &limits) || nardsill_open("fuzz.idx", 16, &index)) return 1;
     struct nardsill_shell *shell = ((struct head *)index)->shell;
-    /* A file that isn't the number that is told is refused, and nothing is touched. */
-    int file = 0;
-    if (nardsill_proved_take(shell, &file, (struct nardsill_open_ask){.descriptor = 1, .frames = 16}).status != NARDSILL_BAD_VERSION) {
+    if (!refuses_another_number(shell)) {
         fprintf(stderr, "fuzz: a file of another number is taken\n");
         return 1;
     }
@@ -51,7 +62,7 @@ int main(int argc, char **argv) {
         struct nardsill_ask ask = random_ask();
         struct nardsill_given given = nardsill_proved_next(shell, (struct nardsill_token){ask.number, ask.session});
         struct nardsill_answer answer = nardsill_proved_call(shell, ask);
-        if (given.status > 21 || given.len > 64 || answer.status > 21) {
+        if (given.status > 21 || given.len > 64 || answer.status > 21 || (i % 1000 == 0 && !is_informed(shell))) {
             fprintf(stderr, "fuzz: status %u %u\n", given.status, answer.status);
             return 1;
         }

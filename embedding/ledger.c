@@ -45,9 +45,9 @@ static int refused(int status) {
 }
 
 /* Behind KeyExists stands the row that is there. */
-static int refused_insert(nardsill *index, int status) {
+static int refused_insert(int status) {
     if (status != NARDSILL_KEY_EXISTS) return refused(status);
-    nardsill_row row = nardsill_fault_row(index);
+    nardsill_row row = nardsill_last_fault()->row;
     return printf("refused %d %s (%u,%u)\n", status, nardsill_errname(status), row.block, row.offset);
 }
 
@@ -59,13 +59,13 @@ static int insert(nardsill *index, const char *key_word, const char *row_word) {
     int bad_key = key_of(key_word, key, &len), bad_row = row_of(row_word, &row);
     if (bad_key == FORM || bad_row == FORM) return refused(FORM);
     int status = bad_key ? bad_key : bad_row ? bad_row : nardsill_insert(index, key, len, row, &action);
-    return status ? refused_insert(index, status) : printf("added %llu\n", (unsigned long long)action);
+    return status ? refused_insert(status) : printf("added %llu\n", (unsigned long long)action);
 }
 
 static int delete(nardsill *index, char *words) {
     size_t count = 0;
     nardsill_row *rows = malloc((strlen(words) / 6 + 1) * sizeof *rows);
-    nardsill_stats stats;
+    nardsill_stats stats = NARDSILL_STATS;
     int status = 0;
     for (char *word = words; rows && word; count++) {
         char *behind = strchr(word, ' ');
@@ -109,7 +109,7 @@ static int list(nardsill *index, const char *from_word, const char *below_word) 
 }
 
 static int vacuum(nardsill *index) {
-    nardsill_stats s;
+    nardsill_stats s = NARDSILL_STATS;
     int status = nardsill_vacuum(index, &s);
     if (status) return refused(status);
     return printf("finished pages=%u tuples=%llu removed=%llu new=%u deleted=%u free=%u\n", s.pages, (unsigned long long)s.entries,

@@ -5,30 +5,151 @@
 #include <errno.h>
 #include <fcntl.h>
 #include <pthread.h>
+#include <stdio.h>
 #include <stdlib.h>
 #include <string.h>
 #include <sys/file.h>
 #include <sys/stat.h>
 #include <unistd.h>
 
+/* What C and the proved library share is laid out alike: crates/nardsill has the same numbers. */
+#define IS_LAID_OUT(type, size, last, at) _Static_assert(sizeof(struct type) == (size) && offsetof(struct type, last) == (at), #type)
+IS_LAID_OUT(nardsill_ask, 160, below, 92);
+IS_LAID_OUT(nardsill_open_ask, 8, frames, 4);
+IS_LAID_OUT(nardsill_make_ask, 20, unique, 16);
+IS_LAID_OUT(nardsill_answer, 64, descriptor, 56);
+IS_LAID_OUT(nardsill_token, 16, session, 8);
+IS_LAID_OUT(nardsill_given, 80, key, 16);
+IS_LAID_OUT(nardsill_facts, 28, is_stopped, 25);
+IS_LAID_OUT(nardsill_check_ask, 8, frames, 4);
+IS_LAID_OUT(nardsill_checked, 48, unfinished, 40);
+_Static_assert(sizeof(nardsill_entry) == 76 && offsetof(nardsill_entry, key) == 9, "nardsill_entry");
+
 struct nardsill {
     pthread_mutex_t lock;
     struct nardsill_shell *shell;
+    nardsill_scan *scans; /* those that are open */
+    uint32_t frames, count;
+    int descriptor;       /* the library's own, for a forked child to close */
+    int is_parents;       /* this process is a child of the one that opened it */
+    nardsill *next;       /* of the process's handles */
+};
+
+struct nardsill_scan {
+    nardsill *index; /* null once it is closed */
+    uint64_t number;
+    uint32_t session;
+    nardsill_scan *next, **before;
+};
+
+/* What a call answers: its status, with what a fault names. */
+struct outcome {
+    int status, error;
     uint32_t page;
     nardsill_row row;
 };
 
-struct nardsill_scan {
-    nardsill *index;
-    uint64_t number;
-    uint32_t session;
+static _Thread_local nardsill_fault last_fault;
+
+const nardsill_fault *nardsill_last_fault(void) { return &last_fault; }
+
+/* What a call keeps of its thread: whether it may be cancelled, and errno. */
+struct kept {
+    int state, error;
 };
 
-/* A File of the library is its descriptor's number; it compares that with the one that it is told. */
-static struct nardsill_answer take(struct nardsill_shell *shell, int fd, struct nardsill_open_ask ask) {
-    int file = fd;
-    ask.descriptor = fd;
-    return nardsill_proved_take(shell, &file, ask);
+/* A call isn't left by a cancellation: the thread would keep the handle's lock, or a descriptor. */
+static struct kept enter(void) {
+    struct kept kept = {.error = errno};
+    pthread_setcancelstate(PTHREAD_CANCEL_DISABLE, &kept.state);
+    return kept;
+}
+
+static void leave(struct kept kept) {
+    errno = kept.error;
+    pthread_setcancelstate(kept.state, 0);
+}
+
+static int leave_with(struct kept kept, struct outcome outcome) {
+    if (outcome.status == NARDSILL_IO) {
+        /* A file that is shorter than it was fails without a number of its own. */
+        if (!outcome.error) outcome.error = EIO;
+        kept.error = outcome.error;
+    }
+    if (outcome.status && outcome.status != NARDSILL_DONE) last_fault = (nardsill_fault){outcome.status, outcome.error, outcome.page, outcome.row};
+    leave(kept);
+    return outcome.status;
+}
+
+/* The outcome of a call of the system that failed just now. */
+static struct outcome system_failed(void) { return (struct outcome){.status = NARDSILL_IO, .error = errno}; }
+
+static struct outcome only(int status) { return (struct outcome){.status = status}; }
+
+static int misused(void) { return leave_with(enter(), only(NARDSILL_MISUSE)); }
+
+/* What the library answered. A call of the file that failed there has left its number in errno. */
+static struct outcome told(uint32_t status, uint32_t page, nardsill_row row) {
+    return (struct outcome){(int)status, status == NARDSILL_IO ? errno : 0, page, row};
+}
+
+static struct outcome told_by(struct nardsill_answer answer) {
+    return told(answer.status, answer.page, (nardsill_row){answer.block, answer.offset});
+}
+
+/* A forked child has the parent's files and handles. It closes the files, so that it holds no lock of the parent's, and uses none of
+   the handles. No call opens a file while the process is forked: its descriptor would be known to nobody in the child. */
+static pthread_rwlock_t forking = PTHREAD_RWLOCK_INITIALIZER;
+static pthread_mutex_t all_lock = PTHREAD_MUTEX_INITIALIZER;
+static nardsill *all;
+
+static void before_fork(void) {
+    pthread_rwlock_wrlock(&forking);
+    pthread_mutex_lock(&all_lock);
+}
+
+static void behind_fork(void) {
+    pthread_mutex_unlock(&all_lock);
+    pthread_rwlock_unlock(&forking);
+}
+
+static void in_child(void) {
+    for (nardsill *index = all; index; index = index->next) {
+        close(index->descriptor);
+        index->is_parents = 1;
+    }
+    all = 0;
+    all_lock = (pthread_mutex_t)PTHREAD_MUTEX_INITIALIZER;
+    forking = (pthread_rwlock_t)PTHREAD_RWLOCK_INITIALIZER;
+}
+
+static pthread_once_t once = PTHREAD_ONCE_INIT;
+static int is_watched;
+
+static void watch(void) { is_watched = !pthread_atfork(before_fork, behind_fork, in_child); }
+
+/* Keeps forks out until the file is in a handle, or closed. Answers 0 where there is no memory to watch them. */
+static int hold_forks(void) {
+    pthread_once(&once, watch);
+    if (is_watched) pthread_rwlock_rdlock(&forking);
+    return is_watched;
+}
+
+static void let_forks(void) { pthread_rwlock_unlock(&forking); }
+
+static void keep(nardsill *index) {
+    pthread_mutex_lock(&all_lock);
+    index->next = all;
+    all = index;
+    pthread_mutex_unlock(&all_lock);
+}
+
+static void forget(nardsill *index) {
+    pthread_mutex_lock(&all_lock);
+    nardsill **at = &all;
+    while (*at && *at != index) at = &(*at)->next;
+    if (*at) *at = index->next;
+    pthread_mutex_unlock(&all_lock);
 }
 
 static void let_go(struct nardsill_shell *shell) {
@@ -37,191 +158,326 @@ static void let_go(struct nardsill_shell *shell) {
     free(shell);
 }
 
-/* Takes the file's lock, which the library then has by another handle of the same open file. */
-static int lock(int fd) {
-    if (!flock(fd, LOCK_EX | LOCK_NB)) return 0;
-    return errno == EWOULDBLOCK ? NARDSILL_LOCKED : NARDSILL_IO;
+/* Takes the lock of the file, which the library then has by another descriptor of the same open file. */
+static struct outcome lock(int fd) {
+    if (!flock(fd, LOCK_EX | LOCK_NB)) return only(0);
+    return errno == EWOULDBLOCK ? only(NARDSILL_LOCKED) : system_failed();
 }
 
-/* Takes the index in an open file; makes an empty one before, if that is asked for. */
-static int start(int fd, struct nardsill_open_ask ask, struct nardsill_shell **out) {
-    struct nardsill_shell *shell;
-    int status = lock(fd);
-    if (!status) status = (int)nardsill_proved_new(&shell);
-    if (status) return status;
-    status = (int)take(shell, fd, ask).status;
-    if (status) let_go(shell);
-    else *out = shell;
-    return status;
+/* The lock is let go by a call: where a forked child has not come to close its descriptor yet, and on a file system that learns of a
+   closing late, a closing alone would keep it a while. */
+static void close_unlocked(int fd) {
+    int error = errno;
+    flock(fd, LOCK_UN);
+    close(fd);
+    errno = error;
 }
 
-static int sync_folder(const char *path) {
+/* Opens a file for this library alone. It never has the number of a standard stream, on which something else may write. */
+static struct outcome open_file(const char *path, int flags, int *fd) {
+    int low = open(path, O_RDWR | O_CLOEXEC | O_NOCTTY | flags, 0666);
+    *fd = low;
+    if (low < 0) return system_failed();
+    if (low > 2) return only(0);
+    *fd = fcntl(low, F_DUPFD_CLOEXEC, 3);
+    struct outcome outcome = *fd < 0 ? system_failed() : only(0);
+    close(low);
+    return outcome;
+}
+
+static struct outcome sync_folder(const char *path) {
     const char *slash = strrchr(path, '/');
     char *folder = slash ? strndup(path, (size_t)(slash - path) + 1) : strdup(".");
-    if (!folder) return NARDSILL_NO_MEMORY;
+    if (!folder) return only(NARDSILL_NO_MEMORY);
     int fd = open(folder, O_RDONLY | O_DIRECTORY | O_CLOEXEC);
+    struct outcome outcome = fd < 0 || fsync(fd) ? system_failed() : only(0);
     free(folder);
-    if (fd < 0) return NARDSILL_IO;
-    int status = fsync(fd) ? NARDSILL_IO : 0;
-    int kept = errno;
-    close(fd);
-    errno = kept;
-    return status;
+    if (fd >= 0) close(fd);
+    return outcome;
 }
 
-/* Whether the draft's name leads to this very file, and no other name does. */
-static int is_draft(int fd, const char *draft) {
+/* The name of the file in which an index is made, beside its own. */
+static char *draft_of(const char *path) {
+    size_t len = strlen(path);
+    char *draft = malloc(len + sizeof ".nardsill-draft");
+    if (!draft) return 0;
+    memcpy(draft, path, len);
+    memcpy(draft + len, ".nardsill-draft", sizeof ".nardsill-draft");
+    return draft;
+}
+
+/* Whether a name leads to this very file. */
+static int leads_to(int fd, const char *name) {
     struct stat held, named;
-    if (fstat(fd, &held) || lstat(draft, &named)) return 0;
-    return S_ISREG(held.st_mode) && held.st_nlink == 1 && held.st_dev == named.st_dev && held.st_ino == named.st_ino;
+    return !fstat(fd, &held) && !lstat(name, &named) && held.st_dev == named.st_dev && held.st_ino == named.st_ino;
+}
+
+/* Whether the file is a draft that no other maker has taken, or placed, before its lock was had. */
+static struct outcome is_draft(int fd, const char *draft) {
+    struct stat held;
+    if (fstat(fd, &held)) return system_failed();
+    errno = !S_ISREG(held.st_mode) ? EEXIST : held.st_nlink != 1 || !leads_to(fd, draft) ? EBUSY : 0;
+    return errno ? system_failed() : only(0);
 }
 
 /* Takes the draft's name from a file that has its own one too: one that is whole, whose making was stopped before its end. */
-static int let_whole_go(const char *draft) {
+static struct outcome let_whole_go(const char *draft) {
     struct stat named;
-    if (lstat(draft, &named)) return errno == ENOENT ? 0 : NARDSILL_IO;
-    if (!S_ISREG(named.st_mode)) return NARDSILL_IO;
-    return named.st_nlink > 1 && unlink(draft) ? NARDSILL_IO : 0;
+    if (lstat(draft, &named)) return errno == ENOENT ? only(0) : system_failed();
+    if (!S_ISREG(named.st_mode)) {
+        errno = EEXIST;
+        return system_failed();
+    }
+    return named.st_nlink > 1 && unlink(draft) ? system_failed() : only(0);
+}
+
+/* Gives a draft its own name, unless that is taken. A file system without hard links moves it there. */
+static struct outcome place(const char *draft, const char *path) {
+    if (!link(draft, path)) return only(0);
+    if (errno != EPERM && errno != EOPNOTSUPP && errno != ENOSYS) return system_failed();
+    return renameat2(AT_FDCWD, draft, AT_FDCWD, path, RENAME_NOREPLACE) ? system_failed() : only(0);
+}
+
+/* A file is placed and its name is durable, or it isn't at the path. It is locked: nobody has used it before. */
+static struct outcome place_durably(const char *draft, const char *path) {
+    struct outcome outcome = place(draft, path);
+    if (outcome.status) return outcome;
+    outcome = sync_folder(path);
+    if (outcome.status) unlink(path);
+    return outcome;
+}
+
+/* A File of the library is its descriptor's number; it compares that with the one that it is told. */
+static struct outcome make(int fd, struct nardsill_make_ask ask) {
+    int file = fd;
+    struct nardsill_shell *shell;
+    if (nardsill_proved_new(&shell)) return only(NARDSILL_NO_MEMORY);
+    ask.descriptor = fd;
+    errno = 0;
+    struct outcome outcome = told_by(nardsill_proved_make(shell, &file, ask));
+    let_go(shell);
+    return outcome;
 }
 
 /* Makes an index in the draft's file, and gives it its own name once it is whole. */
-static int create_by(const char *draft, const char *path, struct nardsill_open_ask ask) {
-    int status = let_whole_go(draft);
-    if (status) return status;
-    int fd = open(draft, O_RDWR | O_CREAT | O_CLOEXEC, 0666);
-    if (fd < 0) return NARDSILL_IO;
-    status = lock(fd);
-    if (!status && !is_draft(fd, draft)) status = NARDSILL_IO;
-    if (status) {
-        close(fd);
-        return status;
+static struct outcome create_by(const char *draft, const char *path, struct nardsill_make_ask ask) {
+    int fd;
+    struct outcome outcome = let_whole_go(draft);
+    if (!outcome.status) outcome = open_file(draft, O_CREAT | O_NOFOLLOW, &fd);
+    if (outcome.status) return outcome;
+    outcome = lock(fd);
+    if (!outcome.status) outcome = is_draft(fd, draft);
+    if (!outcome.status) {
+        outcome = make(fd, ask);
+        if (!outcome.status) outcome = place_durably(draft, path);
+        unlink(draft);
     }
-    struct nardsill_shell *shell;
-    status = start(fd, ask, &shell);
-    if (!status) let_go(shell);
-    if (!status && link(draft, path)) status = NARDSILL_IO;
-    int kept = errno;
-    unlink(draft);
-    close(fd);
-    errno = kept;
-    if (status) return status;
-    status = sync_folder(path);
-    kept = errno;
-    if (status) unlink(path);
-    errno = kept;
-    return status;
+    close_unlocked(fd);
+    return outcome;
+}
+
+static struct outcome create(const char *path, struct nardsill_make_ask ask) {
+    struct stat there;
+    if (!lstat(path, &there)) errno = EEXIST;
+    if (errno != ENOENT) return system_failed();
+    char *draft = draft_of(path);
+    if (!draft) return only(NARDSILL_NO_MEMORY);
+    struct outcome outcome = only(NARDSILL_NO_MEMORY);
+    if (hold_forks()) {
+        outcome = create_by(draft, path, ask);
+        let_forks();
+    }
+    free(draft);
+    return outcome;
 }
 
 int nardsill_create(const char *path, const nardsill_limits *limits) {
-    if (!path) return NARDSILL_MISUSE;
-    struct nardsill_open_ask ask = {.frames = 16, .is_new = 1, .items = 50, .pages = 4096, .log_bytes = 1 << 20};
-    if (limits) ask.items = limits->items, ask.pages = limits->pages, ask.log_bytes = limits->log_bytes, ask.unique = limits->unique;
-    struct stat there;
-    if (!lstat(path, &there)) {
-        errno = EEXIST;
-        return NARDSILL_IO;
-    }
-    if (errno != ENOENT) return NARDSILL_IO;
-    size_t len = strlen(path);
-    char *draft = malloc(len + sizeof ".nardsill-draft");
-    if (!draft) return NARDSILL_NO_MEMORY;
-    memcpy(draft, path, len);
-    memcpy(draft + len, ".nardsill-draft", sizeof ".nardsill-draft");
-    int status = create_by(draft, path, ask);
-    int kept = errno;
-    free(draft);
-    errno = kept;
-    return status;
+    static const nardsill_limits usual = NARDSILL_LIMITS;
+    if (!limits) limits = &usual;
+    if (!path || limits->size != sizeof *limits) return misused();
+    struct kept kept = enter();
+    return leave_with(kept, create(path, (struct nardsill_make_ask){.items = limits->items, .pages = limits->pages,
+                                                                     .log_bytes = limits->log_bytes, .unique = limits->unique}));
 }
 
-int nardsill_open_fd(int fd, uint32_t frames, nardsill **out) {
-    if (!out) return NARDSILL_MISUSE;
-    nardsill *index = malloc(sizeof *index);
-    if (!index) return NARDSILL_NO_MEMORY;
-    struct nardsill_open_ask ask = {.frames = frames ? frames : 64};
-    int status = start(fd, ask, &index->shell);
-    if (!status && pthread_mutex_init(&index->lock, 0)) {
-        let_go(index->shell);
-        status = NARDSILL_NO_MEMORY;
-    }
-    if (status) {
-        int kept = errno;
+/* Opens the index in a file of this library's own, in a handle that has no index yet. */
+static struct outcome take(nardsill *index, int fd) {
+    int file = fd;
+    struct outcome outcome = lock(fd);
+    if (outcome.status) return outcome;
+    if (nardsill_proved_new(&index->shell)) return only(NARDSILL_NO_MEMORY);
+    errno = 0;
+    struct nardsill_answer answer = nardsill_proved_take(index->shell, &file, (struct nardsill_open_ask){fd, index->frames});
+    outcome = told_by(answer);
+    index->descriptor = answer.descriptor;
+    if (outcome.status) let_go(index->shell);
+    return outcome;
+}
+
+static struct outcome start(int fd, uint32_t frames, nardsill **out) {
+    nardsill *index = calloc(1, sizeof *index);
+    if (!index) return only(NARDSILL_NO_MEMORY);
+    index->frames = frames ? frames : 64;
+    struct outcome outcome = pthread_mutex_init(&index->lock, 0) ? only(NARDSILL_NO_MEMORY) : take(index, fd);
+    if (outcome.status) {
         free(index);
-        errno = kept;
-        return status;
+        return outcome;
     }
-    index->page = 0;
-    index->row = (nardsill_row){0, 0};
+    keep(index);
     *out = index;
-    return 0;
+    return outcome;
+}
+
+/* Syncs the folder of a file that has its draft's name too, and takes that. */
+static struct outcome end_making_at(int fd, const char *path) {
+    char *draft = draft_of(path);
+    if (!draft) return only(NARDSILL_NO_MEMORY);
+    struct outcome outcome = only(0);
+    if (leads_to(fd, draft) && leads_to(fd, path)) {
+        outcome = sync_folder(path);
+        if (!outcome.status && unlink(draft)) outcome = system_failed();
+    }
+    free(draft);
+    return outcome;
+}
+
+/* A maker that died after it gave the file its name, and before it took the draft's, may not have synced the folder. */
+static struct outcome end_making(int fd, const char *path) {
+    struct stat held;
+    if (fstat(fd, &held)) return system_failed();
+    if (held.st_nlink < 2) return only(0);
+    char *real = realpath(path, 0);
+    if (!real) return errno == ENOMEM ? only(NARDSILL_NO_MEMORY) : system_failed();
+    struct outcome outcome = end_making_at(fd, real);
+    free(real);
+    return outcome;
+}
+
+/* Opens a file and the index in it. A path of a making that was stopped is made durable before. */
+static struct outcome open_index(const char *path, int is_path, uint32_t frames, nardsill **out) {
+    int fd;
+    if (!hold_forks()) return only(NARDSILL_NO_MEMORY);
+    struct outcome outcome = open_file(path, 0, &fd);
+    if (!outcome.status) {
+        outcome = start(fd, frames, out);
+        if (!outcome.status && is_path) outcome = end_making(fd, path);
+        /* The library has the same lock by its own descriptor. */
+        if (outcome.status) close_unlocked(fd);
+        else close(fd);
+    }
+    let_forks();
+    return outcome;
+}
+
+static void free_index(nardsill *index) {
+    forget(index);
+    flock(index->descriptor, LOCK_UN);
+    let_go(index->shell);
+    pthread_mutex_destroy(&index->lock);
+    free(index);
+}
+
+static int open_and_leave(const char *path, int is_path, uint32_t frames, nardsill **out) {
+    struct kept kept = enter();
+    nardsill *index = 0;
+    struct outcome outcome = open_index(path, is_path, frames, &index);
+    if (outcome.status && index) {
+        free_index(index);
+        index = 0;
+    }
+    *out = index;
+    return leave_with(kept, outcome);
 }
 
 int nardsill_open(const char *path, uint32_t frames, nardsill **out) {
-    if (!path || !out) return NARDSILL_MISUSE;
-    int fd = open(path, O_RDWR | O_CLOEXEC);
-    if (fd < 0) return NARDSILL_IO;
-    int status = nardsill_open_fd(fd, frames, out);
-    int kept = errno;
-    close(fd);
-    errno = kept;
-    return status;
+    if (out) *out = 0;
+    return path && out ? open_and_leave(path, 1, frames, out) : misused();
 }
 
-static struct nardsill_answer call_locked(nardsill *index, struct nardsill_ask ask) {
-    struct nardsill_answer answer = nardsill_proved_call(index->shell, ask);
-    if (answer.status) index->page = answer.page, index->row = (nardsill_row){answer.block, answer.offset};
-    return answer;
+int nardsill_open_fd(int fd, uint32_t frames, nardsill **out) {
+    if (out) *out = 0;
+    int flags = fcntl(fd, F_GETFL);
+    if (!out || flags < 0 || (flags & O_ACCMODE) != O_RDWR || flags & (O_APPEND | O_PATH)) return misused();
+    /* The file is opened anew: a lock doesn't part two handles of one open file, and the caller's may be closed, or append. */
+    char path[32];
+    snprintf(path, sizeof path, "/proc/self/fd/%d", fd);
+    return open_and_leave(path, 0, frames, out);
 }
 
-static struct nardsill_answer call(nardsill *index, struct nardsill_ask ask) {
+/* A call of the library, by a thread that has the handle's lock. */
+static struct nardsill_answer ask_locked(nardsill *index, struct nardsill_ask ask) {
+    errno = 0;
+    return nardsill_proved_call(index->shell, ask);
+}
+
+/* A call of its own, with the lock; what it tells stands at `answer`, if that is wanted. */
+static struct outcome call(nardsill *index, struct nardsill_ask ask, struct nardsill_answer *answer) {
     pthread_mutex_lock(&index->lock);
-    struct nardsill_answer answer = call_locked(index, ask);
+    struct nardsill_answer got = ask_locked(index, ask);
+    struct outcome outcome = told_by(got);
     pthread_mutex_unlock(&index->lock);
-    return answer;
+    if (answer) *answer = got;
+    return outcome;
+}
+
+/* Before each call of a handle: 0, or why it isn't made. */
+static int refusal_of(const nardsill *index) { return !index ? NARDSILL_MISUSE : index->is_parents ? NARDSILL_FORKED : 0; }
+
+static int refused(int status) { return leave_with(enter(), only(status)); }
+
+/* Scans that are left know that their index is gone. */
+static void orphan(nardsill *index) {
+    for (nardsill_scan *scan = index->scans; scan; scan = scan->next) scan->index = 0;
 }
 
 int nardsill_close(nardsill *index) {
     if (!index) return 0;
-    int status = nardsill_checkpoint(index, 0);
-    int kept = errno;
-    let_go(index->shell);
-    pthread_mutex_destroy(&index->lock);
-    free(index);
-    errno = kept;
-    return status;
+    /* What another thread of the parent did when the process was forked is half done here: its memory is left alone. */
+    if (index->is_parents) return refused(NARDSILL_FORKED);
+    struct kept kept = enter();
+    orphan(index);
+    struct outcome outcome = call(index, (struct nardsill_ask){.what = NARDSILL_CHECKPOINT}, 0);
+    free_index(index);
+    return leave_with(kept, outcome);
 }
 
 static struct nardsill_answer insert_locked(nardsill *index, const void *key, size_t key_len, nardsill_row row) {
     if (key_len > NARDSILL_KEY_MAX) return (struct nardsill_answer){.status = NARDSILL_KEY_TOO_LONG};
     struct nardsill_ask ask = {.what = NARDSILL_INSERT, .block = row.block, .offset = row.offset, .len = (uint8_t)key_len};
     if (key_len) memcpy(ask.key, key, key_len);
-    return call_locked(index, ask);
+    return ask_locked(index, ask);
 }
 
 int nardsill_insert(nardsill *index, const void *key, size_t key_len, nardsill_row row, uint64_t *action) {
-    if (!index || (!key && key_len)) return NARDSILL_MISUSE;
+    int status = !key && key_len ? NARDSILL_MISUSE : refusal_of(index);
+    if (status) return refused(status);
+    struct kept kept = enter();
     pthread_mutex_lock(&index->lock);
     struct nardsill_answer answer = insert_locked(index, key, key_len, row);
+    struct outcome outcome = told_by(answer);
     pthread_mutex_unlock(&index->lock);
-    if (!answer.status && action) *action = answer.number;
-    return (int)answer.status;
+    if (!outcome.status && action) *action = answer.number;
+    return leave_with(kept, outcome);
 }
 
 int nardsill_insert_many(nardsill *index, const nardsill_entry *entries, size_t count, size_t *done) {
-    if (!index || (!entries && count)) return NARDSILL_MISUSE;
+    if (done) *done = 0;
+    int status = !entries && count ? NARDSILL_MISUSE : refusal_of(index);
+    if (status) return refused(status);
+    struct kept kept = enter();
     size_t i = 0;
-    int status = 0;
+    struct outcome outcome = only(0);
     pthread_mutex_lock(&index->lock);
     for (; i < count; i++) {
-        status = (int)insert_locked(index, entries[i].key, entries[i].key_len, entries[i].row).status;
-        if (status) break;
+        outcome = told_by(insert_locked(index, entries[i].key, entries[i].key_len, entries[i].row));
+        if (outcome.status) break;
     }
     pthread_mutex_unlock(&index->lock);
     if (done) *done = i;
-    return status;
+    return leave_with(kept, outcome);
 }
 
-/* The ask of a range; NARDSILL_KEY_TOO_LONG for an end that is no key. */
+/* The ask of a range; its status is that of ends that are none. */
 static int spell_range(struct nardsill_ask *ask, const void *from, size_t from_len, const void *below, size_t below_len) {
     if ((!from && from_len) || (!below && below_len)) return NARDSILL_MISUSE;
     if (from_len > NARDSILL_KEY_MAX || below_len > NARDSILL_KEY_MAX) return NARDSILL_KEY_TOO_LONG;
@@ -233,50 +489,150 @@ static int spell_range(struct nardsill_ask *ask, const void *from, size_t from_l
     return 0;
 }
 
-int nardsill_scan_open(nardsill *index, const void *from, size_t from_len, const void *below, size_t below_len, nardsill_scan **out) {
-    if (!index || !out) return NARDSILL_MISUSE;
-    struct nardsill_ask ask = {.what = NARDSILL_BEGIN};
-    int status = spell_range(&ask, from, from_len, below, below_len);
-    if (status) return status;
-    nardsill_scan *scan = malloc(sizeof *scan);
-    if (!scan) return NARDSILL_NO_MEMORY;
-    struct nardsill_answer answer = call(index, ask);
-    if (answer.status) {
-        free(scan);
-        return (int)answer.status;
+/* The end of the keys that begin so: the first key behind them all, or none where each byte is 255. */
+static void end_prefix(struct nardsill_ask *ask, const uint8_t *prefix, size_t len) {
+    while (len && prefix[len - 1] == 255) len--;
+    if (!len) return;
+    memcpy(ask->below, prefix, len);
+    ask->below[len - 1]++;
+    ask->below_len = (uint8_t)len;
+    ask->ends |= 2;
+}
+
+/* The end of the entries of one key: the first key behind it. */
+static void end_key(struct nardsill_ask *ask, const uint8_t *key, size_t len) {
+    if (len == NARDSILL_KEY_MAX) {
+        end_prefix(ask, key, len);
+        return;
     }
-    *scan = (nardsill_scan){index, answer.number, answer.session};
-    *out = scan;
-    return 0;
+    if (len) memcpy(ask->below, key, len);
+    ask->below_len = (uint8_t)(len + 1);
+    ask->ends |= 2;
+}
+
+static struct nardsill_given next_locked(nardsill *index, struct nardsill_token token) {
+    errno = 0;
+    return nardsill_proved_next(index->shell, token);
+}
+
+static struct outcome told_given(const struct nardsill_given *given) {
+    if (given->status) return told(given->status, given->page, (nardsill_row){0, 0});
+    return only(given->is_given ? 0 : NARDSILL_DONE);
+}
+
+/* A scan of one key is begun, asked once and closed. */
+static struct outcome get_locked(nardsill *index, struct nardsill_ask ask, nardsill_row *out) {
+    struct nardsill_answer begun = ask_locked(index, ask);
+    if (begun.status) return told_by(begun);
+    struct nardsill_given given = next_locked(index, (struct nardsill_token){begun.number, begun.session});
+    struct outcome outcome = told_given(&given);
+    ask_locked(index, (struct nardsill_ask){.what = NARDSILL_END, .session = begun.session, .number = begun.number});
+    if (outcome.status == NARDSILL_DONE) return only(NARDSILL_NOT_FOUND);
+    if (!outcome.status) *out = (nardsill_row){given.block, given.offset};
+    return outcome;
+}
+
+int nardsill_get(nardsill *index, const void *key, size_t key_len, nardsill_row *out) {
+    struct nardsill_ask ask = {.what = NARDSILL_BEGIN};
+    int status = !out ? NARDSILL_MISUSE : refusal_of(index);
+    if (!status) status = spell_range(&ask, key ? key : "", key ? key_len : 0, 0, 0);
+    if (!key && key_len) status = NARDSILL_MISUSE;
+    if (status) return refused(status);
+    end_key(&ask, ask.key, key_len);
+    struct kept kept = enter();
+    pthread_mutex_lock(&index->lock);
+    struct outcome outcome = get_locked(index, ask, out);
+    pthread_mutex_unlock(&index->lock);
+    return leave_with(kept, outcome);
+}
+
+static void add_scan(nardsill *index, nardsill_scan *scan) {
+    scan->next = index->scans;
+    scan->before = &index->scans;
+    if (scan->next) scan->next->before = &scan->next;
+    index->scans = scan;
+    index->count++;
+}
+
+static void remove_scan(nardsill *index, nardsill_scan *scan) {
+    *scan->before = scan->next;
+    if (scan->next) scan->next->before = scan->before;
+    index->count--;
+}
+
+/* Opens the scan that is asked for. */
+static struct outcome begin(nardsill *index, struct nardsill_ask ask, nardsill_scan **out) {
+    nardsill_scan *scan = malloc(sizeof *scan);
+    if (!scan) return only(NARDSILL_NO_MEMORY);
+    pthread_mutex_lock(&index->lock);
+    struct nardsill_answer answer = ask_locked(index, ask);
+    struct outcome outcome = told_by(answer);
+    *scan = (nardsill_scan){index, answer.number, answer.session, 0, 0};
+    if (!outcome.status) add_scan(index, scan);
+    pthread_mutex_unlock(&index->lock);
+    if (outcome.status) free(scan);
+    else *out = scan;
+    return outcome;
+}
+
+int nardsill_scan_open(nardsill *index, const void *from, size_t from_len, const void *below, size_t below_len, nardsill_scan **out) {
+    if (out) *out = 0;
+    struct nardsill_ask ask = {.what = NARDSILL_BEGIN};
+    int status = !out ? NARDSILL_MISUSE : refusal_of(index);
+    if (!status) status = spell_range(&ask, from, from_len, below, below_len);
+    if (status) return refused(status);
+    struct kept kept = enter();
+    return leave_with(kept, begin(index, ask, out));
+}
+
+int nardsill_scan_open_prefix(nardsill *index, const void *prefix, size_t prefix_len, nardsill_scan **out) {
+    if (out) *out = 0;
+    struct nardsill_ask ask = {.what = NARDSILL_BEGIN};
+    int status = !out ? NARDSILL_MISUSE : refusal_of(index);
+    if (!status) status = spell_range(&ask, prefix, prefix_len, 0, 0);
+    if (status) return refused(status);
+    end_prefix(&ask, ask.key, prefix_len);
+    struct kept kept = enter();
+    return leave_with(kept, begin(index, ask, out));
+}
+
+/* Before each call of a scan: 0, or why it isn't made. */
+static int refusal_of_scan(const nardsill_scan *scan) {
+    return !scan ? NARDSILL_MISUSE : !scan->index ? NARDSILL_NO_SESSION : refusal_of(scan->index);
 }
 
 int nardsill_scan_restart(nardsill_scan *scan, const void *from, size_t from_len, const void *below, size_t below_len) {
-    if (!scan) return NARDSILL_MISUSE;
+    int status = refusal_of_scan(scan);
+    if (status) return refused(status);
     struct nardsill_ask ask = {.what = NARDSILL_AGAIN, .session = scan->session, .number = scan->number};
-    int status = spell_range(&ask, from, from_len, below, below_len);
-    return status ? status : (int)call(scan->index, ask).status;
+    status = spell_range(&ask, from, from_len, below, below_len);
+    if (status) return refused(status);
+    struct kept kept = enter();
+    return leave_with(kept, call(scan->index, ask, 0));
+}
+
+static struct outcome read_locked(nardsill_scan *scan, nardsill_entry *out, size_t room, size_t *count) {
+    const struct nardsill_token token = {scan->number, scan->session};
+    for (; *count < room; ++*count) {
+        struct nardsill_given given = next_locked(scan->index, token);
+        struct outcome outcome = told_given(&given);
+        if (outcome.status) return outcome;
+        out[*count].row = (nardsill_row){given.block, given.offset};
+        out[*count].key_len = given.len;
+        memcpy(out[*count].key, given.key, NARDSILL_KEY_MAX);
+    }
+    return only(0);
 }
 
 int nardsill_scan_read(nardsill_scan *scan, nardsill_entry *out, size_t room, size_t *count) {
-    if (!scan || !count || (!out && room)) return NARDSILL_MISUSE;
-    const struct nardsill_token token = {scan->number, scan->session};
-    size_t i = 0;
-    int status = 0;
+    if (count) *count = 0;
+    int status = !count || (!out && room) ? NARDSILL_MISUSE : refusal_of_scan(scan);
+    if (status) return refused(status);
+    struct kept kept = enter();
     pthread_mutex_lock(&scan->index->lock);
-    for (; i < room; i++) {
-        struct nardsill_given given = nardsill_proved_next(scan->index->shell, token);
-        status = given.status ? (int)given.status : given.is_given ? 0 : NARDSILL_DONE;
-        if (status) {
-            scan->index->page = given.page;
-            break;
-        }
-        out[i].row = (nardsill_row){given.block, given.offset};
-        out[i].key_len = given.len;
-        memcpy(out[i].key, given.key, NARDSILL_KEY_MAX);
-    }
+    struct outcome outcome = read_locked(scan, out, room, count);
     pthread_mutex_unlock(&scan->index->lock);
-    *count = i;
-    return status;
+    return leave_with(kept, outcome);
 }
 
 int nardsill_scan_next(nardsill_scan *scan, nardsill_entry *out) {
@@ -286,88 +642,139 @@ int nardsill_scan_next(nardsill_scan *scan, nardsill_entry *out) {
 
 void nardsill_scan_close(nardsill_scan *scan) {
     if (!scan) return;
-    struct nardsill_ask ask = {.what = NARDSILL_END, .session = scan->session, .number = scan->number};
-    call(scan->index, ask);
+    nardsill *index = scan->index;
+    if (index && !index->is_parents) {
+        struct kept kept = enter();
+        pthread_mutex_lock(&index->lock);
+        ask_locked(index, (struct nardsill_ask){.what = NARDSILL_END, .session = scan->session, .number = scan->number});
+        remove_scan(index, scan);
+        pthread_mutex_unlock(&index->lock);
+        leave(kept);
+    }
     free(scan);
 }
 
-static void tell(struct nardsill_answer answer, nardsill_stats *stats) {
+static void tell(const struct nardsill_answer *answer, nardsill_stats *stats) {
     if (stats)
-        *stats = (nardsill_stats){answer.other, answer.number, answer.num_pages, answer.pages_newly_deleted, answer.pages_deleted, answer.pages_free};
+        *stats = (nardsill_stats){stats->size, answer->num_pages, answer->pages_newly_deleted, answer->pages_deleted, answer->pages_free, 0,
+                                  answer->other, answer->number};
+}
+
+static int is_sized(const nardsill_stats *stats) { return !stats || stats->size == sizeof *stats; }
+
+/* Deletes the entries of rows that are named one by one. */
+static struct nardsill_answer delete_locked(nardsill *index, const nardsill_row *rows, size_t count) {
+    for (size_t i = 0; i < count; i++) {
+        struct nardsill_answer answer = ask_locked(index, (struct nardsill_ask){.what = NARDSILL_NAME_DEAD, .block = rows[i].block, .offset = rows[i].offset});
+        if (answer.status) return answer;
+    }
+    return ask_locked(index, (struct nardsill_ask){.what = NARDSILL_DELETE});
 }
 
 int nardsill_delete_rows(nardsill *index, const nardsill_row *rows, size_t count, nardsill_stats *stats) {
-    if (!index || (!rows && count)) return NARDSILL_MISUSE;
+    int status = (!rows && count) || !is_sized(stats) ? NARDSILL_MISUSE : refusal_of(index);
+    if (status) return refused(status);
+    struct kept kept = enter();
     pthread_mutex_lock(&index->lock);
-    struct nardsill_answer answer = {0};
-    for (size_t i = 0; i < count && !answer.status; i++)
-        answer = call_locked(index, (struct nardsill_ask){.what = NARDSILL_NAME_DEAD, .block = rows[i].block, .offset = rows[i].offset});
-    if (!answer.status) answer = call_locked(index, (struct nardsill_ask){.what = NARDSILL_DELETE});
+    struct nardsill_answer answer = delete_locked(index, rows, count);
+    struct outcome outcome = told_by(answer);
     pthread_mutex_unlock(&index->lock);
-    if (!answer.status) tell(answer, stats);
-    return (int)answer.status;
+    if (!outcome.status) tell(&answer, stats);
+    return leave_with(kept, outcome);
 }
 
 int nardsill_vacuum(nardsill *index, nardsill_stats *stats) {
-    if (!index) return NARDSILL_MISUSE;
-    struct nardsill_answer answer = call(index, (struct nardsill_ask){.what = NARDSILL_VACUUM});
-    if (!answer.status) tell(answer, stats);
-    return (int)answer.status;
+    int status = !is_sized(stats) ? NARDSILL_MISUSE : refusal_of(index);
+    if (status) return refused(status);
+    struct kept kept = enter();
+    struct nardsill_answer answer;
+    struct outcome outcome = call(index, (struct nardsill_ask){.what = NARDSILL_VACUUM}, &answer);
+    if (!outcome.status) tell(&answer, stats);
+    return leave_with(kept, outcome);
 }
 
 static int force(nardsill *index, uint32_t what, uint64_t *actions) {
-    if (!index) return NARDSILL_MISUSE;
-    struct nardsill_answer answer = call(index, (struct nardsill_ask){.what = what});
-    if (!answer.status && actions) *actions = answer.number;
-    return (int)answer.status;
+    int status = refusal_of(index);
+    if (status) return refused(status);
+    struct kept kept = enter();
+    struct nardsill_answer answer;
+    struct outcome outcome = call(index, (struct nardsill_ask){.what = what}, &answer);
+    if (!outcome.status && actions) *actions = answer.number;
+    return leave_with(kept, outcome);
 }
 
 int nardsill_commit(nardsill *index, uint64_t *actions) { return force(index, NARDSILL_COMMIT, actions); }
 
 int nardsill_checkpoint(nardsill *index, uint64_t *actions) { return force(index, NARDSILL_CHECKPOINT, actions); }
 
-int nardsill_check(const char *path, uint32_t frames, nardsill_report *out) {
-    if (!path || !out) return NARDSILL_MISUSE;
-    int fd = open(path, O_RDWR | O_CLOEXEC), file = fd;
-    if (fd < 0) return NARDSILL_IO;
-    struct nardsill_shell *shell;
-    int status = lock(fd);
-    if (!status) status = (int)nardsill_proved_new(&shell);
-    if (!status) {
-        struct nardsill_checked c = nardsill_proved_check(shell, &file, (struct nardsill_check_ask){fd, frames ? frames : 64});
-        status = (int)c.status;
-        *out = (nardsill_report){c.entries, c.damage, c.block, c.levels, c.pages, c.half_dead, c.deleted, c.unfinished};
-        int kept = errno;
-        let_go(shell);
-        errno = kept;
-    }
-    int kept = errno;
-    close(fd);
-    errno = kept;
-    return status;
+int nardsill_info(nardsill *index, nardsill_details *out) {
+    int status = !out || out->size != sizeof *out ? NARDSILL_MISUSE : refusal_of(index);
+    if (status) return refused(status);
+    struct kept kept = enter();
+    pthread_mutex_lock(&index->lock);
+    struct nardsill_facts facts = nardsill_proved_info(index->shell);
+    uint32_t scans = index->count;
+    pthread_mutex_unlock(&index->lock);
+    if (!facts.status)
+        *out = (nardsill_details){out->size, facts.items, facts.pages, facts.log_bytes, facts.is_unique, facts.pages_used, facts.pages_free,
+                                  index->frames, scans, facts.is_stopped};
+    return leave_with(kept, only((int)facts.status));
 }
 
-uint32_t nardsill_fault_page(nardsill *index) { return index ? index->page : 0; }
+static struct outcome judge(int fd, uint32_t frames, nardsill_report *out) {
+    int file = fd;
+    struct nardsill_shell *shell;
+    struct outcome outcome = lock(fd);
+    if (outcome.status) return outcome;
+    if (nardsill_proved_new(&shell)) return only(NARDSILL_NO_MEMORY);
+    errno = 0;
+    struct nardsill_checked c = nardsill_proved_check(shell, &file, (struct nardsill_check_ask){fd, frames ? frames : 64});
+    outcome = told(c.status, c.page, (nardsill_row){0, 0});
+    if (!c.status) *out = (nardsill_report){out->size, c.damage, c.block, c.levels, c.pages, c.half_dead, c.deleted, c.unfinished, c.entries};
+    let_go(shell);
+    return outcome;
+}
 
-nardsill_row nardsill_fault_row(nardsill *index) { return index ? index->row : (nardsill_row){0, 0}; }
+static struct outcome check(const char *path, uint32_t frames, nardsill_report *out) {
+    int fd;
+    if (!hold_forks()) return only(NARDSILL_NO_MEMORY);
+    struct outcome outcome = open_file(path, 0, &fd);
+    if (!outcome.status) {
+        outcome = judge(fd, frames, out);
+        close_unlocked(fd);
+    }
+    let_forks();
+    return outcome;
+}
+
+int nardsill_check(const char *path, uint32_t frames, nardsill_report *out) {
+    if (!path || !out || out->size != sizeof *out) return misused();
+    struct kept kept = enter();
+    return leave_with(kept, check(path, frames, out));
+}
+
+const char *nardsill_version(void) { return NARDSILL_VERSION; }
 
 const char *nardsill_errname(int status) {
     static const char *const names[] = {
         "Ok", "NoMemory", "Io", "Stopped", "Blocked", "Exists", "KeyTooLong", "BadRow", "IndexFull", "LogFull", "NoFrame", "VacuumRunning",
         "NoSession", "SessionBusy", "BadSuper", "BadVersion", "LogDamaged", "PageDamaged", "BadLimits", "TooTall", "DeviceTooSmall",
         "KeyExists"};
+    static const char *const own[] = {"Done", "Misuse", "Locked", "NotFound", "Forked"};
     if (status >= 0 && status <= 21) return names[status];
-    return status == NARDSILL_DONE ? "Done" : status == NARDSILL_MISUSE ? "Misuse" : status == NARDSILL_LOCKED ? "Locked" : "Unknown";
+    return status >= 100 && status <= 104 ? own[status - 100] : "Unknown";
 }
 
 const char *nardsill_strerror(int status) {
     static const char *const names[] = {
-        "no error", "out of memory", "a call of the file failed", "the index has stopped: open it again",
-        "an open scan stands on the page", "the entry is there", "the key has more than 64 bytes", "there is no such row",
-        "the index is full", "the log is full", "open scans hold all pages in memory", "a vacuum runs", "no such scan",
-        "the session is busy", "the file is no index", "the file's layout is unknown", "the log is damaged", "a page is damaged",
-        "a limit is out of its range", "the tree is too tall", "the file is too short", "the key is there with another row"};
+        "no error", "out of memory", "a call of the file failed", "the index has stopped: close it and open it again",
+        "an open scan stands on a page that the call needs", "the entry is there", "the key has more than 64 bytes",
+        "no row is so: a block is below 4294967295, an offset from 1 to 65535", "the index is full", "the log is full",
+        "open scans hold all pages in memory", "a vacuum runs", "the scan is over, or 63 scans are open", "the session is busy",
+        "the file is no index", "the file's layout is unknown", "the log is damaged", "a page is damaged", "a limit is out of its range",
+        "the tree is too tall", "the file is too short", "the key is there with another row"};
+    static const char *const own[] = {"no entry is left", "a wrong argument", "another handle has the file", "no entry has the key",
+                                      "the handle is the parent process's"};
     if (status >= 0 && status <= 21) return names[status];
-    return status == NARDSILL_DONE ? "no entry is left" : status == NARDSILL_MISUSE ? "a wrong argument"
-           : status == NARDSILL_LOCKED ? "another handle has the file" : "no such status";
+    return status >= 100 && status <= 104 ? own[status - 100] : "no such status";
 }

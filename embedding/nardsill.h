@@ -7,6 +7,19 @@
 extern "C" {
 #endif
 
+/* The version of this header. A library of the same major number has at least what a header of a lower minor one names. */
+#define NARDSILL_VERSION_MAJOR 1
+#define NARDSILL_VERSION_MINOR 1
+#define NARDSILL_VERSION_PATCH 0
+#define NARDSILL_VERSION "1.1.0"
+
+/* What a call answers is to be looked at: a commit that was refused has made nothing durable. */
+#if defined(__GNUC__)
+#define NARDSILL_LOOK __attribute__((warn_unused_result))
+#else
+#define NARDSILL_LOOK
+#endif
+
 /* A key has so many bytes at most. Keys are ordered by their bytes, a beginning before what it begins. */
 #define NARDSILL_KEY_MAX 64
 
@@ -14,9 +27,9 @@ extern "C" {
 enum {
     NARDSILL_OK = 0,
     NARDSILL_NO_MEMORY = 1,
-    NARDSILL_IO = 2,               /* a call of the file failed: errno says why */
+    NARDSILL_IO = 2,               /* a call of the file failed: `error` of the fault, and errno, say why */
     NARDSILL_STOPPED = 3,          /* one failed before: close the index and open it again */
-    NARDSILL_BLOCKED = 4,          /* an open scan stands on the page of nardsill_fault_page */
+    NARDSILL_BLOCKED = 4,          /* an open scan stands on a page that the call needs: `page` of the fault */
     NARDSILL_EXISTS = 5,           /* this very entry, its key and its row, is there */
     NARDSILL_KEY_TOO_LONG = 6,
     NARDSILL_BAD_ROW = 7,          /* block 4294967295, or offset 0 */
@@ -24,19 +37,21 @@ enum {
     NARDSILL_LOG_FULL = 9,         /* no call answers it */
     NARDSILL_NO_FRAME = 10,        /* open scans hold the pages in memory */
     NARDSILL_VACUUM_RUNNING = 11,  /* no call answers it */
-    NARDSILL_NO_SESSION = 12,      /* the scan is over since a fault; or 63 are open */
+    NARDSILL_NO_SESSION = 12,      /* the scan is over since a fault, or its index is closed; or 63 scans are open */
     NARDSILL_SESSION_BUSY = 13,    /* no call answers it */
     NARDSILL_BAD_SUPER = 14,       /* the file is no index */
     NARDSILL_BAD_VERSION = 15,
     NARDSILL_LOG_DAMAGED = 16,
-    NARDSILL_PAGE_DAMAGED = 17,    /* that of nardsill_fault_page */
+    NARDSILL_PAGE_DAMAGED = 17,    /* `page` of the fault */
     NARDSILL_BAD_LIMITS = 18,
     NARDSILL_TOO_TALL = 19,
     NARDSILL_DEVICE_TOO_SMALL = 20,
-    NARDSILL_KEY_EXISTS = 21,      /* on a unique index: the key is there, with the row of nardsill_fault_row */
+    NARDSILL_KEY_EXISTS = 21,      /* on a unique index: the key is there with another row: `row` of the fault */
     NARDSILL_DONE = 100,           /* a scan has no entry left */
-    NARDSILL_MISUSE = 101,         /* a null pointer */
-    NARDSILL_LOCKED = 102          /* another handle, in this process or another, has the file */
+    NARDSILL_MISUSE = 101,         /* a null pointer, a `size` that isn't set, or a descriptor that can't be an index's */
+    NARDSILL_LOCKED = 102,         /* another handle, in this process or another, has the file */
+    NARDSILL_NOT_FOUND = 103,      /* no entry has the key */
+    NARDSILL_FORKED = 104          /* the handle is the parent's: a forked child opens the index for itself */
 };
 
 typedef struct nardsill nardsill;           /* an open index */
@@ -44,70 +59,109 @@ typedef struct nardsill_scan nardsill_scan; /* an open scan of it: 63 at most */
 typedef struct { uint32_t block; uint16_t offset; } nardsill_row;
 typedef struct { nardsill_row row; uint8_t key_len; uint8_t key[NARDSILL_KEY_MAX]; } nardsill_entry;
 
+/* Why the last refused call of this thread was refused. The library may add fields behind these. */
+typedef struct {
+    int status;
+    int error;        /* of NARDSILL_IO: why, a number of errno */
+    uint32_t page;    /* of NARDSILL_BLOCKED and NARDSILL_PAGE_DAMAGED, else 0 */
+    nardsill_row row; /* of NARDSILL_KEY_EXISTS, else zeros */
+} nardsill_fault;
+
+/* It is this thread's alone, stands until the next call of this thread is refused, and is never null. Its status is 0 before the first.
+   It is memory that may be written, so that who interrupts a thread can put it back. */
+const nardsill_fault *nardsill_last_fault(void);
+
+/* Each of these structs begins with its size, as its macro sets it: so a later version may add fields behind. */
+
 /* Sizes of an index: items a page, 4 to 50; pages, 8 to 65,536; bytes of the log, 65,536 to 16,777,216, a multiple of 4,096. And whether
-   it is unique: 0 where entries may share a key. */
-typedef struct { uint32_t items, pages, log_bytes, unique; } nardsill_limits;
+   it is unique: 0 where entries may share a key. A page holds 25 to 50 entries: 100,000 entries in order fill 4,096 pages. */
+typedef struct { uint32_t size, items, pages, log_bytes, unique; } nardsill_limits;
+#define NARDSILL_LIMITS {sizeof(nardsill_limits), 50, 4096, 1048576, 0}
 
 typedef struct {
+    uint32_t size;
+    uint32_t pages, pages_newly_deleted, pages_deleted, pages_free; /* in use; of these deleted now, deleted, and to be used again */
+    uint32_t zero;
     uint64_t entries, removed;
-    uint32_t pages, pages_newly_deleted, pages_deleted, pages_free;
 } nardsill_stats;
-
-/* Makes an empty index in a new file, which is at the path only once it is whole. A null limits: 50 items, 4,096 pages, 1 MiB. */
-int nardsill_create(const char *path, const nardsill_limits *limits);
-
-/* Opens the index in a file, after any crash, with so many pages in memory, 16 to 1,024; 0 stands for 64. */
-int nardsill_open(const char *path, uint32_t frames, nardsill **out);
-
-/* The same in a file that is open for reading and writing; fd stays the caller's to close. */
-int nardsill_open_fd(int fd, uint32_t frames, nardsill **out);
-
-/* Makes a checkpoint, closes the file, and frees the handle, whatever is answered. Its scans are to be closed before. */
-int nardsill_close(nardsill *index);
-
-/* Adds an entry. `action` is its number; all numbers up to what a commit tells are durable. */
-int nardsill_insert(nardsill *index, const void *key, size_t key_len, nardsill_row row, uint64_t *action);
-
-/* Adds entries up to the first that is refused; `done` is how many are in. */
-int nardsill_insert_many(nardsill *index, const nardsill_entry *entries, size_t count, size_t *done);
-
-/* Deletes each entry with one of these rows. Where it is refused some may be gone, and no other entry is. */
-int nardsill_delete_rows(nardsill *index, const nardsill_row *rows, size_t count, nardsill_stats *stats);
-
-/* Deletes empty pages, and counts what is there. */
-int nardsill_vacuum(nardsill *index, nardsill_stats *stats);
-
-/* Makes all that was done durable; `actions` is how many were since the opening. A checkpoint writes the pages home too. */
-int nardsill_commit(nardsill *index, uint64_t *actions);
-int nardsill_checkpoint(nardsill *index, uint64_t *actions);
-
-/* The entries from `from` on and below `below`; a null end is open. */
-int nardsill_scan_open(nardsill *index, const void *from, size_t from_len, const void *below, size_t below_len, nardsill_scan **out);
-int nardsill_scan_restart(nardsill_scan *scan, const void *from, size_t from_len, const void *below, size_t below_len);
-int nardsill_scan_next(nardsill_scan *scan, nardsill_entry *out);
-
-/* Up to `room` entries; `count` is how many. NARDSILL_DONE comes with the last ones. */
-int nardsill_scan_read(nardsill_scan *scan, nardsill_entry *out, size_t room, size_t *count);
-void nardsill_scan_close(nardsill_scan *scan);
+#define NARDSILL_STATS {sizeof(nardsill_stats), 0, 0, 0, 0, 0, 0, 0}
 
 /* What the verifier found: the number and the block of the first damage; or damage 0, and what was counted. */
 typedef struct {
-    uint64_t entries;
+    uint32_t size;
     uint32_t damage, block, levels, pages, half_dead, deleted, unfinished;
+    uint64_t entries;
 } nardsill_report;
+#define NARDSILL_REPORT {sizeof(nardsill_report), 0, 0, 0, 0, 0, 0, 0, 0}
+
+/* What an open index is: its limits; pages in use, and of these those that may be used again; pages in memory at most; open scans; and
+   whether it has stopped: 1 where each call is refused with NARDSILL_STOPPED until it is opened again. */
+typedef struct {
+    uint32_t size;
+    uint32_t items, pages, log_bytes, unique;
+    uint32_t pages_used, pages_free;
+    uint32_t frames, scans, stopped;
+} nardsill_details;
+#define NARDSILL_DETAILS {sizeof(nardsill_details), 0, 0, 0, 0, 0, 0, 0, 0, 0}
+
+/* Makes an empty index in a new file, which is at the path only once it is whole. Null limits are those of NARDSILL_LIMITS. */
+NARDSILL_LOOK int nardsill_create(const char *path, const nardsill_limits *limits);
+
+/* Opens the index in a file, after any crash, with so many pages in memory, 16 to 1,024; 0 stands for 64. A refusal sets *out to null. */
+NARDSILL_LOOK int nardsill_open(const char *path, uint32_t frames, nardsill **out);
+
+/* The same for the file of a descriptor that is open for reading and writing and doesn't append. The file is opened anew, by
+   /proc/self/fd: so the descriptor stays the caller's, as it was, and may be closed at once. */
+NARDSILL_LOOK int nardsill_open_fd(int fd, uint32_t frames, nardsill **out);
+
+/* Makes a checkpoint, closes the file, and frees the handle, whatever is answered. A scan that is left is over, and is still to be
+   closed. */
+NARDSILL_LOOK int nardsill_close(nardsill *index);
+
+/* Adds an entry. `action` is its number; all numbers up to what a commit tells are durable. */
+NARDSILL_LOOK int nardsill_insert(nardsill *index, const void *key, size_t key_len, nardsill_row row, uint64_t *action);
+
+/* Adds entries up to the first that is refused; `done` is how many are in. */
+NARDSILL_LOOK int nardsill_insert_many(nardsill *index, const nardsill_entry *entries, size_t count, size_t *done);
+
+/* The row of the first entry with this key; NARDSILL_NOT_FOUND where there is none. It takes the place of an open scan while it runs. */
+NARDSILL_LOOK int nardsill_get(nardsill *index, const void *key, size_t key_len, nardsill_row *out);
+
+/* Deletes each entry with one of these rows. It reads every leaf: name many rows in one call. Where it is refused some may be gone, and
+   no other entry is. */
+NARDSILL_LOOK int nardsill_delete_rows(nardsill *index, const nardsill_row *rows, size_t count, nardsill_stats *stats);
+
+/* Deletes empty pages, and counts what is there. */
+NARDSILL_LOOK int nardsill_vacuum(nardsill *index, nardsill_stats *stats);
+
+/* Makes all that was done durable; `actions` is how many were since the opening. A checkpoint writes the pages home too. */
+NARDSILL_LOOK int nardsill_commit(nardsill *index, uint64_t *actions);
+NARDSILL_LOOK int nardsill_checkpoint(nardsill *index, uint64_t *actions);
+
+/* What the index is, now. */
+NARDSILL_LOOK int nardsill_info(nardsill *index, nardsill_details *out);
+
+/* The entries from `from` on and below `below`; a null end is open. */
+NARDSILL_LOOK int nardsill_scan_open(nardsill *index, const void *from, size_t from_len, const void *below, size_t below_len, nardsill_scan **out);
+
+/* The entries whose keys begin so. */
+NARDSILL_LOOK int nardsill_scan_open_prefix(nardsill *index, const void *prefix, size_t prefix_len, nardsill_scan **out);
+
+/* Begins an open scan anew, over another range. */
+NARDSILL_LOOK int nardsill_scan_restart(nardsill_scan *scan, const void *from, size_t from_len, const void *below, size_t below_len);
+NARDSILL_LOOK int nardsill_scan_next(nardsill_scan *scan, nardsill_entry *out);
+
+/* Up to `room` entries; `count` is how many. NARDSILL_DONE comes with the last ones. */
+NARDSILL_LOOK int nardsill_scan_read(nardsill_scan *scan, nardsill_entry *out, size_t room, size_t *count);
+void nardsill_scan_close(nardsill_scan *scan);
 
 /* Judges the index in a file that nobody has open: its levels and links, its parents and children. As each opening does, it writes home
    what the log holds. */
-int nardsill_check(const char *path, uint32_t frames, nardsill_report *out);
-
-/* The page of the last NARDSILL_BLOCKED or NARDSILL_PAGE_DAMAGED. */
-uint32_t nardsill_fault_page(nardsill *index);
-
-/* The row of the last NARDSILL_KEY_EXISTS. */
-nardsill_row nardsill_fault_row(nardsill *index);
+NARDSILL_LOOK int nardsill_check(const char *path, uint32_t frames, nardsill_report *out);
 
 const char *nardsill_strerror(int status); /* a sentence */
 const char *nardsill_errname(int status);  /* "Exists", as the programs print it */
+const char *nardsill_version(void);        /* the library's, as NARDSILL_VERSION */
 
 #ifdef __cplusplus
 }

@@ -30,7 +30,12 @@ struct nardsill_ask {
 
 struct nardsill_open_ask {
     int32_t descriptor;
-    uint32_t frames, is_new, items, pages, log_bytes, unique;
+    uint32_t frames;
+};
+
+struct nardsill_make_ask {
+    int32_t descriptor;
+    uint32_t items, pages, log_bytes, unique;
 };
 
 struct nardsill_answer {
@@ -41,6 +46,7 @@ struct nardsill_answer {
     uint32_t num_pages, pages_newly_deleted, pages_deleted, pages_free;
     uint32_t block; /* the row that a fault names */
     uint16_t offset;
+    int32_t descriptor; /* that of the library, where an index was opened */
 };
 
 struct nardsill_token {
@@ -54,6 +60,11 @@ struct nardsill_given {
     uint8_t len;
     bool is_given;
     uint8_t key[64];
+};
+
+struct nardsill_facts {
+    uint32_t status, items, pages, log_bytes, pages_used, pages_free;
+    bool is_unique, is_stopped;
 };
 
 struct nardsill_check_ask {
@@ -72,13 +83,14 @@ struct nardsill_shell;
 /* A handle without an index, at out: 0, or 1 where there is no memory. */
 uint32_t nardsill_proved_new(struct nardsill_shell **out);
 
-/* Opens the index in a file that is open: file points to its descriptor, which stays the caller's. */
+/* Each of these three is given a file that is open: file points to its descriptor, which stays the caller's. The first makes an
+   empty index there, and what the file held is gone; the second opens the index in it; the third judges it. */
+struct nardsill_answer nardsill_proved_make(struct nardsill_shell *at, int *file, struct nardsill_make_ask ask);
 struct nardsill_answer nardsill_proved_take(struct nardsill_shell *at, int *file, struct nardsill_open_ask ask);
+struct nardsill_checked nardsill_proved_check(struct nardsill_shell *at, int *file, struct nardsill_check_ask ask);
 
 /* One call at a time, on a handle that was not let go. */
 struct nardsill_answer nardsill_proved_call(struct nardsill_shell *at, struct nardsill_ask ask);
 struct nardsill_given nardsill_proved_next(struct nardsill_shell *at, struct nardsill_token token);
-
-/* Judges the index in a file that is open, whatever the handle has. */
-struct nardsill_checked nardsill_proved_check(struct nardsill_shell *at, int *file, struct nardsill_check_ask ask);
+struct nardsill_facts nardsill_proved_info(struct nardsill_shell *at);
 #endif

@@ -17,7 +17,10 @@ import tempfile
 import time
 
 sys.path.insert(0, str(pathlib.Path(__file__).parent))
-import nardsill
+try:
+    import nardsill
+except ImportError as error:
+    sys.exit(str(error))
 
 
 def add_all(index, box):
@@ -25,13 +28,10 @@ def add_all(index, box):
     added = 0
     for number, message in enumerate(box):
         sender = email.utils.parseaddr(message.get("From", ""))[1].lower().encode()[:64]
-        try:
-            index.insert(sender, (number, 1))
-        except nardsill.Exists:
-            continue
-        added += 1
-        if added % 100 == 0:
-            index.commit()
+        if index.add(sender, (number, 1)):
+            added += 1
+            if added % 100 == 0:
+                index.commit()
     index.commit()
     return added
 
@@ -40,7 +40,7 @@ def main(path, index_path, start=None, stop=None):
     with nardsill.open(index_path) as index:
         print(add_all(index, mailbox.mbox(path)), "added")
         for sender, row in index.scan(start and start.encode(), stop and stop.encode()):
-            print(sender.decode(), "message", row.block)
+            print(sender.decode(errors="replace"), "message", row.block)
 
 
 def demo():

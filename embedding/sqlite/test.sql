@@ -1,19 +1,138 @@
 .load ./nardsill_table
-.bail on
+.print -- every day
 create virtual table t using nardsill('table.idx');
-insert into t values ('bob', 2, 1), ('alice', 1, 1), ('carol', 3, 1), (x'00ff', 9, 1);
-insert or ignore into t values ('bob', 2, 1);
+insert into t values ('bob', 2, 1), ('alice', 1, 1), ('carol', 3, 1), ('alice', 4, 2), ('Ann', 5, 1), ('', 6, 1);
 select key, block, offset from t where key >= 'alice' and key < 'carol';
 select count(*) from t;
 select key from t where key = 'bob';
 select key from t where key > 'alice' and key <= 'carol' order by key desc;
-select hex(key) from t where key < 'a';
+select typeof(key), typeof(block), typeof(offset), typeof(entry), hex(entry) from t where key = 'bob';
+select key from t where entry = x'626f62000000020001';
 select count(*) from t where key between 'b' and 'c';
-delete from t where key = 'bob';
-select count(*) from t;
+select '[' || key || ']' from t where key < 'A';
+select block from t where key = null;
+select count(*) from t where key > 5;
+select count(*) from t where key < x'61';
+select block from t where key = 'ALICE' collate nocase order by block;
+select key, block from t where key = 'bob' or key > 'bz' or block = 1;
+select key from t where key in ('carol', 'nobody', 'alice', null) order by key, block;
+select key from t where key like 'a%' order by key, block;
+select key, block from t order by key, block, offset limit 3 offset 1;
+select key, count(*) from t group by key having count(*) > 1;
+.print -- joins
+create table letter(id integer primary key, sender text, title text);
+insert into letter values (1, 'alice', 'one'), (2, 'bob', 'two'), (3, 'carol', 'three'), (4, 'alice', 'four');
+select t.key, title from t join letter on t.block = letter.id order by id;
+select sender, t.block from letter join t on t.key = sender order by sender, t.block;
+select a.key, a.block, b.block from t a join t b on a.key = b.key and a.block < b.block;
+.print -- plans
+explain query plan select * from t where key = 'bob';
+explain query plan select key from t where key > 'a' order by key, block;
+explain query plan select key from t order by key desc;
+.print -- transactions
 begin;
-insert into t values ('dave', 4, 1);
+insert into t values ('dave', 7, 1);
+delete from t where key = 'bob';
+update t set block = 9 where key = 'carol';
+select key, block from t where key > 'b';
+rollback;
+select key, block from t where key > 'b';
+begin;
+insert into t values ('dave', 7, 1);
+savepoint one;
+insert into t values ('eve', 8, 1);
+delete from t where key = 'dave';
+savepoint two;
+delete from t;
+select count(*) from t;
+rollback to two;
+select key from t where key > 'carol';
+release two;
+rollback to one;
+select key from t where key > 'carol';
 commit;
+select key from t where key > 'carol';
+savepoint alone;
+delete from t;
+rollback to alone;
+release alone;
+select count(*) from t;
+.print -- failing statements
+begin;
+insert into t values ('fred', 10, 1);
+insert into t values ('gus', 11, 1), ('hal', 12, 1), ('fred', 10, 1), ('ian', 13, 1);
+insert or fail into t values ('gus', 11, 1), ('fred', 10, 1), ('hal', 12, 1);
+insert or ignore into t values ('gus', 11, 1), ('ian', 13, 1);
+insert or replace into t values ('gus', 11, 1), ('jim', 14, 1);
+select key from t where key > 'e';
+update t set key = 'gus', block = 11 where key > 'h';
+update or ignore t set key = 'gus', block = 11 where key > 'h';
+update or replace t set key = 'gus', block = 11 where key = 'ian';
+select key from t where key > 'e';
+commit;
+insert into t values ('kim', 15, 1), (x'00', 16, 1);
+insert into t values (5, 15, 1);
+insert into t values (null, 15, 1);
+insert into t values (cast(5 as text), '15', 1.0);
+insert into t values ('kim', 'some', 1);
+insert into t values ('kim', 15, 1.5);
+insert into t values ('kim', null, 1);
+insert into t values ('kim', 4294967295, 1);
+insert into t values ('kim', 15, 0);
+insert into t values ('kim', -1, 1);
+insert into t values (printf('%065d', 1), 15, 1);
+insert into t values (printf('%064d', 1), 4294967294, 65535);
+insert into t(key, block, offset, entry) values ('kim', 15, 1, x'00');
+insert into t(key, block, offset, entry) values ('kim', 15, 1, x'6b696d0000000f0001');
+select key, block, offset from t where key < '9' or key > 'k';
+.print -- rows
+insert into t values ('subject', 20, 1), ('sender', 20, 1);
+delete from t where key = 'subject';
+begin;
+delete from t where key = 'subject';
+delete from t where key = 'sender';
+insert into t values ('date', 20, 1);
+commit;
+select key from t where block = 20;
+update t set key = 'day' where key = 'date';
+select key from t where block = 20;
+.print -- a unique index
+create virtual table u using nardsill('unique.idx', unique=1, pages=64);
+insert into u values ('a', 1, 1), ('b', 2, 1);
+insert into u values ('a', 3, 1);
+insert or ignore into u values ('a', 3, 1), ('c', 3, 1);
+insert or replace into u values ('a', 4, 1);
+update u set block = block + 10;
+update u set key = 'a' where key = 'b';
+update or replace u set key = 'a' where key = 'b';
+select key, block from u;
+.print -- blobs
+create virtual table b using nardsill('blob.idx', key=blob, pages = 64);
+insert into b values (x'00ff', 1, 1), (x'', 2, 1), (x'00', 3, 1), (cast('text' as blob), 4, 1);
+insert into b values ('text', 5, 1);
+select hex(key), typeof(key), block from b;
+select block from b where key > x'00';
+select block from b where key = 'text';
+.print -- arguments
+create virtual table w using nardsill;
+create virtual table w using nardsill('');
+create virtual table w using nardsill(unique=1);
+create virtual table w using nardsill('w.idx', unqiue=1);
+create virtual table w using nardsill('w.idx', 'unique');
+create virtual table w using nardsill('w.idx', key=number);
+create virtual table w using nardsill('w.idx', pages=7);
+create virtual table w using nardsill('w.idx', pages=many);
+create virtual table w using nardsill('w.idx', unique=2);
+create virtual table w using nardsill('w.idx', log_bytes=65537);
+create virtual table w using nardsill('w.idx', Unique = '1', pages=64, items=20, frames=16, log_bytes=131072, KEY=text);
+insert into w values ('a', 1, 1);
+drop table w;
+create virtual table w using nardsill('w.idx', unique=1, log_bytes=131072);
+select * from w;
+.print -- in a view
+create view v as select * from t;
+select * from v;
+.print -- many
 with recursive n(i) as (select 100 union all select i + 1 from n where i < 1099) insert into t select printf('key%04d', i), i, 1 from n;
 select count(*) from t where key >= 'key0500' and key < 'key0600';
 delete from t where block >= 600;

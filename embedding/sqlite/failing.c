@@ -1,0 +1,129 @@
+/* Refuses each call that changes the index in turn, in the middle of a commit: afterwards the index is as it was before. It is linked with
+ * the table and the library, and with `--wrap` of the calls below. */
+#include "nardsill.h"
+#include "testing.h"
+#include <errno.h>
+
+static int left_until, times; /* how many calls are granted; how many are refused then */
+
+static int is_refused(void) {
+    if (!left_until) return 0;
+    if (left_until > 1) return left_until--, 0;
+    if (!--times) left_until = 0;
+    return 1;
+}
+
+int __real_nardsill_insert(nardsill *, const void *, size_t, nardsill_row, uint64_t *);
+int __real_nardsill_insert_many(nardsill *, const nardsill_entry *, size_t, size_t *);
+int __real_nardsill_delete_rows(nardsill *, const nardsill_row *, size_t, nardsill_stats *);
+int __real_nardsill_commit(nardsill *, uint64_t *);
+int __real_nardsill_scan_read(nardsill_scan *, nardsill_entry *, size_t, size_t *);
+
+int __wrap_nardsill_insert(nardsill *index, const void *key, size_t len, nardsill_row row, uint64_t *action) {
+    return is_refused() ? NARDSILL_INDEX_FULL : __real_nardsill_insert(index, key, len, row, action);
+}
+
+/* A batch that is refused is half in. */
+int __wrap_nardsill_insert_many(nardsill *index, const nardsill_entry *entries, size_t count, size_t *done) {
+    if (!is_refused()) return __real_nardsill_insert_many(index, entries, count, done);
+    TRUE(!__real_nardsill_insert_many(index, entries, count / 2, done));
+    return NARDSILL_INDEX_FULL;
+}
+
+/* A bulk delete that is refused has deleted some. */
+int __wrap_nardsill_delete_rows(nardsill *index, const nardsill_row *rows, size_t count, nardsill_stats *stats) {
+    if (!is_refused()) return __real_nardsill_delete_rows(index, rows, count, stats);
+    TRUE(!__real_nardsill_delete_rows(index, rows, count / 2, stats));
+    return NARDSILL_INDEX_FULL;
+}
+
+int __wrap_nardsill_commit(nardsill *index, uint64_t *actions) { return is_refused() ? NARDSILL_INDEX_FULL : __real_nardsill_commit(index, actions); }
+
+int __wrap_nardsill_scan_read(nardsill_scan *scan, nardsill_entry *out, size_t room, size_t *count) {
+    *count = 0;
+    return is_refused() ? NARDSILL_INDEX_FULL : __real_nardsill_scan_read(scan, out, room, count);
+}
+
+static int syncs_fail;
+int __real_fdatasync(int);
+int __wrap_fdatasync(int fd) {
+    if (!syncs_fail) return __real_fdatasync(fd);
+    errno = EIO;
+    return -1;
+}
+
+#define SUM "select count(*), sum(block * 7 + offset * 3 + length(key)), group_concat(substr(key, 1, 1) || block % 7, '')" \
+    " from (select * from t order by key, block, offset)"
+
+/* 300 entries of 150 rows go, 200 move, 200 come; of 100 of these the row has another entry. */
+static const char changes[] = "begin; delete from t where block < 150; update t set key = key || 'y' where block >= 900;"
+    "with recursive n(i) as (select 500 union all select i + 1 from n where i < 599) insert into t select 'new' || i, i, 1 from n;"
+    "with recursive n(i) as (select 2000 union all select i + 1 from n where i < 2099) insert into t select 'new' || i, i, 1 from n";
+
+/* Makes the call fail that is the nth of a commit, so many times. Tells whether it has. */
+static int try(int nth, int so_often, const char *before) {
+    sqlite3 *db = connect_to(":memory:");
+    run(db, "create virtual table t using nardsill('failing.idx')");
+    ROWS(db, SUM, before);
+    run(db, changes);
+    left_until = nth;
+    times = so_often;
+    char *error = 0;
+    int status = sqlite3_exec(db, "commit", 0, 0, &error), was_refused = !left_until || times < so_often;
+    left_until = 0;
+    if (status) {
+        TRUE(status == SQLITE_FULL && strstr(error, "IndexFull"));
+        TRUE(sqlite3_get_autocommit(db));
+        ROWS(db, SUM, before);
+    }
+    TRUE(!!status == was_refused);
+    sqlite3_free(error);
+    TRUE(!sqlite3_close(db));
+    db = connect_to(":memory:");
+    ROWS(db, "select nardsill_check('failing.idx') like 'ok %'", "1");
+    TRUE(!sqlite3_close(db));
+    return was_refused;
+}
+
+static void fill(char *before) {
+    unlink("failing.idx");
+    sqlite3 *db = connect_to(":memory:");
+    run(db, "create virtual table t using nardsill('failing.idx', pages=256)");
+    run(db, "with recursive n(i) as (select 0 union all select i + 1 from n where i < 999)"
+            "insert into t select printf('%04d', i * 7919 % 1000), i, 1 from n union all select 'x' || i, i, 1 from n where i < 600");
+    strcpy(before, rows_of(db, SUM));
+    TRUE(!sqlite3_close(db));
+}
+
+/* A sync that fails stops the index. The connection is closed and opened again: then the index is sound. */
+static void fail_sync(void) {
+    sqlite3 *db = connect_to(":memory:");
+    run(db, "create virtual table t using nardsill('failing.idx')");
+    run(db, changes);
+    syncs_fail = 1;
+    refuses(db, "commit", SQLITE_IOERR, "The index may hold a part of the transaction");
+    syncs_fail = 0;
+    TRUE(sqlite3_get_autocommit(db));
+    refuses(db, "select * from t", SQLITE_IOERR, "close it and open it again (Stopped)");
+    refuses(db, "insert into t values ('a', 1, 1)", SQLITE_IOERR, "(Stopped)");
+    TRUE(!sqlite3_close(db));
+    db = connect_to(":memory:");
+    ROWS(db, "select nardsill_check('failing.idx') like 'ok %'", "1");
+    run(db, "create virtual table t using nardsill('failing.idx'); delete from t");
+    TRUE(!sqlite3_close(db));
+    puts("failing: a sync that fails is told, and the index is sound when it is opened again");
+}
+
+int main(void) {
+    static char before[4096];
+    fill(before);
+    for (int so_often = 1; so_often <= 2; so_often++) {
+        int nth = 0;
+        while (try(++nth, so_often, before)) continue;
+        TRUE(nth > 10);
+        printf("failing: %d calls of a commit, each refused %d times: the index is as it was\n", nth - 1, so_often);
+        fill(before);
+    }
+    fail_sync();
+    return 0;
+}
