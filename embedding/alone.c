@@ -1,0 +1,24 @@
+/* Stands before the proved functions where the thread sanitizer watches: it doesn't see into them, but sees that two calls are here at
+   once. The test has one handle. */
+#include "nardsill_proved.h"
+
+static unsigned calls;
+
+struct nardsill_answer __real_nardsill_proved_call(struct nardsill_shell *at, struct nardsill_ask ask);
+struct nardsill_given __real_nardsill_proved_next(struct nardsill_shell *at, struct nardsill_token token);
+struct nardsill_facts __real_nardsill_proved_info(struct nardsill_shell *at);
+
+struct nardsill_answer __wrap_nardsill_proved_call(struct nardsill_shell *at, struct nardsill_ask ask) {
+    calls++;
+    return __real_nardsill_proved_call(at, ask);
+}
+
+struct nardsill_given __wrap_nardsill_proved_next(struct nardsill_shell *at, struct nardsill_token token) {
+    calls++;
+    return __real_nardsill_proved_next(at, token);
+}
+
+struct nardsill_facts __wrap_nardsill_proved_info(struct nardsill_shell *at) {
+    calls++;
+    return __real_nardsill_proved_info(at);
+}
