@@ -13,13 +13,19 @@
 
 /* Which calls fail now, and with which number. */
 static int no_sync, no_folder_sync, no_read, no_write, no_link, no_rename;
+/* Another maker places the draft just before its lock is asked for. */
+static int is_placed_before;
 /* The folders that were synced, each with whether the file had its name then; closings of what isn't open. */
 static int folder_syncs, nameless_syncs, wrong_closes, was_locked;
+/* Openings that a started program would have too, and locks of a number that is a standard stream's. */
+static int shared_opens, low_locks;
 static ino_t synced_folder;
 
 int __real_fdatasync(int fd);
 int __real_fsync(int fd);
 int __real_close(int fd);
+int __real_flock(int fd, int how);
+int __real_open(const char *path, int flags, mode_t mode);
 int __real_link(const char *from, const char *to);
 int __real_renameat2(int from_fd, const char *from, int to_fd, const char *to, unsigned flags);
 ssize_t __real_pread(int fd, void *out, size_t count, off_t at);
@@ -42,7 +48,7 @@ int __wrap_fsync(int fd) {
         synced_folder = synced.st_ino;
         nameless_syncs += access(PATH, F_OK) && access("fail-folder/" PATH, F_OK);
         /* Nobody may use the index before its name is durable. */
-        int other = open(PATH, O_RDWR);
+        int other = open(PATH, O_RDWR | O_CLOEXEC);
         was_locked = other < 0 || flock(other, LOCK_EX | LOCK_NB);
         if (other >= 0) __real_close(other);
     }
@@ -55,7 +61,29 @@ int __wrap_close(int fd) {
     return status;
 }
 
-int __wrap_link(const char *from, const char *to) { return no_link ? refuse(no_link) : __real_link(from, to); }
+int __wrap_open(const char *path, int flags, ...) {
+    if (!(flags & O_CLOEXEC)) shared_opens++;
+    return __real_open(path, flags, 0666);
+}
+
+int __wrap_flock(int fd, int how) {
+    if (fd <= 2) low_locks++;
+    if (is_placed_before) {
+        is_placed_before = 0;
+        __real_link(DRAFT, "fail-other.idx");
+        unlink(DRAFT);
+    }
+    return __real_flock(fd, how);
+}
+
+int __wrap_link(const char *from, const char *to) {
+    if (no_link == EEXIST) {
+        FILE *other = fopen(PATH, "w");
+        fputs("another's", other);
+        fclose(other);
+    }
+    return no_link ? refuse(no_link) : __real_link(from, to);
+}
 
 int __wrap_renameat2(int from_fd, const char *from, int to_fd, const char *to, unsigned flags) {
     return no_rename ? refuse(no_rename) : __real_renameat2(from_fd, from, to_fd, to, flags);
@@ -177,10 +205,12 @@ static void folders(void) {
 
 /* Another file comes to the path just before the draft is placed there. */
 static void names(void) {
+    struct stat other;
     no_link = EEXIST;
     FAILS(EEXIST, nardsill_create(PATH, 0));
     no_link = 0;
-    HOLDS(access(PATH, F_OK) && access(DRAFT, F_OK));
+    HOLDS(!stat(PATH, &other) && other.st_size == 9 && access(DRAFT, F_OK));
+    unlink(PATH);
     /* Where there are no hard links the draft is moved, over nothing. */
     no_link = EPERM;
     IS(0, nardsill_create(PATH, 0));
@@ -223,8 +253,17 @@ static void drafts(void) {
     IS(1, entries);
     IS(0, nardsill_close(index));
     unlink(PATH);
+    /* Another maker has placed its index between the opening of the draft and its lock: it stays as it is. */
+    left = fopen(DRAFT, "w");
+    fputs("another's index", left);
+    fclose(left);
+    is_placed_before = 1;
+    FAILS(EBUSY, nardsill_create(PATH, 0));
+    struct stat other;
+    HOLDS(!stat("fail-other.idx", &other) && other.st_size == 15 && access(PATH, F_OK) && access(DRAFT, F_OK));
+    unlink("fail-other.idx");
     /* Another maker's draft, a link and a folder stay as they are. */
-    int fd = open(DRAFT, O_RDWR | O_CREAT, 0666);
+    int fd = open(DRAFT, O_RDWR | O_CREAT | O_CLOEXEC, 0666);
     IS(0, flock(fd, LOCK_EX));
     IS(NARDSILL_LOCKED, nardsill_create(PATH, 0));
     HOLDS(!access(DRAFT, F_OK) && access(PATH, F_OK));
@@ -260,8 +299,24 @@ static void refusals(void) {
     FAILS(ENAMETOOLONG, nardsill_create(name, 0));
 }
 
+/* A file never has the number of a standard stream, also where that is closed. */
+static void closed_streams(void) {
+    nardsill *index;
+    nardsill_report report = NARDSILL_REPORT;
+    int kept = fcntl(0, F_DUPFD_CLOEXEC, 10);
+    unlink(PATH);
+    __real_close(0);
+    IS(0, nardsill_create(PATH, 0));
+    IS(0, nardsill_open(PATH, 16, &index));
+    IS(0, nardsill_close(index));
+    IS(0, nardsill_check(PATH, 16, &report));
+    IS(0, low_locks);
+    if (kept >= 0) dup2(kept, 0), __real_close(kept);
+}
+
 int main(void) {
     int descriptors = open_descriptors();
+    closed_streams();
     syncs();
     reads_and_writes();
     folders();
@@ -269,6 +324,7 @@ int main(void) {
     drafts();
     refusals();
     IS(0, wrong_closes);
+    IS(0, shared_opens);
     IS(descriptors, open_descriptors());
     unlink(PATH);
     puts("fail: all is as it must be");

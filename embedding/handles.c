@@ -182,6 +182,43 @@ static void children(void) {
     waitpid(child, 0, 0);
 }
 
+/* A parent that ends without a closing leaves the file to who comes, though its child lives on. */
+static void orphans(void) {
+    nardsill *index;
+    int ends[2];
+    pid_t child;
+    HOLDS(!pipe(ends));
+    pid_t parent = fork();
+    if (!parent) {
+        if (nardsill_open(PATH, 64, &index)) _exit(1);
+        child = fork();
+        if (!child) _exit(sleeps(0, 0));
+        if (write(ends[1], &child, sizeof child) != sizeof child) _exit(1);
+        _exit(0);
+    }
+    HOLDS(read(ends[0], &child, sizeof child) == sizeof child);
+    waitpid(parent, 0, 0);
+    /* The child may not have come to close it yet. */
+    for (int i = 0; i < 100 && !is_free(PATH); i++) usleep(10000);
+    HOLDS(is_free(PATH));
+    kill(child, SIGKILL);
+    close(ends[0]);
+    close(ends[1]);
+}
+
+/* Whether this process has a descriptor of such a file. */
+static int has_file(const char *name) {
+    char path[40], target[400];
+    for (int fd = 3; fd < 100; fd++) {
+        sprintf(path, "/proc/self/fd/%d", fd);
+        ssize_t len = readlink(path, target, sizeof target - 1);
+        if (len < 0) continue;
+        target[len] = 0;
+        if (strstr(target, name)) return 1;
+    }
+    return 0;
+}
+
 static void *works(void *is_over) {
     nardsill_report report = NARDSILL_REPORT;
     while (!__atomic_load_n((int *)is_over, __ATOMIC_SEQ_CST)) {
@@ -199,7 +236,7 @@ static void *works(void *is_over) {
     return 0;
 }
 
-/* Children that live on while a thread makes, opens, closes and checks: each of them would keep a file from it. */
+/* Children that live on while a thread makes, opens, closes and checks: none of them has a file of it. */
 static void forks_beside_calls(void) {
     pthread_t thread;
     pid_t children[100];
@@ -207,14 +244,16 @@ static void forks_beside_calls(void) {
     IS(0, pthread_create(&thread, 0, works, &is_over));
     for (int i = 0; i < 100; i++) {
         children[i] = fork();
-        if (!children[i]) _exit(sleeps(0, 0));
+        if (!children[i]) _exit(has_file("busy.idx") ? 1 : sleeps(0, 0));
         usleep(2000);
     }
     __atomic_store_n(&is_over, 1, __ATOMIC_SEQ_CST);
     pthread_join(thread, 0);
     for (int i = 0; i < 100; i++) {
+        int status;
         kill(children[i], SIGKILL);
-        waitpid(children[i], 0, 0);
+        waitpid(children[i], &status, 0);
+        HOLDS(WIFSIGNALED(status));
     }
     unlink("busy.idx");
 }
@@ -261,12 +300,13 @@ static void cancelled_threads(void) {
 }
 
 int main(void) {
-    alarm(120);
+    alarm(60);
     one_file();
     descriptors();
     closed_streams();
     started_program();
     children();
+    orphans();
     forks_beside_calls();
     cancelled_threads();
     unlink(PATH);
