@@ -529,10 +529,17 @@ static void nothing_is_carried(store *s) {
     s->carried = NOTHING;
 }
 
+/* Gives the log its whole room, so that no entry is deleted on the disk before it is put back there. All that was done is durable already. */
+static int empty_log(store *s) {
+    uint64_t actions;
+    return s->others.count && s->carried == ALL ? nardsill_checkpoint(s->index, &actions) : 0;
+}
+
 /* Undoes in the index whatever was carried out. The pending changes stay. It can be called again where it was refused. */
 static int take_back(store *s) {
     suspend_all(s);
     int status = s->added.count ? each_stored(s, sort_entry, s) : 0;
+    if (!status) status = empty_log(s);
     if (!status) {
         keep_marked(&s->added);
         status = delete_rows(s, &s->added);
