@@ -98,8 +98,9 @@ static struct outcome told_by(struct nardsill_answer answer) {
 }
 
 /* A forked child has the parent's files and handles. It closes the files, so that it holds no lock of the parent's, and uses none of
-   the handles. No call opens a file while the process is forked: its descriptor would be known to nobody in the child. */
-static pthread_rwlock_t forking = PTHREAD_RWLOCK_INITIALIZER;
+   the handles. No call opens a file while the process is forked: its descriptor would be known to nobody in the child. A fork goes
+   before calls that come later, else it might wait for ever. */
+static pthread_rwlock_t forking = PTHREAD_RWLOCK_WRITER_NONRECURSIVE_INITIALIZER_NP;
 static pthread_mutex_t all_lock = PTHREAD_MUTEX_INITIALIZER;
 static nardsill *all;
 
@@ -120,7 +121,7 @@ static void in_child(void) {
     }
     all = 0;
     all_lock = (pthread_mutex_t)PTHREAD_MUTEX_INITIALIZER;
-    forking = (pthread_rwlock_t)PTHREAD_RWLOCK_INITIALIZER;
+    forking = (pthread_rwlock_t)PTHREAD_RWLOCK_WRITER_NONRECURSIVE_INITIALIZER_NP;
 }
 
 static pthread_once_t once = PTHREAD_ONCE_INIT;
