@@ -4,6 +4,7 @@ ghost use Rattle.std.specs.Prelude.{◌≡◌, ◌+◌, ◌^◌, ◌≤◌, ◌<
 ghost use Rattle.device.specs.Disk.{Trace, Reads, Writes, Syncs, CountsFailures};
 
 use index_model::Fault;
+use std::io::Error;
 
 /// A device of a fixed number of bytes, which may fail, and whose writes a crash may tear until they
 /// are synced.
@@ -25,6 +26,11 @@ pub trait Device {
     /// How many bytes it has. This never changes.
     fn len(&self) -> u64
         ensures { result ≡ length (trace self.now).now.seen };
+
+    /// What the system said of the last call that failed and was made, if the device is of a system. No clause tells of it.
+    fn error(&self) -> Option<Error> {
+        None
+    }
 
     /// Reads the bytes from `at` on. At `Io` the buffer holds any bytes, and the device is as it
     /// was.

@@ -1,7 +1,8 @@
 //! A device over a file. Each method makes one call of the file, and notes it with its answer: what the clauses say of a
 //! file rests on these notes.
 
-ghost use Rattle.std.specs.Prelude.{◌≡◌, ◌↔◌, ◌+◌, ◌<◌, ◌≤◌, ◌^◌, ◌∷◌, [], ℕ, List, true, false, IsTrue, Err, length, OnOk, OnErr, IfOk, IfErr};
+ghost use Rattle.std.specs.Prelude.{◌≡◌, ◌↔◌, ◌+◌, ◌<◌, ◌≤◌, ◌^◌, ◌∷◌, [], ℕ, List, true, false, IsTrue, Err, length, replicate, OnOk, OnErr, IfOk};
+ghost use Rattle.std.proofs.lemmas.List.{length-replicate};
 ghost use Rattle.device.specs.Disk.{first, next, wrote, Reads, Writes, Syncs, CountsFailures};
 ghost use Rattle.device.specs.Event.{after_calls, failed_in, are_right};
 ghost use Rattle.device.specs.Unknown.{some_bytes, length-some_bytes};
@@ -9,14 +10,21 @@ ghost use Rattle.device.specs.Unknown.{some_bytes, length-some_bytes};
 use crate::device::Device;
 use crate::events::Events;
 use index_model::Fault;
-use std::fs::{self, File, OpenFile, OpenOptions};
-use std::io::{Seek, SeekFrom};
+use std::fs::{self, File, OpenFile, OpenOptions, TryLockError};
+use std::io::{self, Error, ErrorKind, Seek, SeekFrom};
 use std::marker::PhantomData;
+use std::os::fd::AsRawFd;
 use std::os::unix::fs::{FileExt, FileTypeExt};
 use std::path::Path;
 use std::rt::Files;
 
-static ZEROS: [u8; 65_536] = [0; 65_536];
+static ZEROS_TO_WRITE: [u8; 65_536] = [0; 65_536];
+
+/// The number of the system's answer that another has a file's lock: `EWOULDBLOCK`.
+const WOULD_BLOCK: i32 = 11;
+
+/// The number of the system's answer that a file would be too long: `EFBIG`.
+const TOO_LONG: i32 = 27;
 
 /// What a file of so many bytes held when it was opened, which no code can read: what is proved for all such types holds of
 /// each file. So a function over a file is generic over it, one parameter for each opening of which its clauses speak.
@@ -24,6 +32,16 @@ pub trait Start {
     ghost bytes: { ℕ → List ℕ };
 
     ghost sized: { (len : ℕ) → length (bytes len) ≡ len };
+}
+
+/// What a new file holds: zeros.
+#[derive(Drop)]
+pub struct Zeros;
+
+impl Start for Zeros {
+    ghost bytes = { λ len. replicate len 0 };
+
+    ghost sized = { λ len. length-replicate len 0 };
 }
 
 /// For `main` to name: some bytes, of which no proof can learn more than how many they are. So what is proved of them holds of
@@ -41,6 +59,9 @@ impl Start for Unknown {
 /// other one is opened at the same file, in this process or another. A duplicate of the descriptor shares the lock: see
 /// [`FileDevice::held`]. A write that fails leaves any bytes in its range. After a failed write or sync each call answers `Io`,
 /// as what the file holds then is not known: a later sync must not make it look firm.
+///
+/// Its descriptor is none of the three of the standard streams, whatever of these is closed: what is printed there never goes
+/// into the file.
 #[derive(Drop)]
 pub struct FileDevice<S: Start> {
     file: File,
@@ -48,6 +69,7 @@ pub struct FileDevice<S: Start> {
     start: PhantomData<S>,
     events: Events,
     stopped: bool,
+    error: Option<Error>,
     ghost sized: { length (after_calls (S.Start.bytes len) events.list).now.seen ≡ len },
     ghost small: { length (after_calls (S.Start.bytes len) events.list).now.seen < 2 ^ 63 },
 }
@@ -68,37 +90,35 @@ impl<S: Start> FileDevice<S> {
             start: PhantomData,
             events: Events::new(),
             stopped: false,
+            error: None,
         }
     }
+}
 
+impl FileDevice<Zeros> {
     /// A new file of so many bytes, all zero and written, so that each has its place on the disk; it and its folder are synced.
-    /// Refused with `Io` where the path is there, another has taken the file's lock by now, or a call fails, as where the disk
-    /// has no room for it: the file that was made is removed then, if the system lets it be.
+    /// Refused with what the system says where the path is there, another has taken the file's lock by now, or a call fails, as
+    /// where the disk has no room for it: the file that was made is removed then, if the system lets it be.
     pub fn create<R: Files<File = File>>(
         rt: &R,
         path: &str,
         len: u64,
-    ) -> Result<FileDevice<S>, Fault>
-        // It holds what S says of so many bytes, all synced, and no call of it was made.
-        ensures held { IfOk result (λ d. after_calls (S.Start.bytes d.len) d.events.list
-            ≡ first (S.Start.bytes len)) }
+    ) -> io::Result<FileDevice<Zeros>>
+        // It holds zeros, all synced, and no call of it was made.
+        ensures held { IfOk result (λ d. after_calls (replicate d.len 0) d.events.list
+            ≡ first (replicate len 0)) }
         ensures honest { IfOk result
-            (λ d. are_right (S.Start.bytes d.len) d.events.list ≡ true) }
+            (λ d. are_right (replicate d.len 0) d.events.list ≡ true) }
         ensures failures { IfOk result (λ d. failed_in d.events.list ≡ 0) }
         ensures runs { IfOk result (λ d. d.stopped ≡ false) }
-        ensures fault { IfErr result (λ e. e ≡ Fault.Io) }
     {
-        if len >= 1 << 63 {
-            return Err(Fault::Io);
-        }
-        let Ok(file) = File::create_new(rt, path) else {
-            return Err(Fault::Io);
-        };
+        want_len(len)?;
+        let file = apart(File::create_new(rt, path)?)?;
         match place_zeros(rt, &file, path, len) {
             Ok(()) => Ok(FileDevice::of_file(file, len)),
-            Err(fault) => {
+            Err(error) => {
                 let _ = fs::remove_file(rt, path);
-                Err(fault)
+                Err(error)
             }
         }
     }
@@ -107,66 +127,61 @@ impl<S: Start> FileDevice<S> {
     /// first `filled` of them are written, so that each has its place on the disk. The others have none before they are
     /// written, which a full disk may refuse then. Its folder isn't synced: [`sync_folder`].
     ///
-    /// Refused with `Io` where another has the file's lock, and then nothing is changed; for 2^63 bytes or more; and where a
-    /// call fails, as where the disk has no room. What the file holds then isn't known. It is closed where it is refused.
-    pub fn made(file: File, len: u64, filled: u64) -> Result<FileDevice<S>, Fault>
-        // It holds what S says of so many bytes, all synced, and no call of it was made.
-        ensures held { IfOk result (λ d. after_calls (S.Start.bytes d.len) d.events.list
-            ≡ first (S.Start.bytes len)) }
+    /// Refused with what the system says where another has the file's lock, and then nothing is changed; for 2^63 bytes or
+    /// more; and where a call fails, as where the disk has no room. What the file holds then isn't known. It is closed where it
+    /// is refused.
+    pub fn made(file: File, len: u64, filled: u64) -> io::Result<FileDevice<Zeros>>
+        // It holds zeros, all synced, and no call of it was made.
+        ensures held { IfOk result (λ d. after_calls (replicate d.len 0) d.events.list
+            ≡ first (replicate len 0)) }
         ensures honest { IfOk result
-            (λ d. are_right (S.Start.bytes d.len) d.events.list ≡ true) }
+            (λ d. are_right (replicate d.len 0) d.events.list ≡ true) }
         ensures failures { IfOk result (λ d. failed_in d.events.list ≡ 0) }
         ensures runs { IfOk result (λ d. d.stopped ≡ false) }
-        ensures fault { IfErr result (λ e. e ≡ Fault.Io) }
     {
-        if len >= 1 << 63 {
-            return Err(Fault::Io);
-        }
+        want_len(len)?;
+        let file = apart(file)?;
         write_zeros(&file, len, filled)?;
         Ok(FileDevice::of_file(file, len))
     }
+}
 
+impl<S: Start> FileDevice<S> {
     /// A file that is there, for reading and writing, with all its bytes; or a block device. It is synced first, so that what
-    /// it holds stands through a crash. Refused with `Io`, and so where another has the file's lock; nothing is changed then.
-    pub fn open<R: Files<File = File>>(rt: &R, path: &str) -> Result<FileDevice<S>, Fault>
+    /// it holds stands through a crash. Refused with what the system says, and so where another has the file's lock; nothing is
+    /// changed then.
+    pub fn open<R: Files<File = File>>(rt: &R, path: &str) -> io::Result<FileDevice<S>>
         ensures held { IfOk result (λ d. after_calls (S.Start.bytes d.len) d.events.list
             ≡ first (S.Start.bytes d.len)) }
         ensures honest { IfOk result
             (λ d. are_right (S.Start.bytes d.len) d.events.list ≡ true) }
         ensures failures { IfOk result (λ d. failed_in d.events.list ≡ 0) }
         ensures runs { IfOk result (λ d. d.stopped ≡ false) }
-        ensures fault { IfErr result (λ e. e ≡ Fault.Io) }
     {
-        let Ok(file) = OpenOptions::new().read(true).write(true).open(rt, path) else {
-            return Err(Fault::Io);
-        };
+        let file = OpenOptions::new().read(true).write(true).open(rt, path)?;
         FileDevice::held(file)
     }
 
     /// A file that is open already, for reading and writing, with all its bytes; or a block device. It is synced first, so
-    /// that what it holds stands through a crash. Refused with `Io` where another has the file's lock, where it is neither
-    /// a file nor a block device, or a call fails: nothing is changed then, and it is closed.
+    /// that what it holds stands through a crash. Refused with what the system says where another has the file's lock, where it
+    /// is neither a file nor a block device, or a call fails: nothing is changed then, and it is closed.
     ///
     /// A lock is one open file's. Duplicates of a descriptor, also a forked child's, are of one open file and share its lock:
     /// each of them is taken here. So the caller hands in an open file of which nobody has a duplicate that is used, that
     /// nobody unlocks, and that doesn't append.
-    pub fn held(file: File) -> Result<FileDevice<S>, Fault>
+    pub fn held(file: File) -> io::Result<FileDevice<S>>
         ensures held { IfOk result (λ d. after_calls (S.Start.bytes d.len) d.events.list
             ≡ first (S.Start.bytes d.len)) }
         ensures honest { IfOk result
             (λ d. are_right (S.Start.bytes d.len) d.events.list ≡ true) }
         ensures failures { IfOk result (λ d. failed_in d.events.list ≡ 0) }
         ensures runs { IfOk result (λ d. d.stopped ≡ false) }
-        ensures fault { IfErr result (λ e. e ≡ Fault.Io) }
     {
+        let file = apart(file)?;
         lock(&file)?;
-        let Ok(()) = file.sync_all() else {
-            return Err(Fault::Io);
-        };
+        file.sync_all()?;
         let len = len_of(&file)?;
-        if len >= 1 << 63 {
-            return Err(Fault::Io);
-        }
+        want_len(len)?;
         Ok(FileDevice::of_file(file, len))
     }
 
@@ -181,8 +196,8 @@ impl<S: Start> FileDevice<S> {
         Fault::Io
     }
 
-    /// Notes a write or a sync that failed: from now on each call answers `Io`.
-    fn stop(&mut self, kind: u64, at: u64, bytes: &[u8]) -> Fault
+    /// Notes a write or a sync that failed, and what the system said: from now on each call answers `Io`.
+    fn stop(&mut self, error: Error, kind: u64, at: u64, bytes: &[u8]) -> Fault
         requires range { kind ≡ 1 → at + length bytes.now ≤ length (after_calls
             (S.Start.bytes self.old.len) self.old.events.list).now.seen }
         ensures noted { self.new.events.list
@@ -192,98 +207,88 @@ impl<S: Start> FileDevice<S> {
         ensures io { result ≡ Fault.Io }
     {
         self.stopped = true;
+        self.error = Some(error);
         self.events.note(kind, at, 0, false, bytes);
         Fault::Io
     }
 }
 
-/// Takes the file's lock, for as long as the file is open. Refused with `Io` where another has it, or the call fails.
-fn lock(file: &File) -> Result<(), Fault>
-    ensures fault { IfErr result (λ e. e ≡ Fault.Io) }
-{
+/// The file by a descriptor after those of the standard streams: where one of these is closed, a file that is opened takes its
+/// number, and what is printed would be written into it. Refused with what the system says.
+fn apart(file: File) -> io::Result<File> {
+    if file.as_raw_fd() > 2 {
+        return Ok(file);
+    }
+    file.try_clone()
+}
+
+/// Takes the file's lock, for as long as the file is open. Refused with what the system says where another has it, or the call
+/// fails.
+fn lock(file: &File) -> io::Result<()> {
     match file.try_lock() {
         Ok(()) => Ok(()),
-        Err(_) => Err(Fault::Io),
+        Err(TryLockError::WouldBlock) => Err(Error::from_raw_os_error(WOULD_BLOCK)),
+        Err(TryLockError::Error(error)) => Err(error),
     }
 }
 
-/// How many bytes a file has, or a block device, whose metadata doesn't tell it. Refused with `Io` for what is neither.
-fn len_of(file: &File) -> Result<u64, Fault>
-    ensures fault { IfErr result (λ e. e ≡ Fault.Io) }
+/// Refused for 2^63 bytes or more.
+fn want_len(len: u64) -> io::Result<()>
+    ensures { OnOk result (len < 2 ^ 63) }
 {
-    let Ok(metadata) = file.metadata() else {
-        return Err(Fault::Io);
-    };
+    if len < 1 << 63 {
+        Ok(())
+    } else {
+        Err(Error::from_raw_os_error(TOO_LONG))
+    }
+}
+
+/// How many bytes a file has, or a block device, whose metadata doesn't tell it. Refused for what is neither, and with what the
+/// system says.
+fn len_of(file: &File) -> io::Result<u64> {
+    let metadata = file.metadata()?;
     if metadata.is_file() {
         return Ok(metadata.len());
     }
     if !metadata.file_type().is_block_device() {
-        return Err(Fault::Io);
+        let words = "neither a file nor a block device";
+        return Err(Error::new(ErrorKind::InvalidInput, words));
     }
     // Reads and writes name their place: nothing else uses the file's position.
     let mut file = file;
-    match file.seek(SeekFrom::End(0)) {
-        Ok(len) => Ok(len),
-        Err(_) => Err(Fault::Io),
-    }
+    file.seek(SeekFrom::End(0))
 }
 
-/// Makes a file this long, all of it written with zeros, and syncs it and its folder. Refused with `Io`.
-fn place_zeros<R: Files<File = File>>(
-    rt: &R,
-    file: &File,
-    path: &str,
-    len: u64,
-) -> Result<(), Fault>
-    ensures fault { IfErr result (λ e. e ≡ Fault.Io) }
-{
+/// Makes a file this long, all of it written with zeros, and syncs it and its folder. Refused with what the system says.
+fn place_zeros<R: Files<File = File>>(rt: &R, file: &File, path: &str, len: u64) -> io::Result<()> {
     write_zeros(file, len, len)?;
     sync_folder(rt, path)
 }
 
-/// Takes the file's lock, makes it this long, all zero, with so many bytes written, and syncs it. Refused with `Io`.
-fn write_zeros(file: &File, len: u64, filled: u64) -> Result<(), Fault>
-    ensures fault { IfErr result (λ e. e ≡ Fault.Io) }
-{
+/// Takes the file's lock, makes it this long, all zero, with so many bytes written, and syncs it. Refused with what the system
+/// says.
+fn write_zeros(file: &File, len: u64, filled: u64) -> io::Result<()> {
     lock(file)?;
     // What it held goes with its old length.
-    let (Ok(()), Ok(())) = (file.set_len(0), file.set_len(len)) else {
-        return Err(Fault::Io);
-    };
+    file.set_len(0)?;
+    file.set_len(len)?;
     fill(file, filled.min(len))?;
-    match file.sync_all() {
-        Ok(()) => Ok(()),
-        Err(_) => Err(Fault::Io),
-    }
+    file.sync_all()
 }
 
 /// Writes zeros over the first bytes of a file. So a later write there finds no full disk, and a later sync has only what was
-/// written to bring there, and not where it lies. Refused with `Io`.
-fn fill(file: &File, len: u64) -> Result<(), Fault>
-    ensures fault { IfErr result (λ e. e ≡ Fault.Io) }
-{
+/// written to bring there, and not where it lies. Refused with what the system says.
+fn fill(file: &File, len: u64) -> io::Result<()> {
     let pieces = len / 65_536;
     for piece in 0..pieces {
-        fill_at(file, 65_536 * piece, &ZEROS)?;
+        file.write_all_at(&ZEROS_TO_WRITE, 65_536 * piece)?;
     }
-    fill_at(file, 65_536 * pieces, &ZEROS[..(len % 65_536) as usize])
-}
-
-/// Writes zeros at a place. Refused with `Io`.
-fn fill_at(file: &File, at: u64, zeros: &[u8]) -> Result<(), Fault>
-    ensures fault { IfErr result (λ e. e ≡ Fault.Io) }
-{
-    match file.write_all_at(zeros, at) {
-        Ok(()) => Ok(()),
-        Err(_) => Err(Fault::Io),
-    }
+    file.write_all_at(&ZEROS_TO_WRITE[..(len % 65_536) as usize], 65_536 * pieces)
 }
 
 /// Syncs the folder of a path: so a name that was given or taken there, by a link, a removal or a new file, is so after a
-/// crash too. Refused with `Io`, as where the folder isn't there or may not be read.
-pub fn sync_folder<R: Files<File = File>>(rt: &R, path: &str) -> Result<(), Fault>
-    ensures fault { IfErr result (λ e. e ≡ Fault.Io) }
-{
+/// crash too. Refused with what the system says, as where the folder isn't there or may not be read.
+pub fn sync_folder<R: Files<File = File>>(rt: &R, path: &str) -> io::Result<()> {
     let folder = match Path::new(path).parent() {
         Some(folder) => folder,
         None => Path::new("/"),
@@ -293,13 +298,7 @@ pub fn sync_folder<R: Files<File = File>>(rt: &R, path: &str) -> Result<(), Faul
     } else {
         folder
     };
-    let Ok(file) = File::open(rt, folder) else {
-        return Err(Fault::Io);
-    };
-    match file.sync_all() {
-        Ok(()) => Ok(()),
-        Err(_) => Err(Fault::Io),
-    }
+    File::open(rt, folder)?.sync_all()
 }
 
 impl<S: Start> Device for FileDevice<S> {
@@ -313,6 +312,10 @@ impl<S: Start> Device for FileDevice<S> {
 
     fn len(&self) -> u64 {
         self.len
+    }
+
+    fn error(&self) -> Option<Error> {
+        self.error
     }
 
     fn read_at(&mut self, at: u64, buf: &mut [u8]) -> Result<(), Fault>
@@ -340,7 +343,8 @@ impl<S: Start> Device for FileDevice<S> {
                 self.events.note(0, at, buf.len() as u64, true, buf);
                 Ok(())
             }
-            Err(_) => {
+            Err(error) => {
+                self.error = Some(error);
                 self.events.note(0, at, 0, false, &[]);
                 Err(Fault::Io)
             }
@@ -379,7 +383,7 @@ impl<S: Start> Device for FileDevice<S> {
                 self.events.note(1, at, bytes.len() as u64, true, bytes);
                 Ok(())
             }
-            Err(_) => Err(self.stop(1, at, bytes)),
+            Err(error) => Err(self.stop(error, 1, at, bytes)),
         }
     }
 
@@ -404,7 +408,7 @@ impl<S: Start> Device for FileDevice<S> {
                 self.events.note(2, 0, 0, true, &[]);
                 Ok(())
             }
-            Err(_) => Err(self.stop(2, 0, &[])),
+            Err(error) => Err(self.stop(error, 2, 0, &[])),
         }
     }
 }

@@ -12,5 +12,5 @@ mod plan;
 mod record;
 
 pub use device::Device;
-pub use file::{FileDevice, Start, Unknown, sync_folder};
+pub use file::{FileDevice, Start, Unknown, Zeros, sync_folder};
 pub use memory::{CrashImage, MemDevice};

@@ -111,9 +111,14 @@ pub record AreWrittenAtOnce (acts : ℕ) (old new : Backing) : Type 0 where
   pub forced : new.waiting ≡ []
   pub durable : new.durable ≡ suc acts
 
--- the pages of an act are brought into memory, and then they wait; or a store in which none ever waits has written them
-pub record ActsInMemory (st : State) (pages : List Page) (m : Memory) (old new : Backing) : Type 0 where
+-- the pages of an act wait, in a store that defers its writes; in another they are written at once
+abbrev pub AreKept : Bool → ℕ → List Page → Backing → Backing → Type 0
+AreKept true acts pages old new = WaitAfter pages old new
+AreKept false acts pages old new = AreWrittenAtOnce acts old new
+
+-- the pages of an act are brought into memory, and then they wait, in a store that defers its writes
+pub record ActsInMemory (defers : Bool) (st : State) (pages : List Page) (m : Memory) (old new : Backing) : Type 0 where
   pub taken : Memory
   pub between : Backing
   pub frames : TakesActFrames st pages m taken old between
-  pub done : WaitAfter pages between new ⊎ AreWrittenAtOnce st.acts between new
+  pub done : AreKept defers st.acts pages between new

@@ -274,6 +274,7 @@ impl<D: Device> LoggedPages<D> {
         ensures same { HasSamePages self.old.pool self.new.pool }
         ensures number { IfOk result (λ n. n ≡ self.old.acts) }
         ensures durable { OnOk result (self.new.durable ≡ self.old.acts) }
+        ensures alive { OnOk result (is_stopped self.new.log ≡ false) }
         ensures room { OnOk result
             (LogIsClosed self.old.limits (backing_of (held_of D.Device self.new))) }
         ensures rest { IsRestOf (changed_of self.new.pool) (changed_of self.old.pool) }

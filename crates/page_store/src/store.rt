@@ -171,6 +171,8 @@ impl<D: Device> PageStore for Store<D> {
 
     ghost restarts = { restarts_by D.Device };
 
+    ghost defers = { true };
+
     ghost has = { λ s block. (block < length (pages_now s.held.history))
         × IsSome (frame_of s.held.pool block) };
 

@@ -1,6 +1,6 @@
 //! One event of a store with its sessions, and lists of them.
 
-ghost use Rattle.std.specs.Prelude.{◌≡◌, ◌≤◌, ◌+◌, ℕ, List, Option, IfErr, IsOk, OnOk, OnErr, length, take, vec_len, vec_capacity};
+ghost use Rattle.std.specs.Prelude.{◌≡◌, ◌≤◌, ◌+◌, ℕ, List, Option, IfErr, IsOk, OnOk, OnErr, false, length, take, vec_len, vec_capacity};
 ghost use Rattle.page_action.specs.Room.{LogIsClosed};
 ghost use Rattle.page_action.specs.States.{Continues};
 ghost use Rattle.session_calls.specs.TheoremCalls.{DeadSets};
@@ -166,6 +166,8 @@ pub fn checkpoint<S: PageStore>(store: &mut S) -> Answer
     ensures kept { StoreIsKept S.PageStore Checkpoints result store.old store.new }
     ensures room { (count : ℕ) → result ≡ Answer.Checkpointed count
         → LogIsClosed (S.state store.old).limits (S.backing store.new) }
+    ensures alive { (count : ℕ) → result ≡ Answer.Checkpointed count
+        → (S.backing store.new).stopped ≡ false }
 {
     match store.checkpoint() {
         Ok(count) => Answer::Checkpointed(count),

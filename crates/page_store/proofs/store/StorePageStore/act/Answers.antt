@@ -1,4 +1,4 @@
-use Rattle.std.proofs.Common.{◌≡◌, ◌∙◌, ◌++◌, inl, Result, Ok, Err, suc, List, length, refl, ap, sym, subst, arith}
+use Rattle.std.proofs.Common.{◌≡◌, ◌∙◌, ◌++◌, Result, Ok, Err, suc, List, length, refl, ap, sym, subst, arith}
 use Rattle.page_store.proofs.Costing.{backing_same}
 use Rattle.page_store.proofs.Imports.{OnErr, Fault, Format, Page, TableOfCalls, pinned_blocks, Memory, TakesFrames, blocks_of, Backing, with_pages, with_counts, takes_none, AreWaiting}
 use Rattle.page_store.proofs.Imports.{with_all_waiting, write_waits, length-with_all_waiting, length-with_counts, Follows, pages_now, backing_of, held_of, memory_in, state_of, held_by}
@@ -121,5 +121,5 @@ returns-clause-frames g c = record {
   taken = memory_in c.take_frames.new.self.held.pool;
   between = backing_of (held_of g.D.Device c.take_frames.new.self.held);
   frames = c.take_frames.ensures.frames;
-  done = inl (record { changed = c.in_ok-number.ensures.pool.order; waiting = c.in_ok-number.ensures.waiting; durable = c.act.ensures.durable });
+  done = record { changed = c.in_ok-number.ensures.pool.order; waiting = c.in_ok-number.ensures.waiting; durable = c.act.ensures.durable };
 }
