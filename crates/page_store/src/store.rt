@@ -13,6 +13,7 @@ use latch_table::Mode;
 use page_action::{CallTable, PageStore};
 use page_codec::Page;
 use redo_log::Log;
+use std::io::Error;
 
 /// The pages of an index over a device: a log makes acts durable, and a crash leaves the pages after some prefix
 /// of the acts, with all that were durable. Of the pages in use at most so many are held in memory as the store has frames,
@@ -82,6 +83,11 @@ impl<D: Device> Store<D> {
         }
     }
 
+    /// What the system said of the last call of the device that failed, if the device is of a system. No clause tells of it.
+    pub fn error(&self) -> Option<Error> {
+        self.held.device.error()
+    }
+
     /// The device below.
     pub fn into_device(self) -> D
         ensures { result ≡ device_of D.Device self }
@@ -149,7 +155,7 @@ fn with_blocks(pages: &[Page], pinned: &ArrayVec<u32, 128>) -> ArrayVec<u32, 132
 }
 
 impl<D: Device> PageStore for Store<D> {
-    ghost use Rattle.std.specs.Prelude.{◌<◌, IsSome};
+    ghost use Rattle.std.specs.Prelude.{◌<◌, true, IsSome};
     ghost use Rattle.buffer_pool.specs.Pools.{frame_of};
     ghost use Rattle.page_store.specs.Logged.{backing_of, memory_in};
     ghost use Rattle.page_store.specs.Stores.{state_of, held_by, IsOwnStore};
