@@ -1,65 +1,68 @@
 //! A file that is made under the name of a draft, and is given its own name only once it is whole.
 
-ghost use Rattle.std.specs.Prelude.{◌≡◌, ◌++◌, codes, true, IfOk, IfErr};
+ghost use Rattle.std.specs.Prelude.{◌≡◌, ◌++◌, codes, replicate, true, IfOk};
 ghost use Rattle.device.specs.Disk.{first};
 ghost use Rattle.device.specs.Event.{after_calls, failed_in, are_right};
 
 use arrayvec::ArrayString;
-use device::{FileDevice, Start, sync_folder};
-use index_model::Fault;
+use device::{FileDevice, Zeros, sync_folder};
 use std::fs::{self, File, Metadata, OpenFile, OpenOptions, TryLockError};
-use std::io::ErrorKind;
+use std::io::{self, Error, ErrorKind};
 use std::os::unix::fs::MetadataExt;
 use std::rt::Files;
 
-/// A path with `.nardsill-draft` after it: the name that a file has there before it is whole. Refused with `Io` where that has
-/// more than 4,096 bytes.
-pub(crate) fn draft_of(path: &str) -> Result<ArrayString<4_096>, Fault>
+/// The numbers of the system's answers that a name is there, that a name is too long, and that another has a file's lock: `EEXIST`,
+/// `ENAMETOOLONG`, `EWOULDBLOCK`.
+const IS_THERE: i32 = 17;
+
+const NAME_TOO_LONG: i32 = 36;
+
+const WOULD_BLOCK: i32 = 11;
+
+/// A path with `.nardsill-draft` after it: the name that a file has there before it is whole. Refused where that has more than
+/// 4,096 bytes.
+pub(crate) fn draft_of(path: &str) -> io::Result<ArrayString<4_096>>
     ensures name { IfOk result (λ draft. draft.bytes ≡ path.now ++ codes ".nardsill-draft") }
-    ensures fault { IfErr result (λ e. e ≡ Fault.Io) }
 {
     let mut draft = ArrayString::new();
     if draft.try_push_str(path).is_err() || draft.try_push_str(".nardsill-draft").is_err() {
-        return Err(Fault::Io);
+        return Err(Error::from_raw_os_error(NAME_TOO_LONG));
     }
     Ok(draft)
 }
 
-/// Whether nothing has this name, no link that leads nowhere either. Refused with `Io` where the system doesn't tell.
-fn is_free<R: Files<File = File>>(rt: &R, path: &str) -> Result<bool, Fault>
-    ensures fault { IfErr result (λ e. e ≡ Fault.Io) }
-{
+/// Whether nothing has this name, no link that leads nowhere either. Refused where the system doesn't tell.
+fn is_free<R: Files<File = File>>(rt: &R, path: &str) -> io::Result<bool> {
     match fs::symlink_metadata(rt, path) {
         Ok(_) => Ok(false),
         Err(error) if error.kind() == ErrorKind::NotFound => Ok(true),
-        Err(_) => Err(Fault::Io),
+        Err(error) => Err(error),
     }
 }
 
-/// Refused with `Io` where something has this name.
-pub(crate) fn want_free<R: Files<File = File>>(rt: &R, path: &str) -> Result<(), Fault>
-    ensures fault { IfErr result (λ e. e ≡ Fault.Io) }
-{
+/// Refused where something has this name.
+pub(crate) fn want_free<R: Files<File = File>>(rt: &R, path: &str) -> io::Result<()> {
     if is_free(rt, path)? {
         Ok(())
     } else {
-        Err(Fault::Io)
+        Err(Error::from_raw_os_error(IS_THERE))
     }
 }
 
 /// Takes the draft's name from a file that has another one too: a whole one, whose making was stopped before its end. It is left
-/// as it is under its own name. Refused with `Io` for what is no file.
-fn let_whole_go<R: Files<File = File>>(rt: &R, draft: &str) -> Result<(), Fault>
-    ensures fault { IfErr result (λ e. e ≡ Fault.Io) }
-{
+/// as it is under its own name. Refused for what is no file.
+fn let_whole_go<R: Files<File = File>>(rt: &R, draft: &str) -> io::Result<()> {
     if is_free(rt, draft)? {
         return Ok(());
     }
-    match fs::symlink_metadata(rt, draft) {
-        Ok(named) if named.is_file() && named.nlink() == 1 => Ok(()),
-        Ok(named) if named.is_file() && fs::remove_file(rt, draft).is_ok() => Ok(()),
-        _ => Err(Fault::Io),
+    let named = fs::symlink_metadata(rt, draft)?;
+    if !named.is_file() {
+        return Err(Error::from_raw_os_error(IS_THERE));
     }
+    if named.nlink() == 1 {
+        return Ok(());
+    }
+    fs::remove_file(rt, draft)
 }
 
 /// Whether the draft's name leads to this very file, and no other name does.
@@ -67,61 +70,56 @@ fn is_draft(file: &Metadata, named: &Metadata) -> bool {
     file.is_file() && file.nlink() == 1 && file.dev() == named.dev() && file.ino() == named.ino()
 }
 
-/// Takes the lock of the draft's file. Refused with `Io` where another has it, and where the file system has no locks: nobody else
-/// has it then, and the draft is removed.
-fn lock_draft<R: Files<File = File>>(rt: &R, draft: &str, file: &File) -> Result<(), Fault>
-    ensures fault { IfErr result (λ e. e ≡ Fault.Io) }
-{
+/// Takes the lock of the draft's file. Refused where another has it, and where the file system has no locks: nobody else has it
+/// then, and the draft is removed.
+fn lock_draft<R: Files<File = File>>(rt: &R, draft: &str, file: &File) -> io::Result<()> {
     match file.try_lock() {
         Ok(()) => Ok(()),
-        Err(TryLockError::WouldBlock) => Err(Fault::Io),
-        Err(TryLockError::Error(_)) => {
+        Err(TryLockError::WouldBlock) => Err(Error::from_raw_os_error(WOULD_BLOCK)),
+        Err(TryLockError::Error(error)) => {
             let _ = fs::remove_file(rt, draft);
-            Err(Fault::Io)
+            Err(error)
         }
     }
 }
 
-/// The file of a draft with its lock, a new one or what a stopped making left there. Refused with `Io` where another has its
-/// lock, or the name leads elsewhere by now: nothing is changed then.
-fn take_draft<R: Files<File = File>>(rt: &R, draft: &str) -> Result<File, Fault>
-    ensures fault { IfErr result (λ e. e ≡ Fault.Io) }
-{
+/// The file of a draft with its lock, a new one or what a stopped making left there. Refused where another has its lock, or the
+/// name leads elsewhere by now: nothing is changed then.
+fn take_draft<R: Files<File = File>>(rt: &R, draft: &str) -> io::Result<File> {
     let_whole_go(rt, draft)?;
-    let opened = OpenOptions::new()
+    let file = OpenOptions::new()
         .read(true)
         .write(true)
         .create(true)
-        .open(rt, draft);
-    let Ok(file) = opened else {
-        return Err(Fault::Io);
-    };
+        .open(rt, draft)?;
     lock_draft(rt, draft, &file)?;
-    match (file.metadata(), fs::symlink_metadata(rt, draft)) {
-        (Ok(held), Ok(named)) if is_draft(&held, &named) => Ok(file),
-        _ => Err(Fault::Io),
+    let held = file.metadata()?;
+    let named = fs::symlink_metadata(rt, draft)?;
+    if is_draft(&held, &named) {
+        Ok(file)
+    } else {
+        Err(Error::from_raw_os_error(WOULD_BLOCK))
     }
 }
 
-/// A device over the draft, of so many bytes, all zero, of which so many in front are written. Refused with `Io`: where it took
-/// the draft by then, it is removed.
-pub(crate) fn make_draft<R: Files<File = File>, S: Start>(
+/// A device over the draft, of so many bytes, all zero, of which so many in front are written. Refused with what the system said:
+/// where it took the draft by then, it is removed.
+pub(crate) fn make_draft<R: Files<File = File>>(
     rt: &R,
     draft: &str,
     len: u64,
     filled: u64,
-) -> Result<FileDevice<S>, Fault>
-    ensures held { IfOk result (λ d. after_calls (S.Start.bytes d.len) d.events.list
-        ≡ first (S.Start.bytes len)) }
-    ensures honest { IfOk result (λ d. are_right (S.Start.bytes d.len) d.events.list ≡ true) }
-    ensures fault { IfErr result (λ e. e ≡ Fault.Io) }
+) -> io::Result<FileDevice<Zeros>>
+    ensures held { IfOk result (λ d. after_calls (replicate d.len 0) d.events.list
+        ≡ first (replicate len 0)) }
+    ensures honest { IfOk result (λ d. are_right (replicate d.len 0) d.events.list ≡ true) }
 {
     let file = take_draft(rt, draft)?;
     // It keeps the lock until the name is gone, where the making is refused.
     let locked = file.try_clone();
     let made = match &locked {
         Ok(_) => FileDevice::made(file, len, filled),
-        Err(_) => Err(Fault::Io),
+        Err(error) => Err(*error),
     };
     if made.is_err() {
         let _ = fs::remove_file(rt, draft);
@@ -130,25 +128,26 @@ pub(crate) fn make_draft<R: Files<File = File>, S: Start>(
 }
 
 /// Gives a draft that is whole its own name, and takes the draft's from it, so that it is so after a crash too. Refused with
-/// `Io` where that name is there, the file system has no links, or a call fails: the file has neither name then, if the system
-/// lets them be removed.
+/// what the system said where that name is there, the file system has no links, or a call fails: the file has neither name then, if
+/// the system lets them be removed.
+///
+/// A crash before its end may leave the file both names, or, where the folder wasn't synced, one of them: the next making at this
+/// path takes the draft's name away, and one that leads to a file with another name too is left alone.
 pub(crate) fn place_draft<R: Files<File = File>>(
     rt: &R,
     draft: &str,
     path: &str,
-) -> Result<(), Fault>
-    ensures fault { IfErr result (λ e. e ≡ Fault.Io) }
-{
-    let linked = fs::hard_link(rt, draft, path);
+) -> io::Result<()> {
+    if let Err(error) = fs::hard_link(rt, draft, path) {
+        let _ = fs::remove_file(rt, draft);
+        return Err(error);
+    }
+    // The new name is on the disk before the old one goes.
+    let synced = sync_folder(rt, path);
     let _ = fs::remove_file(rt, draft);
-    if linked.is_err() {
-        return Err(Fault::Io);
+    if let Err(error) = synced {
+        let _ = fs::remove_file(rt, path);
+        return Err(error);
     }
-    match sync_folder(rt, path) {
-        Ok(()) => Ok(()),
-        Err(fault) => {
-            let _ = fs::remove_file(rt, path);
-            Err(fault)
-        }
-    }
+    Ok(())
 }

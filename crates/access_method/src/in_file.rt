@@ -1,16 +1,14 @@
 //! An index in a file: made, opened and closed.
 
-ghost use Rattle.std.specs.Prelude.{◌≡◌, ◌⊎◌, IsTrue, List, length, IfOk, IfErr, OnOk};
-ghost use Rattle.access_method.specs.Files.{bytes_before, IsOpenFault, StaysOnDevice, IsLastOver};
+ghost use Rattle.std.specs.Prelude.{◌≡◌, ◌⊎◌, IsTrue, List, length, IfOk, IfErr, IfSome, IfNone, OnOk};
+ghost use Rattle.access_method.specs.Files.{bytes_before, IsAnyIndex, IsAtRest, IsLastOver, IsNotOpened, IsOpenFault, StaysOnDevice};
 ghost use Rattle.access_method.specs.Indexes.{IndexBegins};
-ghost use Rattle.device.specs.Event.{after_calls};
 ghost use Rattle.page_codec.specs.Places.{needed_length};
 ghost use Rattle.index_model.specs.Faults.{HasCause};
 ghost use Rattle.index_model.specs.Formats.{made};
 ghost use Rattle.index_model.specs.Limits.{AreLimits};
 ghost use Rattle.index_model.specs.declared.format.Format.{Format};
 ghost use Rattle.page_action.specs.Causes.{causes_of_forced};
-ghost use Rattle.page_action.specs.Room.{LogIsClosed};
 ghost use Rattle.page_codec.specs.declared.page.Page.{Page};
 ghost use Rattle.page_store.specs.Stores.{state_of, device_of};
 ghost use Rattle.page_store.specs.declared.store.Store.{Store as StoreOver};
@@ -22,47 +20,127 @@ ghost use Rattle.tree_acts.specs.TheoremKeys.{IsTreeFor};
 use crate::draft::{draft_of, make_draft, place_draft, want_free};
 use crate::index::Index;
 use crate::watched::Watched;
-use device::{Device, FileDevice, Start};
+use device::{Device, FileDevice, Start, Zeros};
 use index_model::{Fault, Format, Limits, Progress};
 use page_action::PageStore;
 use page_codec::{needed_len, page_place};
 use page_store::Store;
+use recovery::Refused;
 use std::alloc::Global;
 use std::fs::{self, File};
+use std::io::{self, Error, ErrorKind};
 use std::rt::Files;
 
 /// An index in a file, which held what `S` says when it was opened.
 pub type InFile<S> = Index<Store<FileDevice<S>>>;
+
+/// Why no index was made in a file.
+#[derive(Clone, Copy)]
+pub struct NotMade {
+    pub fault: Fault,
+    /// What the system said, where that is why.
+    pub error: Option<Error>,
+}
+
+/// Why an index in a file was not opened.
+#[derive(Drop)]
+pub struct NotOpened<S: Start> {
+    pub fault: Fault,
+    /// What the system said of the last call that failed, if one did.
+    pub error: Option<Error>,
+    /// The device over the file, as the opening left it, where the file was taken.
+    pub device: Option<FileDevice<S>>,
+}
+
+// No index was made, for what the system said.
+fn not_made(error: Error) -> NotMade
+    ensures { result.fault ≡ Fault.Io }
+{
+    NotMade {
+        fault: Fault::Io,
+        error: Some(error),
+    }
+}
+
+// The file was not taken, for what the system said.
+fn not_taken<S: Start>(error: Error) -> NotOpened<S>
+    ensures fault { result.fault ≡ Fault.Io }
+    ensures none { result.device ≡ None }
+{
+    NotOpened {
+        fault: Fault::Io,
+        error: Some(error),
+        device: None,
+    }
+}
+
+// The index on the device was not opened.
+fn not_opened<S: Start>(refused: Refused<FileDevice<S>>) -> NotOpened<S>
+    ensures fault { result.fault ≡ refused.fault }
+    ensures device { result.device ≡ Some refused.device }
+{
+    let Refused { fault, device } = refused;
+    NotOpened {
+        fault,
+        error: device.error(),
+        device: Some(device),
+    }
+}
 
 /// Makes an empty index of these limits in a new file of exactly its length, all of it written and synced. The file is at the
 /// path only once it is whole: a crash at any moment leaves it there, or nothing at this path. Until then it stands beside
 /// it, under the same name with `.nardsill-draft` after, where nothing else is to stand: what a stopped making left there is
 /// written over. `progress` is told of each page that is written.
 ///
-/// Refused with `BadLimits` (18) for limits out of their ranges, before anything is done. Refused with `Io` (2) where the path
-/// is there, before anything is done; where a name has more bytes than the system allows, with those 15; where another makes
-/// an index at this path, or a call of the file fails, as where the disk has no room: what was made is removed then.
-pub fn create<R: Files<File = File>, S: Start, P: Progress>(
+/// Refused with `BadLimits` (18) for limits out of their ranges, before anything is done. Refused with `Io` (2), and with what the
+/// system said, where the path is there, before anything is done; where a name has more bytes than the system allows, with those
+/// 15; where another makes an index at this path, or a call of the file fails, as where the disk has no room: what was made is
+/// removed then.
+pub fn create<R: Files<File = File>, P: Progress>(
     rt: &R,
     path: &str,
     limits: &Limits,
     progress: &P,
-) -> Result<FileDevice<S>, Fault>
+) -> Result<FileDevice<Zeros>, NotMade>
     ensures allowed { OnOk result (AreLimits (made limits.now)) }
     ensures made { IfOk result (λ device.
-        IsEmptyIndex (made limits.now) (⟦<FileDevice<S> as Device>⟧.trace device).now) }
+        IsEmptyIndex (made limits.now) (⟦<FileDevice<Zeros> as Device>⟧.trace device).now) }
     // So it can be opened, also after a crash.
     ensures own { IfOk result (λ device.
-        CrashesToEmpty (made limits.now) (⟦<FileDevice<S> as Device>⟧.trace device).now) }
+        CrashesToEmpty (made limits.now) (⟦<FileDevice<Zeros> as Device>⟧.trace device).now) }
     ensures exact { IfOk result (λ device.
-        length (⟦<FileDevice<S> as Device>⟧.trace device).now.seen ≡ needed_length (made limits.now)) }
-    ensures cause { IfErr result (λ fault.
-        ((fault ≡ Fault.BadLimits) × (AreLimits (made limits.now) → ⊥))
-        ⊎ ((fault ≡ Fault.Io) × AreLimits (made limits.now))) }
+        length (⟦<FileDevice<Zeros> as Device>⟧.trace device).now.seen ≡ needed_length (made limits.now)) }
+    ensures cause { IfErr result (λ not_made.
+        ((not_made.fault ≡ Fault.BadLimits) × (AreLimits (made limits.now) → ⊥))
+        ⊎ ((not_made.fault ≡ Fault.Io) × AreLimits (made limits.now))) }
 {
     if !limits.are_valid() {
-        return Err(Fault::BadLimits);
+        return Err(NotMade {
+            fault: Fault::BadLimits,
+            error: None,
+        });
     }
+    match create_valid(rt, path, limits, progress) {
+        Ok(device) => Ok(device),
+        Err(error) => Err(not_made(error)),
+    }
+}
+
+// Makes an empty index in a new file. Refused with what the system said.
+fn create_valid<R: Files<File = File>, P: Progress>(
+    rt: &R,
+    path: &str,
+    limits: &Limits,
+    progress: &P,
+) -> io::Result<FileDevice<Zeros>>
+    requires allowed { AreLimits (made limits.now) }
+    ensures made { IfOk result (λ device.
+        IsEmptyIndex (made limits.now) (⟦<FileDevice<Zeros> as Device>⟧.trace device).now) }
+    ensures own { IfOk result (λ device.
+        CrashesToEmpty (made limits.now) (⟦<FileDevice<Zeros> as Device>⟧.trace device).now) }
+    ensures exact { IfOk result (λ device.
+        length (⟦<FileDevice<Zeros> as Device>⟧.trace device).now.seen ≡ needed_length (made limits.now)) }
+{
     let draft = draft_of(path)?;
     want_free(rt, path)?;
     // All but the log is written by what makes the index.
@@ -70,25 +148,31 @@ pub fn create<R: Files<File = File>, S: Start, P: Progress>(
     let device = make_draft(rt, draft.as_str(), needed_len(limits), filled)?;
     // Each page is written once, and the superblock twice.
     let mut watched = Watched::new(device, progress, u64::from(limits.pages) + 2);
-    match recovery::create(&mut watched, limits) {
-        Ok(()) => {}
-        Err(fault) => {
-            let _ = fs::remove_file(rt, draft.as_str());
-            return Err(fault);
-        }
+    if recovery::create(&mut watched, limits).is_err() {
+        let _ = fs::remove_file(rt, draft.as_str());
+        return Err(said(&watched.device));
     }
     place_draft(rt, draft.as_str(), path)?;
     Ok(watched.device)
 }
 
+// What the system said of the last call of a device that failed.
+fn said<D: Device>(device: &D) -> Error {
+    match device.error() {
+        Some(error) => error,
+        None => Error::from(ErrorKind::Other),
+    }
+}
+
 /// Opens the pages of the index in a file, after any crash, for so many pages in memory at once (16 to 1,024). Refused with `Io`
-/// (2) where the path isn't there, can't be opened for writing, or another has it open, and else as `recovery::open` is.
+/// (2), and with what the system said, where the path isn't there, can't be opened for writing, or another has it open; and else as
+/// `recovery::open` is, with the device.
 pub fn open_store<R: Files<File = File>, S: Start>(
     rt: &R,
     alloc: Global,
     path: &str,
     frames: u32,
-) -> Result<Store<FileDevice<S>>, Fault>
+) -> Result<Store<FileDevice<S>>, NotOpened<S>>
     ensures opened { IfOk result (λ store.
         IsFreshlyOpened frames (state_of ⟦<FileDevice<S> as Device>⟧ store)) }
     ensures range { OnOk result (AreFrames frames) }
@@ -106,23 +190,32 @@ pub fn open_store<R: Files<File = File>, S: Start>(
         → (limits : Format) (pages : List Page)
         → HasIndex limits pages (bytes_before S.Start.bytes (g.trace (device_of g store)))
         → IsSameIndex g limits pages store) }
-    ensures fault { IfErr result IsOpenFault }
+    // An index in the file is refused for want of memory or of the device alone.
+    ensures cause { IfErr result (λ not_opened. IfSome not_opened.device
+        (IsNotOpened ⟦<FileDevice<S> as Device>⟧ IsAnyIndex S.Start.bytes frames not_opened.fault)) }
+    ensures untaken { IfErr result (λ not_opened.
+        IfNone not_opened.device (not_opened.fault ≡ Fault.Io)) }
+    ensures fault { IfErr result (λ not_opened. IsOpenFault not_opened.fault) }
 {
-    let device = FileDevice::open(rt, path)?;
+    let device = match FileDevice::<S>::open(rt, path) {
+        Ok(device) => device,
+        Err(error) => return Err(not_taken(error)),
+    };
     match recovery::open(alloc, device, frames) {
         Ok(store) => Ok(store),
-        Err(refused) => Err(refused.fault),
+        Err(refused) => Err(not_opened(refused)),
     }
 }
 
-/// Opens the index in a file, after any crash, for so many pages in memory at once (16 to 1,024). Refused with `Io` (2) where
-/// the path isn't there, can't be opened for writing, or another has it open, and else as `Index::open` is.
+/// Opens the index in a file, after any crash, for so many pages in memory at once (16 to 1,024). Refused with `Io` (2), and with
+/// what the system said, where the path isn't there, can't be opened for writing, or another has it open; and else as `Index::open`
+/// is, with the device.
 pub fn open<R: Files<File = File>, S: Start>(
     rt: &R,
     alloc: Global,
     path: &str,
     frames: u32,
-) -> Result<InFile<S>, Fault>
+) -> Result<InFile<S>, NotOpened<S>>
     // Where the file held an index whose pages are a B-link tree, it is opened with them.
     ensures begins { IfOk result (λ index.
         let d = ⟦<FileDevice<S> as Device>⟧ in
@@ -135,12 +228,20 @@ pub fn open<R: Files<File = File>, S: Start>(
     ensures frames { IfOk result (λ index.
         (state_of ⟦<FileDevice<S> as Device>⟧ index.store).frames ≡ frames) }
     ensures range { OnOk result (AreFrames frames) }
-    ensures fault { IfErr result IsOpenFault }
+    // Such an index is refused for want of memory or of the device alone.
+    ensures cause { IfErr result (λ not_opened. IfSome not_opened.device
+        (IsNotOpened ⟦<FileDevice<S> as Device>⟧ IsTreeFor S.Start.bytes frames not_opened.fault)) }
+    ensures untaken { IfErr result (λ not_opened.
+        IfNone not_opened.device (not_opened.fault ≡ Fault.Io)) }
+    ensures fault { IfErr result (λ not_opened. IsOpenFault not_opened.fault) }
 {
-    let device = FileDevice::open(rt, path)?;
+    let device = match FileDevice::<S>::open(rt, path) {
+        Ok(device) => device,
+        Err(error) => return Err(not_taken(error)),
+    };
     match Index::open(alloc, device, frames) {
         Ok(index) => Ok(index),
-        Err(refused) => Err(refused.fault),
+        Err(refused) => Err(not_opened(refused)),
     }
 }
 
@@ -160,9 +261,10 @@ pub fn close<D: Device>(index: Index<Store<D>>) -> Closed<D>
     ensures stands { IfOk result.written (λ n.
         StaysOnDevice D.Device ⟦<Store<D> as PageStore>⟧ n index result.device) }
     // None of them waits in the log.
-    ensures empties { OnOk result.written (IsLastOver D.Device result.device (λ last.
-        LogIsClosed (state_of D.Device index.store).limits (⟦<Store<D> as PageStore>⟧.backing last))) }
-    ensures cause { IfErr result.written (λ fault. IsLastOver D.Device result.device (λ last.
+    ensures empties { OnOk result.written (IsLastOver D.Device ⟦<Store<D> as PageStore>⟧ index result.device
+        (IsAtRest ⟦<Store<D> as PageStore>⟧ (state_of D.Device index.store).limits)) }
+    ensures cause { IfErr result.written (λ fault. IsLastOver D.Device ⟦<Store<D> as PageStore>⟧ index
+        result.device (λ last.
         HasCause (causes_of_forced (⟦<Store<D> as PageStore>⟧.backing index.store)
         (⟦<Store<D> as PageStore>⟧.backing last)) fault)) }
 {

@@ -15,6 +15,7 @@ use recovery::Refused;
 use schedule::{checkpoint, force};
 use session_calls::{Answer, Calls};
 use std::alloc::Global;
+use std::io::Error;
 use vacuum::count_deleted;
 use whole_calls::{Inserted, bulk_delete, clean_up, give, give_up, insert, open};
 
@@ -274,6 +275,7 @@ impl<S: PageStore> Index<S> {
         ensures number { IfOk result (λ n. n ≡ (S.state self.old.store).acts) }
         ensures durable { OnOk result ((S.backing self.new.store).durable
             ≡ (S.state self.old.store).acts) }
+        ensures alive { OnOk result ((S.backing self.new.store).stopped ≡ false) }
         ensures room { OnOk result
             (LogIsClosed (S.state self.old.store).limits (S.backing self.new.store)) }
         ensures cause { IfErr result
@@ -554,6 +556,11 @@ impl<D: Device> Index<Store<D>> {
             → IsIndexAfterPrefix (state_of D.Device self.now.store).limits start history
             (backing_of (held_by D.Device first)).durable image }
     {}
+
+    /// What the system said of the last call of the device that failed, if the device is of a system. No clause tells of it.
+    pub fn error(&self) -> Option<Error> {
+        self.store.error()
+    }
 
     /// The device below.
     pub fn into_device(self) -> D

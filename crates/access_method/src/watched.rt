@@ -4,6 +4,7 @@ ghost use Rattle.std.specs.Prelude.{◌≡◌};
 
 use device::Device;
 use index_model::{Fault, Progress};
+use std::io::Error;
 
 /// A device, and who is told of what is written to it.
 #[derive(Drop)]
@@ -41,6 +42,10 @@ impl<D: Device, P: Progress> Device for Watched<'_, D, P> {
 
     fn len(&self) -> u64 {
         self.device.len()
+    }
+
+    fn error(&self) -> Option<Error> {
+        self.device.error()
     }
 
     fn read_at(&mut self, at: u64, buf: &mut [u8]) -> Result<(), Fault> {

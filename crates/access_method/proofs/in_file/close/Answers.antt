@@ -1,10 +1,14 @@
 use Rattle.std.proofs.Common.{ℕ, List, sym, ap, subst, ◌∙◌}
-use Rattle.std.proofs.lemmas.Result.{IfErr-weaker, on_ok_weaker}
+use Rattle.std.proofs.lemmas.Result.{IfErr-weaker}
+use Rattle.page_action.specs.States.{Continues}
+use Rattle.page_store.specs.StoreLaws.{follows_by}
 use Rattle.page_store.specs.Crashing.{left_now}
 use Rattle.page_store.specs.Following.{follows_same}
 use Rattle.access_method.proofs.Imports.{MayCrashTo, Action, Format, state_of, held_by, left_index}
+use Rattle.device.specs.declared.device.Device.{Ghosts as DeviceGhosts}
+use Rattle.page_store.specs.declared.store.Store.{Store}
 use Rattle.world.specs.Reopening.{IsIndexAfterPrefix}
-use Rattle.access_method.proofs.Closing.{both_told}
+use Rattle.access_method.proofs.Closing.{both_told, both_ok}
 use Rattle.access_method.proofs.in_file.close.Goals as goal
 
 -- nothing was done but to make durable, so a crash leaves all of the same actions; the device is that of the index after it
@@ -27,10 +31,18 @@ returns-clause-stands g c =
     (subst (λ (actions : List Action). IsIndexAfterPrefix (state_of d store).limits start actions (held_by d store).durable image) run.tells.history_is left)))
     c.checkpoint-written.ensures.number c.checkpoint-written.ensures.durable
 
+-- the index after the checkpoint came from it by calls of its own
+followed : {D : Type 0} (d : DeviceGhosts D) (old new : Store D d) → Continues (follows_by d) old new → follows_by d old new
+followed d old new steps = steps old (follows_same (held_by d old))
+
 pub returns-clause-empties : goal.returns-clause-empties
 returns-clause-empties g c =
-    on_ok_weaker c.checkpoint-written.result (λ room. (c.checkpoint-written.new.self.store, c.into_device.ensures, room)) c.checkpoint-written.ensures.room
+    let new = c.checkpoint-written.new.self.store in
+    let follows = followed g.D.Device c.args.index.store new c.checkpoint-written.ensures.steps in
+    both_ok c.checkpoint-written.result (λ alive room. (new, c.into_device.ensures, follows, (alive, room))) c.checkpoint-written.ensures.alive c.checkpoint-written.ensures.room
 
 pub returns-clause-cause : goal.returns-clause-cause
 returns-clause-cause g c =
-    IfErr-weaker c.checkpoint-written.result _ _ (λ fault has. (c.checkpoint-written.new.self.store, c.into_device.ensures, has)) c.checkpoint-written.ensures.cause
+    let new = c.checkpoint-written.new.self.store in
+    let follows = followed g.D.Device c.args.index.store new c.checkpoint-written.ensures.steps in
+    IfErr-weaker c.checkpoint-written.result _ _ (λ fault has. (new, c.into_device.ensures, follows, has)) c.checkpoint-written.ensures.cause

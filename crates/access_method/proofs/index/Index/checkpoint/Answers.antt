@@ -19,3 +19,6 @@ returns-clause-cause g c = cause_told g.S.PageStore Checkpoints c.checkpoint.res
 
 pub returns-clause-room : goal.returns-clause-room
 returns-clause-room g c = room_told _ c.checkpoint.result _ c.count.ensures c.checkpoint.ensures.answers c.checkpoint.ensures.room
+
+pub returns-clause-alive : goal.returns-clause-alive
+returns-clause-alive g c = room_told _ c.checkpoint.result _ c.count.ensures c.checkpoint.ensures.answers c.checkpoint.ensures.alive
