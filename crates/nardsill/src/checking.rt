@@ -86,7 +86,10 @@ fn check_opened<S: Start>(alloc: Global, file: File, frames: u32) -> Checked
 fn opened<S: Start>(alloc: Global, file: File, frames: u32) -> Result<Store<FileDevice<S>>, Fault>
     ensures { IfOk result (IsOpenedForCheck ⟦<FileDevice<S> as Device>⟧ S.Start.bytes) }
 {
-    match recovery::open(alloc, FileDevice::held(file)?, frames) {
+    let Ok(device) = FileDevice::held(file) else {
+        return Err(Fault::Io);
+    };
+    match recovery::open(alloc, device, frames) {
         Ok(store) => Ok(store),
         Err(refused) => Err(refused.fault),
     }

@@ -44,7 +44,7 @@ use crate::handle::{Handle, made};
 use crate::loose::Loose;
 use crate::making::make;
 use crate::opening::take;
-use device::{Device, FileDevice, Start, Unknown};
+use device::{Device, FileDevice, Start, Unknown, Zeros};
 use page_action::PageStore;
 use page_store::Store;
 use std::alloc::{Allocator, Global};
@@ -85,7 +85,7 @@ pub unsafe extern "C" fn nardsill_proved_make(
     requires* handle { sem 𝓛 (lies_at the_row full_share at both.0) }
     requires* file { sem 𝓛 (lies_at file_row full_share file both.1) }
     ensures* handle { ∃ₛ (λ (v : Handle). sem 𝓛 (lies_at the_row full_share at v) ∗ ⌜ (v ≡ both.0)
-        × IsMade ⟦<FileDevice<Unknown> as Device>⟧ ask result ⌝) }
+        × IsMade ⟦<FileDevice<Zeros> as Device>⟧ ask result ⌝) }
     ensures* file { sem 𝓛 (lies_at file_row full_share file both.1) }
 {
     make(

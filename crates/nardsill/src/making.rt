@@ -7,7 +7,7 @@ use crate::answer::{Answer, DONE, refused};
 use crate::ask::MakeAsk;
 use crate::handle::Handle;
 use crate::opening::own;
-use device::{Device, FileDevice, Start, Unknown};
+use device::{Device, FileDevice, Zeros};
 use index_model::{Fault, Format};
 use page_codec::{needed_len, page_place};
 use recovery::create;
@@ -20,30 +20,30 @@ use std::os::fd::AsRawFd;
 /// has stays.
 pub fn make(handle: &mut Handle, file: &mut File, ask: MakeAsk) -> Answer
     ensures { (file.new ≡ file.old) × (handle.new ≡ handle.old)
-        × IsMade ⟦<FileDevice<Unknown> as Device>⟧ ask result }
+        × IsMade ⟦<FileDevice<Zeros> as Device>⟧ ask result }
 {
     if file.as_raw_fd() != ask.descriptor {
         return refused(Fault::BadVersion);
     }
     match own(file) {
-        Ok(own) => made_in::<Unknown>(own, &ask),
+        Ok(own) => made_in(own, &ask),
         Err(fault) => refused(fault),
     }
 }
 
-// The answer to a making in a file, whatever that held.
-fn made_in<S: Start>(file: File, ask: &MakeAsk) -> Answer
-    ensures { IsMade ⟦<FileDevice<S> as Device>⟧ ask.now result }
+// The answer to a making in a file.
+fn made_in(file: File, ask: &MakeAsk) -> Answer
+    ensures { IsMade ⟦<FileDevice<Zeros> as Device>⟧ ask.now result }
 {
-    match made::<S>(file, ask) {
+    match made(file, ask) {
         Ok(_device) => DONE,
         Err(fault) => refused(fault),
     }
 }
 
-// Makes the index that is asked for in a file, whatever that held.
-fn made<S: Start>(file: File, ask: &MakeAsk) -> Result<FileDevice<S>, Fault>
-    ensures made { IfOk result (λ device. IsMadeBy ⟦<FileDevice<S> as Device>⟧ ask.now device) }
+// Makes the index that is asked for in a file.
+fn made(file: File, ask: &MakeAsk) -> Result<FileDevice<Zeros>, Fault>
+    ensures made { IfOk result (λ device. IsMadeBy ⟦<FileDevice<Zeros> as Device>⟧ ask.now device) }
     ensures fault { IfErr result (IsMakeFault ask.now) }
 {
     let limits = ask.limits();
@@ -52,7 +52,9 @@ fn made<S: Start>(file: File, ask: &MakeAsk) -> Result<FileDevice<S>, Fault>
     }
     // All but the log is written by what makes the index.
     let filled = page_place(&Format::new(&limits), 0);
-    let mut device = FileDevice::<S>::made(file, needed_len(&limits), filled)?;
+    let Ok(mut device) = FileDevice::made(file, needed_len(&limits), filled) else {
+        return Err(Fault::Io);
+    };
     create(&mut device, &limits)?;
     Ok(device)
 }

@@ -52,7 +52,10 @@ fn opened<S: Start>(
         ⟦<Store<FileDevice<S>> as PageStore>⟧ S.Start.bytes) }
     ensures fault { IfErr result IsOpenFault }
 {
-    match Index::open(alloc, FileDevice::held(file)?, frames) {
+    let Ok(device) = FileDevice::held(file) else {
+        return Err(Fault::Io);
+    };
+    match Index::open(alloc, device, frames) {
         Ok(index) => Ok(index),
         Err(refused) => Err(refused.fault),
     }

@@ -49,8 +49,8 @@ use Rattle.nardsill.proofs.nardsill_proved_make.Code as code
 use Rattle.nardsill.specs.Making.{IsMade}
 use Rattle.device.specs.contracts.file.FileDevice as file_device
 use Rattle.device.specs.contracts.file.FileDeviceDevice.TheImpl as device
-use Rattle.device.specs.contracts.file.Unknown as unknown
-use Rattle.device.specs.contracts.file.UnknownStart.TheImpl as start
+use Rattle.device.specs.contracts.file.Zeros as zeros
+use Rattle.device.specs.contracts.file.ZerosStart.TheImpl as start
 
 one : (τ : Ty) (vs : List Val) → Typed (τ ∷ []) vs → (v : Val) × (vs ≡ v ∷ []) × (T (has_ty τ v) × WT v)
 one τ [] t = absurd t
@@ -60,7 +60,7 @@ one τ (v ∷ w ∷ vs) t = absurd t.1
 pub nardsill_proved_make_spec : {M : Type 1} → statement M
 nardsill_proved_make_spec 𝓤 𝓛 𝓜 𝓡 wired =
     let H = 𝓛.H in let 𝓣 = tables 𝓤 H 𝓜 𝓡 𝓡.env in let R : RattleType = inner.the_row in let Q : RattleType = file.the_row in
-    let D = device.ghosts unknown.the_row start.ghosts start.dict in
+    let D = device.ghosts zeros.the_row start.ghosts start.dict in
     let c = clauses 𝓛 𝓜.mem 𝓡.returns in let fn : Fn = code.function in
     let hs : Stays ended.signature.params ended.kept = (stay_dropped (plain (λ _. RawPtr)) yes, (stay_dropped (plain (λ _. RawPtr)) yes, (stay_dropped (plain (λ _. ask.the_row)) yes, tt))) in
     proved_at 𝓛 ended hs c 𝓜 𝓡

@@ -5,9 +5,9 @@ use Rattle.recovery.specs.Index.{HasIndex}
 use Rattle.nardsill.proofs.checking.opened.Goals as goal
 
 -- the file is as long as it was, so what it held when it was opened is what the device began with
-pub returns-in-Ok : goal.returns-in-Ok
-returns-in-Ok g c =
-    let seen = ap (λ (t : Trace). t.now.seen) c.in_ok-held.ensures.held in
-    let same = ap g.S.Start.bytes (c.in-Ok.ensures.len ∙ ap length seen ∙ g.S.Start.sized _) ∙ sym seen in
+pub returns-in-Ok-open : goal.returns-in-Ok-open
+returns-in-Ok-open g c =
+    let seen = ap (λ (t : Trace). t.now.seen) c.in-Ok.ensures.held in
+    let same = ap g.S.Start.bytes (c.in-Ok-open.ensures.len ∙ ap length seen ∙ g.S.Start.sized _) ∙ sym seen in
     λ honest limits pages index.
-    c.in-Ok.ensures.same honest c.in-Ok.ensures.frames limits pages (subst (HasIndex limits pages) same index)
+    c.in-Ok-open.ensures.same honest c.in-Ok-open.ensures.frames limits pages (subst (HasIndex limits pages) same index)
