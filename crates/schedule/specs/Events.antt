@@ -432,7 +432,8 @@ pub record GrowsByOne (old new : List Action) : Type 0 where
   pub is : new ≡ old ++ acts
   pub few : length acts ≤ 1
 
--- What an event also leaves, beside what it means. It needs no reading: each event leaves it.
+-- What an event also leaves, beside what it means. Two of its sentences no other word has: a next and an end append no action (`calm`), and
+-- what is durable stays so (`later`).
 pub record EventAlso {S : Type 0} (g : Ghosts S) (start : Entry → Bool) (kind : Kind) (answer : Answer) (old new : Moment S) : Type 0 where
   -- what holds of it whatever the pages are
   pub always : EventAlways g kind answer (here_at old) (here_at new)
