@@ -26,6 +26,8 @@ use Rattle.session_calls.specs.declared.request.Request.TheVariants.{Bulk as ToB
 use Rattle.schedule.specs.TheoremCrashes.{KeepsHistory, IsCrashSafe}
 use Rattle.schedule.specs.TheoremRuns.{ForEachHistory, Fits}
 use Rattle.schedule.specs.TheoremMoments.{StoreAndSlots, Moment, snapshot_of, IsRunningCall}
+use Rattle.schedule.specs.TheoremKinds.{Upkeep, MaintainsStore}
+use Rattle.schedule.specs.Making.{EventEffect}
 use Rattle.vacuum.specs.Counts.{entries_below}
 use Rattle.whole_calls.specs.Going.{CallRuns, CallIsRun}
 use Rattle.whole_calls.specs.Inserting.{InsertIsRun}
@@ -33,6 +35,7 @@ use Rattle.whole_calls.specs.Made.{IsMadeOf}
 use Rattle.whole_calls.specs.Vacuuming.{VacuumMeans, vacuum_outcome, StatsCountCleaned, StatsCountDeleted, StatsCountPages}
 use Rattle.whole_calls.specs.Meanings.{HasNone}
 use Rattle.whole_calls.specs.declared.inserted.Inserted.{Inserted}
+use Rattle.access_method.specs.Counted.{counted}
 use Rattle.access_method.specs.Tokens.{seat_of, AreTaken}
 use Rattle.access_method.specs.declared.index.Index.{Index}
 use Rattle.access_method.specs.declared.token.ScanToken.{ScanToken}
@@ -63,6 +66,12 @@ IndexInserts g session entry result old new = InsertIsRun g session entry result
 -- than five images, a step only where it has room for five, or its whole room; what it came to, it came to by their answers
 abbrev pub IndexMakes : {S : Type 0} → Ghosts S → ℕ → (List Answer → Type 0) → Index S → Index S → Type 0
 IndexMakes g session CallOutcome old new = IsMadeOf g session 5 CallOutcome (slots_within old) (slots_within new)
+
+-- whatever the pages are, this was done for the store by one event, whose answer was handed on
+pub record IndexIsKept {S : Type 0} (g : Ghosts S) (upkeep : Upkeep) (result : Result ℕ Fault) (old new : Index S) : Type 0 where
+  pub answer : Answer
+  pub handed_on : counted answer ≡ result
+  pub made : EventEffect g (MaintainsStore upkeep) answer (slots_within old) (slots_within new)
 
 -- where the device has kept its model up to now, this holds of whatever fitted the index before
 abbrev pub ForEachIndexHistory : {S : Type 0} → Ghosts S → Index S → Index S → ((Entry → Bool) → List Action → List Call → Type 0) → Type 0

@@ -130,7 +130,7 @@ impl<S: PageStore> Index<S> {
     ghost use Rattle.whole_calls.specs.Vacuuming.{VacuumMeans, vacuum_outcome, ResultLeavesNeeded};
     ghost use Rattle.whole_calls.specs.Giving.{SessionGivenMeans, EndsUnlessGiven, given_outcome};
     ghost use Rattle.access_method.specs.Tokens.{seat_of};
-    ghost use Rattle.access_method.specs.Indexes.{IndexFits, IndexKeeps, IndexIsRun, IndexInserts, IndexMakes, slots_with, ForEachIndexHistory, BulkDeleteRuns, SameTokens, IsNewToken, SeatBecomes, seat_with, RescanMeans, TokenAfter, InsertsOrKeeps, IsBulkDeletedOrLess, IsCleanedUp, AnswersScan, NotOpenedFor, NotRescannedFor, cannot_begin};
+    ghost use Rattle.access_method.specs.Indexes.{IndexFits, IndexKeeps, IndexIsRun, IndexInserts, IndexMakes, IndexIsKept, slots_with, ForEachIndexHistory, BulkDeleteRuns, SameTokens, IsNewToken, SeatBecomes, seat_with, RescanMeans, TokenAfter, InsertsOrKeeps, IsBulkDeletedOrLess, IsCleanedUp, AnswersScan, NotOpenedFor, NotRescannedFor, cannot_begin};
     ghost use Rattle.access_method.specs.Counted.{upkeep_outcome};
     ghost use Rattle.access_method.specs.Refusals.{causes_of_run, InsertHasCause, NothingHinders, NothingIsOpen, InsertsUnhindered, GiveHasCause, GivesUnhindered};
 
@@ -256,6 +256,8 @@ impl<S: PageStore> Index<S> {
         ensures steps { Continues S.follows self.old.store self.new.store }
         ensures runs { IndexIsRun S.PageStore 0 IsSameHistory
             (upkeep_outcome Forces result) self.old self.new }
+        // Whatever the pages are.
+        ensures made { IndexIsKept S.PageStore Forces result self.old self.new }
         ensures number { IfOk result (λ n. n ≡ (S.state self.old.store).acts) }
         ensures durable { OnOk result ((S.backing self.new.store).durable
             ≡ (S.state self.old.store).acts) }
@@ -272,6 +274,8 @@ impl<S: PageStore> Index<S> {
         ensures steps { Continues S.follows self.old.store self.new.store }
         ensures runs { IndexIsRun S.PageStore 0 IsSameHistory
             (upkeep_outcome Checkpoints result) self.old self.new }
+        // Whatever the pages are.
+        ensures made { IndexIsKept S.PageStore Checkpoints result self.old self.new }
         ensures number { IfOk result (λ n. n ≡ (S.state self.old.store).acts) }
         ensures durable { OnOk result ((S.backing self.new.store).durable
             ≡ (S.state self.old.store).acts) }
@@ -390,6 +394,9 @@ impl<S: PageStore> Index<S> {
         ensures steps { Continues S.follows self.old.store self.new.store }
         ensures runs { OnOk result (IndexIsRun S.PageStore token.session
             (EndMeans token.session) None self.old self.new) }
+        // Whatever the pages are.
+        ensures made { OnOk result
+            (IndexMakes S.PageStore token.session (ComesTo None) self.old self.new) }
         ensures closed { seat_of self.old.seats token ≡ None
             → (result ≡ Err Fault.NoSession) × (self.new ≡ self.old) }
         ensures refused { IfErr result (λ fault. fault ≡ Fault.NoSession) }
@@ -418,6 +425,9 @@ impl<S: PageStore> Index<S> {
         ensures steps { Continues S.follows self.old.store self.new.store }
         ensures runs { IfOk result (λ token.
             IndexIsRun S.PageStore token.session (HasBegun token.session (ToScan range)) (Some Begun) self.old self.new) }
+        // Whatever the pages are.
+        ensures made { IfOk result (λ token.
+            IndexMakes S.PageStore token.session (ComesTo (Some Begun)) self.old self.new) }
         // Whatever the pages are, its session runs the scan then.
         ensures begins { IfOk result (λ token.
             op_of self.new.calls token.session ≡ Some (op_before token.session (ToScan range))) }
@@ -451,6 +461,9 @@ impl<S: PageStore> Index<S> {
         ensures runs { OnOk result
             (IndexIsRun S.PageStore token.session (RescanMeans token.session range)
             (Some Begun) self.old self.new) }
+        // Whatever the pages are.
+        ensures made { OnOk result
+            (IndexMakes S.PageStore token.session (ComesTo (Some Begun)) self.old self.new) }
         // Whatever the pages are, its session runs the scan then.
         ensures begins { OnOk result (op_of self.new.calls token.session
             ≡ Some (op_before token.session (ToScan range))) }

@@ -1,7 +1,8 @@
 -- What an insert knows between its steps, and what a step of it does.
-use Rattle.std.specs.Prelude.{◌≡◌, ℕ, suc, ◌+◌, ◌*◌, ◌<◌, nat_le, if◌then◌else◌, Bool, true, false, Option, Some, None, Result, Ok, Err, OnErr, List, [], ◌∷◌, length, slice_get}
+use Rattle.std.specs.Prelude.{◌≡◌, ℕ, suc, ◌+◌, ◌*◌, ◌<◌, nat_le, ◌&&◌, not, if◌then◌else◌, Bool, true, false, Option, Some, None, Result, Ok, Err, OnErr, List, [], ◌∷◌, length, slice_get}
 use Rattle.index_model.specs.Actions.{Effect, Add, Remove, Shape}
 use Rattle.index_model.specs.Faults.{Circumstances, HasCause}
+use Rattle.index_model.specs.Order.{same_entry}
 use Rattle.index_model.specs.declared.entry.Entry.{Entry}
 use Rattle.index_model.specs.declared.fault.Fault.{Fault}
 use Rattle.index_model.specs.declared.fault.Fault.TheVariants.{Stopped}
@@ -11,7 +12,7 @@ use Rattle.page_codec.specs.Edits.{entries_of}
 use Rattle.page_codec.specs.declared.page.Page.{Page}
 use Rattle.page_codec.specs.declared.page.PageState.TheVariants.{Live}
 use Rattle.page_action.specs.Contents.{entry_on_live_leaf}
-use Rattle.page_action.specs.Causes.{other_row_is_there}
+use Rattle.page_action.specs.Causes.{with_row, other_row_is_there}
 use Rattle.page_action.specs.States.{State, Backing, Continues}
 use Rattle.page_action.specs.declared.page_store.PageStore.{Ghosts}
 use Rattle.tree_shape.specs.Walks.{entry_aim, is_within}
@@ -142,11 +143,12 @@ causes_of_left st old new session e at = record (causes_of_inserting st old new 
   key_was_there = λ r. false;
 }
 
--- what may be so where a step of an insert is refused, whatever the pages are
-abbrev pub causes_of_inserting_any : Circumstances
-causes_of_inserting_any = record causes_of_splitting_any {
+-- what may be so where a step of an insert of this entry is refused, whatever the pages are: its key only on a unique index, and there only
+-- with another row
+abbrev pub causes_of_inserting_any : Bool → Entry → Circumstances
+causes_of_inserting_any unique e = record causes_of_splitting_any {
   entry_was_there = true;
-  key_was_there = λ r. true;
+  key_was_there = λ r. unique && not (same_entry (with_row e r) e);
 }
 
 -- ... and where it leaves splits unfinished

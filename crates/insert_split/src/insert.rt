@@ -4,6 +4,7 @@ ghost use Rattle.std.specs.Prelude.{◌≡◌, Err, Ok, Some, None, IfSome, IfNo
 ghost use Rattle.index_model.specs.Faults.{HasCause};
 ghost use Rattle.latch_table.specs.Holdings.{HasRoom, latched, pinned};
 ghost use Rattle.page_action.specs.States.{Continues, with_table};
+ghost use Rattle.tree_acts.specs.StepEffects.{causes_of_splitting_any};
 ghost use Rattle.insert_split.specs.Inserts.{InsertSteps, IfLeftIncomplete, AnswersStopped, causes_of_inserting_any, causes_of_left_any};
 ghost use Rattle.insert_split.specs.Turns.{MeetsPage, Takes, FinishesSplits, ContinuesAs, Leaves, IsRefusedRightly};
 
@@ -108,7 +109,8 @@ impl InsertOp {
         pages: &mut [Page; 3],
     ) -> Result<InsertStep, Fault>
         ensures all { InsertSteps S.PageStore self.old self.new store.old store.new result }
-        ensures faults { IfErr result (HasCause causes_of_inserting_any) }
+        ensures faults { IfErr result (HasCause
+            (causes_of_inserting_any (S.state store.old).limits.unique self.old.entry)) }
         ensures quiet { IfLeftIncomplete result (λ fault. S.state store.new ≡ S.state store.old) }
         ensures left { IfLeftIncomplete result (HasCause causes_of_left_any) }
         ensures logged { IsRefusedRightly self.old.added result }
@@ -143,7 +145,7 @@ impl InsertOp {
         requires at { self.old.at ≡ InsertAt.Coming Stage.Start }
         requires alive { (S.backing store.old).stopped ≡ false }
         ensures all { InsertSteps S.PageStore self.old self.new store.old store.new result }
-        ensures faults { IfErr result (HasCause causes_of_inserting_any) }
+        ensures faults { IfErr result (HasCause causes_of_splitting_any) }
         ensures quiet { IfLeftIncomplete result (λ fault. S.state store.new ≡ S.state store.old) }
         ensures left { IfLeftIncomplete result (HasCause causes_of_left_any) }
     {
@@ -163,7 +165,8 @@ impl InsertOp {
         requires at { self.old.at ≡ InsertAt.Coming (Stage.At position) }
         requires alive { (S.backing store.old).stopped ≡ false }
         ensures all { InsertSteps S.PageStore self.old self.new store.old store.new result }
-        ensures faults { IfErr result (HasCause causes_of_inserting_any) }
+        ensures faults { IfErr result (HasCause
+            (causes_of_inserting_any (S.state store.old).limits.unique self.old.entry)) }
         ensures quiet { IfLeftIncomplete result (λ fault. S.state store.new ≡ S.state store.old) }
         ensures left { IfLeftIncomplete result (HasCause causes_of_left_any) }
     {
@@ -194,7 +197,7 @@ impl InsertOp {
     // Finishes the split of a page that it met on its way.
     fn meet(&mut self, page: &Page, position: Position) -> Result<InsertStep, Fault>
         ensures meets { MeetsPage page.now position self.old self.new result }
-        ensures faults { IfErr result (HasCause causes_of_inserting_any) }
+        ensures faults { IfErr result (HasCause causes_of_splitting_any) }
     {
         match target_of(page, position) {
             Some(target) => {
@@ -212,7 +215,7 @@ impl InsertOp {
         ensures takes { HasRoom (S.state store.old).table self.old.session
             → Takes block self.old self.new (S.state store.old) (S.state store.new) result }
         ensures going { IfOk result (λ step. step ≡ InsertStep.Going) }
-        ensures faults { IfErr result (HasCause causes_of_inserting_any) }
+        ensures faults { IfErr result (HasCause causes_of_splitting_any) }
         ensures taken { OnOk result ((S.state store.new ≡ with_table (S.state store.old)
             (pinned (latched (S.state store.old).table self.old.session block Mode.Exclusive)
             self.old.session block))
@@ -241,7 +244,8 @@ impl InsertOp {
         requires at { self.old.at ≡ InsertAt.Coming (Stage.Holding block) }
         requires alive { (S.backing store.old).stopped ≡ false }
         ensures all { InsertSteps S.PageStore self.old self.new store.old store.new result }
-        ensures faults { IfErr result (HasCause causes_of_inserting_any) }
+        ensures faults { IfErr result (HasCause
+            (causes_of_inserting_any (S.state store.old).limits.unique self.old.entry)) }
         ensures quiet { IfLeftIncomplete result (λ fault. S.state store.new ≡ S.state store.old) }
         ensures left { IfLeftIncomplete result (HasCause causes_of_left_any) }
     {
@@ -273,7 +277,8 @@ impl InsertOp {
         requires at { FinishesSplits self.old.at }
         requires alive { (S.backing store.old).stopped ≡ false }
         ensures all { InsertSteps S.PageStore self.old self.new store.old store.new result }
-        ensures faults { IfErr result (HasCause causes_of_inserting_any) }
+        ensures faults { IfErr result (HasCause
+            (causes_of_inserting_any (S.state store.old).limits.unique self.old.entry)) }
         ensures quiet { IfLeftIncomplete result (λ fault. S.state store.new ≡ S.state store.old) }
         ensures left { IfLeftIncomplete result (HasCause causes_of_left_any) }
         ensures logged { IsRefusedRightly self.old.added result }

@@ -12,7 +12,7 @@ ghost use Rattle.page_action.specs.States.{Continues, after_act};
 ghost use Rattle.page_action.specs.Stored.{AreActable, IsStored};
 ghost use Rattle.tree_shape.specs.KeyPages.{IsKeyFree};
 ghost use Rattle.tree_shape.specs.Leaf.{IsPlaceOf, MayHold};
-ghost use Rattle.tree_acts.specs.StepEffects.{causes_of_acting, causes_of_working};
+ghost use Rattle.tree_acts.specs.StepEffects.{causes_of_acting, causes_of_working, causes_of_splitting_any};
 ghost use Rattle.descent.specs.Splitting.{if_read, mended_to};
 ghost use Rattle.insert_split.specs.Inserts.{causes_of_inserting_any, blocks_halved};
 ghost use Rattle.page_codec.specs.Grammar.{IsBlock};
@@ -38,7 +38,7 @@ pub fn place_in(page: &Page, entry: &Entry, unique: bool) -> Result<usize, Fault
     ensures within { IfOk result (λ at. at ≤ length (entries_of page.now.items)) }
     ensures alone { unique ≡ true → IsPage page.now → OnOk result
         (IsKeyFree entry.now.key (entries_of page.now.items)) }
-    ensures faults { IfErr result (HasCause causes_of_inserting_any) }
+    ensures faults { IsPage page.now → IfErr result (HasCause (causes_of_inserting_any unique entry.now)) }
     ensures cause { IfErr result (PlaceRefused page.now entry.now unique) }
 {
     if !may_hold(page, entry) {
@@ -89,7 +89,7 @@ fn act_on_halves<S: PageStore>(
         (left ∷ half ∷ mended_to half.block (if_read is_beside rest)) (S.state store.old)) }
     ensures number { IfOk result (λ n. n ≡ suc (S.state store.old).acts) }
     ensures refused { OnErr result (S.state store.new ≡ S.state store.old) }
-    ensures faults { IfErr result (HasCause causes_of_inserting_any) }
+    ensures faults { IfErr result (HasCause causes_of_splitting_any) }
     ensures cause { (left half rest : P) → pages.old ≡ left ∷ half ∷ rest ∷ []
         → AreActable (S.state store.old).limits (length (S.state store.old).pages)
         (left ∷ half ∷ mended_to half.block (if_read is_beside rest))
@@ -123,7 +123,7 @@ impl InsertOp {
         ensures puts { IfOk result (PutsEntry page.old self.now.entry
             (S.state store.old) (S.state store.new)) }
         ensures refused { OnErr result (S.state store.new ≡ S.state store.old) }
-        ensures faults { IfErr result (HasCause causes_of_inserting_any) }
+        ensures faults { IfErr result (HasCause causes_of_splitting_any) }
         ensures cause { has_pin (pinned_blocks (S.state store.old).table) page.old.block ≡ true
             → IfErr result (HasCause (causes_of_working (S.state store.old) (S.backing store.old)
             (S.backing store.new) self.now.session (page.old.block ∷ []) 0 false false)) }
@@ -159,7 +159,7 @@ impl InsertOp {
             self.old self.new (S.state store.old) (S.state store.new)) }
         ensures state { OnErr result (S.state store.new ≡ S.state store.old) }
         ensures op { OnErr result (self.new ≡ self.old) }
-        ensures faults { IfErr result (HasCause causes_of_inserting_any) }
+        ensures faults { IfErr result (HasCause causes_of_splitting_any) }
         ensures cause { (S.backing store.new).honest ≡ true
             → HasRoom (S.state store.old).table self.old.session
             → IsSplittable (S.state store.old) page.now

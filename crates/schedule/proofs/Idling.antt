@@ -56,7 +56,7 @@ module _ {S : Type 0} (g : Ghosts S) (laws : Laws g) (store : S) (slots : List (
   no_end (Some None) h = refl
   no_end (Some (Some op)) h = absurd cc
 
-  step_always : (fault : Fault) → ((g.backing store).stopped ≡ true → Refused fault ≡ Refused Stopped) → HasCause (causes_of_slot_stepped_any None) fault
+  step_always : (fault : Fault) → ((g.backing store).stopped ≡ true → Refused fault ≡ Refused Stopped) → HasCause (causes_of_slot_stepped_any (g.state store).limits.unique None) fault
       → EventAlways g (MovesCall session Steps) (Refused fault) (here_with store slots sets) (here_with store slots sets)
   step_always fault stopped cause = record {
     answers = subst (λ (x : Option Op). AnswersStep x x (Refused fault)) (sym none) tt;

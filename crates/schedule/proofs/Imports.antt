@@ -24,7 +24,7 @@ pub use Rattle.latch_table.specs.Holdings.{Holding, Table, excludes, has_pin, ho
 pub use Rattle.page_action.specs.Causes.{causes_of_forced, count_apart, has_failed, is_at_end, nothing_wrong}
 pub use Rattle.page_action.specs.Contents.{entry_on_live_leaf}
 pub use Rattle.page_action.specs.Reuse.{IsFresh, began_after, is_deleted, is_deleted_page, is_deleted_state, is_reusable, others_began_after}
-pub use Rattle.page_action.specs.States.{Continues, IsLater, State}
+pub use Rattle.page_action.specs.States.{Backing, Continues, IsLater, State}
 pub use Rattle.page_action.specs.declared.page_store.PageStore.{Ghosts}
 pub use Rattle.tree_shape.specs.Chains.{FitsState, IsIn, IsRunOf, LeftContext, first_context, past, context_after}
 pub use Rattle.tree_shape.specs.Nodes.{Node, links_of, node_from, nodes_of}

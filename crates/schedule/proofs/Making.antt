@@ -1,7 +1,7 @@
 -- What each kind of event makes, by what the call after it promises.
 use Rattle.std.proofs.Common.{◌≡◌, ℕ, ◌&&◌, not, Bool, true, false, Option, Some, None, Ok, Err, List, length, slice_get, slice_set, refl, sym, ap, subst, inl, inr, ◌∙◌}
 use Rattle.session_calls.proofs.RunningOn.{runs_over, ends_with_last}
-use Rattle.schedule.proofs.Imports.{unwrap_or, Action, Ask, Call, Circumstances, HasCause, Entry, Fault, Stopped, nothing_wrong, is_at_end, causes_of_forced, State, Ghosts, IsDueIn, HasSteps}
+use Rattle.schedule.proofs.Imports.{unwrap_or, Action, Ask, Call, Circumstances, HasCause, Entry, Fault, Stopped, KeyTooLong, BadRow, VacuumRunning, BadSuper, BadVersion, LogDamaged, BadLimits, DeviceTooSmall, nothing_wrong, is_at_end, causes_of_forced, State, Backing, Ghosts, IsDueIn, HasSteps}
 use Rattle.schedule.proofs.Imports.{StepAnswerMeans, StepAlways, IsFitted, StepFollows, DeadSets, op_before, asks_vacuum, asks_bulk_delete, is_bulk_delete, session_of, asked_of}
 use Rattle.schedule.proofs.Imports.{causes_of_slot_stepped, causes_of_asked_next, no_call_begins, causes_of_requesting, causes_of_beginning, RunsOn, StoppedAnswersFirst, Matches, IsIdle, SlotFits}
 use Rattle.schedule.proofs.Imports.{SessionEvent, SessionBegins, IsBegun, BeginsBy, op_after_call, after_slot, let_go, is_busy, slot_add, StepHasLessLeft, GivesLess, AnswersStep, AnswersNext}
@@ -344,6 +344,25 @@ asked_why : (vacuums : Bool) (b : Bool) (c : Circumstances) (fault : Fault) → 
     → HasCause (record c { no_such_session = false; vacuum_runs = vacuums }) fault → HasCause (record c { no_such_session = not b; vacuum_runs = vacuums }) fault
 asked_why vacuums b c fault named h = subst (λ (x : Bool). HasCause (record c { no_such_session = not x; vacuum_runs = vacuums }) fault) (sym named) h
 
+all_true : (a b : Bool) → a ≡ true → b ≡ true → (a && b) ≡ true
+all_true true true one other = refl
+all_true true false one other = other
+all_true false b one other = one
+
+-- where calls begin, and the session has none, a beginning is refused only while a vacuum runs that excludes it
+only_excluded : (st : State) (backing : Backing) → no_call_begins st backing ≡ false → (excluded : Bool) (fault : Fault) → HasCause (causes_of_requesting excluded st backing false) fault
+    → fault ≡ VacuumRunning
+only_excluded st backing alive excluded VacuumRunning h = refl
+only_excluded st backing alive excluded Stopped h = absurd (let k : true ≡ false = sym h ∙ alive in cc)
+only_excluded st backing alive excluded KeyTooLong h = absurd h
+only_excluded st backing alive excluded BadRow h = absurd h
+only_excluded st backing alive excluded BadSuper h = absurd h
+only_excluded st backing alive excluded BadVersion h = absurd h
+only_excluded st backing alive excluded LogDamaged h = absurd h
+only_excluded st backing alive excluded BadLimits h = absurd h
+only_excluded st backing alive excluded DeviceTooSmall h = absurd h
+only_excluded st backing alive excluded fault h = absurd cc
+
 -- a beginning in a session that was found
 module _ {S : Type 0} (g : Ghosts S) (laws : Laws g) (old new : S) (follows : g.follows old new) (slots : List (Option Op)) (sets : DeadSets)
     (session : ℕ) (request : Request) (before slot : Option Op) (answer : Answer)
@@ -389,7 +408,10 @@ module _ {S : Type 0} (g : Ghosts S) (laws : Laws g) (old new : S) (follows : g.
     others = others_stay_set slots session slot;
     left = tt;
     causes = tt;
-    order = λ fault e. absurd (found_one fault e);
+    order = record {
+      unfound = λ fault e. absurd (found_one fault e);
+      excluded = λ known asks runs. absurd (true_false (sym (all_true (asks_vacuum request) (one_vacuums slots) asks runs) ∙ h.alone));
+    };
     fresh = λ begun. set_is slots session slot (get_within slots session None free) ∙ h.runs;
     numbered = λ begun. h.state;
     upkept = tt;
@@ -409,7 +431,11 @@ module _ {S : Type 0} (g : Ghosts S) (laws : Laws g) (old new : S) (follows : g.
     others = others_stay_set slots session slot;
     left = tt;
     causes = cause_of fault h.cause;
-    order = λ f e. absurd (found_one f e);
+    order = record {
+      unfound = λ f e. absurd (found_one f e);
+      excluded = λ known asks runs. ap Refused (only_excluded (g.state old) (g.backing old) alive excluded fault
+          (subst (λ (o : Option Op). HasCause (causes_of_requesting excluded (g.state old) (g.backing old) (is_busy o)) fault) before_is h.cause));
+    };
     fresh = λ e. absurd cc;
     numbered = λ e. absurd cc;
     upkept = tt;
@@ -511,7 +537,10 @@ not_found_makes g laws store slots sets session request fault none = record {
       left = tt;
       causes = not_found_why g store (one_vacuums slots) sets request session (no_call_begins (g.state store) (g.backing store))
           (is_of_sets sets request) (slice_get slots session) fault refl refl none;
-      order = λ f e. ap Refused (let both : Err fault ≡ Err f = none ∙ e in cc);
+      order = record {
+        unfound = λ f e. ap Refused (let both : Err fault ≡ Err f = none ∙ e in cc);
+        excluded = λ known asks runs. let both : Err fault ≡ Ok session = none ∙ known in absurd cc;
+      };
       fresh = λ e. absurd cc;
       numbered = λ e. absurd cc;
       upkept = tt;

@@ -426,6 +426,11 @@ module _ {S : Type 0} (g : Ghosts S) (start : Entry → Bool) (old : Moment S) (
 pub does_of : {S : Type 0} {g : Ghosts S} {start : Entry → Bool} {kind : Kind} {answer : Answer} {old new : Moment S} → Fits g start old → Fits g start new → new.sets ≡ old.sets
     → EventAlso g start kind answer old new → EventDoes g start kind answer old new
 does_of {S} {g} {start} {kind} {answer} {old} {new} fits then_fits sets also = record {
-  means = record { means = event_means g start old fits new kind answer also.happens also.caused; sets = sets; explains = then_fits.explains };
+  means = record {
+    means = event_means g start old fits new kind answer also.happens also.caused;
+    sets = sets;
+    limits = also.quiet.limits;
+    explains = then_fits.explains;
+  };
   also = also;
 }

@@ -1,11 +1,11 @@
 -- What an event does beside what it means: what keeps the theorem, and what holds of an event whatever the pages are.
-use Rattle.std.specs.Prelude.{◌≡◌, ◌≢◌, ◌⊎◌, ℕ, suc, ◌≤◌, ◌&&◌, not, Bool, true, false, Option, Some, None, Err, List, [], ◌∷◌, ◌++◌, length, drop, slice_get, slice_set}
+use Rattle.std.specs.Prelude.{◌≡◌, ◌≢◌, ◌⊎◌, ℕ, suc, ◌≤◌, ◌&&◌, not, Bool, true, false, Option, Some, None, Ok, Err, List, [], ◌∷◌, ◌++◌, length, drop, slice_get, slice_set}
 use Rattle.index_model.specs.Actions.{Effect, Action, contents_after}
 use Rattle.index_model.specs.Calls.{Call}
 use Rattle.index_model.specs.Faults.{Circumstances, HasCause}
 use Rattle.index_model.specs.declared.entry.Entry.{Entry}
 use Rattle.index_model.specs.declared.fault.Fault.{Fault}
-use Rattle.index_model.specs.declared.fault.Fault.TheVariants.{Stopped}
+use Rattle.index_model.specs.declared.fault.Fault.TheVariants.{Stopped, VacuumRunning}
 use Rattle.page_action.specs.Causes.{nothing_wrong, causes_of_forced}
 use Rattle.page_action.specs.Order.{IsRestOf}
 use Rattle.page_action.specs.Room.{KeepsRoom, LogIsClosed}
@@ -317,12 +317,17 @@ BeginningIsCaused g (BeginsCall session request) answer old =
 BeginningIsCaused g kind answer old = Unit {0}
 
 -- a beginning is refused for the first that stands in its way: no call begins, there is no such session or set, the session has
--- a call
+-- a call; and then, if it asks a vacuum, that one runs
+pub record IsRefusedInOrder {S : Type 0} (g : Ghosts S) (session : ℕ) (request : Request) (answer : Answer) (old : StoreAndSlots S) : Type 0 where
+  pub unfound : (fault : Fault)
+      → session_to_begin (no_call_begins (g.state old.store) (g.backing old.store)) (is_of_sets old.sets request) (slice_get old.slots session) session ≡ Err fault
+      → answer ≡ Refused fault
+  pub excluded : session_to_begin (no_call_begins (g.state old.store) (g.backing old.store)) (is_of_sets old.sets request) (slice_get old.slots session) session ≡ Ok session
+      → asks_vacuum request ≡ true → one_vacuums old.slots ≡ true → answer ≡ Refused VacuumRunning
+
+-- ... of an event that begins no call nothing is said
 abbrev pub RefusesInOrder : {S : Type 0} → Ghosts S → Kind → Answer → StoreAndSlots S → Type 0
-RefusesInOrder g (BeginsCall session request) answer old =
-    (fault : Fault)
-    → session_to_begin (no_call_begins (g.state old.store) (g.backing old.store)) (is_of_sets old.sets request) (slice_get old.slots session) session ≡ Err fault
-    → answer ≡ Refused fault
+RefusesInOrder g (BeginsCall session request) answer old = IsRefusedInOrder g session request answer old
 RefusesInOrder g kind answer old = Unit {0}
 
 -- a call that has begun is what was asked for, before its first step
@@ -372,8 +377,8 @@ pub record EventAlways {S : Type 0} (g : Ghosts S) (kind : Kind) (answer : Answe
   pub left : IsLeftByEvent g kind old new
   -- a beginning that is refused has its cause
   pub causes : BeginningIsCaused g kind answer old
-  -- ... the first that there is of a log that has failed or a count of calls at its end, no such session or set, and a session
-  -- with a call
+  -- ... the first that there is of a log that has failed or a count of calls at its end, no such session or set, a session with a
+  -- call, and another vacuum that runs
   pub order : RefusesInOrder g kind answer old
   -- what has begun is the call that was asked for, before its first step
   pub fresh : StartsFresh kind answer (slot_of new.slots (session_at kind))
@@ -427,7 +432,8 @@ pub record GrowsByOne (old new : List Action) : Type 0 where
   pub is : new ≡ old ++ acts
   pub few : length acts ≤ 1
 
--- What an event also leaves, beside what it means. It needs no reading: each event leaves it.
+-- What an event also leaves, beside what it means. Two of its sentences no other word has: a next and an end append no action (`calm`), and
+-- what is durable stays so (`later`).
 pub record EventAlso {S : Type 0} (g : Ghosts S) (start : Entry → Bool) (kind : Kind) (answer : Answer) (old new : Moment S) : Type 0 where
   -- what holds of it whatever the pages are
   pub always : EventAlways g kind answer (here_at old) (here_at new)

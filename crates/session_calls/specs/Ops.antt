@@ -207,17 +207,18 @@ IsCaused at (Refused fault) = HasCause at fault
 IsCaused at (Added action unfinished) = IsFaultCaused (once_added at) unfinished
 IsCaused at answer = Unit {0}
 
--- what may be so where a step of this call is refused, whatever the pages are; the set that a bulk delete names may not be there
-abbrev pub causes_of_stepped_any : Op → Circumstances
-causes_of_stepped_any (Insert op) = causes_of_inserting_any
-causes_of_stepped_any (Scan op) = causes_of_reading_any
-causes_of_stepped_any (Bulk set op) = record causes_of_writing_any { no_such_session = true }
-causes_of_stepped_any (Cleanup op) = causes_of_writing_any
+-- what may be so where a step of this call is refused, on a unique index or another, whatever the pages are; the set that a bulk delete
+-- names may not be there
+abbrev pub causes_of_stepped_any : Bool → Op → Circumstances
+causes_of_stepped_any unique (Insert op) = causes_of_inserting_any unique op.entry
+causes_of_stepped_any unique (Scan op) = causes_of_reading_any
+causes_of_stepped_any unique (Bulk set op) = record causes_of_writing_any { no_such_session = true }
+causes_of_stepped_any unique (Cleanup op) = causes_of_writing_any
 
 -- ... of what a session runs, if anything
-abbrev pub causes_of_slot_stepped_any : Option Op → Circumstances
-causes_of_slot_stepped_any None = record nothing_wrong { is_stopped = true; no_such_session = true }
-causes_of_slot_stepped_any (Some op) = causes_of_stepped_any op
+abbrev pub causes_of_slot_stepped_any : Bool → Option Op → Circumstances
+causes_of_slot_stepped_any unique None = record nothing_wrong { is_stopped = true; no_such_session = true }
+causes_of_slot_stepped_any unique (Some op) = causes_of_stepped_any unique op
 
 -- whether a fault ends the call: one that is blocked goes on, and so does one that the event doesn't fit
 abbrev pub ends_call : Fault → Bool

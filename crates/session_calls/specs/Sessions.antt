@@ -546,7 +546,7 @@ pub record OpSteps {S : Type 0} (g : Ghosts S) (before after : Op) (old new : S)
   pub refused : (fault : Fault) → answer ≡ Refused fault → (g.state new ≡ g.state old) × (after ≡ before)
   pub stopped : (g.backing old).stopped ≡ true → StoppedAnswersFirst (add_of before) answer
   pub unfinished : (action : ℕ) (fault : Fault) → answer ≡ Added action (Some fault) → g.state new ≡ g.state old
-  pub faults : IsCaused (causes_of_stepped_any before) answer
+  pub faults : IsCaused (causes_of_stepped_any (g.state old).limits.unique before) answer
   pub logged : AnswersLogged (add_of before) answer
   pub stats : CountsStats (g.state old) (Some before) answer
   pub waits : WaitsToGive (g.backing old).stopped (g.state old) (g.state new) (Some before) (Some after) answer

@@ -1,2 +1,4 @@
 pub mod Opened
 pub mod Leaving
+pub mod Fresh
+pub mod Ending

@@ -4,6 +4,7 @@ use Rattle.index_model.specs.Actions.{Action}
 use Rattle.index_model.specs.Calls.{Call}
 use Rattle.index_model.specs.declared.entry.Entry.{Entry}
 use Rattle.index_model.specs.declared.dead_rows.DeadRows.{Ghosts as SetGhosts}
+use Rattle.page_action.specs.States.{State}
 use Rattle.page_action.specs.declared.page_store.PageStore.{Ghosts}
 use Rattle.session_calls.specs.declared.answer.Answer.{Answer}
 use Rattle.schedule.specs.TheoremCrashes.{KeepsHistory, IsCrashSafe}
@@ -44,6 +45,19 @@ WorldIsRun g rows old new event answer start history calls = EventFollows g (ins
 -- answers
 abbrev pub WorldRuns : {S T : Type 0} → Ghosts S → SetGhosts T → World S T → World S T → List Event → List Answer → (Entry → Bool) → List Action → List Call → Type 0
 WorldRuns g rows old new events answers start history calls = Runs g (inside rows old) (inside rows new) events answers start history calls
+
+-- some history and calls fit the world
+abbrev pub WorldStillFits : {S T : Type 0} → Ghosts S → SetGhosts T → World S T → (Entry → Bool) → List Action → List Call → Type 0
+WorldStillFits g rows world start history calls = (then_history : List Action) × (then_calls : List Call) × WorldFits g rows world start then_history then_calls
+
+-- the pages, the sizes and the counts of a store are as they were: only what its sessions held may be let go
+pub record OnlyLetsGo (old new : State) : Type 0 where
+  pub limits : new.limits ≡ old.limits
+  pub frames : new.frames ≡ old.frames
+  pub pages : new.pages ≡ old.pages
+  pub counted : new.counted ≡ old.counted
+  pub acts : new.acts ≡ old.acts
+  pub begun : new.begun ≡ old.begun
 
 -- the sessions and the sets of dead rows are the same
 pub record SameSessions {S T : Type 0} (old new : World S T) : Type 0 where

@@ -1,10 +1,12 @@
 //! A store of pages with its sessions and sets of dead rows; and one on a device, which is opened again after a crash.
 #![tactic(auto)]
 
+mod laws;
 mod memory;
 mod opening;
 mod over_device;
 mod world;
 
+pub use laws::new_indexes_are_trees;
 pub use opening::NotOpened;
 pub use world::{NotMade, World};

@@ -60,6 +60,7 @@ impl<D: Device, T: DeadRows + Drop> World<Store<D>, T> {
     pub fn into_device(self) -> D
         ensures { result ≡ device_of D.Device self.store }
     {
-        self.into_store().into_device()
+        let World { store, .. } = self;
+        store.into_device()
     }
 }

@@ -37,22 +37,25 @@ pub struct NotMade<S, T> {
 }
 
 impl<S: PageStore, T: DeadRows + Drop> World<S, T> {
-    ghost use Rattle.std.specs.Prelude.{◌≡◌, ◌⊎◌, ◌<◌, ◌≤◌, ◌∷◌, [], true, IfOk, IfErr, OnOk, OnErr, length, slice_get, Some, None, ◌+◌, drop, take, IsOk, vec_len, vec_capacity};
+    ghost use Rattle.std.specs.Prelude.{◌≡◌, ◌⊎◌, ◌<◌, ◌≤◌, ◌∷◌, [], ℕ, Bool, true, false, List, IfOk, IfErr, OnOk, OnErr, length, slice_get, Some, None, ◌+◌, drop, take, IsOk, vec_len, vec_capacity};
+    ghost use Rattle.index_model.specs.Actions.{Action};
+    ghost use Rattle.index_model.specs.Calls.{Call};
     ghost use Rattle.index_model.specs.Faults.{HasCause};
+    ghost use Rattle.index_model.specs.declared.entry.Entry.{Entry as IndexEntry};
     ghost use Rattle.page_action.specs.Causes.{causes_of_read};
     ghost use Rattle.page_action.specs.Contents.{entry_on_live_leaf};
     ghost use Rattle.page_action.specs.States.{Continues};
     ghost use Rattle.schedule.specs.TheoremKinds.{MovesCall, GivesUp, kind_of};
-    ghost use Rattle.schedule.specs.Events.{EventAlways, IsSameStore};
+    ghost use Rattle.schedule.specs.Events.{EventAlways, IsSameStore, OthersStay};
     ghost use Rattle.schedule.specs.Making.{EachAlways};
     ghost use Rattle.schedule.specs.TheoremRuns.{ForEachHistory, Runs};
-    ghost use Rattle.session_calls.specs.Sessions.{ready_count};
+    ghost use Rattle.session_calls.specs.Sessions.{IsIdle, ready_count};
     ghost use Rattle.session_calls.specs.Slots.{has_call, slot_of};
     ghost use Rattle.schedule.specs.MomentInvariants.{IsUnused};
     ghost use Rattle.whole_calls.specs.Going.{CallIsRun};
     ghost use Rattle.whole_calls.specs.Made.{IsMadeOf};
     ghost use Rattle.whole_calls.specs.OneStep.{IsMadeAsStep, OneStepAlways, OneStepComesTo, OneStepIsRun};
-    ghost use Rattle.world.specs.Worlds.{WorldFits, WorldKeeps, WorldIsSafe, WorldIsRun, ForEachWorldHistory, SameSessions, inside};
+    ghost use Rattle.world.specs.Worlds.{WorldFits, WorldStillFits, WorldKeeps, WorldIsSafe, WorldIsRun, ForEachWorldHistory, OnlyLetsGo, SameSessions, inside};
 
     /// A world over the store with so many sessions, none of which has a call, and the sets of dead rows that its events
     /// may name. Refused with `BadLimits` unless it is 1 to 64 sessions, and with `NoMemory`; the store and the sets are
@@ -193,12 +196,59 @@ impl<S: PageStore, T: DeadRows + Drop> World<S, T> {
         self.one(Event::End(session))
     }
 
-    /// The store, with whatever the sessions still hold.
+    /// The store. Each call that a session runs is given up before, as [`World::abandon`] does it: nothing is logged, and what the
+    /// session held is let go. So a world that is made over the store isn't blocked by calls that are gone.
     pub fn into_store(self) -> S
-        ensures { result ≡ self.store }
+        ensures steps { Continues S.follows self.store result }
+        // Where no session has a call, it is the very store.
+        ensures same { ((session : ℕ) → has_call self.calls.slots.items session ≡ false)
+            → result ≡ self.store }
+        ensures backing { S.backing result ≡ S.backing self.store }
+        ensures kept { OnlyLetsGo (S.state self.store) (S.state result) }
+        // Where something fits the world, no session holds anything of the store.
+        ensures idle { (S.backing self.store).honest ≡ true
+            → (start : IndexEntry → Bool) (history : List Action) (calls : List Call)
+            → WorldFits S.PageStore T.DeadRows self start history calls
+            → (session : ℕ) → IsIdle (S.state result) session }
     {
-        let World { store, .. } = self;
+        let mut world = self;
+        world.end_calls();
+        let World { store, .. } = world;
         store
+    }
+
+    // Gives up the call of each session.
+    fn end_calls(&mut self)
+        ensures steps { Continues S.follows self.old.store self.new.store }
+        ensures over { (session : ℕ) → has_call self.new.calls.slots.items session ≡ false }
+        ensures same { ((session : ℕ) → has_call self.old.calls.slots.items session ≡ false)
+            → self.new ≡ self.old }
+        ensures backing { S.backing self.new.store ≡ S.backing self.old.store }
+        ensures kept { OnlyLetsGo (S.state self.old.store) (S.state self.new.store) }
+        ensures fits { ForEachWorldHistory S.PageStore T.DeadRows self.old self.new
+            (WorldStillFits S.PageStore T.DeadRows self.new) }
+    {
+        for session in 0..self.sessions() {
+            self.end_call(session);
+        }
+    }
+
+    // Gives up the session's call, if it has one.
+    fn end_call(&mut self, session: u32)
+        ensures steps { Continues S.follows self.old.store self.new.store }
+        ensures sessions { length self.new.calls.slots.items ≡ length self.old.calls.slots.items }
+        ensures over { has_call self.new.calls.slots.items session ≡ false }
+        ensures others { OthersStay session self.old.calls.slots.items self.new.calls.slots.items }
+        ensures same { has_call self.old.calls.slots.items session ≡ false → self.new ≡ self.old }
+        ensures backing { S.backing self.new.store ≡ S.backing self.old.store }
+        ensures kept { OnlyLetsGo (S.state self.old.store) (S.state self.new.store) }
+        ensures fits { ForEachWorldHistory S.PageStore T.DeadRows self.old self.new
+            (WorldStillFits S.PageStore T.DeadRows self.new) }
+    {
+        if !self.is_running(session) {
+            return;
+        }
+        let _ended = self.abandon(session);
     }
 
     /// How many images one more act could hold now: no more than are promised to it.

@@ -12,6 +12,9 @@ invariant_of-self-2 g c = record {
       c.open.ensures.others.others (ap slot_vacuums (rw c.in_ok-open.was at c.open.ensures.begins));
 }
 
+pub returns-clause-made : goal.returns-clause-made
+returns-clause-made g c = rw c.in_ok-open.was at c.open.ensures.made 5
+
 -- a free seat's session has no call, so that nothing hinders a scan there
 pub returns-in_err-open : goal.returns-in_err-open
 returns-in_err-open g c =

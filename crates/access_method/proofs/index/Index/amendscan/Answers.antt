@@ -2,6 +2,9 @@ use Rattle.std.proofs.Common.{None, ◌∙◌}
 use Rattle.access_method.proofs.Seats.{agree_over, calm_over}
 use Rattle.access_method.proofs.index.Index.amendscan.Goals as goal
 
+pub returns-clause-made : goal.returns-clause-made
+returns-clause-made g c = c.give_up.ensures.made 5
+
 pub invariant_of-self : goal.invariant_of-self
 invariant_of-self g c =
     record {

@@ -1,5 +1,6 @@
 use Rattle.std.proofs.Common.{None, Some, Ok, sym, ◌∙◌, rules}
 use Rattle.access_method.proofs.Imports.{[], is_at_end, one_vacuums, here_with, Begun, ToScan, EndMeans, BeginMeans, goes_then, slots_within, RescanMeans}
+use Rattle.whole_calls.proofs.Made.{made_then, answered_right}
 use Rattle.access_method.proofs.Seats.{rescan_told, may_begin}
 use Rattle.access_method.proofs.index.Index.amrescan.Goals as goal
 
@@ -10,6 +11,10 @@ returns-clause-runs g c =
     (slots_within c.args.self.now) (here_with c.give_up.new.store c.give_up.new.calls.slots.items []) (here_with c.open.new.store c.open.new.calls.slots.items [])
     c.give_up.ensures.steps c.open.ensures.steps c.give_up.ensures.goes (rw c.in_ok-open.was at c.open.ensures.goes)
     (λ start x y z at then_at fx fy fz one two. rescan_told session c.args.range tt x y z one two)
+
+pub returns-clause-made : goal.returns-clause-made
+returns-clause-made g c =
+    made_then (c.give_up.ensures.made 5) (rw c.in_ok-open.was at c.open.ensures.made 5) (λ xs ys one two. answered_right xs ys Begun two)
 
 -- the token's session has no call any more, so that nothing hinders a scan there
 pub returns-in_err-open : goal.returns-in_err-open
