@@ -6,3 +6,4 @@ pub mod Cleanups
 pub mod Refusals
 pub mod Opened
 pub mod Closing
+pub mod Scans

@@ -3,3 +3,4 @@ pub mod Counted
 pub mod Indexes
 pub mod Refusals
 pub mod Files
+pub mod Scans

@@ -110,7 +110,7 @@ fn deleted_pages<S: PageStore>(store: &S) -> (u32, u32)
 }
 
 impl<S: PageStore> Index<S> {
-    ghost use Rattle.std.specs.Prelude.{◌≡◌, ◌≢◌, [], true, false, None, Some, Ok, Err, IfOk, IfErr, IsOk, OnOk, OnErr, OnSome, ◌<◌, length};
+    ghost use Rattle.std.specs.Prelude.{◌≡◌, ◌≢◌, ℕ, List, [], true, false, None, Some, Ok, Err, IfOk, IfErr, IsOk, OnOk, OnErr, OnSome, ◌<◌, length};
     ghost use Rattle.access_method.specs.declared.token.ScanToken.{ScanToken};
     ghost use Rattle.index_model.specs.Formats.{sizes_of};
     ghost use Rattle.vacuum.specs.Counts.{deleted_count, free_count};
@@ -130,7 +130,10 @@ impl<S: PageStore> Index<S> {
     ghost use Rattle.whole_calls.specs.Vacuuming.{VacuumMeans, vacuum_outcome, ResultLeavesNeeded};
     ghost use Rattle.whole_calls.specs.Giving.{SessionGivenMeans, EndsUnlessGiven, given_outcome};
     ghost use Rattle.access_method.specs.Tokens.{seat_of};
-    ghost use Rattle.access_method.specs.Indexes.{IndexFits, IndexKeeps, IndexIsRun, IndexInserts, IndexMakes, IndexIsKept, slots_with, ForEachIndexHistory, BulkDeleteRuns, SameTokens, IsNewToken, SeatBecomes, seat_with, RescanMeans, TokenAfter, InsertsOrKeeps, IsBulkDeletedOrLess, IsCleanedUp, AnswersScan, NotOpenedFor, NotRescannedFor, cannot_begin};
+    ghost use Rattle.access_method.specs.Indexes.{IndexFits, IndexKeeps, IndexIsRun, IndexInserts, IndexMakes, IndexIsKept, slots_with, ForEachIndexHistory, BulkDeleteRuns, SameTokens, IsNewToken, SeatBecomes, seat_with, RescanMeans, TokenAfter, InsertsOrKeeps, IsBulkDeletedOrLess, IsCleanedUp, AnswersScan, has_entry, NotOpenedFor, NotRescannedFor, cannot_begin};
+    ghost use Rattle.access_method.specs.Scans.{AreTheMatches, BeginTheMatches, NextIs, NextsAre, ScanBegins};
+    ghost use Rattle.index_model.specs.declared.entry.Entry.{Entry as IndexEntry};
+    ghost use Rattle.index_model.specs.declared.range.Range.{Range as TheRange};
     ghost use Rattle.access_method.specs.Counted.{upkeep_outcome};
     ghost use Rattle.access_method.specs.Refusals.{causes_of_run, InsertHasCause, NothingHinders, NothingIsOpen, InsertsUnhindered, GiveHasCause, GivesUnhindered};
 
@@ -496,6 +499,22 @@ impl<S: PageStore> Index<S> {
         });
         Ok(())
     }
+
+    /// Does nothing: what a scan gives, where between its beginning and now nothing was done but asking for its next entry. These are
+    /// the first of the sorted matches, of what was there when it was begun; and all of them, once it has answered None.
+    pub fn scan_law(&self)
+        ensures first { (session : ℕ) (range : TheRange) (before begun : Index S) (given : List IndexEntry)
+            → ScanBegins S.PageStore session range before begun
+            → NextsAre S.PageStore session given begun self.now
+            → ForEachIndexHistory S.PageStore before self.now (λ start history calls.
+            BeginTheMatches (has_entry S.PageStore before.store) range given) }
+        ensures all { (session : ℕ) (range : TheRange) (before begun last : Index S) (given : List IndexEntry)
+            → ScanBegins S.PageStore session range before begun
+            → NextsAre S.PageStore session given begun last
+            → NextIs S.PageStore session (Ok None) last self.now
+            → ForEachIndexHistory S.PageStore before self.now (λ start history calls.
+            AreTheMatches (has_entry S.PageStore before.store) range given) }
+    {}
 }
 
 impl<D: Device> Index<Store<D>> {

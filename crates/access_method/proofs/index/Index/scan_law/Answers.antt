@@ -1,0 +1,10 @@
+use Rattle.access_method.proofs.Scans.{are_the_matches, begin_the_matches}
+use Rattle.access_method.proofs.index.Index.scan_law.Goals as goal
+
+pub returns-clause-first : goal.returns-clause-first
+returns-clause-first g c session range before begun given begins nexts honest start history calls fits =
+    begin_the_matches g.S.PageStore g.met.S.PageStore.laws session range given before begun c.args.self.now start history calls begins nexts honest fits
+
+pub returns-clause-all : goal.returns-clause-all
+returns-clause-all g c session range before begun last given begins nexts next honest start history calls fits =
+    are_the_matches g.S.PageStore g.met.S.PageStore.laws session range given before begun last c.args.self.now start history calls begins nexts next honest fits
