@@ -3,7 +3,6 @@ pub mod Scripts
 pub mod Workers
 pub mod JobsRead
 pub mod Finished
-pub mod Fresh
 pub mod Listed
 pub mod Stepped
 pub mod Checked

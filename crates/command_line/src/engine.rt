@@ -30,7 +30,7 @@ use schedule::Event;
 use session_calls::Answer;
 use std::alloc::Global;
 use std::io;
-use world::World;
+use world::{World, new_indexes_are_trees};
 
 /// The sizes that a script is run with.
 #[derive(Clone, Copy)]
@@ -91,6 +91,7 @@ impl Engine {
         }
         let mut device = MemDevice::new(alloc, needed_len(&setting.limits))?;
         create(&mut device, &setting.limits)?;
+        new_indexes_are_trees();
         Ok(Engine {
             alloc,
             setting: *setting,
