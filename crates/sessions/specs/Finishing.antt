@@ -4,6 +4,7 @@ use Rattle.std.specs.List.{sum, sum_by, count_by}
 use Rattle.index_model.specs.declared.dead_rows.DeadRows.{Ghosts as SetGhosts}
 use Rattle.index_model.specs.declared.fault.Fault.{Fault}
 use Rattle.index_model.specs.declared.fault.Fault.TheVariants.{BadLimits, SessionBusy, NoMemory}
+use Rattle.page_action.specs.States.{Continues}
 use Rattle.page_action.specs.declared.page_store.PageStore.{Ghosts}
 use Rattle.session_calls.specs.Slots.{has_call}
 use Rattle.session_calls.specs.declared.op.Op.{Op}
@@ -55,6 +56,7 @@ pub record IsFinished {S T : Type 0} (g : Ghosts S) (rows : SetGhosts T) (jobs :
   pub kept : ∥ KeepsAll g (WorldFits g rows world) (WorldKeeps g rows world) jobs (inside rows done.world) done.start [] done.history.items ∥₁
   pub acted : ∥ HasActed g (handed_of g rows world) jobs (inside rows done.world) [] done.history.items ∥₁
   pub comes : ∥ ComesOf g (handed_of g rows world) done.start (inside rows done.world) ∥₁
+  pub steps : ∥ Continues g.follows world.store done.world.store ∥₁
   pub idle : AreIdle done.world.calls.slots.items
   pub all : length done.history.items ≡ length jobs
   pub once : (job : ℕ) → job < length jobs → times job (jobs_of_records done.history.items) ≡ 1

@@ -16,7 +16,7 @@ use crate::slot::Slot;
 use crate::ticket::{JobList, JobTicket};
 use index_model::DeadRows;
 use page_action::PageStore;
-use shared_world::{Jobs, Record};
+use shared_world::{JobsOn, Record};
 use std::sync::{Mutex, Wait};
 use std::thread;
 use std::thread::{PromisedHandle, Threads};
@@ -28,7 +28,7 @@ pub fn run_all<
     'x,
     S: PageStore + Drop + Send + 'x,
     T: DeadRows + Drop + Send + 'x,
-    J: Jobs + Send + Sync + 'x,
+    J: JobsOn<S> + Send + Sync + 'x,
     K: JobList + Send + Sync + 'x,
     G: Gate + Sync + 'x,
     R: Threads + Wait + Sync + 'x,
@@ -50,11 +50,11 @@ pub fn run_all<
     requires workers { last + 1 ≡ J.workers }
     requires few { J.workers ≤ 64 }
     requires sessions { J.workers ≤ length world.calls.slots.items }
-    requires stood { Stands S.PageStore J.stood J.kept_then (inside T.DeadRows world) }
+    requires stood { Stands S.PageStore J.stood J.kept_then J.followed (inside T.DeadRows world) }
     requires handed { IsAsHanded S.PageStore J.handed (inside T.DeadRows world) }
     requires rests { AreIdle world.calls.slots.items }
     ensures err { IfErr result (λ w. w ≡ world) }
-    ensures done { IfOk result (λ r. HasRun S.PageStore T.DeadRows J.stood J.kept_then J.handed
+    ensures done { IfOk result (λ r. HasRun S.PageStore T.DeadRows J.stood J.kept_then J.followed J.handed
         J.jobs J.workers r.0 r.1 r.2.items) }
 {
     let slot: Mutex<Slot<S, T, J>> = Mutex::new(Slot::Waiting);
@@ -77,12 +77,12 @@ pub fn run_all<
             requires workers { last + 1 ≡ J.workers }
             requires few { J.workers ≤ 64 }
             requires sessions { J.workers ≤ length world.calls.slots.items }
-            requires stood { Stands S.PageStore J.stood J.kept_then (inside T.DeadRows world) }
+            requires stood { Stands S.PageStore J.stood J.kept_then J.followed (inside T.DeadRows world) }
             requires handed { IsAsHanded S.PageStore J.handed (inside T.DeadRows world) }
             requires rests { AreIdle world.calls.slots.items }
             ensures err { IfErr result (λ w. w ≡ world) }
             ensures done { IfOk result (λ r. HasRun S.PageStore T.DeadRows J.stood J.kept_then
-                J.handed J.jobs J.workers r.0 r.1 r.2.items) }
+                J.followed J.handed J.jobs J.workers r.0 r.1 r.2.items) }
         { hire(scope, run, world, room, handles, last) },
     )
 }

@@ -11,7 +11,7 @@ use crate::ticket::{JobList, JobTicket};
 use crate::worker::work;
 use index_model::DeadRows;
 use page_action::PageStore;
-use shared_world::Jobs;
+use shared_world::{Jobs, JobsOn};
 use std::sync::Wait;
 use std::thread::Promise;
 use worker_seats::{QueuePass, Seat, Worker};
@@ -27,7 +27,7 @@ impl<J: Jobs, K: JobList> Promise<Worker<J, JobTicket<K>>> for Number {
 }
 
 /// A worker's thread: it waits until all have started, and works where the lock was opened.
-pub fn crew<S: PageStore, T: DeadRows + Drop, J: Jobs, K: JobList, G: Gate, R: Wait>(
+pub fn crew<S: PageStore, T: DeadRows + Drop, J: JobsOn<S>, K: JobList, G: Gate, R: Wait>(
     run: &RunContext<S, T, J, K, G, R>,
     seat: Seat<J>,
     pass: QueuePass<JobTicket<K>>,

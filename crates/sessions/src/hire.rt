@@ -22,7 +22,7 @@ use crate::ticket::{JobList, JobTicket};
 use crate::worker::work;
 use index_model::DeadRows;
 use page_action::PageStore;
-use shared_world::{Jobs, Pending, Record, Shared, ended, first};
+use shared_world::{Jobs, JobsOn, Pending, Record, Shared, ended, first};
 use std::mem;
 use std::sync::Wait;
 use std::sync::ledger::Share;
@@ -31,7 +31,7 @@ use worker_seats::{Parts, QueuePass, Seat, SeatPass, Worker, gather, open};
 use world::World;
 
 // Puts a value under the lock, and wakes all.
-fn put<S: PageStore + Drop, T: DeadRows + Drop, J: Jobs, K: JobList, G: Gate, R: Wait>(
+fn put<S: PageStore + Drop, T: DeadRows + Drop, J: JobsOn<S>, K: JobList, G: Gate, R: Wait>(
     run: &RunContext<S, T, J, K, G, R>,
     value: Slot<S, T, J>,
 ) {
@@ -40,7 +40,7 @@ fn put<S: PageStore + Drop, T: DeadRows + Drop, J: Jobs, K: JobList, G: Gate, R:
 }
 
 // Takes what lies under the lock out of it.
-fn take_out<S: PageStore + Drop, T: DeadRows + Drop, J: Jobs, K: JobList, G: Gate, R: Wait>(
+fn take_out<S: PageStore + Drop, T: DeadRows + Drop, J: JobsOn<S>, K: JobList, G: Gate, R: Wait>(
     run: &RunContext<S, T, J, K, G, R>,
 ) -> Shared<S, T, J> {
     let mut guard = run
@@ -59,7 +59,7 @@ fn start_all<
     E,
     S: PageStore + Drop + Send + 's,
     T: DeadRows + Drop + Send + 's,
-    J: Jobs + Send + Sync + 's,
+    J: JobsOn<S> + Send + Sync + 's,
     K: JobList + Send + Sync + 's,
     G: Gate + Sync + 's,
     R: Threads + Wait + Sync + 's,
@@ -137,7 +137,7 @@ fn joined<J: Jobs, K: JobList, R: Threads>(
 }
 
 // Works as the last worker, joins the others, and works until no job is left: then the pass has every part.
-fn work_out<S: PageStore, T: DeadRows + Drop, J: Jobs, K: JobList, G: Gate, R: Threads + Wait>(
+fn work_out<S: PageStore, T: DeadRows + Drop, J: JobsOn<S>, K: JobList, G: Gate, R: Threads + Wait>(
     run: &RunContext<S, T, J, K, G, R>,
     own: Seat<J>,
     pass: QueuePass<JobTicket<K>>,
@@ -180,7 +180,7 @@ pub fn hire<
     E,
     S: PageStore + Drop + Send + 's,
     T: DeadRows + Drop + Send + 's,
-    J: Jobs + Send + Sync + 's,
+    J: JobsOn<S> + Send + Sync + 's,
     K: JobList + Send + Sync + 's,
     G: Gate + Sync + 's,
     R: Threads + Wait + Sync + 's,
@@ -197,11 +197,11 @@ pub fn hire<
     requires workers { last + 1 ≡ J.workers }
     requires few { J.workers ≤ 64 }
     requires sessions { J.workers ≤ length world.calls.slots.items }
-    requires stood { Stands S.PageStore J.stood J.kept_then (inside T.DeadRows world) }
+    requires stood { Stands S.PageStore J.stood J.kept_then J.followed (inside T.DeadRows world) }
     requires handed { IsAsHanded S.PageStore J.handed (inside T.DeadRows world) }
     requires rests { AreIdle world.calls.slots.items }
     ensures err { IfErr result (λ w. w ≡ world) }
-    ensures done { IfOk result (λ r. HasRun S.PageStore T.DeadRows J.stood J.kept_then J.handed
+    ensures done { IfOk result (λ r. HasRun S.PageStore T.DeadRows J.stood J.kept_then J.followed J.handed
         J.jobs J.workers r.0 r.1 r.2.items) }
 {
     let Room {

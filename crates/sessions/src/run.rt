@@ -6,7 +6,7 @@ ghost use Rattle.crossbeam_queue.specs.Passes.{view, IsPassOf};
 ghost use Rattle.index_model.specs.Actions.{Action};
 ghost use Rattle.index_model.specs.Calls.{Call};
 ghost use Rattle.index_model.specs.declared.entry.Entry.{Entry as OneEntry};
-ghost use Rattle.page_action.specs.States.{IsLater};
+ghost use Rattle.page_action.specs.States.{Continues, IsLater};
 ghost use Rattle.worker_seats.specs.Queue.{below, queue_view, times, weigh};
 ghost use Rattle.worker_seats.specs.Seats.{keeper_of, known_by};
 ghost use Rattle.world.specs.Worlds.{WorldFits, WorldKeeps, inside};
@@ -26,7 +26,7 @@ use crate::run_room::make_room;
 use crate::ticket::{JobList, JobTicket, all_tickets};
 use index_model::{DeadRows, Fault};
 use page_action::PageStore;
-use shared_world::{Job, Jobs, Record};
+use shared_world::{Job, JobsOn, Record};
 use std::alloc::Global;
 use std::marker::Brand;
 use std::sync::Wait;
@@ -103,7 +103,7 @@ fn queue_of<K: JobList, R: Wait>(
 fn run_named<
     S: PageStore + Drop + Send,
     T: DeadRows + Drop + Send,
-    J: Jobs + Send + Sync,
+    J: JobsOn<S> + Send + Sync,
     K: JobList + Send + Sync,
     G: Gate + Sync,
     R: Threads + Wait + Sync,
@@ -135,6 +135,7 @@ fn run_named<
     requires kept_then { (contents : OneEntry → Bool) (history : List Action) (calls : List Call)
         → J.kept_then contents history calls
         ↔ WorldKeeps S.PageStore T.DeadRows world contents history calls }
+    requires followed { (first : S) → J.followed first ↔ S.follows first world.store }
     requires keeper { keeper.table_id ≡ cell.now.table.shared.table_id }
     requires knows { known_by keeper ≡ keeper_of [] [] }
     requires pass { IsPassOf queue.now pass }
@@ -232,6 +233,9 @@ pub fn run_jobs<
     ensures acted { IfOk result (λ done. ∥ HasActed S.PageStore
         (handed_of S.PageStore T.DeadRows world) jobs.now (inside T.DeadRows done.world) []
         done.history.items ∥₁) }
+    // What its store followed it follows still, so that the law of crashes holds over the run.
+    ensures steps { IfOk result (λ done.
+        ∥ Continues S.follows world.store done.world.store ∥₁) }
     ensures later { IfOk result (λ done.
         ∥ IsLater (S.backing world.store) (S.backing done.world.store) ∥₁) }
     ensures start { IfOk result (λ done. done.start ≡ (S.state world.store).acts) }

@@ -16,13 +16,13 @@ use crate::ticket::{JobList, JobTicket};
 use index_model::{DeadRows, Entry};
 use page_action::PageStore;
 use session_calls::Answer;
-use shared_world::{Job, Jobs, Turn};
+use shared_world::{Job, JobsOn, Turn};
 use std::sync::Wait;
 use std::thread;
 use worker_seats::{Pops, QueuePass, Seat};
 
 // Begins a job, in a hold of the lock.
-fn begin_in<S: PageStore, T: DeadRows + Drop, J: Jobs, K: JobList, G: Gate, R: Wait>(
+fn begin_in<S: PageStore, T: DeadRows + Drop, J: JobsOn<S>, K: JobList, G: Gate, R: Wait>(
     run: &RunContext<S, T, J, K, G, R>,
     seat: Seat<J>,
     job: u32,
@@ -47,7 +47,7 @@ fn begin_in<S: PageStore, T: DeadRows + Drop, J: Jobs, K: JobList, G: Gate, R: W
 }
 
 // Makes a step of the session's call, in a hold of the lock.
-fn step_in<S: PageStore, T: DeadRows + Drop, J: Jobs, K: JobList, G: Gate, R: Wait>(
+fn step_in<S: PageStore, T: DeadRows + Drop, J: JobsOn<S>, K: JobList, G: Gate, R: Wait>(
     run: &RunContext<S, T, J, K, G, R>,
     seat: Seat<J>,
     job: u32,
@@ -67,7 +67,7 @@ fn step_in<S: PageStore, T: DeadRows + Drop, J: Jobs, K: JobList, G: Gate, R: Wa
 }
 
 // Asks the session's call for its next entry, in a hold of the lock.
-fn next_in<S: PageStore, T: DeadRows + Drop, J: Jobs, K: JobList, G: Gate, R: Wait>(
+fn next_in<S: PageStore, T: DeadRows + Drop, J: JobsOn<S>, K: JobList, G: Gate, R: Wait>(
     run: &RunContext<S, T, J, K, G, R>,
     seat: Seat<J>,
     job: u32,
@@ -88,7 +88,7 @@ fn next_in<S: PageStore, T: DeadRows + Drop, J: Jobs, K: JobList, G: Gate, R: Wa
 }
 
 // Gives the session's scan up where its room is full, in a hold of the lock.
-fn end_in<S: PageStore, T: DeadRows + Drop, J: Jobs, K: JobList, G: Gate, R: Wait>(
+fn end_in<S: PageStore, T: DeadRows + Drop, J: JobsOn<S>, K: JobList, G: Gate, R: Wait>(
     run: &RunContext<S, T, J, K, G, R>,
     seat: Seat<J>,
     job: u32,
@@ -110,7 +110,7 @@ fn end_in<S: PageStore, T: DeadRows + Drop, J: Jobs, K: JobList, G: Gate, R: Wai
 }
 
 // Takes so many entries that are ready.
-fn take_ready<S: PageStore, T: DeadRows + Drop, J: Jobs, K: JobList, G: Gate, R: Wait>(
+fn take_ready<S: PageStore, T: DeadRows + Drop, J: JobsOn<S>, K: JobList, G: Gate, R: Wait>(
     run: &RunContext<S, T, J, K, G, R>,
     stint: &mut Stint,
     seat: Seat<J>,
@@ -131,7 +131,7 @@ fn take_ready<S: PageStore, T: DeadRows + Drop, J: Jobs, K: JobList, G: Gate, R:
 
 // A step, and what is to be done after it: of a scan that has entries ready these are taken; where its room was full before, it is
 // given up.
-fn turn<S: PageStore, T: DeadRows + Drop, J: Jobs, K: JobList, G: Gate, R: Wait>(
+fn turn<S: PageStore, T: DeadRows + Drop, J: JobsOn<S>, K: JobList, G: Gate, R: Wait>(
     run: &RunContext<S, T, J, K, G, R>,
     stint: &mut Stint,
     seat: Seat<J>,
@@ -172,7 +172,7 @@ fn turn<S: PageStore, T: DeadRows + Drop, J: Jobs, K: JobList, G: Gate, R: Wait>
 }
 
 // Does a job from its beginning to its record.
-fn one_job<S: PageStore, T: DeadRows + Drop, J: Jobs, K: JobList, G: Gate, R: Wait>(
+fn one_job<S: PageStore, T: DeadRows + Drop, J: JobsOn<S>, K: JobList, G: Gate, R: Wait>(
     run: &RunContext<S, T, J, K, G, R>,
     stint: &mut Stint,
     seat: Seat<J>,
@@ -210,7 +210,7 @@ fn one_job<S: PageStore, T: DeadRows + Drop, J: Jobs, K: JobList, G: Gate, R: Wa
 }
 
 // Tells the gate of a job. Where that may wait for others, nobody waits for this worker meanwhile.
-fn tell<S: PageStore, T: DeadRows + Drop, J: Jobs, K: JobList, G: Gate, R: Wait>(
+fn tell<S: PageStore, T: DeadRows + Drop, J: JobsOn<S>, K: JobList, G: Gate, R: Wait>(
     run: &RunContext<S, T, J, K, G, R>,
     stint: &mut Stint,
     worker: u32,
@@ -227,7 +227,7 @@ fn tell<S: PageStore, T: DeadRows + Drop, J: Jobs, K: JobList, G: Gate, R: Wait>
 }
 
 // Waits until the worker may do this job: a commit with those of its round, each other one with the baton.
-fn wait_for<S: PageStore, T: DeadRows + Drop, J: Jobs, K: JobList, G: Gate, R: Wait>(
+fn wait_for<S: PageStore, T: DeadRows + Drop, J: JobsOn<S>, K: JobList, G: Gate, R: Wait>(
     run: &RunContext<S, T, J, K, G, R>,
     stint: &mut Stint,
     asked: &Job,
@@ -242,7 +242,7 @@ fn wait_for<S: PageStore, T: DeadRows + Drop, J: Jobs, K: JobList, G: Gate, R: W
 }
 
 /// Does jobs until the queue was empty.
-pub fn work<S: PageStore, T: DeadRows + Drop, J: Jobs, K: JobList, G: Gate, R: Wait>(
+pub fn work<S: PageStore, T: DeadRows + Drop, J: JobsOn<S>, K: JobList, G: Gate, R: Wait>(
     run: &RunContext<S, T, J, K, G, R>,
     seat: Seat<J>,
     pass: QueuePass<JobTicket<K>>,

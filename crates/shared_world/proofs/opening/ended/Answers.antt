@@ -23,6 +23,7 @@ returns-clause-done g c =
       kept = ∥∥₁_map shared.kept (λ all. keeps_nothing_pending g.S.PageStore g.J.Jobs.stood g.J.Jobs.kept_then g.J.Jobs.jobs (inside g.T.DeadRows shared.world) shared.start pending records none all);
       acted = ∥∥₁_map shared.acted (λ a. acts_all_done g.S.PageStore g.J.Jobs.handed g.J.Jobs.jobs (inside g.T.DeadRows shared.world) pending records none a);
       comes = shared.handed;
+      steps = shared.steps;
       idle = all_idle shared.world.calls.slots.items pending shared.matches (λ k l. idle k (omega (arith, l, long)));
       all = λ h. ap (λ n. weigh h (below n)) (sym c.requires.pushed) ∙ tally.all h ∙ ap (λ (v : SeatView). weigh h (jobs_in v.log)) view ∙ ap (weigh h) (jobs_noted records);
       within = λ place r at. (let l = noted_within n (notes_of records) sum place (note_of r) (get_note records place r at) in omega (arith, l, c.requires.workers));
