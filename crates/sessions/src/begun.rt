@@ -4,6 +4,7 @@ ghost use Rattle.std.specs.Prelude.{◌≡◌, ◌≤◌, ◌<◌, ◌+◌, [], 
 ghost use Rattle.world.specs.Worlds.{inside};
 ghost use Rattle.shared_world.specs.Ended.{AreIdle, HasRun};
 ghost use Rattle.shared_world.specs.Handed.{IsAsHanded};
+ghost use Rattle.sessions.specs.Finishing.{HaveTold};
 ghost use Rattle.shared_world.specs.Standing.{Stands};
 
 use crate::context::RunContext;
@@ -38,10 +39,10 @@ pub fn run_all<
     cell: &'x SeatCell,
     gate: &'x G,
     world: World<S, T>,
-    room: Room<J, K>,
-    handles: Vec<PromisedHandle<Worker<J, JobTicket<K>>, Number>>,
+    room: Room<J, K, G::Hand>,
+    handles: Vec<PromisedHandle<Worker<J, JobTicket<K>, G::Hand>, Number>>,
     last: u32,
-) -> Result<(World<S, T>, u64, Vec<Record>), World<S, T>>
+) -> Result<(World<S, T>, u64, Vec<Record>, Vec<G::Hand>), World<S, T>>
     requires list { J.jobs ≡ K.list }
     requires cell { cell.now.table.shared.table_id ≡ J.seats }
     requires queue { queue.now.table.shared.table_id ≡ J.queue }
@@ -56,6 +57,7 @@ pub fn run_all<
     ensures err { IfErr result (λ w. w ≡ world) }
     ensures done { IfOk result (λ r. HasRun S.PageStore T.DeadRows J.stood J.kept_then J.followed J.handed
         J.jobs J.workers r.0 r.1 r.2.items) }
+    ensures told { IfOk result (λ r. HaveTold G.Hand.told J.workers r.3.items r.2.items) }
 {
     let slot: Mutex<Slot<S, T, J>> = Mutex::new(Slot::Waiting);
     let shares = Door::new();
@@ -71,7 +73,7 @@ pub fn run_all<
     thread::scope(
         thread::scope_env(),
         rt,
-        move |scope| -> Result<(World<S, T>, u64, Vec<Record>), World<S, T>>
+        move |scope| -> Result<(World<S, T>, u64, Vec<Record>, Vec<G::Hand>), World<S, T>>
             requires parts { J.parts ≡ 65 }
             requires handles { (handles.items ≡ []) × (last < vec_capacity handles) }
             requires workers { last + 1 ≡ J.workers }
@@ -83,6 +85,8 @@ pub fn run_all<
             ensures err { IfErr result (λ w. w ≡ world) }
             ensures done { IfOk result (λ r. HasRun S.PageStore T.DeadRows J.stood J.kept_then
                 J.followed J.handed J.jobs J.workers r.0 r.1 r.2.items) }
+            ensures told { IfOk result
+                (λ r. HaveTold G.Hand.told J.workers r.3.items r.2.items) }
         { hire(scope, run, world, room, handles, last) },
     )
 }

@@ -21,14 +21,16 @@ use std::sync::Wait;
 use std::thread;
 use worker_seats::{Pops, QueuePass, Seat};
 
-// Begins a job, in a hold of the lock.
+// Begins a job, in a hold of the lock. The gate was told of it, and of each before it.
 fn begin_in<S: PageStore, T: DeadRows + Drop, J: JobsOn<S>, K: JobList, G: Gate, R: Wait>(
     run: &RunContext<S, T, J, K, G, R>,
     seat: Seat<J>,
     job: u32,
     asked: &Job,
     room: Vec<Entry>,
+    _hand: &G::Hand,
 ) -> Turn<J>
+    requires told { G.Hand.told _hand.now ≡ jobs_in (known_by seat.pass).notes ++ job ∷ [] }
     requires idle { (known_by seat.pass).job ≡ None }
     requires job { slice_get J.jobs job ≡ Some asked.now }
     requires empty { room.items ≡ [] }
@@ -176,8 +178,11 @@ fn one_job<S: PageStore, T: DeadRows + Drop, J: JobsOn<S>, K: JobList, G: Gate, 
     run: &RunContext<S, T, J, K, G, R>,
     stint: &mut Stint,
     seat: Seat<J>,
+    hand: &G::Hand,
     ticket: JobTicket<K>,
 ) -> Seat<J>
+    requires told { G.Hand.told hand.now
+        ≡ jobs_in (known_by seat.pass).notes ++ ticket.job ∷ [] }
     requires idle { (known_by seat.pass).job ≡ None }
     ensures worker { result.worker ≡ seat.worker }
     ensures idle { (known_by result.pass).job ≡ None }
@@ -194,7 +199,7 @@ fn one_job<S: PageStore, T: DeadRows + Drop, J: JobsOn<S>, K: JobList, G: Gate, 
         seat,
         answer: _,
         place,
-    } = begin_in(run, seat, job, &asked, room);
+    } = begin_in(run, seat, job, &asked, room, hand);
     let mut mine = seat;
     let mut at = place;
     for _ in run.rt.forever() {
@@ -213,16 +218,19 @@ fn one_job<S: PageStore, T: DeadRows + Drop, J: JobsOn<S>, K: JobList, G: Gate, 
 fn tell<S: PageStore, T: DeadRows + Drop, J: JobsOn<S>, K: JobList, G: Gate, R: Wait>(
     run: &RunContext<S, T, J, K, G, R>,
     stint: &mut Stint,
+    hand: &mut G::Hand,
     worker: u32,
     job: u32,
-) {
+)
+    ensures { G.Hand.told hand.new ≡ G.Hand.told hand.old ++ job ∷ [] }
+{
     if !run.gate.may_wait() {
-        run.gate.taken(worker, job);
+        run.gate.taken(hand, worker, job);
         return;
     }
     stint.end(run.rt, &run.door.baton);
     run.door.rounds.end_work(run.rt);
-    run.gate.taken(worker, job);
+    run.gate.taken(hand, worker, job);
     run.door.rounds.begin_work(run.rt);
 }
 
@@ -241,13 +249,15 @@ fn wait_for<S: PageStore, T: DeadRows + Drop, J: JobsOn<S>, K: JobList, G: Gate,
     stint.begin(run.rt, &run.door.baton);
 }
 
-/// Does jobs until the queue was empty.
+/// Does jobs until the queue was empty. The gate is told of each, once, after it is taken and before it begins.
 pub fn work<S: PageStore, T: DeadRows + Drop, J: JobsOn<S>, K: JobList, G: Gate, R: Wait>(
     run: &RunContext<S, T, J, K, G, R>,
     seat: Seat<J>,
     pass: QueuePass<JobTicket<K>>,
+    hand: &mut G::Hand,
 ) -> (Seat<J>, QueuePass<JobTicket<K>>)
     requires idle { (known_by seat.pass).job ≡ None }
+    requires told { G.Hand.told hand.old ≡ jobs_in (known_by seat.pass).notes }
     requires queue { IsPassOf run.now.queue.now pass }
     requires part { 0 < (view pass).parts }
     ensures worker { result.0.worker ≡ seat.worker }
@@ -258,6 +268,7 @@ pub fn work<S: PageStore, T: DeadRows + Drop, J: JobsOn<S>, K: JobList, G: Gate,
     ensures did { (more : List (ℕ × ℕ))
         × ((known_by result.0.pass).notes ≡ (known_by seat.pass).notes ++ more)
         × ((view result.1).popped ≡ (view pass).popped ++ jobs_in more) }
+    ensures told { G.Hand.told hand.new ≡ jobs_in (known_by result.0.pass).notes }
     ensures empty { KnowsAll (view result.1) [] }
 {
     run.door.rounds.begin_work(run.rt);
@@ -267,10 +278,10 @@ pub fn work<S: PageStore, T: DeadRows + Drop, J: JobsOn<S>, K: JobList, G: Gate,
     for _ in run.rt.forever() {
         match run.queue.pop_as::<Pops, R>(run.rt, &mut own) {
             Some(ticket) => {
-                tell(run, &mut stint, mine.worker, ticket.job);
+                tell(run, &mut stint, hand, mine.worker, ticket.job);
                 let asked = ticket.asked;
                 wait_for(run, &mut stint, &asked);
-                mine = one_job(run, &mut stint, mine, ticket);
+                mine = one_job(run, &mut stint, mine, hand, ticket);
                 run.door.rounds.after(run.rt, &asked);
             }
             None => {

@@ -3,11 +3,11 @@
 ghost use Rattle.std.specs.Prelude.{◌≡◌, ◌≤◌, ◌<◌, ◌+◌, [], ℕ, IfSome, None, length, Some, slice_get, vec_len, vec_capacity};
 ghost use Rattle.crossbeam_queue.specs.Passes.{view};
 ghost use Rattle.worker_seats.specs.Queue.{KnowsAll, jobs_in, sum_over, weigh};
-ghost use Rattle.worker_seats.specs.Seats.{keeper_of, known_by};
+ghost use Rattle.worker_seats.specs.Seats.{keeper_of, known_by, notes_by};
 ghost use Rattle.world.specs.Worlds.{inside};
 ghost use Rattle.shared_world.specs.Ended.{AreIdle, HasRun};
 ghost use Rattle.shared_world.specs.Handed.{IsAsHanded};
-ghost use Rattle.shared_world.specs.Notes.{jobs_of};
+ghost use Rattle.shared_world.specs.Notes.{jobs_of, notes_of};
 ghost use Rattle.shared_world.specs.Standing.{Stands};
 ghost use Rattle.shared_world.specs.declared.record.Pending.{Pending as WaitingJob};
 
@@ -81,6 +81,8 @@ pub fn ended<S: PageStore, T: DeadRows + Drop, J: JobsOn<S>, X, R: Wait>(
     ensures world { result.0 ≡ shared.world }
     ensures start { result.1 ≡ shared.start }
     ensures history { result.2 ≡ shared.history }
+    ensures notes { (k : ℕ) → IfSome (slice_get seats.items k)
+        (λ s. (known_by s.pass).notes ≡ notes_by k (notes_of result.2.items)) }
     ensures done { HasRun S.PageStore T.DeadRows J.stood J.kept_then J.followed J.handed J.jobs J.workers
         result.0 result.1 result.2.items }
 {
