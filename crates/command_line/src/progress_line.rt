@@ -1,7 +1,7 @@
 //! A line that tells how far long work is.
 
 use index_model::Progress;
-use sessions::Gate;
+use sessions::{Gate, Told};
 use std::io::{self, Write};
 use std::sync::Mutex;
 
@@ -81,7 +81,14 @@ pub struct JobGate<'a, P> {
 }
 
 impl<P: Progress> Gate for JobGate<'_, P> {
-    fn taken(&self, _worker: u32, job: u32) {
+    type Hand = Told;
+
+    fn hand(&self, _worker: u32) -> Told {
+        Told::new()
+    }
+
+    fn taken(&self, hand: &mut Told, _worker: u32, job: u32) {
+        hand.note(u64::from(job));
         self.progress.done(u64::from(job) + 1, self.all);
     }
 

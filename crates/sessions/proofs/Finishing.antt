@@ -38,9 +38,9 @@ keeps_as g jobs contents old calls A B now start pending records f k = record {
 }
 
 -- what a run has left, by which each record's job and worker have their places
-module _ {S T : Type 0} (g : Ghosts S) (rows : SetGhosts T) (stood kept_then : (Entry → Bool) → List Action → List Call → Type 0) (handed : Handed)
+module _ {S T : Type 0} (g : Ghosts S) (rows : SetGhosts T) (stood kept_then : (Entry → Bool) → List Action → List Call → Type 0) (followed : S → Type 0) (handed : Handed)
     (jobs : List Job) (workers : ℕ) (world : World S T) (start : ℕ) (records : List Record)
-    (h : HasRun g rows stood kept_then handed jobs workers world start records) where
+    (h : HasRun g rows stood kept_then followed handed jobs workers world start records) where
   pub job_below : (place : ℕ) (r : Record) → slice_get records place ≡ Some r → r.job < length jobs
   job_below place r at = all_below (length jobs) (jobs_of_records records) h.all place r.job (get_mapped (λ (x : Record). x.job) records place r at)
 
@@ -49,11 +49,12 @@ module _ {S T : Type 0} (g : Ghosts S) (rows : SetGhosts T) (stood kept_then : (
       one_place (jobs_of_records records) p q r.job (each_once (length jobs) (jobs_of_records records) h.all r.job (job_below p r at)) (get_mapped (λ (x : Record). x.job) records p r at)
       (get_mapped (λ (x : Record). x.job) records q t there ∙ ap Some (sym same))
 
-module _ {S T : Type 0} (g : Ghosts S) (rows : SetGhosts T) (stood kept_then : (Entry → Bool) → List Action → List Call → Type 0) (jobs : List Job)
+module _ {S T : Type 0} (g : Ghosts S) (rows : SetGhosts T) (stood kept_then : (Entry → Bool) → List Action → List Call → Type 0) (followed : S → Type 0) (jobs : List Job)
     (workers : ℕ) (world : World S T) (done : Finished S T)
-    (h : HasRun g rows stood kept_then (handed_of g rows world) jobs workers done.world done.start done.history.items)
+    (h : HasRun g rows stood kept_then followed (handed_of g rows world) jobs workers done.world done.start done.history.items)
     (fits : (contents : Entry → Bool) (history : List Action) (calls : List Call) → WorldFits g rows world contents history calls → stood contents history calls)
     (keeps : (contents : Entry → Bool) (history : List Action) (calls : List Call) → WorldKeeps g rows world contents history calls → kept_then contents history calls)
+    (followed_then : (first : S) → g.follows first world.store → followed first)
     (long : length done.receipts.items ≡ length jobs) (wide : length done.calls.items ≡ workers)
     (written : (place : ℕ) (r : Record) → slice_get done.history.items place ≡ Some r → slice_get done.receipts.items r.job ≡ Some (receipt_of place r))
     (counted : (worker : ℕ) → worker < workers → slice_get done.calls.items worker ≡ Some (records_of worker done.history.items))
@@ -83,6 +84,7 @@ module _ {S T : Type 0} (g : Ghosts S) (rows : SetGhosts T) (stood kept_then : (
         (keeps contents history calls) (all honest contents history calls (fits contents history calls fit)));
     acted = h.acted;
     comes = h.comes;
+    steps = ∥∥₁_map h.steps (λ all first was. all first (followed_then first was));
     idle = h.idle;
     all = sym (length-map records (λ r. r.job)) ∙ as_many (length jobs) (jobs_of_records records) h.all;
     once = each_once (length jobs) (jobs_of_records records) h.all;

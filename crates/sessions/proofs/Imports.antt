@@ -21,7 +21,7 @@ pub use Rattle.worker_seats.specs.Queue.{at_alone, below, jobs_in, sum_over, tim
 pub use Rattle.worker_seats.specs.Seats.{keeper_of, known_by}
 pub use Rattle.worker_seats.specs.declared.seating.SeatView.{SeatView}
 pub use Rattle.shared_world.specs.Ended.{HasRun, jobs_of_records}
-pub use Rattle.sessions.specs.Finishing.{IsFinished, IsReceiptFor, receipt_of, records_of}
+pub use Rattle.sessions.specs.Finishing.{HaveTold, IsFinished, IsReceiptFor, jobs_by, receipt_of, records_of}
 pub use Rattle.shared_world.specs.Handed.{Handed, handed_of}
 pub use Rattle.shared_world.specs.Jobs.{room_of}
 pub use Rattle.shared_world.specs.Kept.{KeepsFitting}

@@ -1,9 +1,10 @@
 -- What a run may be asked for, and what it answers.
 use Rattle.std.specs.Prelude.{◌≡◌, ◌==◌, ℕ, ◌<◌, ◌≤◌, true, Option, Some, List, [], length, slice_get, IfSome}
-use Rattle.std.specs.List.{sum, sum_by, count_by}
+use Rattle.std.specs.List.{sum, sum_by, count_by, filter}
 use Rattle.index_model.specs.declared.dead_rows.DeadRows.{Ghosts as SetGhosts}
 use Rattle.index_model.specs.declared.fault.Fault.{Fault}
 use Rattle.index_model.specs.declared.fault.Fault.TheVariants.{BadLimits, SessionBusy, NoMemory}
+use Rattle.page_action.specs.States.{Continues}
 use Rattle.page_action.specs.declared.page_store.PageStore.{Ghosts}
 use Rattle.session_calls.specs.Slots.{has_call}
 use Rattle.session_calls.specs.declared.op.Op.{Op}
@@ -39,6 +40,10 @@ RunIsRefusedFor fault slots jobs workers = ⊥
 abbrev pub records_of : ℕ → List Record → ℕ
 records_of worker records = count_by (λ r. r.worker == worker) records
 
+-- the jobs of this worker's records, in order
+abbrev pub jobs_by : ℕ → List Record → List ℕ
+jobs_by worker records = jobs_of_records (filter (λ r. r.worker == worker) records)
+
 -- the receipt for a record at this place
 abbrev pub receipt_of : ℕ → Record → Receipt
 receipt_of place r = record { worker = r.worker; job = r.job; place = place }
@@ -55,6 +60,7 @@ pub record IsFinished {S T : Type 0} (g : Ghosts S) (rows : SetGhosts T) (jobs :
   pub kept : ∥ KeepsAll g (WorldFits g rows world) (WorldKeeps g rows world) jobs (inside rows done.world) done.start [] done.history.items ∥₁
   pub acted : ∥ HasActed g (handed_of g rows world) jobs (inside rows done.world) [] done.history.items ∥₁
   pub comes : ∥ ComesOf g (handed_of g rows world) done.start (inside rows done.world) ∥₁
+  pub steps : ∥ Continues g.follows world.store done.world.store ∥₁
   pub idle : AreIdle done.world.calls.slots.items
   pub all : length done.history.items ≡ length jobs
   pub once : (job : ℕ) → job < length jobs → times job (jobs_of_records done.history.items) ≡ 1
@@ -63,3 +69,8 @@ pub record IsFinished {S T : Type 0} (g : Ghosts S) (rows : SetGhosts T) (jobs :
   pub workers_are : length done.calls.items ≡ workers
   pub calls : (worker : ℕ) → IfSome (slice_get done.calls.items worker) (λ n. n ≡ records_of worker done.history.items)
   pub summed : sum done.calls.items ≡ length done.history.items
+
+-- each worker has a hand, with which it told of the jobs of its records, in order, and of no other
+pub record HaveTold {H : Type 0} (told : H → List ℕ) (workers : ℕ) (hands : List H) (records : List Record) : Type 0 where
+  pub each_has : length hands ≡ workers
+  pub told_are : (worker : ℕ) → IfSome (slice_get hands worker) (λ hand. told hand ≡ jobs_by worker records)

@@ -4,6 +4,7 @@ ghost use Rattle.std.specs.Prelude.{◌≡◌, ◌≤◌, ◌<◌, ◌+◌, [], 
 ghost use Rattle.world.specs.Worlds.{inside};
 ghost use Rattle.shared_world.specs.Ended.{AreIdle, HasRun};
 ghost use Rattle.shared_world.specs.Handed.{IsAsHanded};
+ghost use Rattle.sessions.specs.Finishing.{HaveTold};
 ghost use Rattle.shared_world.specs.Standing.{Stands};
 
 use crate::context::RunContext;
@@ -16,7 +17,7 @@ use crate::slot::Slot;
 use crate::ticket::{JobList, JobTicket};
 use index_model::DeadRows;
 use page_action::PageStore;
-use shared_world::{Jobs, Record};
+use shared_world::{JobsOn, Record};
 use std::sync::{Mutex, Wait};
 use std::thread;
 use std::thread::{PromisedHandle, Threads};
@@ -28,7 +29,7 @@ pub fn run_all<
     'x,
     S: PageStore + Drop + Send + 'x,
     T: DeadRows + Drop + Send + 'x,
-    J: Jobs + Send + Sync + 'x,
+    J: JobsOn<S> + Send + Sync + 'x,
     K: JobList + Send + Sync + 'x,
     G: Gate + Sync + 'x,
     R: Threads + Wait + Sync + 'x,
@@ -38,10 +39,10 @@ pub fn run_all<
     cell: &'x SeatCell,
     gate: &'x G,
     world: World<S, T>,
-    room: Room<J, K>,
-    handles: Vec<PromisedHandle<Worker<J, JobTicket<K>>, Number>>,
+    room: Room<J, K, G::Hand>,
+    handles: Vec<PromisedHandle<Worker<J, JobTicket<K>, G::Hand>, Number>>,
     last: u32,
-) -> Result<(World<S, T>, u64, Vec<Record>), World<S, T>>
+) -> Result<(World<S, T>, u64, Vec<Record>, Vec<G::Hand>), World<S, T>>
     requires list { J.jobs ≡ K.list }
     requires cell { cell.now.table.shared.table_id ≡ J.seats }
     requires queue { queue.now.table.shared.table_id ≡ J.queue }
@@ -50,12 +51,13 @@ pub fn run_all<
     requires workers { last + 1 ≡ J.workers }
     requires few { J.workers ≤ 64 }
     requires sessions { J.workers ≤ length world.calls.slots.items }
-    requires stood { Stands S.PageStore J.stood J.kept_then (inside T.DeadRows world) }
+    requires stood { Stands S.PageStore J.stood J.kept_then J.followed (inside T.DeadRows world) }
     requires handed { IsAsHanded S.PageStore J.handed (inside T.DeadRows world) }
     requires rests { AreIdle world.calls.slots.items }
     ensures err { IfErr result (λ w. w ≡ world) }
-    ensures done { IfOk result (λ r. HasRun S.PageStore T.DeadRows J.stood J.kept_then J.handed
+    ensures done { IfOk result (λ r. HasRun S.PageStore T.DeadRows J.stood J.kept_then J.followed J.handed
         J.jobs J.workers r.0 r.1 r.2.items) }
+    ensures told { IfOk result (λ r. HaveTold G.Hand.told J.workers r.3.items r.2.items) }
 {
     let slot: Mutex<Slot<S, T, J>> = Mutex::new(Slot::Waiting);
     let shares = Door::new();
@@ -71,18 +73,20 @@ pub fn run_all<
     thread::scope(
         thread::scope_env(),
         rt,
-        move |scope| -> Result<(World<S, T>, u64, Vec<Record>), World<S, T>>
+        move |scope| -> Result<(World<S, T>, u64, Vec<Record>, Vec<G::Hand>), World<S, T>>
             requires parts { J.parts ≡ 65 }
             requires handles { (handles.items ≡ []) × (last < vec_capacity handles) }
             requires workers { last + 1 ≡ J.workers }
             requires few { J.workers ≤ 64 }
             requires sessions { J.workers ≤ length world.calls.slots.items }
-            requires stood { Stands S.PageStore J.stood J.kept_then (inside T.DeadRows world) }
+            requires stood { Stands S.PageStore J.stood J.kept_then J.followed (inside T.DeadRows world) }
             requires handed { IsAsHanded S.PageStore J.handed (inside T.DeadRows world) }
             requires rests { AreIdle world.calls.slots.items }
             ensures err { IfErr result (λ w. w ≡ world) }
             ensures done { IfOk result (λ r. HasRun S.PageStore T.DeadRows J.stood J.kept_then
-                J.handed J.jobs J.workers r.0 r.1 r.2.items) }
+                J.followed J.handed J.jobs J.workers r.0 r.1 r.2.items) }
+            ensures told { IfOk result
+                (λ r. HaveTold G.Hand.told J.workers r.3.items r.2.items) }
         { hire(scope, run, world, room, handles, last) },
     )
 }

@@ -8,14 +8,22 @@ use crate::slot::Slot;
 use crate::ticket::{JobList, JobTicket};
 use index_model::DeadRows;
 use page_action::PageStore;
-use shared_world::Jobs;
+use shared_world::JobsOn;
 use std::sync::{Mutex, Wait};
 use worker_seats::{JobQueue, SeatCell};
 
 /// What the workers of a run share: the queue of its jobs, the cell of their seats, what lies under the lock, what lies beside it,
 /// and who is told of each job. The types tell of the same jobs, cell and queue.
 #[derive(Drop)]
-pub struct RunContext<'a, S: PageStore, T: DeadRows + Drop, J: Jobs, K: JobList, G: Gate, R: Wait> {
+pub struct RunContext<
+    'a,
+    S: PageStore,
+    T: DeadRows + Drop,
+    J: JobsOn<S>,
+    K: JobList,
+    G: Gate,
+    R: Wait,
+> {
     pub rt: &'a R,
     pub queue: &'a JobQueue<JobTicket<K>>,
     pub cell: &'a SeatCell,

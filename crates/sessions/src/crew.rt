@@ -11,32 +11,34 @@ use crate::ticket::{JobList, JobTicket};
 use crate::worker::work;
 use index_model::DeadRows;
 use page_action::PageStore;
-use shared_world::Jobs;
+use shared_world::{Jobs, JobsOn};
 use std::sync::Wait;
 use std::thread::Promise;
-use worker_seats::{QueuePass, Seat, Worker};
+use worker_seats::{QueuePass, Seat, Telling, Worker};
 
 /// Which worker it is.
 #[derive(Drop)]
 pub struct Number(pub u32);
 
-impl<J: Jobs, K: JobList> Promise<Worker<J, JobTicket<K>>> for Number {
+impl<J: Jobs, K: JobList, H: Telling> Promise<Worker<J, JobTicket<K>, H>> for Number {
     ghost use Rattle.std.specs.Prelude.{◌≡◌};
 
     ghost kept_by = { λ p r. r.seat.worker ≡ p.0 };
 }
 
 /// A worker's thread: it waits until all have started, and works where the lock was opened.
-pub fn crew<S: PageStore, T: DeadRows + Drop, J: Jobs, K: JobList, G: Gate, R: Wait>(
+pub fn crew<S: PageStore, T: DeadRows + Drop, J: JobsOn<S>, K: JobList, G: Gate, R: Wait>(
     run: &RunContext<S, T, J, K, G, R>,
     seat: Seat<J>,
     pass: QueuePass<JobTicket<K>>,
-) -> Worker<J, JobTicket<K>>
+    mut hand: G::Hand,
+) -> Worker<J, JobTicket<K>, G::Hand>
     requires rests { (known_by seat.pass).job ≡ None }
     requires fresh { (known_by seat.pass).notes ≡ [] }
     requires pass { IsPassOf run.now.queue.now pass }
     requires part { (view pass).parts ≡ 1 }
     requires popped { (view pass).popped ≡ [] }
+    requires told { G.Hand.told hand ≡ [] }
     ensures { result.seat.worker ≡ seat.worker }
 {
     let open = {
@@ -47,8 +49,8 @@ pub fn crew<S: PageStore, T: DeadRows + Drop, J: Jobs, K: JobList, G: Gate, R: W
         is_open(&*guard)
     };
     if open {
-        let (seat, pass) = work(run, seat, pass);
-        return Worker { seat, pass };
+        let (seat, pass) = work(run, seat, pass, &mut hand);
+        return Worker { seat, pass, hand };
     }
-    Worker { seat, pass }
+    Worker { seat, pass, hand }
 }

@@ -1,8 +1,21 @@
 //! Who is told of each job.
 
+use worker_seats::{Telling, Told};
+
 /// Is told of each job that a worker takes, before it begins.
 pub trait Gate {
-    fn taken(&self, worker: u32, job: u32);
+    ghost use Rattle.std.specs.Prelude.{◌≡◌, ◌++◌, ◌∷◌, []};
+
+    /// With what a worker tells it. It notes which jobs it was told of; `Told` notes them for clauses alone.
+    type Hand: Telling + Send + Drop;
+
+    /// A worker's hand, which has told of no job.
+    fn hand(&self, worker: u32) -> Self::Hand
+        ensures { Self.Hand.told result ≡ [] };
+
+    /// A worker has taken a job.
+    fn taken(&self, hand: &mut Self::Hand, worker: u32, job: u32)
+        ensures { Self.Hand.told hand.new ≡ Self.Hand.told hand.old ++ job ∷ [] };
 
     /// Whether `taken` may wait for other workers. Those that are about to commit don't wait for the worker then.
     fn may_wait(&self) -> bool {
@@ -14,7 +27,15 @@ pub trait Gate {
 pub struct NoGate;
 
 impl Gate for NoGate {
-    fn taken(&self, _worker: u32, _job: u32) {}
+    type Hand = Told;
+
+    fn hand(&self, _worker: u32) -> Told {
+        Told::new()
+    }
+
+    fn taken(&self, hand: &mut Told, _worker: u32, job: u32) {
+        hand.note(u64::from(job));
+    }
 
     fn may_wait(&self) -> bool {
         false

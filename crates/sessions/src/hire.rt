@@ -9,6 +9,7 @@ ghost use Rattle.world.specs.Worlds.{inside};
 ghost use Rattle.shared_world.specs.Ended.{AreIdle, HasRun};
 ghost use Rattle.shared_world.specs.Handed.{IsAsHanded};
 ghost use Rattle.shared_world.specs.Notes.{jobs_of};
+ghost use Rattle.sessions.specs.Finishing.{HaveTold};
 ghost use Rattle.shared_world.specs.Standing.{Stands};
 ghost use Rattle.shared_world.specs.declared.record.Pending.{Pending as WaitingJob};
 
@@ -22,16 +23,16 @@ use crate::ticket::{JobList, JobTicket};
 use crate::worker::work;
 use index_model::DeadRows;
 use page_action::PageStore;
-use shared_world::{Jobs, Pending, Record, Shared, ended, first};
+use shared_world::{Jobs, JobsOn, Pending, Record, Shared, ended, first};
 use std::mem;
 use std::sync::Wait;
 use std::sync::ledger::Share;
 use std::thread::{PromisedHandle, Scope, Threads};
-use worker_seats::{Parts, QueuePass, Seat, SeatPass, Worker, gather, open};
+use worker_seats::{Parts, QueuePass, Seat, SeatPass, Telling, Worker, gather, open};
 use world::World;
 
 // Puts a value under the lock, and wakes all.
-fn put<S: PageStore + Drop, T: DeadRows + Drop, J: Jobs, K: JobList, G: Gate, R: Wait>(
+fn put<S: PageStore + Drop, T: DeadRows + Drop, J: JobsOn<S>, K: JobList, G: Gate, R: Wait>(
     run: &RunContext<S, T, J, K, G, R>,
     value: Slot<S, T, J>,
 ) {
@@ -40,7 +41,7 @@ fn put<S: PageStore + Drop, T: DeadRows + Drop, J: Jobs, K: JobList, G: Gate, R:
 }
 
 // Takes what lies under the lock out of it.
-fn take_out<S: PageStore + Drop, T: DeadRows + Drop, J: Jobs, K: JobList, G: Gate, R: Wait>(
+fn take_out<S: PageStore + Drop, T: DeadRows + Drop, J: JobsOn<S>, K: JobList, G: Gate, R: Wait>(
     run: &RunContext<S, T, J, K, G, R>,
 ) -> Shared<S, T, J> {
     let mut guard = run
@@ -59,7 +60,7 @@ fn start_all<
     E,
     S: PageStore + Drop + Send + 's,
     T: DeadRows + Drop + Send + 's,
-    J: Jobs + Send + Sync + 's,
+    J: JobsOn<S> + Send + Sync + 's,
     K: JobList + Send + Sync + 's,
     G: Gate + Sync + 's,
     R: Threads + Wait + Sync + 's,
@@ -70,7 +71,7 @@ fn start_all<
     pass: &mut QueuePass<JobTicket<K>>,
     all: &mut Share<J>,
     pending: &mut Vec<Option<Pending>>,
-    handles: &mut Vec<PromisedHandle<Worker<J, JobTicket<K>>, Number>>,
+    handles: &mut Vec<PromisedHandle<Worker<J, JobTicket<K>, G::Hand>, Number>>,
     last: u32,
 ) -> bool
     requires few { last < 64 }
@@ -102,15 +103,17 @@ fn start_all<
         let share = all.split_off(1, 0);
         let seat = open(run.cell, keeper, share, w);
         let mine = run.queue.another::<Parts>(pass);
+        let hand = run.gate.hand(w);
         pending.push_reserved(None);
-        let job = move || -> Worker<J, JobTicket<K>>
+        let job = move || -> Worker<J, JobTicket<K>, G::Hand>
             requires rests { (known_by seat.pass).job ≡ None }
             requires fresh { (known_by seat.pass).notes ≡ [] }
             requires pass { IsPassOf run.now.queue.now mine }
             requires part { (view mine).parts ≡ 1 }
             requires popped { (view mine).popped ≡ [] }
+            requires told { G.Hand.told hand ≡ [] }
             ensures { result.seat.worker ≡ seat.worker }
-        { crew(run, seat, mine) };
+        { crew(run, seat, mine, hand) };
         match scope.spawn_with(Number(w), job) {
             Ok(handle) => handles.push_reserved(handle),
             Err(_) => return false,
@@ -120,11 +123,11 @@ fn start_all<
 }
 
 // Joins the threads, in order.
-fn joined<J: Jobs, K: JobList, R: Threads>(
+fn joined<J: Jobs, K: JobList, H: Telling + Drop, R: Threads>(
     rt: &R,
-    handles: Vec<PromisedHandle<Worker<J, JobTicket<K>>, Number>>,
-    mut staff: Vec<Worker<J, JobTicket<K>>>,
-) -> Vec<Worker<J, JobTicket<K>>>
+    handles: Vec<PromisedHandle<Worker<J, JobTicket<K>, H>, Number>>,
+    mut staff: Vec<Worker<J, JobTicket<K>, H>>,
+) -> Vec<Worker<J, JobTicket<K>, H>>
     requires ranked { (k : ℕ) → IfSome (slice_get handles.items k) (λ h. h.promise.0 ≡ k) }
     requires staff { (staff.items ≡ []) × (vec_len handles < vec_capacity staff) }
     ensures len { vec_len result ≡ vec_len handles }
@@ -137,14 +140,16 @@ fn joined<J: Jobs, K: JobList, R: Threads>(
 }
 
 // Works as the last worker, joins the others, and works until no job is left: then the pass has every part.
-fn work_out<S: PageStore, T: DeadRows + Drop, J: Jobs, K: JobList, G: Gate, R: Threads + Wait>(
+fn work_out<S: PageStore, T: DeadRows + Drop, J: JobsOn<S>, K: JobList, G: Gate, R: Threads + Wait>(
     run: &RunContext<S, T, J, K, G, R>,
     own: Seat<J>,
     pass: QueuePass<JobTicket<K>>,
-    handles: Vec<PromisedHandle<Worker<J, JobTicket<K>>, Number>>,
-    staff: Vec<Worker<J, JobTicket<K>>>,
+    mut hand: G::Hand,
+    handles: Vec<PromisedHandle<Worker<J, JobTicket<K>, G::Hand>, Number>>,
+    staff: Vec<Worker<J, JobTicket<K>, G::Hand>>,
     mut seats: Vec<Seat<J>>,
-) -> (Vec<Seat<J>>, QueuePass<JobTicket<K>>)
+    mut hands: Vec<G::Hand>,
+) -> (Vec<Seat<J>>, QueuePass<JobTicket<K>>, Vec<G::Hand>)
     requires own { own.worker ≡ vec_len handles }
     requires rests { (known_by own.pass).job ≡ None }
     requires fresh { (known_by own.pass).notes ≡ [] }
@@ -155,7 +160,13 @@ fn work_out<S: PageStore, T: DeadRows + Drop, J: Jobs, K: JobList, G: Gate, R: T
     requires ranked { (k : ℕ) → IfSome (slice_get handles.items k) (λ h. h.promise.0 ≡ k) }
     requires staff { (staff.items ≡ []) × (vec_len handles < vec_capacity staff) }
     requires seats { (seats.items ≡ []) × (vec_len handles < vec_capacity seats) }
+    requires hands { (hands.items ≡ []) × (vec_len handles < vec_capacity hands) }
+    requires told { G.Hand.told hand ≡ [] }
     ensures len { vec_len result.0 ≡ vec_len handles + 1 }
+    ensures held { vec_len result.2 ≡ vec_len handles + 1 }
+    ensures told { (k : ℕ) → IfSome (slice_get result.0.items k)
+        (λ s. IfSome (slice_get result.2.items k)
+        (λ h. G.Hand.told h ≡ jobs_in (known_by s.pass).notes)) }
     ensures ranked { (k : ℕ) → IfSome (slice_get result.0.items k) (λ s. s.worker ≡ k) }
     ensures rest { (k : ℕ) → IfSome (slice_get result.0.items k)
         (λ s. (known_by s.pass).job ≡ None) }
@@ -165,12 +176,13 @@ fn work_out<S: PageStore, T: DeadRows + Drop, J: Jobs, K: JobList, G: Gate, R: T
     ensures popped { (h : ℕ → ℕ) → weigh h (view result.1).popped
         ≡ sum_over (λ s. weigh h (jobs_in (known_by s.pass).notes)) result.0.items }
 {
-    let (own, mut pass) = work(run, own, pass);
+    let (own, mut pass) = work(run, own, pass, &mut hand);
     let staff = joined(run.rt, handles, staff);
-    gather(run.queue, &mut pass, staff, &mut seats);
-    let (own, pass) = work(run, own, pass);
+    gather(run.queue, &mut pass, staff, &mut seats, &mut hands);
+    let (own, pass) = work(run, own, pass, &mut hand);
     seats.push_reserved(own);
-    (seats, pass)
+    hands.push_reserved(hand);
+    (seats, pass, hands)
 }
 
 /// Starts a thread for each worker but the last, opens the lock when all have started, and works itself as the last worker, joins
@@ -180,7 +192,7 @@ pub fn hire<
     E,
     S: PageStore + Drop + Send + 's,
     T: DeadRows + Drop + Send + 's,
-    J: Jobs + Send + Sync + 's,
+    J: JobsOn<S> + Send + Sync + 's,
     K: JobList + Send + Sync + 's,
     G: Gate + Sync + 's,
     R: Threads + Wait + Sync + 's,
@@ -188,21 +200,22 @@ pub fn hire<
     scope: &'s Scope<'s, E>,
     run: &'s RunContext<'s, S, T, J, K, G, R>,
     world: World<S, T>,
-    room: Room<J, K>,
-    mut handles: Vec<PromisedHandle<Worker<J, JobTicket<K>>, Number>>,
+    room: Room<J, K, G::Hand>,
+    mut handles: Vec<PromisedHandle<Worker<J, JobTicket<K>, G::Hand>, Number>>,
     last: u32,
-) -> Result<(World<S, T>, u64, Vec<Record>), World<S, T>>
+) -> Result<(World<S, T>, u64, Vec<Record>, Vec<G::Hand>), World<S, T>>
     requires parts { J.parts ≡ 65 }
     requires handles { (handles.items ≡ []) × (last < vec_capacity handles) }
     requires workers { last + 1 ≡ J.workers }
     requires few { J.workers ≤ 64 }
     requires sessions { J.workers ≤ length world.calls.slots.items }
-    requires stood { Stands S.PageStore J.stood J.kept_then (inside T.DeadRows world) }
+    requires stood { Stands S.PageStore J.stood J.kept_then J.followed (inside T.DeadRows world) }
     requires handed { IsAsHanded S.PageStore J.handed (inside T.DeadRows world) }
     requires rests { AreIdle world.calls.slots.items }
     ensures err { IfErr result (λ w. w ≡ world) }
-    ensures done { IfOk result (λ r. HasRun S.PageStore T.DeadRows J.stood J.kept_then J.handed
+    ensures done { IfOk result (λ r. HasRun S.PageStore T.DeadRows J.stood J.kept_then J.followed J.handed
         J.jobs J.workers r.0 r.1 r.2.items) }
+    ensures told { IfOk result (λ r. HaveTold G.Hand.told J.workers r.3.items r.2.items) }
 {
     let Room {
         mut keeper,
@@ -212,6 +225,7 @@ pub fn hire<
         history,
         mut pending,
         staff,
+        hands,
         seats,
     } = room;
     let started = start_all(
@@ -233,7 +247,9 @@ pub fn hire<
     pending.push_reserved(None);
     let shared = first(world, history, pending, book, keeper);
     put(run, Slot::Open(shared));
-    let (seats, pass) = work_out(run, own, pass, handles, staff, seats);
+    let hand = run.gate.hand(last);
+    let (seats, pass, hands) = work_out(run, own, pass, hand, handles, staff, seats, hands);
     let shared = take_out(run);
-    Ok(ended(run.rt, run.cell, shared, seats, all, &pass))
+    let (world, start, history) = ended(run.rt, run.cell, shared, seats, all, &pass);
+    Ok((world, start, history, hands))
 }

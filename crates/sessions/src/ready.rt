@@ -6,10 +6,10 @@ ghost use Rattle.sessions.specs.Ready.{is_open, may_record};
 use crate::slot::Slot;
 use index_model::DeadRows;
 use page_action::PageStore;
-use shared_world::Jobs;
+use shared_world::JobsOn;
 
 /// Whether a worker may do an event: the lock was opened, and there is room for one record more.
-pub fn is_ready<S: PageStore, T: DeadRows + Drop, J: Jobs>(slot: &Slot<S, T, J>) -> bool
+pub fn is_ready<S: PageStore, T: DeadRows + Drop, J: JobsOn<S>>(slot: &Slot<S, T, J>) -> bool
     ensures { result ≡ may_record slot.now }
 {
     match slot {
@@ -19,7 +19,7 @@ pub fn is_ready<S: PageStore, T: DeadRows + Drop, J: Jobs>(slot: &Slot<S, T, J>)
 }
 
 /// Whether the lock was opened.
-pub fn is_open<S: PageStore, T: DeadRows + Drop, J: Jobs>(slot: &Slot<S, T, J>) -> bool
+pub fn is_open<S: PageStore, T: DeadRows + Drop, J: JobsOn<S>>(slot: &Slot<S, T, J>) -> bool
     ensures { result ≡ is_open slot.now }
 {
     match slot {
@@ -29,7 +29,7 @@ pub fn is_open<S: PageStore, T: DeadRows + Drop, J: Jobs>(slot: &Slot<S, T, J>) 
 }
 
 /// Whether the workers wait for the lock to be opened, or closed.
-pub fn is_waiting<S: PageStore, T: DeadRows + Drop, J: Jobs>(slot: &Slot<S, T, J>) -> bool {
+pub fn is_waiting<S: PageStore, T: DeadRows + Drop, J: JobsOn<S>>(slot: &Slot<S, T, J>) -> bool {
     match slot {
         Slot::Waiting => true,
         _ => false,

@@ -6,13 +6,13 @@ ghost use Rattle.crossbeam_queue.specs.Passes.{view, IsPassOf};
 ghost use Rattle.index_model.specs.Actions.{Action};
 ghost use Rattle.index_model.specs.Calls.{Call};
 ghost use Rattle.index_model.specs.declared.entry.Entry.{Entry as OneEntry};
-ghost use Rattle.page_action.specs.States.{IsLater};
+ghost use Rattle.page_action.specs.States.{Continues, IsLater};
 ghost use Rattle.worker_seats.specs.Queue.{below, queue_view, times, weigh};
 ghost use Rattle.worker_seats.specs.Seats.{keeper_of, known_by};
 ghost use Rattle.world.specs.Worlds.{WorldFits, WorldKeeps, inside};
 ghost use Rattle.shared_world.specs.Acted.{HasActed};
 ghost use Rattle.shared_world.specs.Ended.{AreIdle, jobs_of_records};
-ghost use Rattle.sessions.specs.Finishing.{IsFinished, IsReceiptFor, RunIsRefusedFor, IsWithinLimits, receipt_of, records_of};
+ghost use Rattle.sessions.specs.Finishing.{HaveTold, IsFinished, IsReceiptFor, RunIsRefusedFor, IsWithinLimits, receipt_of, records_of};
 ghost use Rattle.shared_world.specs.Handed.{handed_of};
 ghost use Rattle.shared_world.specs.Kept.{KeepsAll};
 ghost use Rattle.shared_world.specs.declared.record.Record.{Record as DoneJob};
@@ -26,7 +26,7 @@ use crate::run_room::make_room;
 use crate::ticket::{JobList, JobTicket, all_tickets};
 use index_model::{DeadRows, Fault};
 use page_action::PageStore;
-use shared_world::{Job, Jobs, Record};
+use shared_world::{Job, JobsOn, Record};
 use std::alloc::Global;
 use std::marker::Brand;
 use std::sync::Wait;
@@ -103,7 +103,7 @@ fn queue_of<K: JobList, R: Wait>(
 fn run_named<
     S: PageStore + Drop + Send,
     T: DeadRows + Drop + Send,
-    J: Jobs + Send + Sync,
+    J: JobsOn<S> + Send + Sync,
     K: JobList + Send + Sync,
     G: Gate + Sync,
     R: Threads + Wait + Sync,
@@ -119,7 +119,7 @@ fn run_named<
     jobs: &[Job],
     workers: u32,
     gate: &G,
-) -> Result<Finished<S, T>, NotRun<S, T>>
+) -> Result<(Finished<S, T>, Vec<G::Hand>), NotRun<S, T>>
     requires name { blank.name ≡ J.name }
     requires parts { blank.parts ≡ J.parts }
     requires all { blank.parts ≡ 65 }
@@ -135,6 +135,7 @@ fn run_named<
     requires kept_then { (contents : OneEntry → Bool) (history : List Action) (calls : List Call)
         → J.kept_then contents history calls
         ↔ WorldKeeps S.PageStore T.DeadRows world contents history calls }
+    requires followed { (first : S) → J.followed first ↔ S.follows first world.store }
     requires keeper { keeper.table_id ≡ cell.now.table.shared.table_id }
     requires knows { known_by keeper ≡ keeper_of [] [] }
     requires pass { IsPassOf queue.now pass }
@@ -143,10 +144,14 @@ fn run_named<
     requires rests { AreIdle world.calls.slots.items }
     ensures given_back { IfErr result (λ not_run. not_run.world ≡ world) }
     ensures memory { IfErr result (λ not_run. not_run.fault ≡ Fault.NoMemory) }
-    ensures done { IfOk result (IsFinished S.PageStore T.DeadRows jobs.now workers world) }
+    ensures done { IfOk result (λ r.
+        IsFinished S.PageStore T.DeadRows jobs.now workers world r.0) }
+    ensures told { IfOk result (λ r.
+        HaveTold G.Hand.told workers r.1.items r.0.history.items) }
 {
     let (book, all) = blank.open::<J>();
-    let Some(room) = make_room::<J, K>(alloc, keeper, pass, book, all, jobs.len(), workers) else {
+    let Some(room) = make_room::<J, K, G::Hand>(alloc, keeper, pass, book, all, jobs.len(), workers)
+    else {
         return Err(no_memory(world));
     };
     let Some((receipts, calls)) = make_tables(alloc, jobs.len(), workers) else {
@@ -156,7 +161,9 @@ fn run_named<
         return Err(no_memory(world));
     };
     match run_all(rt, queue, cell, gate, world, room, handles, workers - 1) {
-        Ok((world, start, history)) => Ok(finish(world, start, history, receipts, calls)),
+        Ok((world, start, history, hands)) => {
+            Ok((finish(world, start, history, receipts, calls), hands))
+        }
         Err(world) => Err(no_memory(world)),
     }
 }
@@ -175,13 +182,16 @@ fn run_listed<
     jobs: &[Job],
     workers: u32,
     gate: &G,
-) -> Result<Finished<S, T>, NotRun<S, T>>
+) -> Result<(Finished<S, T>, Vec<G::Hand>), NotRun<S, T>>
     requires list { K.list ≡ jobs.now }
     requires limits { IsWithinLimits (length world.calls.slots.items) jobs.now workers }
     requires rests { AreIdle world.calls.slots.items }
     ensures given_back { IfErr result (λ not_run. not_run.world ≡ world) }
     ensures memory { IfErr result (λ not_run. not_run.fault ≡ Fault.NoMemory) }
-    ensures done { IfOk result (IsFinished S.PageStore T.DeadRows jobs.now workers world) }
+    ensures done { IfOk result (λ r.
+        IsFinished S.PageStore T.DeadRows jobs.now workers world r.0) }
+    ensures told { IfOk result (λ r.
+        HaveTold G.Hand.told workers r.1.items r.0.history.items) }
 {
     let Some((queue, pass)) = queue_of::<K, R>(rt, alloc, jobs) else {
         return Err(no_memory(world));
@@ -193,6 +203,38 @@ fn run_listed<
     run_named::<S, T, Brand, K, G, R>(
         rt, alloc, &queue, &cell, keeper, pass, blank, world, jobs, workers, gate,
     )
+}
+
+/// Runs these jobs as `run_jobs` does, and also gives back with what each worker told the gate: of the jobs of its records, of each
+/// once, in order, after it took the job and before the job began (`told`).
+pub fn run_told<
+    S: PageStore + Drop + Send,
+    T: DeadRows + Drop + Send,
+    G: Gate + Sync,
+    R: Threads + Wait + Sync,
+>(
+    rt: &R,
+    alloc: Global,
+    world: World<S, T>,
+    jobs: &[Job],
+    workers: u32,
+    gate: &G,
+) -> Result<(Finished<S, T>, Vec<G::Hand>), NotRun<S, T>>
+    ensures given_back { IfErr result (λ not_run. not_run.world ≡ world) }
+    ensures refused { IfErr result (λ not_run.
+        RunIsRefusedFor not_run.fault world.calls.slots.items jobs.now workers) }
+    ensures limits { OnOk result
+        (IsWithinLimits (length world.calls.slots.items) jobs.now workers) }
+    ensures free { OnOk result (AreIdle world.calls.slots.items) }
+    ensures finished { IfOk result (λ r.
+        IsFinished S.PageStore T.DeadRows jobs.now workers world r.0) }
+    ensures told { IfOk result (λ r.
+        HaveTold G.Hand.told workers r.1.items r.0.history.items) }
+{
+    if let Some(fault) = refusal(&world, jobs, workers) {
+        return Err(NotRun { fault, world });
+    }
+    run_listed::<S, T, Brand, G, R>(rt, alloc, world, jobs, workers, gate)
 }
 
 /// Runs these jobs on the world, each by one of so many workers, and gives it back with their records. The calling thread is one of
@@ -232,6 +274,9 @@ pub fn run_jobs<
     ensures acted { IfOk result (λ done. ∥ HasActed S.PageStore
         (handed_of S.PageStore T.DeadRows world) jobs.now (inside T.DeadRows done.world) []
         done.history.items ∥₁) }
+    // What its store followed it follows still, so that the law of crashes holds over the run.
+    ensures steps { IfOk result (λ done.
+        ∥ Continues S.follows world.store done.world.store ∥₁) }
     ensures later { IfOk result (λ done.
         ∥ IsLater (S.backing world.store) (S.backing done.world.store) ∥₁) }
     ensures start { IfOk result (λ done. done.start ≡ (S.state world.store).acts) }
@@ -252,8 +297,8 @@ pub fn run_jobs<
         (λ count. count ≡ records_of worker done.history.items)) }
     ensures sum { IfOk result (λ done. sum done.calls.items ≡ length done.history.items) }
 {
-    if let Some(fault) = refusal(&world, jobs, workers) {
-        return Err(NotRun { fault, world });
+    match run_told(rt, alloc, world, jobs, workers, gate) {
+        Ok((finished, _)) => Ok(finished),
+        Err(not_run) => Err(not_run),
     }
-    run_listed::<S, T, Brand, G, R>(rt, alloc, world, jobs, workers, gate)
 }

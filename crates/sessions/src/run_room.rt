@@ -9,19 +9,20 @@ use crate::ticket::{JobList, JobTicket};
 use shared_world::{Jobs, Pending, Record};
 use std::alloc::Global;
 use std::sync::ledger::{Book, Share};
-use worker_seats::{QueuePass, Seat, SeatPass, Worker};
+use worker_seats::{QueuePass, Seat, SeatPass, Telling, Worker};
 
 /// What a run is given before it begins: the passes of the whole queue and of the keeper of the seats, the ledger, and room for
-/// the records, the jobs whose calls run and the workers.
+/// the records, the jobs whose calls run, the workers and their hands.
 #[derive(Drop)]
-pub struct Room<J: Jobs, K: JobList> {
+pub struct Room<J: Jobs, K: JobList, H: Telling> {
     pub keeper: SeatPass,
     pub pass: QueuePass<JobTicket<K>>,
     pub book: Book<J>,
     pub all: Share<J>,
     pub history: Vec<Record>,
     pub pending: Vec<Option<Pending>>,
-    pub staff: Vec<Worker<J, JobTicket<K>>>,
+    pub staff: Vec<Worker<J, JobTicket<K>, H>>,
+    pub hands: Vec<H>,
     pub seats: Vec<Seat<J>>,
     pub ghost of_seats: { keeper.table_id ≡ J.seats },
     pub ghost keeper_is: { known_by keeper ≡ keeper_of [] [] },
@@ -34,15 +35,17 @@ pub struct Room<J: Jobs, K: JobList> {
     pub ghost no_record: { history.items ≡ [] },
     pub ghost none_pending: { pending.items ≡ [] },
     pub ghost no_worker: { staff.items ≡ [] },
+    pub ghost no_hand: { hands.items ≡ [] },
     pub ghost no_seat: { seats.items ≡ [] },
     pub ghost for_records: { length J.jobs ≤ vec_capacity history },
     pub ghost for_pending: { J.workers ≤ vec_capacity pending },
     pub ghost for_workers: { J.workers ≤ vec_capacity staff },
+    pub ghost for_hands: { J.workers ≤ vec_capacity hands },
     pub ghost for_seats: { J.workers ≤ vec_capacity seats },
 }
 
 /// The room of a run of so many jobs by so many workers. None where there is no memory for it.
-pub fn make_room<J: Jobs, K: JobList>(
+pub fn make_room<J: Jobs, K: JobList, H: Telling + Drop>(
     alloc: Global,
     keeper: SeatPass,
     pass: QueuePass<JobTicket<K>>,
@@ -50,7 +53,7 @@ pub fn make_room<J: Jobs, K: JobList>(
     all: Share<J>,
     jobs: usize,
     workers: u32,
-) -> Option<Room<J, K>>
+) -> Option<Room<J, K, H>>
     requires of { keeper.table_id ≡ J.seats }
     requires keeper { known_by keeper ≡ keeper_of [] [] }
     requires queue { pass.table_id ≡ J.queue }
@@ -65,6 +68,7 @@ pub fn make_room<J: Jobs, K: JobList>(
     let history = Vec::with_capacity(alloc, jobs).ok()?;
     let pending = Vec::with_capacity(alloc, workers as usize).ok()?;
     let staff = Vec::with_capacity(alloc, workers as usize).ok()?;
+    let hands = Vec::with_capacity(alloc, workers as usize).ok()?;
     let seats = Vec::with_capacity(alloc, workers as usize).ok()?;
     Some(Room {
         keeper,
@@ -74,6 +78,7 @@ pub fn make_room<J: Jobs, K: JobList>(
         history,
         pending,
         staff,
+        hands,
         seats,
     })
 }

@@ -2,11 +2,11 @@
 
 use index_model::DeadRows;
 use page_action::PageStore;
-use shared_world::{Jobs, Shared};
+use shared_world::{JobsOn, Shared};
 
 /// What the lock holds: nothing until all workers have started, and nothing where one can't be.
 #[derive(Drop)]
-pub enum Slot<S: PageStore, T: DeadRows + Drop, J: Jobs> {
+pub enum Slot<S: PageStore, T: DeadRows + Drop, J: JobsOn<S>> {
     Waiting,
     Open(Shared<S, T, J>),
     Closed,

@@ -16,19 +16,21 @@ use crate::ticket::{JobList, JobTicket};
 use index_model::{DeadRows, Entry};
 use page_action::PageStore;
 use session_calls::Answer;
-use shared_world::{Job, Jobs, Turn};
+use shared_world::{Job, JobsOn, Turn};
 use std::sync::Wait;
 use std::thread;
 use worker_seats::{Pops, QueuePass, Seat};
 
-// Begins a job, in a hold of the lock.
-fn begin_in<S: PageStore, T: DeadRows + Drop, J: Jobs, K: JobList, G: Gate, R: Wait>(
+// Begins a job, in a hold of the lock. The gate was told of it, and of each before it.
+fn begin_in<S: PageStore, T: DeadRows + Drop, J: JobsOn<S>, K: JobList, G: Gate, R: Wait>(
     run: &RunContext<S, T, J, K, G, R>,
     seat: Seat<J>,
     job: u32,
     asked: &Job,
     room: Vec<Entry>,
+    _hand: &G::Hand,
 ) -> Turn<J>
+    requires told { G.Hand.told _hand.now ≡ jobs_in (known_by seat.pass).notes ++ job ∷ [] }
     requires idle { (known_by seat.pass).job ≡ None }
     requires job { slice_get J.jobs job ≡ Some asked.now }
     requires empty { room.items ≡ [] }
@@ -47,7 +49,7 @@ fn begin_in<S: PageStore, T: DeadRows + Drop, J: Jobs, K: JobList, G: Gate, R: W
 }
 
 // Makes a step of the session's call, in a hold of the lock.
-fn step_in<S: PageStore, T: DeadRows + Drop, J: Jobs, K: JobList, G: Gate, R: Wait>(
+fn step_in<S: PageStore, T: DeadRows + Drop, J: JobsOn<S>, K: JobList, G: Gate, R: Wait>(
     run: &RunContext<S, T, J, K, G, R>,
     seat: Seat<J>,
     job: u32,
@@ -67,7 +69,7 @@ fn step_in<S: PageStore, T: DeadRows + Drop, J: Jobs, K: JobList, G: Gate, R: Wa
 }
 
 // Asks the session's call for its next entry, in a hold of the lock.
-fn next_in<S: PageStore, T: DeadRows + Drop, J: Jobs, K: JobList, G: Gate, R: Wait>(
+fn next_in<S: PageStore, T: DeadRows + Drop, J: JobsOn<S>, K: JobList, G: Gate, R: Wait>(
     run: &RunContext<S, T, J, K, G, R>,
     seat: Seat<J>,
     job: u32,
@@ -88,7 +90,7 @@ fn next_in<S: PageStore, T: DeadRows + Drop, J: Jobs, K: JobList, G: Gate, R: Wa
 }
 
 // Gives the session's scan up where its room is full, in a hold of the lock.
-fn end_in<S: PageStore, T: DeadRows + Drop, J: Jobs, K: JobList, G: Gate, R: Wait>(
+fn end_in<S: PageStore, T: DeadRows + Drop, J: JobsOn<S>, K: JobList, G: Gate, R: Wait>(
     run: &RunContext<S, T, J, K, G, R>,
     seat: Seat<J>,
     job: u32,
@@ -110,7 +112,7 @@ fn end_in<S: PageStore, T: DeadRows + Drop, J: Jobs, K: JobList, G: Gate, R: Wai
 }
 
 // Takes so many entries that are ready.
-fn take_ready<S: PageStore, T: DeadRows + Drop, J: Jobs, K: JobList, G: Gate, R: Wait>(
+fn take_ready<S: PageStore, T: DeadRows + Drop, J: JobsOn<S>, K: JobList, G: Gate, R: Wait>(
     run: &RunContext<S, T, J, K, G, R>,
     stint: &mut Stint,
     seat: Seat<J>,
@@ -131,7 +133,7 @@ fn take_ready<S: PageStore, T: DeadRows + Drop, J: Jobs, K: JobList, G: Gate, R:
 
 // A step, and what is to be done after it: of a scan that has entries ready these are taken; where its room was full before, it is
 // given up.
-fn turn<S: PageStore, T: DeadRows + Drop, J: Jobs, K: JobList, G: Gate, R: Wait>(
+fn turn<S: PageStore, T: DeadRows + Drop, J: JobsOn<S>, K: JobList, G: Gate, R: Wait>(
     run: &RunContext<S, T, J, K, G, R>,
     stint: &mut Stint,
     seat: Seat<J>,
@@ -172,12 +174,15 @@ fn turn<S: PageStore, T: DeadRows + Drop, J: Jobs, K: JobList, G: Gate, R: Wait>
 }
 
 // Does a job from its beginning to its record.
-fn one_job<S: PageStore, T: DeadRows + Drop, J: Jobs, K: JobList, G: Gate, R: Wait>(
+fn one_job<S: PageStore, T: DeadRows + Drop, J: JobsOn<S>, K: JobList, G: Gate, R: Wait>(
     run: &RunContext<S, T, J, K, G, R>,
     stint: &mut Stint,
     seat: Seat<J>,
+    hand: &G::Hand,
     ticket: JobTicket<K>,
 ) -> Seat<J>
+    requires told { G.Hand.told hand.now
+        ≡ jobs_in (known_by seat.pass).notes ++ ticket.job ∷ [] }
     requires idle { (known_by seat.pass).job ≡ None }
     ensures worker { result.worker ≡ seat.worker }
     ensures idle { (known_by result.pass).job ≡ None }
@@ -194,7 +199,7 @@ fn one_job<S: PageStore, T: DeadRows + Drop, J: Jobs, K: JobList, G: Gate, R: Wa
         seat,
         answer: _,
         place,
-    } = begin_in(run, seat, job, &asked, room);
+    } = begin_in(run, seat, job, &asked, room, hand);
     let mut mine = seat;
     let mut at = place;
     for _ in run.rt.forever() {
@@ -210,24 +215,27 @@ fn one_job<S: PageStore, T: DeadRows + Drop, J: Jobs, K: JobList, G: Gate, R: Wa
 }
 
 // Tells the gate of a job. Where that may wait for others, nobody waits for this worker meanwhile.
-fn tell<S: PageStore, T: DeadRows + Drop, J: Jobs, K: JobList, G: Gate, R: Wait>(
+fn tell<S: PageStore, T: DeadRows + Drop, J: JobsOn<S>, K: JobList, G: Gate, R: Wait>(
     run: &RunContext<S, T, J, K, G, R>,
     stint: &mut Stint,
+    hand: &mut G::Hand,
     worker: u32,
     job: u32,
-) {
+)
+    ensures { G.Hand.told hand.new ≡ G.Hand.told hand.old ++ job ∷ [] }
+{
     if !run.gate.may_wait() {
-        run.gate.taken(worker, job);
+        run.gate.taken(hand, worker, job);
         return;
     }
     stint.end(run.rt, &run.door.baton);
     run.door.rounds.end_work(run.rt);
-    run.gate.taken(worker, job);
+    run.gate.taken(hand, worker, job);
     run.door.rounds.begin_work(run.rt);
 }
 
 // Waits until the worker may do this job: a commit with those of its round, each other one with the baton.
-fn wait_for<S: PageStore, T: DeadRows + Drop, J: Jobs, K: JobList, G: Gate, R: Wait>(
+fn wait_for<S: PageStore, T: DeadRows + Drop, J: JobsOn<S>, K: JobList, G: Gate, R: Wait>(
     run: &RunContext<S, T, J, K, G, R>,
     stint: &mut Stint,
     asked: &Job,
@@ -241,13 +249,15 @@ fn wait_for<S: PageStore, T: DeadRows + Drop, J: Jobs, K: JobList, G: Gate, R: W
     stint.begin(run.rt, &run.door.baton);
 }
 
-/// Does jobs until the queue was empty.
-pub fn work<S: PageStore, T: DeadRows + Drop, J: Jobs, K: JobList, G: Gate, R: Wait>(
+/// Does jobs until the queue was empty. The gate is told of each, once, after it is taken and before it begins.
+pub fn work<S: PageStore, T: DeadRows + Drop, J: JobsOn<S>, K: JobList, G: Gate, R: Wait>(
     run: &RunContext<S, T, J, K, G, R>,
     seat: Seat<J>,
     pass: QueuePass<JobTicket<K>>,
+    hand: &mut G::Hand,
 ) -> (Seat<J>, QueuePass<JobTicket<K>>)
     requires idle { (known_by seat.pass).job ≡ None }
+    requires told { G.Hand.told hand.old ≡ jobs_in (known_by seat.pass).notes }
     requires queue { IsPassOf run.now.queue.now pass }
     requires part { 0 < (view pass).parts }
     ensures worker { result.0.worker ≡ seat.worker }
@@ -258,6 +268,7 @@ pub fn work<S: PageStore, T: DeadRows + Drop, J: Jobs, K: JobList, G: Gate, R: W
     ensures did { (more : List (ℕ × ℕ))
         × ((known_by result.0.pass).notes ≡ (known_by seat.pass).notes ++ more)
         × ((view result.1).popped ≡ (view pass).popped ++ jobs_in more) }
+    ensures told { G.Hand.told hand.new ≡ jobs_in (known_by result.0.pass).notes }
     ensures empty { KnowsAll (view result.1) [] }
 {
     run.door.rounds.begin_work(run.rt);
@@ -267,10 +278,10 @@ pub fn work<S: PageStore, T: DeadRows + Drop, J: Jobs, K: JobList, G: Gate, R: W
     for _ in run.rt.forever() {
         match run.queue.pop_as::<Pops, R>(run.rt, &mut own) {
             Some(ticket) => {
-                tell(run, &mut stint, mine.worker, ticket.job);
+                tell(run, &mut stint, hand, mine.worker, ticket.job);
                 let asked = ticket.asked;
                 wait_for(run, &mut stint, &asked);
-                mine = one_job(run, &mut stint, mine, ticket);
+                mine = one_job(run, &mut stint, mine, hand, ticket);
                 run.door.rounds.after(run.rt, &asked);
             }
             None => {

@@ -1,6 +1,6 @@
 -- What was done for the records and the jobs that run, after some more transitions of one session.
 use Rattle.std.proofs.Common.{◌≡◌, ◌≢◌, ◌==◌, if◌then◌else◌, Bool, true, false, ℕ, ◌<◌, ◌≤◌, List, [], ◌∷◌, ◌++◌, length, map, Option, Some, None, slice_get, slice_set, vec_capacity, refl, sym, ap, ◌∙◌, subst, inl, inr, ⊎_elim, arith, length-append, append_assoc}
-use Rattle.shared_world.proofs.Imports.{append-nil, length-map, AllByRecursion, Entry, Ghosts, Answer, Begun, EventEffect, kind_of, StoreAndSlots, nat_cases, get_snoc, set_here, set_else, set_cases}
+use Rattle.shared_world.proofs.Imports.{append-nil, length-map, AllByRecursion, has_call, Entry, Ghosts, Answer, Begun, EventEffect, kind_of, StoreAndSlots, nat_cases, get_snoc, set_here, set_else, set_cases}
 use Rattle.shared_world.proofs.Imports.{KeepsRunning, AreOfRunning, EndsCall, AreOfRecord, AreOfPending, IsKnown, HasActed, Handed, IsAsHanded, event_of, IsRoomOf, IsWithinRoom, record_of, LockMoment}
 use Rattle.shared_world.proofs.Imports.{Transition, IsPath, Owner, OfRecord, OfSession, is_owner, owned_by, gifts_of, Job, Scan, Record, Pending}
 use Rattle.shared_world.proofs.Noting.{some_same, clash}
@@ -73,10 +73,10 @@ module _ {S : Type 0} (g : Ghosts S) (handed : Handed) (jobs : List Job) (w v : 
       (nat_cases t s)
 
   -- a job begins in a session
-  pub acts_begun : (s : ℕ) (p : Pending) (job : Job) → slice_get pending s ≡ Some None → slice_get jobs p.job ≡ Some job
+  pub acts_begun : (s : ℕ) (p : Pending) (job : Job) → has_call w.slots s ≡ false → slice_get pending s ≡ Some None → slice_get jobs p.job ≡ Some job
       → IsRoomOf job (vec_capacity p.given) → p.from ≡ (g.state w.store).acts → p.seen ≡ n → p.given.items ≡ []
       → EventEffect g (kind_of (event_of s job)) Begun w v → HasActed g handed jobs v (slice_set pending s (Some p)) records
-  acts_begun s p job idle is room from seen none makes =
+  acts_begun s p job free idle is room from seen none makes =
       let t : Transition S = record { event = event_of s job; answer = Begun; before = moment_of w n; behind = moment_of v n } in
       let us : List (Transition S) = t ∷ [] in
       let mine : owned_by (OfSession s) (a.owners ++ owners_for (OfSession s) us) (a.transitions ++ us) ≡ us =
@@ -85,7 +85,7 @@ module _ {S : Type 0} (g : Ghosts S) (handed : Handed) (jobs : List Job) (w v : 
         job = job;
         job_is = is;
         room = room;
-        runs = record { first = t; more = []; are = refl; begun = record { event_is = refl; answer_is = refl; seen_is = sym seen; from_is = sym from }; unrecorded = refl; on = tt; given_is = none };
+        runs = record { first = t; more = []; are = refl; begun = record { event_is = refl; answer_is = refl; seen_is = sym seen; from_is = sym from; free = free }; unrecorded = refl; on = tt; given_is = none };
       } in
       record {
         first = a.first;
@@ -107,9 +107,9 @@ module _ {S : Type 0} (g : Ghosts S) (handed : Handed) (jobs : List Job) (w v : 
       }
 
   -- a job is done by one event, or refused as it begins
-  pub acts_at_once : (s : ℕ) (p : Pending) (job : Job) (answer : Answer) → slice_get jobs p.job ≡ Some job → p.from ≡ (g.state w.store).acts → p.seen ≡ n → p.given.items ≡ [] → (answer ≡ Begun → ⊥)
+  pub acts_at_once : (s : ℕ) (p : Pending) (job : Job) (answer : Answer) → has_call w.slots s ≡ false → slice_get jobs p.job ≡ Some job → p.from ≡ (g.state w.store).acts → p.seen ≡ n → p.given.items ≡ [] → (answer ≡ Begun → ⊥)
       → (g.state v.store).acts ≡ p.from → EventEffect g (kind_of (event_of s job)) answer w v → HasActed g handed jobs v pending (records ++ record_of s p answer p.from ∷ [])
-  acts_at_once s p job answer is from seen none never to makes =
+  acts_at_once s p job answer free is from seen none never to makes =
       let r = record_of s p answer p.from in
       let m = length (records ++ r ∷ []) in
       let longer = length-append records (r ∷ []) in
@@ -124,7 +124,7 @@ module _ {S : Type 0} (g : Ghosts S) (handed : Handed) (jobs : List Job) (w v : 
         done = inl (record {
           one = t;
           are = refl;
-          begins = record { event_is = refl; answer_is = refl; seen_is = sym seen; from_is = sym from };
+          begins = record { event_is = refl; answer_is = refl; seen_is = sym seen; from_is = sym from; free = free };
           never = never;
           none = none;
           makes = record { place_is = refl; next_is = omega (arith, longer); to_is = to };

@@ -6,9 +6,9 @@ use Rattle.shared_world.specs.declared.job.Job.TheVariants.{Insert, Scan, Bulk, 
 use Rattle.shared_world.proofs.Imports.{HasCause, Entry, SetGhosts, Fault, Blocked, Ghosts, IsCaused, DeadSets, asked_by, has_call, one_vacuums, slot_has_call, Answer, Begun, Forced, Checkpointed}
 use Rattle.shared_world.proofs.Imports.{Refused, Op, Request, RefusedCallsFit, AnswersEvent, AnswersBeginning, EventAlways, UpkeepIsDone, Stays, kept_answer, causes_of_begun_at, EventDoes}
 use Rattle.shared_world.proofs.Imports.{EventEffect, KeepsHistory, Upkeep, Forces, Flushes, Checkpoints, Kind, BeginsCall, MaintainsStore, kind_of, StoreAndSlots, Moment, snapshot_of, ForEachHistory}
-use Rattle.shared_world.proofs.Imports.{EventFollows, Fits, Event, goes_does, begins_told, keeps_silent, RunGhosts, get_within, inside, World, JobGhosts, Shared, Job, Pending, event_of, request_of}
+use Rattle.shared_world.proofs.Imports.{EventFollows, Fits, Event, goes_does, begins_told, keeps_silent, RunGhosts, get_within, inside, World, JobGhosts, StoreJobGhosts, Shared, Job, Pending, event_of, request_of}
 use Rattle.shared_world.proofs.Imports.{upkeep_of, begins, IsRoomOf, IsBlocked, KeepsFitting, record_of}
-use Rattle.shared_world.proofs.Noting.{set_same, busy_is, OthersRunOn, matches_runs, matches_stays}
+use Rattle.shared_world.proofs.Noting.{set_same, busy_is, OthersRunOn, rests_there, matches_runs, matches_stays}
 use Rattle.shared_world.proofs.Handing.{IsNext}
 use Rattle.shared_world.proofs.Sharing.{KeepsWith, CarriesOn}
 use Rattle.shared_world.proofs.Acting.{acts_begun, acts_at_once}
@@ -75,7 +75,7 @@ kept_of g Checkpoints answer x y (inr h) count e = absurd (checkpointed_not coun
 kept_of g Flushes answer x y h count e = absurd cc
 
 -- a beginning under the lock, and what it leaves there
-module _ {S T J : Type 0} {g : Ghosts S} {rows : SetGhosts T} {j : JobGhosts J} {run : RunGhosts J} (self : Shared S T J g rows j run) (world : World S T)
+module _ {S T J : Type 0} {g : Ghosts S} {rows : SetGhosts T} {past : StoreJobGhosts J S} {j : JobGhosts J} {run : RunGhosts J} (self : Shared S T J g rows past j run) (world : World S T)
     (next : IsNext g (inside rows self.world) (inside rows world)) (s : ℕ) (p : Pending) (idle : slice_get self.pending.items s ≡ Some None) (job : Job)
     (is : slice_get j.jobs p.job ≡ Some job) (event : Event) (event_is : event ≡ event_of s job) (answer : Answer)
     (goes : ForEachHistory g (inside rows self.world) (inside rows world) (EventFollows g (inside rows self.world) (inside rows world) event answer))
@@ -90,6 +90,10 @@ module _ {S T J : Type 0} {g : Ghosts S} {rows : SetGhosts T} {j : JobGhosts J} 
   -- so many records there were
   seen : p.seen ≡ length self.history.items
   seen = seen_is ∙ self.history.ok.0
+
+  -- its session runs nothing
+  free : has_call w.slots s ≡ false
+  free = rests_there w.slots self.pending.items s self.matches idle
 
   -- the event is the job's, and so is what holds of it whatever the pages are
   kind : kind_of event ≡ begins s job
@@ -203,7 +207,7 @@ module _ {S T J : Type 0} {g : Ghosts S} {rows : SetGhosts T} {j : JobGhosts J} 
       let runs = begin_runs told in
       record {
         keeps = begin_keeps_begun told;
-        acts = λ a. acts_begun g j.handed j.jobs w v self.pending.items self.history.items a s p job idle is room from seen given
+        acts = λ a. acts_begun g j.handed j.jobs w v self.pending.items self.history.items a s p job free idle is room from seen given
             (subst (λ (x : Event × Answer). EventEffect g (kind_of x.0) x.1 w v) (λ i. (event_is i, told i)) makes);
         matches = matches_runs w.slots v.slots self.pending.items s p (get_within self.pending.items s None idle) runs.0 runs.1;
         next = next;
@@ -215,7 +219,7 @@ module _ {S T J : Type 0} {g : Ghosts S} {rows : SetGhosts T} {j : JobGhosts J} 
       let inside_it = get_within self.pending.items s None idle in
       record {
         keeps = begin_keeps_done law never (omega (arith, inside_it, self.pending.ok.0, self.seats, next.sessions));
-        acts = λ a. acts_at_once g j.handed j.jobs w v self.pending.items self.history.items a s p job answer is from seen given never (begin_acts ∙ sym from)
+        acts = λ a. acts_at_once g j.handed j.jobs w v self.pending.items self.history.items a s p job answer free is from seen given never (begin_acts ∙ sym from)
             (subst (λ (e : Event). EventEffect g (kind_of e) answer w v) event_is makes);
         matches = matches_stays w.slots v.slots self.pending.items (done_runs never);
         next = next;

@@ -2,13 +2,14 @@
 use Rattle.std.proofs.Common.{◌≡◌, ◌∙◌, ℕ, List, map, Option, length, ap, subst}
 use Rattle.page_action.proofs.Laters.{later_trans}
 use Rattle.schedule.proofs.Keeping.{Laws}
-use Rattle.shared_world.proofs.Imports.{SetGhosts, Continues, State, Backing, IsLater, Ghosts, StoreAndSlots, Op, SameSessions, inside, World, Handed, IsAsHanded, ComesOf}
+use Rattle.shared_world.proofs.Imports.{SetGhosts, Continues, State, Backing, IsLater, Ghosts, StoreAndSlots, Op, SameSessions, inside, World, Handed, IsAsHanded, ComesOf, StillFollows}
 
--- an event has made this world of that one: its sessions and sets are the same, and its device is a later one
+-- an event has made this world of that one: its sessions and sets are the same, its device is a later one, and its store follows what that one's did
 pub record IsNext {S : Type 0} (g : Ghosts S) (w v : StoreAndSlots S) : Type 0 where
   pub sessions : length v.slots ≡ length w.slots
   pub sets : v.sets ≡ w.sets
   pub later : IsLater (g.backing w.store) (g.backing v.store)
+  pub steps : Continues g.follows w.store v.store
 
 -- an event of a world does so
 pub is_next : {S T : Type 0} {g : Ghosts S} (rows : SetGhosts T) {old new : World S T} → Laws g → Continues g.follows old.store new.store → SameSessions old new
@@ -17,6 +18,7 @@ is_next rows {old} {new} laws steps same = record {
   sessions = same.sessions;
   sets = ap (λ s. map rows.is_in s.items) same.sets;
   later = laws.follows_later old.store new.store (steps old.store (laws.follows_same old.store));
+  steps = steps;
 }
 
 -- the world that was handed in has become this one, by one event more
@@ -36,3 +38,7 @@ comes_first g laws handed start w is was = record {
   sets_are = was.sets_are;
   later = subst (λ (b : Backing). IsLater b (g.backing w.store)) was.backing_is (laws.follows_later w.store w.store (laws.follows_same w.store));
 }
+
+-- it follows what it followed, after one event more
+pub follows_on : {S : Type 0} (g : Ghosts S) (followed : S → Type 0) (w v : StoreAndSlots S) → IsNext g w v → StillFollows g followed w.store → StillFollows g followed v.store
+follows_on g followed w v next all first was = next.steps first (all first was)

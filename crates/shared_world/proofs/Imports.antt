@@ -47,7 +47,7 @@ pub use Rattle.worker_seats.specs.declared.seating.SeatView.{SeatView}
 pub use Rattle.shared_world.specs.Acted.{AreOfPending, AreOfRecord, AreOfRunning, EndsCall, HasActed, IsKnown, KeepsRunning}
 pub use Rattle.shared_world.specs.Doing.{HasTaken, IsEventDone, IsFullScan, MayBeDone, given_after}
 pub use Rattle.shared_world.specs.Ended.{AreIdle, jobs_of_records}
-pub use Rattle.shared_world.specs.Handed.{ComesOf, Handed, IsAsHanded}
+pub use Rattle.shared_world.specs.Handed.{ComesOf, Handed, IsAsHanded, StillFollows}
 pub use Rattle.shared_world.specs.Jobs.{IsRoomOf, IsWithinRoom, ScanIsFull, begins, event_of, request_of, upkeep_of}
 pub use Rattle.shared_world.specs.Kept.{HasEndedBy, IsBlocked, IsCut, IsInTime, IsOurs, IsPending, IsSince, KeepsAll, KeepsFitting, Lists, ListsCall, ListsUpkeep, MatchesPending, RecordFollows}
 pub use Rattle.shared_world.specs.Kept.{RunsJob, ending_by, record_of}
@@ -57,6 +57,7 @@ pub use Rattle.shared_world.specs.Turns.{HasNotedAt, TurnMeans, is_begun}
 pub use Rattle.shared_world.specs.declared.job.Job.{Job}
 pub use Rattle.shared_world.specs.declared.job.Job.TheVariants.{Scan}
 pub use Rattle.shared_world.specs.declared.jobs.Jobs.{Ghosts as JobGhosts}
+pub use Rattle.shared_world.specs.declared.jobs.JobsOn.{Ghosts as StoreJobGhosts}
 pub use Rattle.shared_world.specs.declared.record.Pending.{Pending}
 pub use Rattle.shared_world.specs.declared.record.Record.{Record}
 pub use Rattle.shared_world.specs.declared.shared.Shared.{Shared}

@@ -88,6 +88,13 @@ runs_there slots pending s p m e = yes (has_call slots s) (λ no. ∥∥₁_elim
     yes true f = refl
     yes false f = absurd (f refl)
 
+pub rests_there : (slots : List (Option Op)) (pending : List (Option Pending)) (s : ℕ) → ∥ MatchesPending slots pending ∥₁ → slice_get pending s ≡ Some None → has_call slots s ≡ false
+rests_there slots pending s m e = no (has_call slots s) (λ yes. ∥∥₁_elim m (λ x y. absurd x) (λ k. clash (has_call slots s) yes (k.rests s e)))
+  where
+    no : (b : Bool) → (b ≡ true → ⊥) → b ≡ false
+    no true f = absurd (f refl)
+    no false f = refl
+
 pub matches_runs : (old new : List (Option Op)) (pending : List (Option Pending)) (s : ℕ) (p : Pending) → s < length pending → has_call new s ≡ true
     → OthersRunOn old new s → MatchesPending old pending → MatchesPending new (slice_set pending s (Some p))
 matches_runs old new pending s p inside now others m = record {

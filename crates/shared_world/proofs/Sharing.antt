@@ -1,12 +1,12 @@
 -- What lies under the lock: what a worker's seat tells of it, and what is so of it after an event.
-use Rattle.std.proofs.Common.{◌≡◌, ◌<◌, ◌≤◌, ◌+◌, ◌++◌, ◌∷◌, [], ℕ, true, List, length, Option, Some, None, slice_get, slice_set, get_or, vec_len, sym, ap, ◌∙◌, subst, arith}
+use Rattle.std.proofs.Common.{◌≡◌, ◌<◌, ◌≤◌, ◌+◌, ◌++◌, ◌∷◌, [], ℕ, true, List, length, Option, Some, None, slice_get, slice_set, get_or, vec_len, vec_capacity, sym, ap, ◌∙◌, subst, arith}
 use Rattle.atomic_table.specs.Seated.{TableId}
-use Rattle.shared_world.proofs.Imports.{∥∥₁_map, slice_get_read, SetGhosts, Ghosts, has_call, Answer, StoreAndSlots, keeper_of, known_by, RunGhosts, SeatView, inside, World, JobGhosts, Pending}
-use Rattle.shared_world.proofs.Imports.{Record, Shared, HasActed, ComesOf, KeepsAll, MatchesPending, record_of, notes_of, jobs_of, TurnMeans, HasNotedAt}
-use Rattle.shared_world.proofs.Handing.{IsNext, comes_on}
+use Rattle.shared_world.proofs.Imports.{∥∥₁_map, slice_get_read, SetGhosts, Ghosts, has_call, Answer, StoreAndSlots, keeper_of, known_by, RunGhosts, SeatView, inside, World, JobGhosts, StoreJobGhosts, Pending}
+use Rattle.shared_world.proofs.Imports.{Record, Shared, HasActed, ComesOf, StillFollows, KeepsAll, MatchesPending, record_of, notes_of, jobs_of, TurnMeans, HasNotedAt}
+use Rattle.shared_world.proofs.Handing.{IsNext, comes_on, follows_on}
 use Rattle.shared_world.proofs.Noting.{none_there, some_there, some_same, within, notes_of_snoc, length_notes, runs_there, seat_runs}
 
-module _ {S T J : Type 0} {g : Ghosts S} {rows : SetGhosts T} {j : JobGhosts J} {run : RunGhosts J} (self : Shared S T J g rows j run) where
+module _ {S T J : Type 0} {g : Ghosts S} {rows : SetGhosts T} {past : StoreJobGhosts J S} {j : JobGhosts J} {run : RunGhosts J} (self : Shared S T J g rows past j run) where
   -- what is kept of what this run began with
   abbrev pub KeepsWith : StoreAndSlots S → List (Option Pending) → List Record → Type 0
   KeepsWith here pending records = KeepsAll g j.stood j.kept_then j.jobs here self.start pending records
@@ -80,30 +80,36 @@ module _ {S T J : Type 0} {g : Ghosts S} {rows : SetGhosts T} {j : JobGhosts J} 
       pub matches : MatchesPending self.world.calls.slots.items self.pending.items → MatchesPending world.calls.slots.items pending
       pub next : IsNext g (inside rows self.world) (inside rows world)
 
-    -- all that is to be so as the lock is released, with so many records, and this number in the book; the keeper's pass is of this table, and has this view
-    abbrev pub IsInOrder : List (Option Pending) → List Record → ℕ → ℕ → TableId → SeatView → Type 0
-    IsInOrder pending records count total table view = record {
+    -- all that is to be so as the lock is released, with so many records, in room for so many, and this number in the book; the keeper's pass is of this
+    -- table, and has this view
+    abbrev pub IsInOrder : List (Option Pending) → List Record → ℕ → ℕ → ℕ → TableId → SeatView → Type 0
+    IsInOrder pending records count capacity total table view = record {
       kept : ∥ KeepsWith (inside rows world) pending records ∥₁;
       acted : ∥ ActsWith (inside rows world) pending records ∥₁;
       matches : ∥ MatchesPending world.calls.slots.items pending ∥₁;
       seats : vec_len self.pending ≤ length world.calls.slots.items;
       workers : vec_len self.pending ≡ j.workers;
       handed : ∥ ComesOf g j.handed self.start (inside rows world) ∥₁;
+      enough : length j.jobs ≤ capacity;
+      steps : ∥ StillFollows g past.followed world.store ∥₁;
       counted : total ≡ count;
       room : table ≡ run.seats;
       knows : view ≡ keeper_of (notes_of records) (jobs_of pending);
     }
 
     -- it is so after such an event
-    pub in_order : {pending : List (Option Pending)} {records : List Record} → CarriesOn pending records → {count total : ℕ} {table : TableId} {view : SeatView}
-        → total ≡ count → table ≡ run.seats → view ≡ keeper_of (notes_of records) (jobs_of pending) → IsInOrder pending records count total table view
-    in_order leaves counted room knows = record {
+    pub in_order : {pending : List (Option Pending)} {records : List Record} → CarriesOn pending records → {count capacity total : ℕ} {table : TableId} {view : SeatView}
+        → capacity ≡ vec_capacity self.history → total ≡ count → table ≡ run.seats → view ≡ keeper_of (notes_of records) (jobs_of pending)
+        → IsInOrder pending records count capacity total table view
+    in_order leaves holds counted room knows = record {
       kept = ∥∥₁_map self.kept leaves.keeps;
       acted = ∥∥₁_map self.acted leaves.acts;
       matches = ∥∥₁_map self.matches leaves.matches;
       seats = omega (arith, self.seats, leaves.next.sessions);
       workers = self.workers;
       handed = ∥∥₁_map self.handed (comes_on g j.handed self.start (inside rows self.world) (inside rows world) leaves.next);
+      enough = omega (arith, self.enough, holds);
+      steps = ∥∥₁_map self.steps (follows_on g past.followed (inside rows self.world) (inside rows world) leaves.next);
       counted = counted;
       room = room;
       knows = knows;
@@ -112,14 +118,14 @@ module _ {S T J : Type 0} {g : Ghosts S} {rows : SetGhosts T} {j : JobGhosts J} 
     -- ... after one that made a record of the session's job, which runs no more
     pub in_order_recorded : (s : ℕ) (p : Pending) (answer : Answer) (to : ℕ) (left : List (Option Pending)) → CarriesOn left (self.history.items ++ record_of s p answer to ∷ [])
         → jobs_of left ≡ slice_set (jobs_of self.pending.items) s None
-        → {x : Record} {pending : List (Option Pending)} {records : List Record} {count total worker : ℕ} {table : TableId} {mid view : SeatView}
-        → pending ≡ left → records ≡ self.history.items ++ x ∷ [] → x ≡ record_of s p answer to → count ≡ vec_len self.history + 1 → total ≡ self.book.total + 1 → table ≡ run.seats
+        → {x : Record} {pending : List (Option Pending)} {records : List Record} {count capacity total worker : ℕ} {table : TableId} {mid view : SeatView}
+        → pending ≡ left → records ≡ self.history.items ++ x ∷ [] → x ≡ record_of s p answer to → count ≡ vec_len self.history + 1 → capacity ≡ vec_capacity self.history → total ≡ self.book.total + 1 → table ≡ run.seats
         → mid ≡ known_by self.keeper → worker ≡ s → view ≡ keeper_of (mid.log ++ (worker, p.job) ∷ []) (slice_set mid.running worker None)
-        → IsInOrder pending records count total table view
-    in_order_recorded s p answer to left leaves ended {x} {pending} {records} {count} {total} {worker} {table} {mid} {view} pending_is items is count_is total_is room same sits knows =
+        → IsInOrder pending records count capacity total table view
+    in_order_recorded s p answer to left leaves ended {x} {pending} {records} {count} {capacity} {total} {worker} {table} {mid} {view} pending_is items is count_is holds total_is room same sits knows =
         let all = items ∙ ap (λ (r : Record). self.history.items ++ r ∷ []) is in
         let v = same ∙ self.knows in
-        subst (λ (h : List (Option Pending) × List Record). IsInOrder h.0 h.1 count total table view) (λ i. (sym pending_is i, sym all i))
-        (in_order leaves (total_is ∙ ap (λ n. n + 1) self.counted ∙ sym count_is) room
+        subst (λ (h : List (Option Pending) × List Record). IsInOrder h.0 h.1 count capacity total table view) (λ i. (sym pending_is i, sym all i))
+        (in_order leaves holds (total_is ∙ ap (λ n. n + 1) self.counted ∙ sym count_is) room
         (knows ∙ (λ i. keeper_of ((v i).log ++ (sits i, p.job) ∷ []) (slice_set (v i).running (sits i) None))
         ∙ (λ i. keeper_of (sym (notes_of_snoc self.history.items (record_of s p answer to)) i) (sym ended i))))

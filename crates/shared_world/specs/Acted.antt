@@ -6,7 +6,7 @@ use Rattle.index_model.specs.declared.fault.Fault.{Fault}
 use Rattle.page_action.specs.declared.page_store.PageStore.{Ghosts}
 use Rattle.session_calls.specs.Ops.{is_last}
 use Rattle.session_calls.specs.Sessions.{ready_count, slot_add}
-use Rattle.session_calls.specs.Slots.{slot_of}
+use Rattle.session_calls.specs.Slots.{slot_of, has_call}
 use Rattle.session_calls.specs.declared.answer.Answer.{Answer}
 use Rattle.session_calls.specs.declared.answer.Answer.TheVariants.{Begun, Ended, Checkpointed, Refused}
 use Rattle.schedule.specs.TheoremKinds.{kind_of}
@@ -32,12 +32,13 @@ pub record MakesRecord {S : Type 0} (g : Ghosts S) (place to : ℕ) (t : Transit
   pub next_is : t.behind.recorded ≡ suc place
   pub to_is : (g.state t.behind.here.store).acts ≡ to
 
--- the event that begins the job, or does it whole; so many records and actions there were before
+-- the event that begins the job, or does it whole, where its session runs nothing; so many records and actions there were before
 pub record IsBeginning {S : Type 0} (g : Ghosts S) (session : ℕ) (job : Job) (seen from : ℕ) (answer : Answer) (t : Transition S) : Type 0 where
   pub event_is : t.event ≡ event_of session job
   pub answer_is : t.answer ≡ answer
   pub seen_is : t.before.recorded ≡ seen
   pub from_is : (g.state t.before.here.store).acts ≡ from
+  pub free : has_call t.before.here.slots session ≡ false
 
 -- before a step the log has room for five images, or its whole room; a checkpoint is made only where it hasn't
 abbrev pub HasRoomForStep : {S : Type 0} → Ghosts S → Transition S → Type 0

@@ -13,7 +13,7 @@ use Rattle.world.specs.declared.world.World.{World}
 use Rattle.shared_world.specs.declared.job.Job.{Job}
 use Rattle.shared_world.specs.declared.record.Record.{Record}
 use Rattle.shared_world.specs.Acted.{HasActed}
-use Rattle.shared_world.specs.Handed.{Handed, ComesOf}
+use Rattle.shared_world.specs.Handed.{Handed, ComesOf, StillFollows}
 use Rattle.shared_world.specs.Kept.{KeepsAll}
 
 -- no session has a call
@@ -24,13 +24,14 @@ AreIdle slots = (session : ℕ) → has_call slots session ≡ false
 abbrev pub jobs_of_records : List Record → List ℕ
 jobs_of_records records = map (λ r. r.job) records
 
--- All jobs are done: what is kept under the lock is so with no job pending, and so is what was done for each record; no session has a call, the
--- records are those of the jobs that were handed out, and each is of one of the workers.
-pub record HasRun {S T : Type 0} (g : Ghosts S) (rows : SetGhosts T) (stood kept_then : (Entry → Bool) → List Action → List Call → Type 0)
+-- All jobs are done: what is kept under the lock is so with no job pending, and so is what was done for each record; the store follows what it
+-- followed, no session has a call, the records are those of the jobs that were handed out, and each is of one of the workers.
+pub record HasRun {S T : Type 0} (g : Ghosts S) (rows : SetGhosts T) (stood kept_then : (Entry → Bool) → List Action → List Call → Type 0) (followed : S → Type 0)
     (handed : Handed) (jobs : List Job) (workers : ℕ) (world : World S T) (start : ℕ) (records : List Record) : Type 0 where
   pub kept : ∥ KeepsAll g stood kept_then jobs (inside rows world) start [] records ∥₁
   pub acted : ∥ HasActed g handed jobs (inside rows world) [] records ∥₁
   pub comes : ∥ ComesOf g handed start (inside rows world) ∥₁
+  pub steps : ∥ StillFollows g followed world.store ∥₁
   pub idle : AreIdle world.calls.slots.items
   pub all : (h : ℕ → ℕ) → weigh h (below (length jobs)) ≡ weigh h (jobs_of_records records)
   pub within : (place : ℕ) (r : Record) → slice_get records place ≡ Some r → r.worker < workers

@@ -51,6 +51,10 @@ pub record ComesOf {S : Type 0} (g : Ghosts S) (handed : Handed) (start : ℕ) (
   pub sets_are : now.sets ≡ handed.sets
   pub later : IsLater handed.backing (g.backing now.store)
 
+-- a store follows each of these, which that of the world followed as it was handed in
+abbrev pub StillFollows : {S : Type 0} → Ghosts S → (S → Type 0) → S → Type 0
+StillFollows {S} g followed now = (first : S) → followed first → g.follows first now
+
 -- what is known of a world that is handed in now
 abbrev pub handed_of : {S T : Type 0} → Ghosts S → SetGhosts T → World S T → Handed
 handed_of g rows world = record {

@@ -28,6 +28,12 @@ pub trait Jobs: Run {
     ghost handed: { Handed };
 }
 
+/// Jobs on a world whose store is of this type. Each run picks what its store followed as the world was handed in.
+pub trait JobsOn<S>: Jobs {
+    /// These are stores that it followed.
+    ghost followed: { S → Type 0 };
+}
+
 impl Jobs for Brand {
     ghost use Rattle.std.specs.Prelude.{[]};
     ghost use Rattle.shared_world.specs.Handed.{nothing_handed};
@@ -41,4 +47,8 @@ impl Jobs for Brand {
     ghost workers = { 0 };
 
     ghost handed = { nothing_handed };
+}
+
+impl<S> JobsOn<S> for Brand {
+    ghost followed = { λ first. ⊥ };
 }

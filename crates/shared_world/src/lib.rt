@@ -8,7 +8,7 @@ mod record;
 mod shared;
 
 pub use job::Job;
-pub use jobs::Jobs;
+pub use jobs::{Jobs, JobsOn};
 pub use opening::{ended, first};
 pub use record::{Pending, Record};
 pub use shared::{Shared, Turn};

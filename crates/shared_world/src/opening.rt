@@ -1,17 +1,17 @@
 //! What lies under the lock as a run begins, and what is taken out at its end.
 
-ghost use Rattle.std.specs.Prelude.{◌≡◌, ◌≤◌, ◌<◌, ◌+◌, [], ℕ, IfSome, None, length, Some, slice_get, vec_len};
+ghost use Rattle.std.specs.Prelude.{◌≡◌, ◌≤◌, ◌<◌, ◌+◌, [], ℕ, IfSome, None, length, Some, slice_get, vec_len, vec_capacity};
 ghost use Rattle.crossbeam_queue.specs.Passes.{view};
 ghost use Rattle.worker_seats.specs.Queue.{KnowsAll, jobs_in, sum_over, weigh};
-ghost use Rattle.worker_seats.specs.Seats.{keeper_of, known_by};
+ghost use Rattle.worker_seats.specs.Seats.{keeper_of, known_by, notes_by};
 ghost use Rattle.world.specs.Worlds.{inside};
 ghost use Rattle.shared_world.specs.Ended.{AreIdle, HasRun};
 ghost use Rattle.shared_world.specs.Handed.{IsAsHanded};
-ghost use Rattle.shared_world.specs.Notes.{jobs_of};
+ghost use Rattle.shared_world.specs.Notes.{jobs_of, notes_of};
 ghost use Rattle.shared_world.specs.Standing.{Stands};
 ghost use Rattle.shared_world.specs.declared.record.Pending.{Pending as WaitingJob};
 
-use crate::jobs::Jobs;
+use crate::jobs::JobsOn;
 use crate::record::{Pending, Record};
 use crate::shared::Shared;
 use index_model::DeadRows;
@@ -22,17 +22,18 @@ use worker_seats::{QueuePass, Seat, SeatCell, SeatPass, tally_up};
 use world::World;
 
 /// What lies under the lock as a run begins: no job is recorded, and none runs.
-pub fn first<S: PageStore, T: DeadRows + Drop, J: Jobs>(
+pub fn first<S: PageStore, T: DeadRows + Drop, J: JobsOn<S>>(
     world: World<S, T>,
     history: Vec<Record>,
     pending: Vec<Option<Pending>>,
     book: Book<J>,
     keeper: SeatPass,
 ) -> Shared<S, T, J>
-    requires stood { Stands S.PageStore J.stood J.kept_then (inside T.DeadRows world) }
+    requires stood { Stands S.PageStore J.stood J.kept_then J.followed (inside T.DeadRows world) }
     requires handed { IsAsHanded S.PageStore J.handed (inside T.DeadRows world) }
     requires rests { AreIdle world.calls.slots.items }
     requires history { history.items ≡ [] }
+    requires enough { length J.jobs ≤ vec_capacity history }
     requires pending { (session : ℕ) (p : WaitingJob)
         → slice_get pending.items session ≡ Some (Some p) → ⊥ }
     requires seats { vec_len pending ≤ length world.calls.slots.items }
@@ -57,7 +58,7 @@ pub fn first<S: PageStore, T: DeadRows + Drop, J: Jobs>(
 
 /// What a run has left, told with all seats, and every part of the ledger and of the queue: the world, how many actions there were
 /// as it began, and the records of the jobs.
-pub fn ended<S: PageStore, T: DeadRows + Drop, J: Jobs, X, R: Wait>(
+pub fn ended<S: PageStore, T: DeadRows + Drop, J: JobsOn<S>, X, R: Wait>(
     rt: &R,
     cell: &SeatCell,
     shared: Shared<S, T, J>,
@@ -80,7 +81,9 @@ pub fn ended<S: PageStore, T: DeadRows + Drop, J: Jobs, X, R: Wait>(
     ensures world { result.0 ≡ shared.world }
     ensures start { result.1 ≡ shared.start }
     ensures history { result.2 ≡ shared.history }
-    ensures done { HasRun S.PageStore T.DeadRows J.stood J.kept_then J.handed J.jobs J.workers
+    ensures notes { (k : ℕ) → IfSome (slice_get seats.items k)
+        (λ s. (known_by s.pass).notes ≡ notes_by k (notes_of result.2.items)) }
+    ensures done { HasRun S.PageStore T.DeadRows J.stood J.kept_then J.followed J.handed J.jobs J.workers
         result.0 result.1 result.2.items }
 {
     let Shared {

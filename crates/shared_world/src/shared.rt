@@ -9,14 +9,14 @@ ghost use Rattle.worker_seats.specs.Seats.{keeper_of, known_by};
 ghost use Rattle.world.specs.Worlds.{SameSessions, inside};
 ghost use Rattle.shared_world.specs.Acted.{HasActed};
 ghost use Rattle.shared_world.specs.Doing.{HasTaken, IsEventDone, IsFullScan, IsToBeCut, MayBeDone, ended_at, given_after};
-ghost use Rattle.shared_world.specs.Handed.{ComesOf};
+ghost use Rattle.shared_world.specs.Handed.{ComesOf, StillFollows};
 ghost use Rattle.shared_world.specs.Jobs.{IsRoomOf, event_of};
 ghost use Rattle.shared_world.specs.Kept.{KeepsAll, MatchesPending, record_of};
 ghost use Rattle.shared_world.specs.Notes.{notes_of, jobs_of};
 ghost use Rattle.shared_world.specs.Turns.{JobBeginMeans, SeatMeans, SitsOn, TakeMeans, TurnMeans, is_begun};
 
 use crate::job::Job;
-use crate::jobs::Jobs;
+use crate::jobs::{Jobs, JobsOn};
 use crate::record::{Pending, Record};
 use index_model::{DeadRows, Entry};
 use page_action::PageStore;
@@ -29,7 +29,7 @@ use world::World;
 
 /// What lies under the lock. Its facts hold at each release.
 #[derive(Drop)]
-pub struct Shared<S: PageStore, T: DeadRows + Drop, J: Jobs> {
+pub struct Shared<S: PageStore, T: DeadRows + Drop, J: JobsOn<S>> {
     pub world: World<S, T>,
     /// How many actions there were as the run began.
     pub start: u64,
@@ -43,6 +43,8 @@ pub struct Shared<S: PageStore, T: DeadRows + Drop, J: Jobs> {
     pub ghost seats: { vec_len pending ≤ length world.calls.slots.items },
     pub ghost workers: { vec_len pending ≡ J.workers },
     pub ghost handed: { ∥ ComesOf S.PageStore J.handed start (inside T.DeadRows world) ∥₁ },
+    pub ghost enough: { length J.jobs ≤ vec_capacity history },
+    pub ghost steps: { ∥ StillFollows S.PageStore J.followed world.store ∥₁ },
     pub ghost counted: { book.total ≡ vec_len history },
     pub ghost room: { keeper.table_id ≡ J.seats },
     pub ghost knows: { known_by keeper ≡ keeper_of (notes_of history.items) (jobs_of pending.items) },
@@ -165,7 +167,7 @@ fn beginning(session: u32, job: Job) -> Event
     }
 }
 
-impl<S: PageStore, T: DeadRows + Drop, J: Jobs> Shared<S, T, J> {
+impl<S: PageStore, T: DeadRows + Drop, J: JobsOn<S>> Shared<S, T, J> {
     /// Begins a job: a call of the worker's session, or a commit or a checkpoint, which is done whole. Where that is refused,
     /// and after a commit and a checkpoint, it is recorded, and has its place.
     pub fn begin<R: Wait>(

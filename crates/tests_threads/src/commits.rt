@@ -5,7 +5,7 @@ use crate::judged::{calls_in, gated, ran, records_of};
 use crate::lists::{entry, range};
 use index_model::Limits;
 use session_calls::Answer;
-use sessions::Gate;
+use sessions::{Gate, Told};
 use shared_world::{Job, Record};
 use std::alloc::{AllocError, Global};
 use std::process::Abort;
@@ -92,7 +92,14 @@ struct Waiting {
 }
 
 impl Gate for Waiting {
-    fn taken(&self, _worker: u32, job: u32) {
+    type Hand = Told;
+
+    fn hand(&self, _worker: u32) -> Told {
+        Told::new()
+    }
+
+    fn taken(&self, hand: &mut Told, _worker: u32, job: u32) {
+        hand.note(u64::from(job));
         if job == 2 {
             self.third.store(true, Ordering::SeqCst);
         }

@@ -14,7 +14,7 @@ ghost use Rattle.shared_world.specs.Standing.{Stands};
 use index_model::{DeadRows, Fault};
 use page_action::PageStore;
 use session_calls::Answer;
-use shared_world::{Job, Jobs, Pending, Record, Shared, Turn, first};
+use shared_world::{Job, Jobs, JobsOn, Pending, Record, Shared, Turn, first};
 use std::alloc::Global;
 use std::marker::Brand;
 use std::process::Abort;
@@ -132,7 +132,7 @@ fn runs<J: Jobs>(seat: Seat<J>, job: u32, told: Told) -> Done<J>
     }
 }
 
-fn begin<S: PageStore, T: DeadRows + Drop, J: Jobs, R: Wait>(
+fn begin<S: PageStore, T: DeadRows + Drop, J: JobsOn<S>, R: Wait>(
     rt: &R,
     alloc: Global,
     cell: &SeatCell,
@@ -165,7 +165,7 @@ fn begin<S: PageStore, T: DeadRows + Drop, J: Jobs, R: Wait>(
     }
 }
 
-fn step<S: PageStore, T: DeadRows + Drop, J: Jobs, R: Wait>(
+fn step<S: PageStore, T: DeadRows + Drop, J: JobsOn<S>, R: Wait>(
     rt: &R,
     cell: &SeatCell,
     shared: &mut Shared<S, T, J>,
@@ -188,7 +188,7 @@ fn step<S: PageStore, T: DeadRows + Drop, J: Jobs, R: Wait>(
     }
 }
 
-fn next<S: PageStore, T: DeadRows + Drop, J: Jobs, R: Wait>(
+fn next<S: PageStore, T: DeadRows + Drop, J: JobsOn<S>, R: Wait>(
     rt: &R,
     cell: &SeatCell,
     shared: &mut Shared<S, T, J>,
@@ -205,7 +205,7 @@ fn next<S: PageStore, T: DeadRows + Drop, J: Jobs, R: Wait>(
     runs(seat, job, told)
 }
 
-fn end<S: PageStore, T: DeadRows + Drop, J: Jobs, R: Wait>(
+fn end<S: PageStore, T: DeadRows + Drop, J: JobsOn<S>, R: Wait>(
     rt: &R,
     cell: &SeatCell,
     shared: &mut Shared<S, T, J>,
@@ -230,7 +230,7 @@ fn end<S: PageStore, T: DeadRows + Drop, J: Jobs, R: Wait>(
 }
 
 // One event of a worker. Refused with `NoSession` for one that its session isn't ready for.
-fn act_one<S: PageStore, T: DeadRows + Drop, J: Jobs, R: Wait>(
+fn act_one<S: PageStore, T: DeadRows + Drop, J: JobsOn<S>, R: Wait>(
     rt: &R,
     alloc: Global,
     cell: &SeatCell,
@@ -257,7 +257,7 @@ fn act_one<S: PageStore, T: DeadRows + Drop, J: Jobs, R: Wait>(
 }
 
 // Does each event, and compares what the worker is told. No event without a place makes a record.
-fn act_all<S: PageStore, T: DeadRows + Drop, J: Jobs>(
+fn act_all<S: PageStore, T: DeadRows + Drop, J: JobsOn<S>>(
     rt: &(impl Abort + Print + Eprint + Wait),
     alloc: Global,
     cell: &SeatCell,
@@ -307,7 +307,7 @@ fn is_idle<S: PageStore, T: DeadRows + Drop>(world: &World<S, T>) -> bool
 }
 
 // What lies under the lock as so many workers begin, and the workers, whose sessions run nothing.
-fn seated<S: PageStore, T: DeadRows + Drop, J: Jobs>(
+fn seated<S: PageStore, T: DeadRows + Drop, J: JobsOn<S>>(
     cell: &SeatCell,
     mut keeper: SeatPass,
     blank: Blank,
@@ -323,13 +323,14 @@ fn seated<S: PageStore, T: DeadRows + Drop, J: Jobs>(
     requires seats { cell.now.table.shared.table_id ≡ J.seats }
     requires workers { J.workers ≡ workers }
     requires handed { IsAsHanded S.PageStore J.handed (inside T.DeadRows world) }
-    requires stood { Stands S.PageStore J.stood J.kept_then (inside T.DeadRows world) }
+    requires stood { Stands S.PageStore J.stood J.kept_then J.followed (inside T.DeadRows world) }
     requires keeper { keeper.table_id ≡ cell.now.table.shared.table_id }
     requires knows { known_by keeper ≡ keeper_of [] [] }
     requires few { workers ≤ 64 }
     requires sessions { workers ≤ length world.calls.slots.items }
     requires rests { AreIdle world.calls.slots.items }
     requires history { history.items ≡ [] }
+    requires enough { length J.jobs ≤ vec_capacity history }
     requires pending { (pending.items ≡ []) × (workers ≤ vec_capacity pending) }
     requires hands { (hands.items ≡ []) × (workers ≤ vec_capacity hands) }
 {
@@ -347,7 +348,7 @@ fn seated<S: PageStore, T: DeadRows + Drop, J: Jobs>(
 fn act_named<
     S: PageStore + Drop,
     T: DeadRows + Drop,
-    J: Jobs,
+    J: JobsOn<S>,
     R: Abort + AllocGlobal + Print + Eprint + Wait,
 >(
     rt: &R,
@@ -372,13 +373,14 @@ fn act_named<
     requires kept_then { (contents : OneEntry → Bool) (history : List Action) (calls : List Call)
         → J.kept_then contents history calls
         ↔ WorldKeeps S.PageStore T.DeadRows world contents history calls }
+    requires followed { (first : S) → J.followed first ↔ S.follows first world.store }
     requires keeper { keeper.table_id ≡ cell.now.table.shared.table_id }
     requires knows { known_by keeper ≡ keeper_of [] [] }
     requires few { workers ≤ 64 }
     requires sessions { workers ≤ length world.calls.slots.items }
     requires rests { AreIdle world.calls.slots.items }
 {
-    let history = Vec::with_capacity(rt.alloc(), lines.len())?;
+    let history = Vec::with_capacity(rt.alloc(), jobs.len().max(lines.len()))?;
     let pending = Vec::with_capacity(rt.alloc(), workers as usize)?;
     let hands = Vec::with_capacity(rt.alloc(), workers as usize)?;
     let (mut shared, mut hands) = seated::<S, T, J>(

@@ -5,7 +5,7 @@ use index_model::{DeadRows, Entry, Fault, Key, Layout, Limits, NoProgress, Range
 use page_action::{MapStore, PageStore};
 use page_codec::{Items, Page, PageState};
 use session_calls::Answer;
-use sessions::{Finished, Gate, NotRun, run_jobs};
+use sessions::{Finished, Gate, NotRun, run_jobs, run_told};
 use shared_world::Job;
 use std::alloc::Global;
 use std::sync::Wait;
@@ -42,6 +42,19 @@ pub fn run<
     gate: &G,
 ) -> Result<Finished<S, T>, NotRun<S, T>> {
     run_jobs(rt, alloc, world, jobs, workers, gate)
+}
+
+/// How many hands told a gate of these jobs. None where the run is refused.
+pub fn hands_of<
+    S: PageStore + Drop + Send,
+    T: DeadRows + Drop + Send,
+    G: Gate + Sync,
+    R: Threads + Wait + Sync,
+>(rt: &R, alloc: Global, world: World<S, T>, jobs: &[Job], workers: u32, gate: &G) -> usize {
+    match run_told(rt, alloc, world, jobs, workers, gate) {
+        Ok((_finished, hands)) => hands.len(),
+        Err(_) => 0,
+    }
 }
 
 /// How many actions there are.

@@ -1,9 +1,10 @@
 //! Runs of jobs by threads.
 
+use crate::indexes::made;
 use crate::judged::{LIMITS, gated};
-use crate::plain::entry;
+use crate::plain::{entry, hands_of};
 use session_calls::Answer;
-use sessions::Gate;
+use sessions::{Gate, NoGate, Told};
 use shared_world::Job;
 use std::sync::atomic::{AtomicBool, Ordering};
 use std::test::{Fail, *};
@@ -29,7 +30,14 @@ fn meet(mine: &AtomicBool, other: &AtomicBool, met: &AtomicBool) {
 }
 
 impl Gate for Meeting {
-    fn taken(&self, _worker: u32, job: u32) {
+    type Hand = Told;
+
+    fn hand(&self, _worker: u32) -> Told {
+        Told::new()
+    }
+
+    fn taken(&self, hand: &mut Told, _worker: u32, job: u32) {
+        hand.note(u64::from(job));
         if job == 0 {
             meet(&self.here, &self.there, &self.met_here);
         } else {
@@ -54,5 +62,16 @@ fn two_workers_are_seen_beside_each_other(rt: HostRuntime) -> Result<(), Fail> {
     for record in &records {
         assert!(rt; matches!(&record.answer, Answer::Added { .. }));
     }
+    Ok(())
+}
+
+/// Each worker has a hand, and a run that is refused has none.
+#[test]
+fn each_worker_has_a_hand(rt: HostRuntime) -> Result<(), Fail> {
+    let jobs = [Job::Insert(entry(1)), Job::Commit];
+    let world = made(rt.alloc(), &LIMITS, 3)?;
+    assert_eq!(rt; hands_of(&rt, rt.alloc(), world, &jobs, 3, &NoGate), 3);
+    let world = made(rt.alloc(), &LIMITS, 3)?;
+    assert_eq!(rt; hands_of(&rt, rt.alloc(), world, &jobs, 4, &NoGate), 0);
     Ok(())
 }

@@ -2,3 +2,4 @@ pub mod Counting
 pub mod Fitting
 pub mod Queueing
 pub mod Rows
+pub mod Steps

@@ -6,6 +6,7 @@
 //! the log, says the whole. With the workers' shares of a ledger, these give that each job stands in the log once.
 #![tactic(auto)]
 
+mod hand;
 mod job_queue;
 mod run;
 mod seat;
@@ -13,6 +14,7 @@ mod seating;
 mod tally;
 mod worker;
 
+pub use hand::{Telling, Told};
 pub use job_queue::{
     JobQueue, Parts, Pops, Pushes, QueuePass, QueueRule, QueueView, Ticket, fill, make_queue,
 };

@@ -38,6 +38,8 @@ pub fn tally_up<J: Run, T, R: Wait>(
     requires popped { (h : ℕ → ℕ) → weigh h (view pass.now).popped
         ≡ sum_over (λ s. weigh h (jobs_in (known_by s.pass).notes)) seats.items }
     ensures keeper { known_by keeper.new ≡ known_by keeper.old }
+    ensures notes { (k : ℕ) → IfSome (slice_get seats.items k)
+        (λ s. (known_by s.pass).notes ≡ notes_by k (known_by keeper.old).log) }
     ensures sum { sum_below (vec_len seats)
         (λ w. length (notes_by w (known_by keeper.old).log))
         ≡ length (known_by keeper.old).log }

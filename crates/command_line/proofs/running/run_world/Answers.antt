@@ -13,6 +13,7 @@ returns-in-Ok-clause-printed g c =
       kept = e.kept;
       acted = e.acted;
       comes = ∥∥₁_map₂ e.later e.sets (λ later sets. record { start_is = e.start; sessions_are = e.sessions; sets_are = sets; later = later });
+      steps = e.steps;
       idle = e.idle;
       all = e.all;
       once = e.once;

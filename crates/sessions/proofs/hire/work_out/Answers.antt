@@ -1,7 +1,7 @@
 use Rattle.std.proofs.Common.{◌≡◌, ◌+◌, ◌++◌, ◌∷◌, [], map, length, None, slice_get, vec_len, IfSome, sym, ap, ◌∙◌, subst, arith}
 use Rattle.crossbeam_queue.specs.Passes.{view}
 use Rattle.sessions.proofs.Imports.{length-map, jobs_in, sum_over, weigh, known_by, sum_over_snoc, weigh-append, some_snoc}
-use Rattle.sessions.proofs.Hiring.{mapped, each_mapped, sum_over_mapped, weigh_notes}
+use Rattle.sessions.proofs.Hiring.{both_mapped, mapped, each_mapped, sum_over_mapped, weigh_notes}
 use Rattle.sessions.proofs.hire.work_out.Goals as goal
 
 pub push_reserved-requires : goal.push_reserved-requires
@@ -47,3 +47,20 @@ returns-clause-popped g c h =
     let last : weigh h (view again.result.1).popped ≡ weigh h (view c.gather.new.pass).popped + weigh h (jobs_in more.0) = ap (weigh h) more.2
     ∙ weigh-append h (view c.gather.new.pass).popped (jobs_in more.0) in
     omega (arith, all, others, first, mine, last, c.gather.ensures.popped h)
+
+pub push_reserved-requires-2 : goal.push_reserved-requires-2
+push_reserved-requires-2 g c =
+    let hands = c.gather.new.hands in
+    let items = ap length (c.gather.ensures.hands ∙ ap (λ l. l ++ map (λ w. w.hand) c.joined-staff.result.items) c.requires.hands.0) in
+    omega (arith, hands.ok.0, items, length-map c.joined-staff.result.items (λ w. w.hand), c.joined-staff.result.ok.0, c.joined-staff.ensures.len, c.gather.ensures.held, c.requires.hands.1)
+
+pub returns-clause-told : goal.returns-clause-told
+returns-clause-told g c k =
+    let staff = c.joined-staff.result in
+    let own = c.work-own-2 in
+    let told = g.G.Hand.Telling.told in
+    let seats = c.push_reserved.ensures.items ∙ ap (λ l. l ++ own.result.0 ∷ []) (c.gather.ensures.seats ∙ ap (λ l. l ++ map (λ w. w.seat) staff.items) c.requires.seats.0) in
+    let hands = c.push_reserved-2.ensures.items ∙ ap (λ l. l ++ own.new.hand ∷ []) (c.gather.ensures.hands ∙ ap (λ l. l ++ map (λ w. w.hand) staff.items) c.requires.hands.0) in
+    subst (λ l. IfSome (slice_get l k) (λ s. IfSome (slice_get c.push_reserved-2.new.self.items k) (λ h. told h ≡ jobs_in (known_by s.pass).notes))) (sym seats)
+    (subst (λ l. IfSome (slice_get (map (λ w. w.seat) staff.items ++ own.result.0 ∷ []) k) (λ s. IfSome (slice_get l k) (λ h. told h ≡ jobs_in (known_by s.pass).notes))) (sym hands)
+    (both_mapped (λ w. w.seat) (λ w. w.hand) (λ s h. told h ≡ jobs_in (known_by s.pass).notes) (λ w. w.told) own.result.0 own.new.hand own.ensures.told staff.items k))

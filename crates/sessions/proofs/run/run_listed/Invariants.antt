@@ -10,6 +10,9 @@ ghosts-run_named-J-Jobs g a = record {
   handed = handed_of g.S.PageStore g.T.DeadRows a.world;
 }
 
+abbrev pub ghosts-run_named-J-JobsOn : goal.ghosts-run_named-J-JobsOn
+ghosts-run_named-J-JobsOn g a = record { followed = λ first. g.S.PageStore.follows first a.world.store }
+
 abbrev pub ghosts-run_named-J-Run : goal.ghosts-run_named-J-Run
 ghosts-run_named-J-Run g a = record { seats = a.cell.now.table.shared.table_id; queue = a.queue.now.table.shared.table_id }
 

@@ -12,6 +12,9 @@ ghosts-act_named-J-Jobs g a = record {
   handed = handed_of g.S.PageStore g.T.DeadRows a.world;
 }
 
+abbrev pub ghosts-act_named-J-JobsOn : goal.ghosts-act_named-J-JobsOn
+ghosts-act_named-J-JobsOn g a = record { followed = λ first. g.S.PageStore.follows first a.world.store }
+
 abbrev pub ghosts-act_named-J-Run : goal.ghosts-act_named-J-Run
 ghosts-act_named-J-Run g a = record { seats = a.cell.now.table.shared.table_id; queue = no_table }
 

@@ -1,7 +1,7 @@
 use Rattle.std.proofs.Common.{◌≡◌, ◌⊎◌, ◌+◌, ◌<◌, ◌++◌, ◌∷◌, [], ℕ, List, length, Option, Some, None, slice_get, IfSome, sym, ap, ◌∙◌, subst, ⊎_elim, arith, length-append, append_assoc, append-nil, refl}
 use Rattle.worker_seats.specs.declared.seating.SeatView.{SeatView}
 use Rattle.worker_seats.specs.Seats.{notes_by, known_by}
-use Rattle.worker_seats.proofs.Rows.{some_middle}
+use Rattle.worker_seats.proofs.Rows.{some_middle, some_snoc}
 use Rattle.crossbeam_queue.specs.Passes.{view}
 use Rattle.worker_seats.specs.Queue.{jobs_in, sum_below, sum_over, weigh}
 use Rattle.worker_seats.proofs.Counting.{sum_more, sum_over_snoc, noted_all, noted_once, last_or}
@@ -60,11 +60,22 @@ loop-seat-preserved g c =
             sum_more (length yielded) (length (yielded ++ s ∷ [])) (λ w. weigh h (jobs_in (notes_by w log))) more,
           )),
       append_assoc yielded (s ∷ []) after ∙ ap (λ l. yielded ++ l) (sym rest) ∙ i.9,
+      (λ k. some_snoc (λ n s. (known_by s.pass).notes ≡ notes_by n log) yielded s i.10 notes k),
     )
 
 nothing : {A : Type 0} (l : List A) → length l ≡ 0 → l ≡ []
 nothing [] e = refl
 nothing (x ∷ l) e = absurd (omega (arith, e))
+
+pub returns-clause-notes : goal.returns-clause-notes
+returns-clause-notes g c k =
+    let i = c.loop-seat.invariant in
+    let yielded = c.loop-seat.yielded in
+    let log = (known_by c.args.keeper.now).log in
+    let rest = c.loop-seat.seat-iterator.rest in
+    let none : rest.items ≡ [] = nothing rest.items (sym rest.ok.0 ∙ c.in-None.ensures.steps.0) in
+    let all : yielded ≡ c.args.seats.items = sym (append-nil yielded) ∙ ap (λ l. yielded ++ l) (sym none) ∙ i.9 in
+    subst (λ l. IfSome (slice_get l k) (λ s. (known_by s.pass).notes ≡ notes_by k log)) all (i.10 k)
 
 pub returns-clause-all : goal.returns-clause-all
 returns-clause-all g c =

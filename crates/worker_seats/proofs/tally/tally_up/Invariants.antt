@@ -15,3 +15,4 @@ invariant-loop-seat g l =
     × ((k : ℕ) → k < length l.yielded → slice_get (known_by l.initial.keeper).running k ≡ Some None)
     × ((h : ℕ → ℕ) → sum_over (λ s. weigh h (jobs_in (known_by s.pass).notes)) l.yielded ≡ sum_below (length l.yielded) (λ w. weigh h (jobs_in (notes_by w (known_by l.initial.keeper).log))))
     × (l.yielded ++ l.seat-iterator.rest.items ≡ l.fn.seats.items)
+    × ((k : ℕ) → IfSome (slice_get l.yielded k) (λ s. (known_by s.pass).notes ≡ notes_by k (known_by l.initial.keeper).log))

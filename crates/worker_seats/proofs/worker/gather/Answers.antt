@@ -33,4 +33,8 @@ loop-worker-preserved g c =
           ∙ ap (λ l. c.args.seats.now.items ++ l) (sym (map_snoc (λ w. w.seat) yielded w)),
       omega (arith, c.push_reserved.ensures.len, i.6, fewer),
       c.push_reserved.ensures.capacity ∙ i.7,
+      c.push_reserved-in-loop-worker.ensures.items ∙ ap (λ l. l ++ w.hand ∷ []) i.8 ∙ append_assoc c.args.hands.now.items _ (w.hand ∷ [])
+          ∙ ap (λ l. c.args.hands.now.items ++ l) (sym (map_snoc (λ w. w.hand) yielded w)),
+      omega (arith, c.push_reserved-in-loop-worker.ensures.len, i.9, fewer),
+      c.push_reserved-in-loop-worker.ensures.capacity ∙ i.10,
     )

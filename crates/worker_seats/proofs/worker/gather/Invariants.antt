@@ -14,3 +14,6 @@ invariant-loop-worker g l =
     × (l.seats.items ≡ l.initial.seats.items ++ map (λ w. w.seat) l.yielded)
     × (vec_len l.seats + l.worker-iterator.rest.len ≤ vec_capacity l.initial.seats)
     × (vec_capacity l.seats ≡ vec_capacity l.initial.seats)
+    × (l.hands.items ≡ l.initial.hands.items ++ map (λ w. w.hand) l.yielded)
+    × (vec_len l.hands + l.worker-iterator.rest.len ≤ vec_capacity l.initial.hands)
+    × (vec_capacity l.hands ≡ vec_capacity l.initial.hands)
