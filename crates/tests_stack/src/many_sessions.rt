@@ -139,6 +139,39 @@ fn each_event_once(rt: HostRuntime) -> Result<(), Fail> {
     Ok(())
 }
 
+// Leaves a world whose session 0 has just latched the leaf: the first event that isn't answered so, as `wrong` tells it, and the
+// store.
+fn left_latched(alloc: Global, mut world: World<MapStore, Blocks>) -> (usize, MapStore) {
+    let rows = [
+        (Event::Insert(0, entry(0x61, 1)), "begun", 0),
+        (Event::Step(0), "going", 0),
+        (Event::Step(0), "going", 0),
+    ];
+    let wrong = wrong(alloc, &mut world, &rows);
+    (wrong, world.into_store())
+}
+
+// The same of an insert in a world over this store.
+fn wrong_over(alloc: Global, store: MapStore) -> Result<usize, Fault> {
+    let rows = [
+        (Event::Insert(1, entry(0x62, 2)), "begun", 0),
+        (Event::Step(1), "going", 0),
+        (Event::Step(1), "going", 0),
+        (Event::Step(1), "added", 1),
+    ];
+    let mut world = plain::world(alloc, store, 2, Vec::new(alloc))?;
+    Ok(wrong(alloc, &mut world, &rows))
+}
+
+#[test]
+fn store_is_handed_out_without_latches(rt: HostRuntime) -> Result<(), Fail> {
+    let alloc = rt.alloc();
+    let (wrong, store) = left_latched(alloc, world(alloc, 2)?);
+    assert_eq!(rt; wrong, 0);
+    assert_eq!(rt; wrong_over(alloc, store), Ok(0));
+    Ok(())
+}
+
 fn abandon<S: PageStore>(world: &mut World<S, Blocks>, session: u32) -> Answer {
     world.abandon(session)
 }
