@@ -4,7 +4,7 @@ use crate::file_calls::{
     clear, close_file, create, created, four_at, has_sevens, held, is_gone, len, len_at, made,
     open, opened, put_at, put_sevens, remove, sync,
 };
-use device::{FileDevice, Unknown};
+use device::{FileDevice, Start, Unknown, Zeros};
 use index_model::Fault;
 use std::fs::{self, File, OpenFile, OpenOptions};
 use std::process::Abort;
@@ -27,7 +27,7 @@ fn made_at(
     path: &str,
     len: u64,
     filled: u64,
-) -> Result<FileDevice<Unknown>, Fail> {
+) -> Result<FileDevice<Zeros>, Fail> {
     Ok(made(file(rt, path)?, len, filled)?)
 }
 
@@ -44,7 +44,7 @@ fn is_not_made(file: File, len: u64, filled: u64) -> bool {
 /// A device has its file with all its bytes, and alone.
 fn has_it_alone<R: Abort + Files<File = File>>(
     rt: &R,
-    device: &mut FileDevice<Unknown>,
+    device: &mut FileDevice<impl Start>,
     path: &str,
 ) -> Result<(), Fail> {
     assert!(rt; len(device) == 8_192);
@@ -69,7 +69,7 @@ fn open_already(rt: HostRuntime) -> Result<(), Fail> {
 }
 
 /// Whether a device has so many bytes, zeros where they are read.
-fn is_empty(device: &mut FileDevice<Unknown>) -> bool {
+fn is_empty(device: &mut FileDevice<impl Start>) -> bool {
     for at in [0, 4_094, 8_188, 99_996] {
         if four_at(device, at) != Ok([0; 4]) {
             return false;
@@ -125,7 +125,7 @@ fn too_long(rt: HostRuntime) -> Result<(), Fail> {
 }
 
 /// Whether a device has no byte to read, and is synced.
-fn has_none(device: &mut FileDevice<Unknown>) -> bool {
+fn has_none(device: &mut FileDevice<impl Start>) -> bool {
     len(device) == 0 && four_at(device, 0) == Err(Fault::DeviceTooSmall) && sync(device) == Ok(())
 }
 
@@ -182,7 +182,7 @@ fn set_len(rt: &impl Files<File = File>, path: &str, len: u64) -> Result<(), Fai
 /// What a device does whose file is cut to its half, and grows again.
 fn goes_on<R: Abort + Files<File = File>>(
     rt: &R,
-    device: &mut FileDevice<Unknown>,
+    device: &mut FileDevice<impl Start>,
     path: &str,
 ) -> Result<(), Fail> {
     assert!(rt; put_at(device, 0, [1, 2, 3, 4]) == Ok(()));
@@ -215,7 +215,7 @@ fn cut(rt: HostRuntime) -> Result<(), Fail> {
 }
 
 /// Whether two devices differ, each of which is written and read.
-fn do_differ(old: &mut FileDevice<Unknown>, new: &mut FileDevice<Unknown>) -> bool {
+fn do_differ(old: &mut FileDevice<impl Start>, new: &mut FileDevice<impl Start>) -> bool {
     put_at(old, 0, [1; 4]) == Ok(())
         && put_at(new, 0, [2; 4]) == Ok(())
         && sync(old) == Ok(())
@@ -226,7 +226,7 @@ fn do_differ(old: &mut FileDevice<Unknown>, new: &mut FileDevice<Unknown>) -> bo
 /// Whether a device and a new one at its path differ.
 fn differs_from_new(
     rt: &impl Files<File = File>,
-    old: &mut FileDevice<Unknown>,
+    old: &mut FileDevice<impl Start>,
     path: &str,
 ) -> Result<bool, Fail> {
     let mut new = create(rt, path, 4_096)?;
@@ -238,7 +238,7 @@ fn differs_from_new(
 /// Removes the file that a device stands for, and makes a new one: the path leads to that alone.
 fn stands_beside<R: Abort + Files<File = File>>(
     rt: &R,
-    old: &mut FileDevice<Unknown>,
+    old: &mut FileDevice<impl Start>,
     path: &str,
 ) -> Result<(), Fail> {
     remove(rt, path)?;
@@ -263,7 +263,7 @@ fn removed(rt: HostRuntime) -> Result<(), Fail> {
 /// Gives the file of an open device another name, by which it is neither opened nor made.
 fn is_locked<R: Abort + Files<File = File>>(
     rt: &R,
-    _: &FileDevice<Unknown>,
+    _: &FileDevice<impl Start>,
     path: &str,
     other: &str,
 ) -> Result<(), Fail> {

@@ -5,7 +5,7 @@ use crate::file_calls::{
     open, open_index, put_sevens, remove, verified,
 };
 use access_method::Index;
-use device::{FileDevice, Unknown};
+use device::{FileDevice, Start};
 use index_model::{Fault, Limits};
 use page_action::PageStore;
 use std::alloc::Global;
@@ -261,7 +261,7 @@ fn is_refused<R: Abort + Files<File = File>>(
     rt: &R,
     path: &str,
     draft: &str,
-    other: &mut FileDevice<Unknown>,
+    other: &mut FileDevice<impl Start>,
 ) -> Result<(), Fail> {
     assert!(rt; create(rt, path) == Err(Fault::Io));
     assert!(rt; is_gone(rt, path)?);

@@ -4,12 +4,13 @@
 use crate::plain::parents;
 use access_method::{Index, in_file};
 use amcheck::{CheckFault, Report};
-use device::{Device, FileDevice, Unknown};
+use device::{Device, FileDevice, Start, Unknown, Zeros};
 use index_model::{Entry, Fault, Key, Limits, NoProgress, Range, RowAddr};
 use page_action::PageStore;
 use page_store::Store;
 use std::alloc::Global;
 use std::fs::{self, File};
+use std::io;
 use std::rt::Files;
 use std::test::Fail;
 use tests_support::plain::{begin_scan, end_scan, next, open as open_store};
@@ -17,18 +18,26 @@ use tests_support::plain::{begin_scan, end_scan, next, open as open_store};
 /// An index in a file.
 pub type InFile = Index<Store<FileDevice<Unknown>>>;
 
+/// A device, or the fault that the programs tell where a call of the file fails.
+fn or_io<S: Start>(device: io::Result<FileDevice<S>>) -> Result<FileDevice<S>, Fault> {
+    match device {
+        Ok(device) => Ok(device),
+        Err(_) => Err(Fault::Io),
+    }
+}
+
 /// A new file of so many bytes.
 pub fn create(
     rt: &impl Files<File = File>,
     path: &str,
     len: u64,
-) -> Result<FileDevice<Unknown>, Fault> {
-    FileDevice::create(rt, path, len)
+) -> Result<FileDevice<Zeros>, Fault> {
+    or_io(FileDevice::create(rt, path, len))
 }
 
 /// A file that is there.
 pub fn open(rt: &impl Files<File = File>, path: &str) -> Result<FileDevice<Unknown>, Fault> {
-    FileDevice::open(rt, path)
+    or_io(FileDevice::open(rt, path))
 }
 
 /// What the making of a new file of so many bytes answers. It is closed at once.
@@ -47,12 +56,12 @@ pub fn opened(rt: &impl Files<File = File>, path: &str) -> Result<u64, Fault> {
 
 /// A device over a file that is open.
 pub fn held(file: File) -> Result<FileDevice<Unknown>, Fault> {
-    FileDevice::held(file)
+    or_io(FileDevice::held(file))
 }
 
 /// A device over a file that is open, made anew.
-pub fn made(file: File, len: u64, filled: u64) -> Result<FileDevice<Unknown>, Fault> {
-    FileDevice::made(file, len, filled)
+pub fn made(file: File, len: u64, filled: u64) -> Result<FileDevice<Zeros>, Fault> {
+    or_io(FileDevice::made(file, len, filled))
 }
 
 /// Writes 8,192 bytes to the file at the path, each of them 7.
@@ -93,8 +102,10 @@ pub fn create_index(
     path: &str,
     limits: &Limits,
 ) -> Result<(), Fault> {
-    let _device: FileDevice<Unknown> = in_file::create(rt, path, limits, &NoProgress)?;
-    Ok(())
+    match in_file::create(rt, path, limits, &NoProgress) {
+        Ok(_device) => Ok(()),
+        Err(not_made) => Err(not_made.fault),
+    }
 }
 
 /// Closes an index, and answers how many actions there were.
@@ -103,7 +114,7 @@ pub fn close(index: InFile) -> Result<u64, Fault> {
 }
 
 /// The four bytes from there on. Refused with `DeviceTooSmall` where they lie after the length that the file had.
-pub fn four_at(device: &mut FileDevice<Unknown>, at: u64) -> Result<[u8; 4], Fault> {
+pub fn four_at(device: &mut FileDevice<impl Start>, at: u64) -> Result<[u8; 4], Fault> {
     let mut bytes = [9; 4];
     if device.len() < 4 || at > device.len() - 4 {
         return Err(Fault::DeviceTooSmall);
@@ -113,23 +124,23 @@ pub fn four_at(device: &mut FileDevice<Unknown>, at: u64) -> Result<[u8; 4], Fau
 }
 
 /// Writes four bytes there. Refused as [`four_at`].
-pub fn put_at(device: &mut FileDevice<Unknown>, at: u64, bytes: [u8; 4]) -> Result<(), Fault> {
+pub fn put_at(device: &mut FileDevice<impl Start>, at: u64, bytes: [u8; 4]) -> Result<(), Fault> {
     if device.len() < 4 || at > device.len() - 4 {
         return Err(Fault::DeviceTooSmall);
     }
     device.write_at(at, &bytes)
 }
 
-pub fn sync(device: &mut FileDevice<Unknown>) -> Result<(), Fault> {
+pub fn sync(device: &mut FileDevice<impl Start>) -> Result<(), Fault> {
     device.sync()
 }
 
-pub fn len(device: &FileDevice<Unknown>) -> u64 {
+pub fn len(device: &FileDevice<impl Start>) -> u64 {
     device.len()
 }
 
 /// Makes an empty index on a file.
-pub fn make(device: &mut FileDevice<Unknown>, limits: &Limits) -> Result<(), Fault> {
+pub fn make(device: &mut FileDevice<impl Start>, limits: &Limits) -> Result<(), Fault> {
     recovery::create(device, limits)
 }
 
@@ -139,7 +150,10 @@ pub fn open_index(
     alloc: Global,
     path: &str,
 ) -> Result<InFile, Fault> {
-    in_file::open(rt, alloc, path, 16)
+    match in_file::open(rt, alloc, path, 16) {
+        Ok(index) => Ok(index),
+        Err(not_opened) => Err(not_opened.fault),
+    }
 }
 
 /// Lets an index go that isn't closed.
@@ -148,7 +162,7 @@ pub fn let_go(index: InFile) {
 }
 
 /// Lets a device go: its file is closed.
-pub fn close_file(device: FileDevice<Unknown>) {
+pub fn close_file(device: FileDevice<impl Start>) {
     drop(device);
 }
 

@@ -4,7 +4,7 @@ ghost use Rattle.std.specs.Prelude.{◌≡◌, IfOk};
 
 use access_method::in_file::{self, InFile};
 use access_method::{
-    Entry, Fault, FileDevice, Index, Limits, NoProgress, PageStore, Range, ScanToken, Start,
+    Entry, Fault, Index, Limits, NoProgress, PageStore, Range, ScanToken, Start,
 };
 use std::alloc::Global;
 use std::fs::File;
@@ -20,20 +20,28 @@ const LIMITS: Limits = Limits {
 /// Makes an empty index in a new file, and closes it. Refused with `Io` where the path is there, or a call of the file fails:
 /// nothing is left then. A crash inside of it leaves the whole index at the path, or nothing.
 ///
-/// What it held is `S`, as no code can read it: so what is promised of an index in a file is promised for all bytes. `main`
-/// names some, by `access_method::Unknown`.
-pub fn make<F: Files<File = File>, S: Start>(rt: &F, path: &str) -> Result<(), Fault> {
-    let _device: FileDevice<S> = in_file::create(rt, path, &LIMITS, &NoProgress)?;
-    Ok(())
+/// `NotMade` has what the system said, and the device is the file's: `Index::open` goes on with it, over an index that the laws
+/// know to be empty.
+pub fn make<F: Files<File = File>>(rt: &F, path: &str) -> Result<(), Fault> {
+    match in_file::create(rt, path, &LIMITS, &NoProgress) {
+        Ok(_device) => Ok(()),
+        Err(not_made) => Err(not_made.fault),
+    }
 }
 
-/// Opens the index in a file, after any crash, with 64 pages in memory.
+/// Opens the index in a file, after any crash, with 64 pages in memory. `NotOpened` has what the system said.
+///
+/// What the file held is `S`, as no code can read it: so what is promised of an index in a file is promised for all bytes. `main`
+/// names some, by `access_method::Unknown`.
 pub fn open<F: Files<File = File>, S: Start>(
     rt: &F,
     alloc: Global,
     path: &str,
 ) -> Result<InFile<S>, Fault> {
-    in_file::open(rt, alloc, path, 64)
+    match in_file::open(rt, alloc, path, 64) {
+        Ok(index) => Ok(index),
+        Err(not_opened) => Err(not_opened.fault),
+    }
 }
 
 /// Adds an entry, unless it is there, and makes all that was done durable. Answers how many actions are, since the opening.
@@ -42,7 +50,8 @@ pub fn add<S: PageStore>(index: &mut Index<S>, entry: Entry) -> Result<u64, Faul
     ensures { IfOk result (λ count. (S.backing index.new.store).durable ≡ count) }
 {
     match index.aminsert(entry) {
-        // A fault in `unfinished` is no loss: the entry is added, and a later insert finishes the split.
+        // The entry is added. A later insert finishes the split that a fault in `unfinished` tells of: after `Io` or `Stopped` there
+        // do as after such an answer.
         Ok(_inserted) => {}
         Err(Fault::Exists) => {}
         Err(fault) => return Err(fault),

@@ -51,8 +51,8 @@ pub fn lists<S: PageStore>(alloc: Global, index: &mut Index<S>) -> Result<bool, 
 fn made_and_opened(rt: HostRuntime) -> Result<(), Fail> {
     let path = "btidx_caller.idx";
     clear(&rt, path);
-    make::<_, Unknown>(&rt, path)?;
-    assert_eq!(rt; make::<_, Unknown>(&rt, path), Err(Fault::Io));
+    make(&rt, path)?;
+    assert_eq!(rt; make(&rt, path), Err(Fault::Io));
     assert!(rt; opened(&rt, path, Work::Add) == Ok((true, 3)));
     assert!(rt; opened(&rt, path, Work::List) == Ok((true, 0)));
     remove(&rt, path)
