@@ -1,8 +1,8 @@
 -- The lines of an input that were answered so far, and those that are left.
-use Rattle.std.proofs.Common.{◌≡◌, ℕ, List, [], ◌∷◌, ◌++◌, eqb, refl, sym, ap, subst, ◌∙◌, append_assoc}
+use Rattle.std.proofs.Common.{◌≡◌, ℕ, List, [], ◌∷◌, ◌++◌, eqb, refl, sym, ap, subst, ◌∙◌, append_assoc, inl, inr}
 use Rattle.ledger_lines.specs.Replies.{reply_text}
 use Rattle.ledger_lines.proofs.Imports.{◌≢◌, Bool, true, false, cond, Option, Some, None, IfSome, ⊤, Appends-kept, take_through, drop_through, DropsThrough, Keeps, Index, DeviceGhosts, Row}
-use Rattle.ledger_lines.proofs.Imports.{Ghosts, Store, lines_of, with_first, Answers, AnswersEach, Dead}
+use Rattle.ledger_lines.proofs.Imports.{Ghosts, Store, lines_of, with_first, Answers, AnswersEach, AnswersFirst, AnswersSome, AreFirst, BeginsAnswer, Dead}
 
 -- ---- the first line of a text
 
@@ -69,6 +69,12 @@ before_more texts text line rest (Some bytes) (Some (x ∷ xs)) c before took dr
     subst (AreBefore (texts ++ text ∷ []) (Some bytes)) (sym drops)
     (before ∙ ap (λ (ls : List (List ℕ)). texts ++ ls) (h.rest ∙ ap (λ (t : List ℕ). t ∷ left) same) ∙ sym (append_assoc texts (text ∷ []) left))
 
+-- they are the first ones
+first_of : (texts : List (List ℕ)) (input left : Option (List ℕ)) → AreBefore texts input left → AreFirst texts input
+first_of texts None left before = tt
+first_of texts (Some bytes) None before = absurd before
+first_of texts (Some bytes) (Some rest) before = (lines_of rest, before)
+
 -- ---- answers
 
 -- these lines were answered, and this is left of the input
@@ -106,3 +112,24 @@ module _ {D : Type 0} (d : DeviceGhosts D) (g : Ghosts (Store D d)) (is_in : Dea
     lines = before_more h.texts text line rest input left then_left h.lines took drops some parts;
     answers = each_more h.texts text old mid new a b e h.answers (flushed text mid new b c e answers kept);
   }
+
+  -- nothing was done since
+  pub answered_some : (input left : Option (List ℕ)) (old new : Index (Store D d)) (a b : Option (List ℕ)) → HasAnswered d g is_in input left old new a b → AnswersFirst d g is_in input old new a b
+  answered_some input left old new a b h =
+      let some : AnswersSome d g is_in input old new a b = record { texts = h.texts; lines = first_of h.texts input left h.lines; answers = h.answers } in
+      inl some
+
+  -- the answer of the next one was begun
+  pub answer_begun : (text line rest : List ℕ) (input left then_left : Option (List ℕ)) (old mid new : Index (Store D d)) (a b c : Option (List ℕ))
+      → HasAnswered d g is_in input left old mid a b
+      → IfSome left (λ bytes. line ≡ take_through 10 bytes) → DropsThrough left then_left 10 → line ≢ [] → lines_of line ≡ text ∷ lines_of rest
+      → BeginsAnswer d g is_in text mid new b c → AnswersFirst d g is_in input old new a c
+  answer_begun text line rest input left then_left old mid new a b c h took drops some parts begins = inr (record {
+    texts = h.texts;
+    text = text;
+    mid = mid;
+    between = b;
+    lines = first_of (h.texts ++ text ∷ []) input then_left (before_more h.texts text line rest input left then_left h.lines took drops some parts);
+    answers = h.answers;
+    begins = begins;
+  })

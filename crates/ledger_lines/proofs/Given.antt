@@ -4,7 +4,7 @@ use Rattle.std.proofs.Common.{◌≡◌, ℕ, ◌+◌, false, Option, Some, List
 use Rattle.access_method.specs.declared.token.ScanToken.{ScanToken}
 use Rattle.access_method.specs.declared.token.Seat.{Seat}
 use Rattle.index_model.specs.declared.entry.Entry.{Entry}
-use Rattle.ledger_lines.proofs.Imports.{Appends-trans, Appends, SameTokens, TokenAfter, seat_with, seat_of, Index, Fault, Ghosts, GivesEach, IsGive, PrintsScan, listed_line}
+use Rattle.ledger_lines.proofs.Imports.{AppendsFirst, BreaksScan, Appends-trans, Appends, SameTokens, TokenAfter, seat_with, seat_of, Index, Fault, Ghosts, GivesEach, IsGive, PrintsScan, listed_line}
 
 -- so many entries were given, and printed
 pub record HasGiven {S : Type 0} (g : Ghosts S) (token : ScanToken) (count : ℕ) (old new : Index S) (before after : Option (List ℕ)) : Type 0 where
@@ -44,6 +44,21 @@ given_more g token count entry old mid new a b c h give printed = record {
   gives = gives_more g token h.given entry old mid new h.gives give;
   printed = subst (λ (text : List ℕ). Appends a c text) (lines_more h.given entry) (Appends-trans a b c (flat_map listed_line h.given) (listed_line entry) h.printed printed);
 }
+
+-- one more is given, and the first bytes of its line are printed
+pub breaks_at : {S : Type 0} (g : Ghosts S) (token : ScanToken) (count : ℕ) (entry : Entry) (old mid new : Index S) (a b c : Option (List ℕ)) → HasGiven g token count old mid a b
+    → IsGive g token (Ok (Some entry)) mid new → AppendsFirst b c (listed_line entry) → BreaksScan g token old new a c
+breaks_at g token count entry old mid new a b c h give p =
+    let before = flat_map listed_line h.given in record {
+      given = h.given ++ entry ∷ [];
+      gives = gives_more g token h.given entry old mid new h.gives give;
+      printed = record {
+        first = before ++ p.first;
+        rest = p.rest;
+        are = sym (lines_more h.given entry) ∙ ap (λ (text : List ℕ). before ++ text) p.are ∙ sym (append_assoc before p.first p.rest);
+        printed = Appends-trans a b c before p.first h.printed p.printed;
+      };
+    }
 
 -- what was printed, by how it ended
 pub printed_as : {S : Type 0} {g : Ghosts S} (token : ScanToken) (r s : Result ℕ Fault) (opened new : Index S) (before after : Option (List ℕ)) → r ≡ s → PrintsScan g token r opened new before after

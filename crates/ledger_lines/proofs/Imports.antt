@@ -2,7 +2,7 @@
 pub use Rattle.std.proofs.KnownBytes.{Appends-kept, Appends-trans}
 pub use Rattle.std.specs.Io.BufRead.{DropsThrough, drop_through, take_through}
 pub use Rattle.std.specs.Io.KnownBytes.{Appends, Keeps}
-pub use Rattle.std.specs.Prelude.{Bool, Err, IfErr, IfOk, IfSome, IsOk, List, None, Ok, OnOk, Option, Result, Some, cond, false, true, ℕ, ⊤, ◌≡◌, ◌≢◌}
+pub use Rattle.std.specs.Prelude.{Bool, Err, IfErr, IfOk, IfSome, IsOk, List, None, Ok, OnErr, OnOk, Option, Result, Some, cond, false, true, ℕ, ⊤, ◌≡◌, ◌≢◌}
 pub use Rattle.index_model.specs.Actions.{Action}
 pub use Rattle.index_model.specs.Row.{Row}
 pub use Rattle.index_model.specs.declared.fault.Fault.{Fault}
@@ -20,5 +20,6 @@ pub use Rattle.access_method.specs.declared.index.Index.{Index}
 pub use Rattle.text_forms.specs.Spelling.{lines_of, row_text, with_first}
 pub use Rattle.text_forms.specs.Values.{AreRows}
 pub use Rattle.ledger_lines.specs.Calls.{GivesEach, IsGive, PrintsScan, listed_line}
-pub use Rattle.ledger_lines.specs.Sessions.{Answers, AnswersAll, AnswersEach, BeginsFrom, Closes, IsClosed, IsClosingRefused, Serves}
+pub use Rattle.ledger_lines.specs.Breaking.{AppendsFirst, BreaksList, BreaksScan, IsBrokenOff}
+pub use Rattle.ledger_lines.specs.Sessions.{Answers, AnswersAll, AnswersEach, AnswersFirst, AnswersSome, AreFirst, BeginsAnswer, IsClosed, IsClosingRefused, Serves}
 pub use Rattle.ledger_lines.specs.declared.dead.Dead.{Dead}

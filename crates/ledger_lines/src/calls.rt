@@ -1,16 +1,18 @@
 //! The calls of the index, each with its reply.
 
-ghost use Rattle.std.specs.Prelude.{◌≡◌, false, IfOk};
+ghost use Rattle.std.specs.Prelude.{◌≡◌, false, IfOk, OnErr};
 ghost use Rattle.access_method.specs.Indexes.{seat_with};
 ghost use Rattle.access_method.specs.Tokens.{seat_of};
 ghost use Rattle.text_forms.specs.Values.{AreRows};
+ghost use Rattle.ledger_lines.specs.Breaking.{BreaksList, BreaksScan, IsBrokenOff};
 ghost use Rattle.ledger_lines.specs.Calls.{CheckpointReplies, CommitReplies, DeleteReplies, InsertReplies, ListReplies, PrintsScan, Replies, VacuumReplies};
 ghost use Rattle.ledger_lines.specs.Files.{IsOnDisk};
-ghost use Rattle.ledger_lines.specs.Lines.{HasLedgerValues};
+ghost use Rattle.ledger_lines.specs.Lines.{HasLedgerValues, ledger_words};
 ghost use Rattle.ledger_lines.specs.Replies.{ReplyIsDurable};
 
 use crate::dead::{Dead, listed};
 use crate::line::Line;
+use crate::put::put_entry;
 use crate::reply::Reply;
 use access_method::{Index, ScanToken};
 use device::Device;
@@ -19,7 +21,7 @@ use page_action::PageStore;
 use page_store::Store;
 use std::alloc::Global;
 use std::io::{self, Write};
-use text_forms::{Rows, print_entry};
+use text_forms::Rows;
 
 /// Does what a line says. `Committed` and `Checkpointed` are replied only where so many actions are durable: whatever a crash
 /// leaves of the device, a file or memory, has them.
@@ -36,6 +38,10 @@ pub fn call<D: Device, W: Write>(
     ensures replies { HasLedgerValues line.entry → IfOk result
         (Replies ⟦<Store<D> as PageStore>⟧ ⟦<Dead as DeadRows>⟧.is_in line.entry
         index.old index.new (W.contents out.old) (W.contents out.new)) }
+    // Where the writer fails, a list was broken off.
+    ensures broken { HasLedgerValues line.entry → OnErr result
+        (IsBrokenOff ⟦<Store<D> as PageStore>⟧ (ledger_words line.entry) index.old index.new
+        (W.contents out.old) (W.contents out.new)) }
 {
     match line {
         Line::Insert(entry) => Ok(insert(index, entry)),
@@ -122,6 +128,8 @@ fn list<D: Device, W: Write>(
     ensures durable { IfOk result (ReplyIsDurable ⟦<Store<D> as PageStore>⟧ index.new) }
     ensures replies { IfOk result (ListReplies ⟦<Store<D> as PageStore>⟧ range index.old
         (W.contents out.old) (W.contents out.new)) }
+    ensures broken { OnErr result (BreaksList ⟦<Store<D> as PageStore>⟧ range index.old index.new
+        (W.contents out.old) (W.contents out.new)) }
 {
     let token = match index.ambeginscan(range) {
         Ok(token) => token,
@@ -145,11 +153,13 @@ fn list_scan<S: PageStore, W: Write>(
     requires is_open { seat_of index.old.seats token ≡ seat_with token false }
     ensures prints { IfOk result (λ end. PrintsScan S.PageStore token end index.old index.new
         (W.contents out.old) (W.contents out.new)) }
+    ensures broken { OnErr result (BreaksScan S.PageStore token index.old index.new
+        (W.contents out.old) (W.contents out.new)) }
 {
     for count in 0..u64::MAX {
         match index.amgettuple(token) {
             Ok(None) => return Ok(Ok(count)),
-            Ok(Some(entry)) => print_entry(out, &entry)?,
+            Ok(Some(entry)) => put_entry(out, &entry)?,
             Err(fault) => return Ok(Err(fault)),
         }
     }

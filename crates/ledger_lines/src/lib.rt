@@ -6,9 +6,12 @@ mod dead;
 mod index_file;
 mod line;
 mod program;
+mod put;
 mod reply;
+mod said;
 mod session;
 
 pub use dead::Dead;
-pub use program::{Ended, ledger, refuse};
+pub use index_file::Refusal;
+pub use program::{Ended, Kept, Served, ledger, refuse, refuse_words};
 pub use session::answer_lines;

@@ -4,7 +4,7 @@ ghost use Rattle.std.specs.Prelude.{◌≡◌, true, Some, Ok, Err, [], ◌∷�
 ghost use Rattle.index_model.specs.declared.entry.Entry.{Entry as TheEntry};
 ghost use Rattle.index_model.specs.declared.range.Range.{Range as TheRange};
 ghost use Rattle.text_forms.specs.Spelling.{words_of};
-ghost use Rattle.text_forms.specs.Values.{entry_words, range_words, IsEntryOfBytes, IsRangeOfBytes, AreRows};
+ghost use Rattle.text_forms.specs.Values.{entry_words, range_words, IsEntryOfBytes, IsRangeOfBytes, AreNoEntry, AreNoRange, AreNoRows, AreRows};
 ghost use Rattle.ledger_lines.specs.Lines.{ledger_words, HasLedgerValues, LedgerValuesFail, LedgerLineFails, is_alone};
 
 use index_model::{Entry, Fault, Range};
@@ -31,6 +31,8 @@ pub fn parse(text: &[u8]) -> Option<Result<Line<'_>, Fault>>
         → result ≡ Some (Ok line) }
     ensures refused { (fault : Fault) → result ≡ Some (Err fault)
         → LedgerLineFails fault (words_of text.now) }
+    ensures only_refused { (fault : Fault) → LedgerLineFails fault (words_of text.now)
+        → result ≡ Some (Err fault) }
 {
     let mut words = Words::new(text);
     let line = read(&mut words)?;
@@ -45,6 +47,8 @@ fn read<'a>(words: &mut Words<'a>) -> Option<Result<Line<'a>, Fault>>
         → (result ≡ Some (Ok line)) × (words.new ≡ []) }
     ensures refused { (fault : Fault) → result ≡ Some (Err fault) → words.new ≡ []
         → LedgerLineFails fault words.old }
+    ensures only_refused { (fault : Fault) → LedgerLineFails fault words.old
+        → (result ≡ Some (Err fault)) × (words.new ≡ []) }
 {
     let name = words.next()?;
     if let Some(line) = alone(name) {
@@ -89,6 +93,12 @@ fn with_values<'a>(name: &[u8], words: &mut Words<'a>) -> Option<Result<Line<'a>
         → (result ≡ Some (Ok (Line.List range))) × (words.new ≡ []) }
     ensures refused { (fault : Fault) → result ≡ Some (Err fault) → words.new ≡ []
         → LedgerValuesFail fault name.now words.old }
+    ensures no_entry { (fault : Fault) → name.now ≡ codes "insert" → AreNoEntry fault words.old []
+        → (result ≡ Some (Err fault)) × (words.new ≡ []) }
+    ensures no_rows { (fault : Fault) → name.now ≡ codes "delete" → AreNoRows fault words.old
+        → (result ≡ Some (Err fault)) × (words.new ≡ []) }
+    ensures no_range { (fault : Fault) → name.now ≡ codes "list" → AreNoRange fault words.old []
+        → (result ≡ Some (Err fault)) × (words.new ≡ []) }
 {
     if is_word(name, b"insert") {
         return Some(entry(words)?.map(|entry| Line::Insert(entry)));

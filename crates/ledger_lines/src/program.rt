@@ -1,14 +1,15 @@
 //! The program over any streams.
 
-ghost use Rattle.std.specs.Prelude.{◌≡◌, ◌≤◌, length, map, slice_get, IsOk, IsSomeAnd, IfSome, IfNone, IfErr, OnOk, OnErr, OnSome};
-ghost use Rattle.ledger_lines.specs.Sessions.{Closes, Serves};
+ghost use Rattle.std.specs.Prelude.{◌≡◌, ◌≤◌, length, map, slice_get, IfSome, OnOk, OnErr, OnSome};
+ghost use Rattle.ledger_lines.specs.Sessions.{IfNotServed, IsServedWhole, IsWhole, Serves, ServesFile};
 
 use crate::dead::Dead;
-use crate::index_file::open;
+use crate::index_file::{Opened, Refusal, open};
 use crate::reply::print_refused;
+use crate::said::say_error;
 use crate::session::answer_lines;
-use access_method::in_file;
-use device::{Device, FileDevice, Start};
+use access_method::{Index, in_file};
+use device::{Device, FileDevice, Start, Zeros};
 use index_model::{DeadRows, Fault};
 use page_action::PageStore;
 use page_store::Store;
@@ -25,15 +26,38 @@ standard input at once: insert KEY ROW, delete ROW .., list FROM BELOW, vacuum, 
 Behind the last it makes all durable and closes the file. docs/SCRIPTS.md tells the forms.
 ";
 
-/// How the program ends: its status, and the device of the index, if it was opened. The file is closed where that is let go.
+/// An index that was opened and closed: its device, how the lines of the input ended, and what the closing answered, which is how
+/// many actions there were. The file is closed where the device is let go.
 #[derive(Drop)]
-pub struct Ended<D> {
+pub struct Served<D> {
+    pub device: D,
+    /// Ok where each line was answered; else what a stream failed with.
+    pub answered: io::Result<()>,
+    pub closed: Result<u64, Fault>,
+}
+
+/// What became of the index. `D` is the device of one that was in its file, and `N` that of a new one.
+#[derive(Drop)]
+pub enum Kept<D, N> {
+    /// The words name no file.
+    NoPath,
+    /// None was opened.
+    Refused(Refusal<D>),
+    Found(Served<D>),
+    Made(Served<N>),
+}
+
+/// How the program ends.
+#[derive(Drop)]
+pub struct Ended<D, N> {
+    /// 0 where each line was answered and the index was closed, else 2.
     pub status: u8,
-    pub device: Option<D>,
+    pub kept: Kept<D, N>,
 }
 
 /// Runs the program of these words, its own name first. Its status is 0 after the last line, 2 where the words, the file or a
-/// stream wasn't as it must be, which is said on `err`. `out` is flushed after each answer.
+/// stream wasn't as it must be, which is said on `err`. `out` is flushed after each answer. Where the system refused something, what
+/// it said is said on `err` too, at once.
 ///
 /// The file held what `S` says when it was opened: that is proved for all bytes, and `main` names some.
 pub fn ledger<F: Files<File = File>, S: Start, T: AsStr, R: BufRead, W: Write, E: Write>(
@@ -43,25 +67,31 @@ pub fn ledger<F: Files<File = File>, S: Start, T: AsStr, R: BufRead, W: Write, E
     input: &mut R,
     out: &mut W,
     err: &mut E,
-) -> Ended<FileDevice<S>>
+) -> Ended<FileDevice<S>, FileDevice<Zeros>>
     ensures status { result.status ≤ 2 }
-    // Each line was answered, and after the last all is on the disk.
-    ensures serves { result.status ≡ 0 → IsSomeAnd result.device
-        (Serves ⟦<FileDevice<S> as Device>⟧ ⟦<Store<FileDevice<S>> as PageStore>⟧
+    // With status 0 each line was answered, and after the last all is on the disk.
+    ensures whole { result.status ≡ 0 → IsWhole result.kept }
+    // What is told of the answers holds whatever the status is.
+    ensures serves { ServesFile
+        ⟦<FileDevice<S> as Device>⟧ ⟦<Store<FileDevice<S>> as PageStore>⟧
+        ⟦<FileDevice<Zeros> as Device>⟧ ⟦<Store<FileDevice<Zeros>> as PageStore>⟧
         ⟦<Dead as DeadRows>⟧.is_in S.Start.bytes
-        (R.remaining input.old) (W.contents out.old) (W.contents out.new)) }
+        (R.remaining input.old) (W.contents out.old) (W.contents out.new) result.kept }
+    // Where no index was opened, nothing is read or printed.
+    ensures unread { IfNotServed result.kept (R.remaining input.new ≡ R.remaining input.old) }
+    ensures silent { IfNotServed result.kept (W.contents out.new ≡ W.contents out.old) }
 {
     let Some(path) = path_of(words) else {
         let _ = err.write_all(USAGE.as_bytes());
         return Ended {
             status: 2,
-            device: None,
+            kept: Kept::NoPath,
         };
     };
-    let Served { device, ended } = run::<F, S, R, W>(rt, alloc, path, input, out);
+    let kept = run::<F, S, R, W, E>(rt, alloc, path, input, out, err);
     Ended {
-        status: status(ended, err),
-        device,
+        status: status(path, &kept, err),
+        kept,
     }
 }
 
@@ -76,14 +106,89 @@ fn path_of<T: AsStr>(words: &[T]) -> Option<&str>
     }
 }
 
-// The status of what ended so. A refusal is printed.
-fn status<E: Write>(ended: Result<(), Fault>, err: &mut E) -> u8
-    ensures done { OnOk ended (result ≡ 0) }
-    ensures refused { OnErr ended (result ≡ 2) }
+// Opens the index, answers the lines, and closes it.
+fn run<F: Files<File = File>, S: Start, R: BufRead, W: Write, E: Write>(
+    rt: &F,
+    alloc: Global,
+    path: &str,
+    input: &mut R,
+    out: &mut W,
+    err: &mut E,
+) -> Kept<FileDevice<S>, FileDevice<Zeros>>
+    ensures serves { ServesFile
+        ⟦<FileDevice<S> as Device>⟧ ⟦<Store<FileDevice<S>> as PageStore>⟧
+        ⟦<FileDevice<Zeros> as Device>⟧ ⟦<Store<FileDevice<Zeros>> as PageStore>⟧
+        ⟦<Dead as DeadRows>⟧.is_in S.Start.bytes
+        (R.remaining input.old) (W.contents out.old) (W.contents out.new) result }
+    ensures unread { IfNotServed result (R.remaining input.new ≡ R.remaining input.old) }
+    ensures silent { IfNotServed result (W.contents out.new ≡ W.contents out.old) }
 {
-    match ended {
+    match open::<F, S>(rt, alloc, path) {
+        Ok(Opened::Found(index)) => Kept::Found(serve(alloc, index, path, input, out, err)),
+        Ok(Opened::Made(index)) => Kept::Made(serve(alloc, index, path, input, out, err)),
+        Err(refusal) => Kept::Refused(refusal),
+    }
+}
+
+// Answers the lines, and closes the index, whatever became of the streams.
+fn serve<D: Device, R: BufRead, W: Write, E: Write>(
+    alloc: Global,
+    index: Index<Store<D>>,
+    path: &str,
+    input: &mut R,
+    out: &mut W,
+    err: &mut E,
+) -> Served<D>
+    ensures { Serves D.Device ⟦<Store<D> as PageStore>⟧ ⟦<Dead as DeadRows>⟧.is_in index
+        (R.remaining input.old) (W.contents out.old) (W.contents out.new) result }
+{
+    let mut index = index;
+    let answered = answer_lines(alloc, &mut index, path, input, out, err);
+    let closed = in_file::close(index);
+    Served {
+        device: closed.device,
+        answered,
+        closed: closed.written,
+    }
+}
+
+// The status of what ended so. What refused it is said.
+fn status<D: Device, N: Device, E: Write>(path: &str, kept: &Kept<D, N>, err: &mut E) -> u8
+    ensures whole { result ≡ 0 → IsWhole kept.now }
+    ensures low { result ≤ 2 }
+{
+    match kept {
+        Kept::NoPath => 2,
+        Kept::Refused(refusal) => refuse_for(err, refusal.fault, path, &refusal.error),
+        Kept::Found(served) => status_of(path, served, err),
+        Kept::Made(served) => status_of(path, served, err),
+    }
+}
+
+// The status of an index that was served so: what refused its last checkpoint is said, else what a stream failed with.
+fn status_of<D: Device, E: Write>(path: &str, served: &Served<D>, err: &mut E) -> u8
+    ensures whole { result ≡ 0 → IsServedWhole served.now }
+    ensures low { result ≤ 2 }
+{
+    if let Err(fault) = &served.closed {
+        return refuse_for(err, *fault, path, &served.device.error());
+    }
+    match &served.answered {
         Ok(()) => 0,
-        Err(fault) => refuse(err, fault),
+        Err(error) => refuse_for(
+            err,
+            fault_of(error),
+            "standard input or output",
+            &Some(*error),
+        ),
+    }
+}
+
+// What a stream that failed is refused with.
+fn fault_of(error: &io::Error) -> Fault {
+    match error.kind() {
+        io::ErrorKind::OutOfMemory => Fault::NoMemory,
+        _ => Fault::Io,
     }
 }
 
@@ -100,68 +205,26 @@ fn print_failure<E: Write>(err: &mut E, fault: Fault) -> io::Result<()> {
     print_refused(err, fault)
 }
 
-// The device of the index, if it was opened, and how the lines ended.
-#[derive(Drop)]
-struct Served<D> {
-    device: Option<D>,
-    ended: Result<(), Fault>,
-}
-
-// Opens the index, answers the lines, and closes it, whatever became of the streams.
-fn run<F: Files<File = File>, S: Start, R: BufRead, W: Write>(
-    rt: &F,
-    alloc: Global,
-    path: &str,
-    input: &mut R,
-    out: &mut W,
-) -> Served<FileDevice<S>>
-    ensures serves { OnOk result.ended (IsSomeAnd result.device
-        (Serves ⟦<FileDevice<S> as Device>⟧ ⟦<Store<FileDevice<S>> as PageStore>⟧
-        ⟦<Dead as DeadRows>⟧.is_in S.Start.bytes
-        (R.remaining input.old) (W.contents out.old) (W.contents out.new))) }
-    // The index is closed, whatever became of the streams.
-    ensures closes { IfSome result.device
-        (Closes ⟦<FileDevice<S> as Device>⟧ ⟦<Store<FileDevice<S>> as PageStore>⟧ result.ended) }
-    // Where it wasn't opened, nothing is read or printed.
-    ensures unread { IfNone result.device (R.remaining input.new ≡ R.remaining input.old) }
-    ensures silent { IfNone result.device (W.contents out.new ≡ W.contents out.old) }
+/// Says on `err` why the words of the command line can't be read, and answers the program's status.
+pub fn refuse_words<E: Write>(err: &mut E, error: &io::Error) -> u8
+    ensures { result ≡ 2 }
 {
-    let mut index = match open::<F, S>(rt, alloc, path) {
-        Ok(index) => index,
-        Err(fault) => {
-            return Served {
-                device: None,
-                ended: Err(fault),
-            };
-        }
-    };
-    let answered = answer_lines(alloc, &mut index, input, out);
-    let closed = in_file::close(index);
-    Served {
-        ended: outcome(closed.written, answered),
-        device: Some(closed.device),
+    let fault = fault_of(error);
+    let status = refuse(err, fault);
+    if fault == Fault::Io {
+        let _ = err.write_all(b"ledger: a word of the command line isn't UTF-8\n");
     }
+    status
 }
 
-// How the lines ended: with what refused the last checkpoint, else with what a stream failed with.
-fn outcome(written: Result<u64, Fault>, answered: io::Result<()>) -> Result<(), Fault>
-    ensures closed { OnOk result (IsOk written) }
-    ensures told { OnOk result (IsOk answered) }
-    ensures refused { IfErr written (λ fault. result ≡ Err fault) }
+// Says on `err` what refused the program, and, where that is a call of the system, what the system said of this.
+fn refuse_for<E: Write>(err: &mut E, fault: Fault, what: &str, error: &Option<io::Error>) -> u8
+    ensures { result ≡ 2 }
 {
-    if let Err(fault) = written {
-        return Err(fault);
+    let is_io = fault == Fault::Io;
+    let _ = print_failure(err, fault);
+    if is_io {
+        say_error(err, what, error);
     }
-    match answered {
-        Ok(()) => Ok(()),
-        Err(error) => Err(fault_of(&error)),
-    }
-}
-
-// What a stream that failed is refused with.
-fn fault_of(error: &io::Error) -> Fault {
-    match error.kind() {
-        io::ErrorKind::OutOfMemory => Fault::NoMemory,
-        _ => Fault::Io,
-    }
+    2
 }

@@ -1,28 +1,32 @@
 use Rattle.device.specs.contracts.file.FileDevice as file_device
 use Rattle.device.specs.contracts.file.FileDeviceDevice.TheImpl as device
+use Rattle.device.specs.contracts.file.Zeros as zeros
+use Rattle.device.specs.contracts.file.ZerosStart.TheImpl as start
 use Rattle.page_store.specs.contracts.store.StorePageStore.TheImpl as store
-use Rattle.ledger_lines.specs.contracts.dead.DeadDeadRows.TheImpl as dead
-use Rattle.ledger_lines.proofs.Ending.{closed_on, closes, serves_on}
+use Rattle.ledger_lines.specs.Opening.{BeginsFrom, BeginsNew}
+use Rattle.ledger_lines.proofs.Ending.{begins_found, begins_made}
 use Rattle.ledger_lines.proofs.program.run.Goals as goal
 
-pub returns-clause-serves : goal.returns-clause-serves
-returns-clause-serves g c =
+pub returns-in-Ok-Found-clause-serves : goal.returns-in-Ok-Found-clause-serves
+returns-in-Ok-Found-clause-serves g c =
     let D = device.ghosts g.row.S g.S.Start g.S.Start-dict in
     let G = store.ghosts (file_device.the_row g.row.S g.S.Start) D (device.dict g.row.S g.S.Start g.S.Start-dict) in
-    let last = c.answer_lines-answered.new.index in
-    let written = c.close-closed.result.written in
-    let left = c.close-closed.result.device in
-    let e = c.close-closed.ensures in
-    serves_on D G dead.ghosts.is_in g.S.Start.bytes (g.R.Read.remaining c.args.input.now) (g.W.Write.contents c.args.out.now) (g.W.Write.contents c.answer_lines-answered.new.out)
-    c.in-Ok.index last left c.outcome.result written c.answer_lines-answered.result c.outcome.ensures.closed c.outcome.ensures.told
-    (closed_on D G last left written e.number e.stands e.empties) c.in-Ok.ensures.begins c.answer_lines-answered.ensures
+    let N = device.ghosts zeros.the_row start.ghosts start.dict in
+    let H = store.ghosts (file_device.the_row zeros.the_row start.ghosts) N (device.dict zeros.the_row start.ghosts start.dict) in
+    record {
+      opened = c.in-Ok-Found.index;
+      begins = begins_found (BeginsFrom D G g.S.Start.bytes) (BeginsNew N H) c.in-Ok-Found.field-0 c.in-Ok-Found.index c.in-Ok-Found.ensures.begins c.in-Ok-Found.field-0-is;
+      serves = c.serve.ensures;
+    }
 
-pub returns-clause-closes : goal.returns-clause-closes
-returns-clause-closes g c =
+pub returns-in-Ok-Made-clause-serves : goal.returns-in-Ok-Made-clause-serves
+returns-in-Ok-Made-clause-serves g c =
     let D = device.ghosts g.row.S g.S.Start g.S.Start-dict in
     let G = store.ghosts (file_device.the_row g.row.S g.S.Start) D (device.dict g.row.S g.S.Start g.S.Start-dict) in
-    let last = c.answer_lines-answered.new.index in
-    let written = c.close-closed.result.written in
-    let left = c.close-closed.result.device in
-    let e = c.close-closed.ensures in
-    closes D G last left c.outcome.result written (closed_on D G last left written e.number e.stands e.empties) c.outcome.ensures.refused e.cause
+    let N = device.ghosts zeros.the_row start.ghosts start.dict in
+    let H = store.ghosts (file_device.the_row zeros.the_row start.ghosts) N (device.dict zeros.the_row start.ghosts start.dict) in
+    record {
+      opened = c.in-Ok-Made.index;
+      begins = begins_made (BeginsFrom D G g.S.Start.bytes) (BeginsNew N H) c.in-Ok-Made.field-0 c.in-Ok-Made.index c.in-Ok-Made.ensures.begins c.in-Ok-Made.field-0-is;
+      serves = c.serve-in-Ok-Made.ensures;
+    }

@@ -1,0 +1,45 @@
+-- How a ledger's index is opened or made.
+use Rattle.std.specs.Prelude.{◌≡◌, ℕ, false, IsTrue, List}
+use Rattle.access_method.specs.Files.{bytes_before}
+use Rattle.access_method.specs.Indexes.{IndexBegins}
+use Rattle.access_method.specs.declared.index.Index.{Index}
+use Rattle.device.specs.declared.device.Device.{Ghosts as DeviceGhosts}
+use Rattle.index_model.specs.Formats.{made}
+use Rattle.index_model.specs.declared.entry.Entry.{Entry}
+use Rattle.index_model.specs.declared.format.Format.{Format}
+use Rattle.index_model.specs.declared.limits.Limits.{Limits}
+use Rattle.ledger_lines.specs.declared.index_file.Opened.{Opened}
+use Rattle.ledger_lines.specs.declared.index_file.Opened.TheVariants.{Found, Made}
+use Rattle.page_action.specs.Contents.{entry_on_live_leaf}
+use Rattle.page_action.specs.declared.page_store.PageStore.{Ghosts}
+use Rattle.page_codec.specs.declared.page.Page.{Page}
+use Rattle.page_store.specs.Stores.{device_of}
+use Rattle.page_store.specs.declared.store.Store.{Store}
+use Rattle.recovery.specs.Index.{HasIndex}
+use Rattle.tree_acts.specs.TheoremKeys.{IsTreeFor}
+
+-- the sizes of a new ledger
+abbrev pub new_limits : Limits
+new_limits = record { items = 50; pages = 4096; log_bytes = 1048576; unique = false }
+
+-- an index as it is opened from a file that held these bytes: where they were an index whose pages are a B-link tree, with them
+abbrev pub BeginsFrom : {D : Type 0} (d : DeviceGhosts D) → Ghosts (Store D d) → (ℕ → List ℕ) → Index (Store D d) → Type 0
+BeginsFrom d g bytes index =
+    IsTrue (d.is_honest (device_of d index.store)) → (format : Format) (pages : List Page)
+    → HasIndex format pages (bytes_before bytes (d.trace (device_of d index.store)))
+    → IsTreeFor format pages → IndexBegins d g format pages index
+
+-- an index begins with pages that have no entry
+pub record BeginsEmptyIndex {D : Type 0} (d : DeviceGhosts D) (g : Ghosts (Store D d)) (format : Format) (index : Index (Store D d)) : Type 0 where
+  pub pages : List Page
+  pub empty : (e : Entry) → entry_on_live_leaf pages e ≡ false
+  pub begins : IndexBegins d g format pages index
+
+-- a new ledger has these sizes and no entry, as far as the file kept the disk model
+abbrev pub BeginsNew : {D : Type 0} (d : DeviceGhosts D) → Ghosts (Store D d) → Index (Store D d) → Type 0
+BeginsNew d g index = IsTrue (d.is_honest (device_of d index.store)) → BeginsEmptyIndex d g (made new_limits) index
+
+-- what was opened begins so where it was there, and so where it was made
+abbrev pub OpensAs : {I N : Type 0} → (I → Type 0) → (N → Type 0) → Opened I N → Type 0
+OpensAs Is New (Found index) = Is index
+OpensAs Is New (Made index) = New index
