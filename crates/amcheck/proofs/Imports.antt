@@ -53,7 +53,7 @@ pub use Rattle.amcheck.specs.Places.{IsNoneOrBeyond, StandAtTheirBlocks}
 pub use Rattle.amcheck.specs.Reading.{IsRestBut, blocks_below, without_first}
 pub use Rattle.amcheck.specs.Reports.{IsReport, count_entries_on, one_if_deleted, one_if_half_dead, one_if_incomplete, report_of, sum_of_all}
 pub use Rattle.amcheck.specs.Searching.{AreSearchable}
-pub use Rattle.amcheck.specs.Sketches.{AreKept, HasGrown, HoldsSketch, IsSketch, least_bound, links_at, second_bound}
+pub use Rattle.amcheck.specs.Sketches.{HoldSketches, HasGrown, HoldsSketch, IsSketch, least_bound, links_at, second_bound}
 pub use Rattle.amcheck.specs.Stops.{AreStops, HasWrongItem, IsBad, IsFirstPlace, IsLeastNumber, IsRootAt, IsStop, IsTooMuch, IsWrong, IsWrongAt, StopsAreInUse, high_at, context_at, stop_blocks}
 pub use Rattle.amcheck.specs.Ways.{IsClearPath, IsFirstOfPath}
 pub use Rattle.amcheck.specs.WrongSketches.{IsWrongSketch}

@@ -2,7 +2,7 @@
 use Rattle.std.proofs.Common.{◌≡◌, ◌⊎◌, ℕ, zero, suc, ◌+◌, ◌<◌, ◌≤◌, inl, inr, Bool, true, false, drop, List, [], ◌∷◌, ◌++◌, Option, Some, None, length, length-append, slice_get, refl, sym, ap, subst, ◌∙◌, arith}
 use Rattle.tree_shape.specs.LinkPlaces.{HasLinks}
 use Rattle.amcheck.proofs.Imports.{slice_get_within, slice_get_past, IfSome, Items, Meta, Entries, Downlinks, Page, PageState, Live, HalfDead, Deleted, Node, node_of, node_from, nodes_of, no_node}
-use Rattle.amcheck.proofs.Imports.{links_of, no_link, some_is, page_there, sum_of_all, count_entries_on, one_if_half_dead, one_if_deleted, one_if_incomplete, IsSketch, HoldsSketch, AreKept}
+use Rattle.amcheck.proofs.Imports.{links_of, no_link, some_is, page_there, sum_of_all, count_entries_on, one_if_half_dead, one_if_deleted, one_if_incomplete, IsSketch, HoldsSketch, HoldSketches}
 use Rattle.amcheck.proofs.Imports.{links_at, HasGrown, Sketch}
 
 get_left : {A : Type 0} (xs ys : List A) (k : ℕ) → k < length xs → slice_get (xs ++ ys) k ≡ slice_get xs k
@@ -37,7 +37,7 @@ keeps_left whole more page sketch k = record {
   inside = λ place is. let lt = k.inside place is in omega (arith, lt, length-append whole more);
 }
 
-module _ (pages whole more : List Page) (sketches : List Sketch) (page : Page) (sketch : Sketch) (kept : AreKept pages whole sketches)
+module _ (pages whole more : List Page) (sketches : List Sketch) (page : Page) (sketch : Sketch) (kept : HoldSketches pages whole sketches)
     (one : length more ≤ 1) (new : HoldsSketch (whole ++ more) page sketch) where
   each : (block : ℕ) (p : Page) (s : Sketch) → slice_get (pages ++ page ∷ []) block ≡ Some p → slice_get (sketches ++ sketch ∷ []) block ≡ Some s → HoldsSketch (whole ++ more) p s
   each block p s at_p at_s = by (more_cases pages page p block at_p) (more_cases sketches sketch s block at_s)
@@ -48,7 +48,7 @@ module _ (pages whole more : List Page) (sketches : List Sketch) (page : Page) (
       by (inl a) (inr b) = absurd (let lt = slice_get_within pages block p a in omega (arith, lt, b.0, kept.count))
       by (inr a) (inl b) = absurd (let lt = slice_get_within sketches block s b in omega (arith, lt, a.0, kept.count))
 
-  all : AreKept (pages ++ page ∷ []) (whole ++ more) (sketches ++ sketch ∷ [])
+  all : HoldSketches (pages ++ page ∷ []) (whole ++ more) (sketches ++ sketch ∷ [])
   all = record {
     count = omega (arith, length-append pages (page ∷ []), length-append sketches (sketch ∷ []), kept.count);
     fewer = omega (arith, length-append pages (page ∷ []), length-append whole more, kept.fewer, one);
@@ -57,12 +57,12 @@ module _ (pages whole more : List Page) (sketches : List Sketch) (page : Page) (
 
 -- one page more is kept
 pub kept_more : (pages whole : List Page) (sketches : List Sketch) (page : Page) (sketch : Sketch) (after whole' : List Page)
-    (sketches' : List Sketch) → AreKept pages whole sketches → HasGrown whole whole'
-    → HoldsSketch whole' page sketch → after ≡ pages ++ page ∷ [] → sketches' ≡ sketches ++ sketch ∷ [] → AreKept after whole' sketches'
+    (sketches' : List Sketch) → HoldSketches pages whole sketches → HasGrown whole whole'
+    → HoldsSketch whole' page sketch → after ≡ pages ++ page ∷ [] → sketches' ≡ sketches ++ sketch ∷ [] → HoldSketches after whole' sketches'
 kept_more pages whole sketches page sketch after whole' sketches' kept grown new after_is sketches_is =
-    subst (λ (ps : List Page). AreKept ps whole' sketches') (sym after_is)
-    (subst (λ (ws : List Page). AreKept (pages ++ page ∷ []) ws sketches') (sym grown.is)
-    (subst (AreKept (pages ++ page ∷ []) (whole ++ grown.more)) (sym sketches_is)
+    subst (λ (ps : List Page). HoldSketches ps whole' sketches') (sym after_is)
+    (subst (λ (ws : List Page). HoldSketches (pages ++ page ∷ []) ws sketches') (sym grown.is)
+    (subst (HoldSketches (pages ++ page ∷ []) (whole ++ grown.more)) (sym sketches_is)
     (all pages whole grown.more sketches page sketch kept grown.few (subst (λ (ws : List Page). HoldsSketch ws page sketch) grown.is new))))
 
 -- a page without downlinks isn't kept whole
@@ -75,7 +75,7 @@ no_links page none = by page.items none
     by (Downlinks v) h = absurd (h tt)
 
 -- what is read of one that is kept
-module _ (pages whole : List Page) (sketches : List Sketch) (kept : AreKept pages whole sketches) (block : ℕ) (sketch : Sketch) (found : slice_get sketches block ≡ Some sketch) where
+module _ (pages whole : List Page) (sketches : List Sketch) (kept : HoldSketches pages whole sketches) (block : ℕ) (sketch : Sketch) (found : slice_get sketches block ≡ Some sketch) where
   there : (page : Page) × (slice_get pages block ≡ Some page)
   there = page_there pages block (let lt = slice_get_within sketches block sketch found in omega (arith, lt, kept.count))
 
@@ -104,7 +104,7 @@ module _ (pages whole : List Page) (sketches : List Sketch) (kept : AreKept page
   links_are = keeps.links ∙ ap (λ (n : Node). n.links) (sym node_is)
 
 -- and after them there is none
-pub none_behind : (pages whole : List Page) (sketches : List Sketch) (block : ℕ) → AreKept pages whole sketches → length sketches ≤ block → nodes_of pages block ≡ no_node
+pub none_behind : (pages whole : List Page) (sketches : List Sketch) (block : ℕ) → HoldSketches pages whole sketches → length sketches ≤ block → nodes_of pages block ≡ no_node
 none_behind pages whole sketches block kept le = ap node_from (slice_get_past pages block (omega (arith, le, kept.count)))
 
 pub inside_of : (whole : List Page) (o : Option ℕ) → IfSome o (λ place. place < length whole) → (place : ℕ) → o ≡ Some place → place < length whole

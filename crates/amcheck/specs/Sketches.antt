@@ -51,7 +51,7 @@ pub record HoldsSketch (whole : List Page) (page : Page) (sketch : Sketch) : Typ
   pub inside : (place : ℕ) → sketch.place ≡ Some place → place < length whole
 
 -- so of each page in turn
-pub record AreKept (pages whole : List Page) (sketches : List Sketch) : Type 0 where
+pub record HoldSketches (pages whole : List Page) (sketches : List Sketch) : Type 0 where
   pub count : length sketches ≡ length pages
   pub fewer : length whole ≤ length pages
   pub each : (block : ℕ) (page : Page) (sketch : Sketch) → slice_get pages block ≡ Some page → slice_get sketches block ≡ Some sketch

@@ -29,19 +29,19 @@ impl Model for Pages {
 
     ghost Value = { List PageValue };
 
-    ghost use Rattle.amcheck.specs.Sketches.{AreKept};
+    ghost use Rattle.amcheck.specs.Sketches.{HoldSketches};
 
     ghost view = { λ p. p.list.pages };
 
-    ghost invariant = { λ p. AreKept p.list.pages p.whole.items p.sketches.items };
+    ghost invariant = { λ p. HoldSketches p.list.pages p.whole.items p.sketches.items };
 }
 
 impl Pages {
-    ghost use Rattle.amcheck.specs.Sketches.{AreKept};
+    ghost use Rattle.amcheck.specs.Sketches.{HoldSketches};
 
     /// Those that were read.
     pub(crate) fn new(room: PageRoom) -> Pages
-        requires { AreKept room.list.pages room.whole.items room.sketches.items }
+        requires { HoldSketches room.list.pages room.whole.items room.sketches.items }
         ensures { result ≡ room.list.pages }
     {
         Pages {
