@@ -1,20 +1,23 @@
 //! The program of the index.
 #![tactic(auto)]
 
-use command_line::execute;
+use command_line::{execute, refuse, refuse_words};
 use device::Unknown;
-use std::env;
-use std::io::{self, BufWriter, Write};
+use index_model::Fault;
+use std::io::BufWriter;
 use std::process::ExitCode;
+use std::{env, io};
 
-fn main(rt: HostRuntime) -> io::Result<ExitCode> {
-    let words: Vec<String> = env::args(&rt)?.collect(rt.alloc())?;
-    let mut input = rt.stdin();
+fn main(rt: HostRuntime) -> ExitCode {
     let mut err = rt.stderr();
+    let words = match words(&rt) {
+        Ok(words) => words,
+        Err(error) => return ExitCode::from(refuse_words(&mut err, &error)),
+    };
+    let mut input = rt.stdin();
     // What is printed comes in small pieces.
     let Ok(mut out) = BufWriter::new(rt.alloc(), rt.stdout()) else {
-        let _ = err.write_all(b"btidx: refused 1 NoMemory\n");
-        return Ok(ExitCode::from(2));
+        return ExitCode::from(refuse(&mut err, Fault::NoMemory));
     };
     let done = execute::<_, Unknown, _, _, _, _>(
         &rt,
@@ -24,5 +27,10 @@ fn main(rt: HostRuntime) -> io::Result<ExitCode> {
         &mut out,
         &mut err,
     );
-    Ok(ExitCode::from(done.status))
+    ExitCode::from(done.status)
+}
+
+// The words of the command line.
+fn words(rt: &HostRuntime) -> io::Result<Vec<String>> {
+    Ok(env::args(rt)?.collect(rt.alloc())?)
 }

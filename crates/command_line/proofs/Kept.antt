@@ -43,12 +43,12 @@ none_then None have then = then have
 none_then (Some x) have then = tt
 
 -- what was named has another name
-pub prints_as : {D : Type 0} (d : DeviceGhosts D) (g : Ghosts (Store D d)) (rows : SetGhosts DeadList) (bytes : ℕ → List ℕ) (named other : Named) (old new : Option (List ℕ))
-    (what : Left D (Store D d)) → named ≡ other → PrintsCommand d g rows bytes named old new what → PrintsCommand d g rows bytes other old new what
-prints_as d g rows bytes named other old new what same p = subst (λ (n : Named). PrintsCommand d g rows bytes n old new what) same p
+pub prints_as : {D N : Type 0} (d : DeviceGhosts D) (e : DeviceGhosts N) (g : Ghosts (Store D d)) (rows : SetGhosts DeadList) (bytes : ℕ → List ℕ) (named other : Named) (old new : Option (List ℕ))
+    (what : Left D N (Store D d)) → named ≡ other → PrintsCommand d e g rows bytes named old new what → PrintsCommand d e g rows bytes other old new what
+prints_as d e g rows bytes named other old new what same p = subst (λ (n : Named). PrintsCommand d e g rows bytes n old new what) same p
 
 -- a command was run, where none can't be
-pub not_run_never : {D S : Type 0} {P : Type 0} (Q : Type 0) (what : Left D S) → IfNotRun what P → (P → ⊥) → IfNotRun what Q
+pub not_run_never : {D N S : Type 0} {P : Type 0} (Q : Type 0) (what : Left D N S) → IfNotRun what P → (P → ⊥) → IfNotRun what Q
 not_run_never Q (left.Nothing end) is never = absurd (never is)
 not_run_never Q (left.Played script) is never = tt
 not_run_never Q (left.Ran ran) is never = tt
@@ -56,7 +56,7 @@ not_run_never Q (left.Created created) is never = tt
 not_run_never Q (left.Checked looked) is never = tt
 not_run_never Q (left.Dumped looked) is never = tt
 
-pub not_run_then : {D S : Type 0} {P Q : Type 0} (what : Left D S) → IfNotRun what P → (P → Q) → IfNotRun what Q
+pub not_run_then : {D N S : Type 0} {P Q : Type 0} (what : Left D N S) → IfNotRun what P → (P → Q) → IfNotRun what Q
 not_run_then (left.Nothing end) is then = then is
 not_run_then (left.Played script) is then = tt
 not_run_then (left.Ran ran) is then = tt
@@ -123,7 +123,7 @@ module _ (old mid new : Option (List ℕ)) (kept : Keeps mid new) where
     silent = λ fault is. keeps_kept _ _ _ kept (p.silent fault is);
   }
 
-  check_kept : {D : Type 0} (d : DeviceGhosts D) (g : Ghosts (Store D d)) (bytes : ℕ → List ℕ) (parents : Bool) (looked : Looked (Store D d))
+  check_kept : {D : Type 0} (d : DeviceGhosts D) (g : Ghosts (Store D d)) (bytes : ℕ → List ℕ) (parents : Bool) (looked : Looked D (Store D d))
       → PrintsCheck d g bytes parents old mid looked → PrintsCheck d g bytes parents old new looked
   check_kept d g bytes parents looked p = record {
     ends = p.ends;
@@ -135,13 +135,14 @@ module _ (old mid new : Option (List ℕ)) (kept : Keeps mid new) where
     silent = λ fault is. keeps_kept _ _ _ kept (p.silent fault is);
   }
 
-  dump_kept : {D : Type 0} (d : DeviceGhosts D) (g : Ghosts (Store D d)) (bytes : ℕ → List ℕ) (looked : Looked (Store D d))
+  dump_kept : {D : Type 0} (d : DeviceGhosts D) (g : Ghosts (Store D d)) (bytes : ℕ → List ℕ) (looked : Looked D (Store D d))
       → PrintsDump d g bytes old mid looked → PrintsDump d g bytes old new looked
   dump_kept d g bytes looked p = record {
     ends = p.ends;
     opened = p.opened;
     listed = λ is. some_then looked.store (p.listed is) (λ store. lists_kept _ _);
     refused = λ fault is. match_then _ looked.store (p.refused fault is) (λ store. first_kept _ _);
+    cause = p.cause;
     silent = none_then looked.store p.silent (keeps_kept _ _ _ kept);
   }
 
@@ -157,25 +158,25 @@ module _ (old mid new : Option (List ℕ)) (kept : Keeps mid new) where
   play_kept : (setting : Setting) (script : RanScript) → PrintsPlay setting old mid script → PrintsPlay setting old new script
   play_kept setting script p = record { run = p.run; asked = p.asked; silent = none_then script.engine p.silent (keeps_kept _ _ _ kept) }
 
-  does_kept : {D : Type 0} (d : DeviceGhosts D) (g : Ghosts (Store D d)) (rows : SetGhosts DeadList) (bytes : ℕ → List ℕ) (named : Named) (what : Left D (Store D d))
-      → DoesCommand d g rows bytes named old mid what → DoesCommand d g rows bytes named old new what
-  does_kept d g rows bytes named (left.Nothing end) p = tt
-  does_kept d g rows bytes named (left.Played script) p =
+  does_kept : {D N : Type 0} (d : DeviceGhosts D) (e : DeviceGhosts N) (g : Ghosts (Store D d)) (rows : SetGhosts DeadList) (bytes : ℕ → List ℕ) (named : Named) (what : Left D N (Store D d))
+      → DoesCommand d e g rows bytes named old mid what → DoesCommand d e g rows bytes named old new what
+  does_kept d e g rows bytes named (left.Nothing end) p = tt
+  does_kept d e g rows bytes named (left.Played script) p =
       record { words = p.words; setting = p.setting; names = p.names; said = p.said; prints = play_kept _ script p.prints }
-  does_kept d g rows bytes named (left.Ran ran) p =
+  does_kept d e g rows bytes named (left.Ran ran) p =
       record { words = p.words; workers = p.workers; frames = p.frames; names = p.names; said = p.said; prints = running_kept d g rows bytes _ _ ran p.prints }
-  does_kept d g rows bytes named (left.Created created) p =
-      record { words = p.words; limits = p.limits; names = p.names; said = p.said; prints = creation_kept d _ created p.prints }
-  does_kept d g rows bytes named (left.Checked looked) p = record {
+  does_kept d e g rows bytes named (left.Created created) p =
+      record { words = p.words; limits = p.limits; names = p.names; said = p.said; prints = creation_kept e _ created p.prints }
+  does_kept d e g rows bytes named (left.Checked looked) p = record {
     words = p.words;
     names = p.names;
     does = record { parents = p.does.parents; flag = p.does.flag; prints = check_kept d g bytes _ looked p.does.prints };
   }
-  does_kept d g rows bytes named (left.Dumped looked) p = record { words = p.words; names = p.names; prints = dump_kept d g bytes looked p.prints }
+  does_kept d e g rows bytes named (left.Dumped looked) p = record { words = p.words; names = p.names; prints = dump_kept d g bytes looked p.prints }
 
-  pub prints_kept : {D : Type 0} (d : DeviceGhosts D) (g : Ghosts (Store D d)) (rows : SetGhosts DeadList) (bytes : ℕ → List ℕ) (named : Named) (what : Left D (Store D d))
-      → PrintsCommand d g rows bytes named old mid what → PrintsCommand d g rows bytes named old new what
-  prints_kept d g rows bytes named what p = record { does = does_kept d g rows bytes named what p.does }
+  pub prints_kept : {D N : Type 0} (d : DeviceGhosts D) (e : DeviceGhosts N) (g : Ghosts (Store D d)) (rows : SetGhosts DeadList) (bytes : ℕ → List ℕ) (named : Named) (what : Left D N (Store D d))
+      → PrintsCommand d e g rows bytes named old mid what → PrintsCommand d e g rows bytes named old new what
+  prints_kept d e g rows bytes named what p = record { does = does_kept d e g rows bytes named what p.does }
 
   pub same_kept : mid ≡ old → Keeps old new
   same_kept same = keeps_kept _ _ _ kept (keeps_same _ _ same)

@@ -1,7 +1,8 @@
 -- What is told of the pages of a store whose state has stayed.
 use Rattle.std.proofs.Common.{◌≡◌, ℕ, Bool, List, Option, sym, subst}
 use Rattle.index_model.specs.Faults.{HasCause}
-use Rattle.command_line.specs.Files.{IsOpenedFromFile, IsCheckRefused}
+use Rattle.command_line.specs.Files.{IsOpenedFromFile, IsCheckRefused, IsDumpRefused}
+use Rattle.command_line.specs.Listing.{causes_of_listed}
 use Rattle.command_line.proofs.Imports.{causes_of_checked, DeviceGhosts, Fault, State, Ghosts, Store, PrintsPages, ListsFirst, PrintsReport, PrintsDamage}
 
 module _ (now was : State) (same : now ≡ was) (honest : Bool) (old new : Option (List ℕ)) where
@@ -24,4 +25,13 @@ pub check_refused : {D : Type 0} (d : DeviceGhosts D) (g : Ghosts (Store D d)) (
 check_refused d g bytes fault first store opened follows same cause = record {
   looked = record { first = first; opened = opened; follows = follows; state_is = same };
   cause = subst (λ (st : State). HasCause (causes_of_checked st (g.backing first) (g.backing store)) fault) (sym same) cause;
+}
+
+-- ... a dump
+pub dump_refused : {D : Type 0} (d : DeviceGhosts D) (g : Ghosts (Store D d)) (bytes : ℕ → List ℕ) (fault : Fault) (first store : Store D d)
+    → IsOpenedFromFile d bytes first → g.follows first store → g.state store ≡ g.state first
+    → HasCause (causes_of_listed (g.state first) (g.backing first) (g.backing store)) fault → IsDumpRefused d g bytes fault store
+dump_refused d g bytes fault first store opened follows same cause = record {
+  looked = record { first = first; opened = opened; follows = follows; state_is = same };
+  cause = subst (λ (st : State). HasCause (causes_of_listed st (g.backing first) (g.backing store)) fault) (sym same) cause;
 }

@@ -2,7 +2,7 @@
 use Rattle.std.specs.Prelude.{◌≡◌, ◌≢◌, ◌⊎◌, ◌∷◌, ◌++◌, [], true, Bool, ℕ, List, Option, Some, None, Ok, length, codes, IsSome, IsSomeAnd, IfOk, IfSome, IfNone, MatchOption, ⊤}
 use Rattle.std.specs.Io.KnownBytes.{Appends, Keeps}
 use Rattle.clap.specs.Words.{Row, Text}
-use Rattle.access_method.specs.Files.{IsOpenFault}
+use Rattle.access_method.specs.Files.{IsAnyIndex}
 use Rattle.device.specs.declared.device.Device.{Ghosts as DeviceGhosts}
 use Rattle.page_codec.specs.Places.{needed_length}
 use Rattle.index_model.specs.Formats.{made}
@@ -15,7 +15,7 @@ use Rattle.page_action.specs.declared.page_store.PageStore.{Ghosts}
 use Rattle.page_store.specs.declared.store.Store.{Store}
 use Rattle.recovery.specs.Fresh.{IsEmptyIndex, CrashesToEmpty}
 use Rattle.command_line.specs.CommandLine.{HasFlag, HasLimits, HasRunSizes, HasSetting, said_in}
-use Rattle.command_line.specs.Files.{IsLookedAt, IsCheckRefused}
+use Rattle.command_line.specs.Files.{IsLookedAt, IsCheckRefused, IsDumpRefused, IsOpeningRefused}
 use Rattle.command_line.specs.Listing.{PrintsPages, ListsFirst, IsDoneOrRefused}
 use Rattle.command_line.specs.Reporting.{PrintsReport, PrintsDamage, AreSound, IsCheckEnd}
 use Rattle.command_line.specs.Running.{IsRunEnd}
@@ -47,7 +47,7 @@ pub record PrintsCreation {D : Type 0} (d : DeviceGhosts D) (limits : Limits) (o
 -- A check, with parents and children or without, is done with the report printed of the pages of the index that was opened, and finds
 -- damage with the first of it printed; where it is refused nothing is printed.
 pub record PrintsCheck {D : Type 0} (d : DeviceGhosts D) (g : Ghosts (Store D d)) (bytes : ℕ → List ℕ) (parents : Bool)
-    (old new : Option (List ℕ)) (looked : Looked (Store D d)) : Type 0 where
+    (old new : Option (List ℕ)) (looked : Looked D (Store D d)) : Type 0 where
   pub ends : IfOk looked.end IsCheckEnd
   pub opened : IfSome looked.store (IsLookedAt d g bytes)
   pub report : looked.end ≡ Ok Done → IsSomeAnd looked.store (λ store.
@@ -57,20 +57,21 @@ pub record PrintsCheck {D : Type 0} (d : DeviceGhosts D) (g : Ghosts (Store D d)
   pub damage : looked.end ≡ Ok Damaged → IsSomeAnd looked.store (λ store.
       PrintsDamage (g.backing store).honest parents (g.state store) old new)
   pub refused : (fault : Fault) → looked.end ≡ Ok (Refused fault)
-      → MatchOption looked.store (IsOpenFault fault) (IsCheckRefused d g bytes fault)
+      → MatchOption looked.store (IsOpeningRefused d IsAnyIndex bytes 64 fault looked.device) (IsCheckRefused d g bytes fault)
   pub silent : (fault : Fault) → looked.end ≡ Ok (Refused fault) → Keeps old new
 
 -- A dump is done with the lines printed of all pages of the index that was opened, and refused with those of the first so many; where
 -- there was no index nothing is printed.
 pub record PrintsDump {D : Type 0} (d : DeviceGhosts D) (g : Ghosts (Store D d)) (bytes : ℕ → List ℕ)
-    (old new : Option (List ℕ)) (looked : Looked (Store D d)) : Type 0 where
+    (old new : Option (List ℕ)) (looked : Looked D (Store D d)) : Type 0 where
   pub ends : IfOk looked.end IsDoneOrRefused
   pub opened : IfSome looked.store (IsLookedAt d g bytes)
   pub listed : looked.end ≡ Ok Done → IsSomeAnd looked.store (λ store.
       PrintsPages (g.backing store).honest (g.state store).pages old new)
   pub refused : (fault : Fault) → looked.end ≡ Ok (Refused fault)
-      → MatchOption looked.store (IsOpenFault fault) (λ store.
+      → MatchOption looked.store (IsOpeningRefused d IsAnyIndex bytes 64 fault looked.device) (λ store.
       ListsFirst (g.backing store).honest (g.state store).pages old new)
+  pub cause : (fault : Fault) → looked.end ≡ Ok (Refused fault) → IfSome looked.store (IsDumpRefused d g bytes fault)
   pub silent : IfNone looked.store (Keeps old new)
 
 -- The jobs of a file are run by so many workers, with so many pages in memory, and the run is printed; where there was none nothing is
@@ -115,21 +116,21 @@ pub record DoesCreate {D : Type 0} (d : DeviceGhosts D) (named : Named) (old new
 
 -- a check, with parents and children if this text says so
 pub record ChecksAs {D : Type 0} (d : DeviceGhosts D) (g : Ghosts (Store D d)) (bytes : ℕ → List ℕ) (said : Option (List ℕ))
-    (old new : Option (List ℕ)) (looked : Looked (Store D d)) : Type 0 where
+    (old new : Option (List ℕ)) (looked : Looked D (Store D d)) : Type 0 where
   pub parents : Bool
   pub flag : HasFlag said parents
   pub prints : PrintsCheck d g bytes parents old new looked
 
 -- ... `check`, with parents and children if it says so
 pub record DoesCheck {D : Type 0} (d : DeviceGhosts D) (g : Ghosts (Store D d)) (bytes : ℕ → List ℕ) (named : Named)
-    (old new : Option (List ℕ)) (looked : Looked (Store D d)) : Type 0 where
+    (old new : Option (List ℕ)) (looked : Looked D (Store D d)) : Type 0 where
   pub words : List Row
   pub names : named ≡ Some (codes "check", words)
   pub does : ChecksAs d g bytes (said_in words (codes "parents")) old new looked
 
 -- ... `dump`
 pub record DoesDump {D : Type 0} (d : DeviceGhosts D) (g : Ghosts (Store D d)) (bytes : ℕ → List ℕ) (named : Named)
-    (old new : Option (List ℕ)) (looked : Looked (Store D d)) : Type 0 where
+    (old new : Option (List ℕ)) (looked : Looked D (Store D d)) : Type 0 where
   pub words : List Row
   pub names : named ≡ Some (codes "dump", words)
   pub prints : PrintsDump d g bytes old new looked
@@ -153,17 +154,17 @@ pub record DoesPlay (named : Named) (old new : Option (List ℕ)) (script : RanS
   pub prints : PrintsPlay setting old new script
 
 -- What was left is that of the command that the command line names, run with the values that it says, and what was printed is what this
--- command tells.
-abbrev pub DoesCommand : {D : Type 0} (d : DeviceGhosts D) → Ghosts (Store D d) → SetGhosts DeadList → (ℕ → List ℕ) → Named
-    → Option (List ℕ) → Option (List ℕ) → Left D (Store D d) → Type 0
-DoesCommand d g rows bytes named old new (left.Nothing end) = ⊤
-DoesCommand d g rows bytes named old new (left.Played script) = DoesPlay named old new script
-DoesCommand d g rows bytes named old new (left.Ran ran) = DoesRun d g rows bytes named old new ran
-DoesCommand d g rows bytes named old new (left.Created created) = DoesCreate d named old new created
-DoesCommand d g rows bytes named old new (left.Checked looked) = DoesCheck d g bytes named old new looked
-DoesCommand d g rows bytes named old new (left.Dumped looked) = DoesDump d g bytes named old new looked
+-- command tells. A file that is made has a device of its own.
+abbrev pub DoesCommand : {D N : Type 0} (d : DeviceGhosts D) → DeviceGhosts N → Ghosts (Store D d) → SetGhosts DeadList → (ℕ → List ℕ) → Named
+    → Option (List ℕ) → Option (List ℕ) → Left D N (Store D d) → Type 0
+DoesCommand d e g rows bytes named old new (left.Nothing end) = ⊤
+DoesCommand d e g rows bytes named old new (left.Played script) = DoesPlay named old new script
+DoesCommand d e g rows bytes named old new (left.Ran ran) = DoesRun d g rows bytes named old new ran
+DoesCommand d e g rows bytes named old new (left.Created created) = DoesCreate e named old new created
+DoesCommand d e g rows bytes named old new (left.Checked looked) = DoesCheck d g bytes named old new looked
+DoesCommand d e g rows bytes named old new (left.Dumped looked) = DoesDump d g bytes named old new looked
 
 -- ... as a fact of its own
-pub record PrintsCommand {D : Type 0} (d : DeviceGhosts D) (g : Ghosts (Store D d)) (rows : SetGhosts DeadList) (bytes : ℕ → List ℕ)
-    (named : Named) (old new : Option (List ℕ)) (what : Left D (Store D d)) : Type 0 where
-  pub does : DoesCommand d g rows bytes named old new what
+pub record PrintsCommand {D N : Type 0} (d : DeviceGhosts D) (e : DeviceGhosts N) (g : Ghosts (Store D d)) (rows : SetGhosts DeadList) (bytes : ℕ → List ℕ)
+    (named : Named) (old new : Option (List ℕ)) (what : Left D N (Store D d)) : Type 0 where
+  pub does : DoesCommand d e g rows bytes named old new what

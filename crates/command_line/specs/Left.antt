@@ -5,9 +5,9 @@ use Rattle.command_line.specs.declared.end.End.{End}
 use Rattle.command_line.specs.declared.left.Left.{Left}
 use Rattle.command_line.specs.declared.left.Left.TheVariants.{Nothing, Played, Ran, Created, Checked, Dumped}
 
-module _ {D S : Type 0} where
+module _ {D N S : Type 0} where
   -- how the command ended
-  abbrev pub end_of : Left D S → Result End Error
+  abbrev pub end_of : Left D N S → Result End Error
   end_of (Nothing end) = end
   end_of (Played script) = script.end
   end_of (Ran ran) = ran.end
@@ -16,11 +16,11 @@ module _ {D S : Type 0} where
   end_of (Dumped looked) = looked.end
 
   -- a command was run
-  abbrev pub IsRun : Left D S → Type 0
+  abbrev pub IsRun : Left D N S → Type 0
   IsRun (Nothing end) = ⊥
   IsRun left = ⊤
 
   -- this, where no command was run
-  abbrev pub IfNotRun : Left D S → Type 0 → Type 0
+  abbrev pub IfNotRun : Left D N S → Type 0 → Type 0
   IfNotRun (Nothing end) p = p
   IfNotRun left p = ⊤

@@ -7,16 +7,17 @@ ghost use Rattle.page_codec.specs.Places.{needed_length};
 ghost use Rattle.index_model.specs.Formats.{made};
 ghost use Rattle.index_model.specs.Limits.{AreLimits};
 ghost use Rattle.recovery.specs.Fresh.{IsEmptyIndex, CrashesToEmpty};
-ghost use Rattle.access_method.specs.Files.{IsOpenFault};
-ghost use Rattle.command_line.specs.Files.{IsLookedAt, IsCheckRefused};
+ghost use Rattle.access_method.specs.Files.{IsAnyIndex};
+ghost use Rattle.command_line.specs.Files.{IsLookedAt, IsCheckRefused, IsDumpRefused, IsOpeningRefused};
 ghost use Rattle.command_line.specs.Listing.{PrintsPages, ListsFirst, IsDoneOrRefused};
 ghost use Rattle.command_line.specs.Reporting.{PrintsReport, PrintsDamage, AreSound, IsCheckEnd};
 
 use crate::checking::{check_pages, check_pages_one};
 use crate::end::End;
 use crate::listing::list_pages;
-use access_method::in_file::{self, open_store};
-use device::{Device, FileDevice, Start};
+use crate::said::{Said, said_of};
+use access_method::in_file::{self, NotOpened, open_store};
+use device::{Device, FileDevice, Start, Zeros};
 use index_model::{Fault, Limits, Progress};
 use page_action::PageStore;
 use page_store::Store;
@@ -29,31 +30,33 @@ use std::thread::Threads;
 /// Pages of an index in a file that are held in memory.
 const FRAMES: u32 = 64;
 
-/// What a creation leaves: the file, if it was made, and how the command ends.
+/// What a creation leaves: the file, if it was made, what the system said, if that is why it wasn't, and how the command ends.
 #[derive(Drop)]
-pub struct Created<D> {
+pub struct Created<'a, D> {
     pub device: Option<D>,
+    pub said: Option<Said<'a>>,
     pub end: io::Result<End>,
 }
 
 /// Makes a new file with an empty index, and says so. Refused as `in_file::create` is: nothing is printed then.
-pub fn create<R: Files<File = File>, S: Start, P: Progress, W: Write>(
+pub fn create<'a, R: Files<File = File>, P: Progress, W: Write>(
     rt: &R,
-    path: &str,
+    path: &'a str,
     limits: &Limits,
     progress: &P,
     out: &mut W,
-) -> Created<FileDevice<S>>
+) -> Created<'a, FileDevice<Zeros>>
     ensures ends { IfOk result.end IsDoneOrRefused }
     ensures allowed { result.end ≡ Ok End.Done → AreLimits (made limits.now) }
     // An empty index was made, which can be opened, also after a crash.
     ensures made { result.end ≡ Ok End.Done → IsSome result.device }
     ensures empty { IfSome result.device (λ device.
-        IsEmptyIndex (made limits.now) (⟦<FileDevice<S> as Device>⟧.trace device).now) }
+        IsEmptyIndex (made limits.now) (⟦<FileDevice<Zeros> as Device>⟧.trace device).now) }
     ensures own { IfSome result.device (λ device.
-        CrashesToEmpty (made limits.now) (⟦<FileDevice<S> as Device>⟧.trace device).now) }
+        CrashesToEmpty (made limits.now) (⟦<FileDevice<Zeros> as Device>⟧.trace device).now) }
     ensures exact { IfSome result.device (λ device.
-        length (⟦<FileDevice<S> as Device>⟧.trace device).now.seen ≡ needed_length (made limits.now)) }
+        length (⟦<FileDevice<Zeros> as Device>⟧.trace device).now.seen
+        ≡ needed_length (made limits.now)) }
     ensures created { result.end ≡ Ok End.Done
         → Appends (W.contents out.old) (W.contents out.new) (codes "created" ++ 10 ∷ []) }
     ensures refused { (fault : Fault) → result.end ≡ Ok (End.Refused fault)
@@ -61,19 +64,21 @@ pub fn create<R: Files<File = File>, S: Start, P: Progress, W: Write>(
     ensures silent { (fault : Fault) → result.end ≡ Ok (End.Refused fault)
         → W.contents out.new ≡ W.contents out.old }
 {
-    match in_file::create::<R, S, P>(rt, path, limits, progress) {
+    match in_file::create(rt, path, limits, progress) {
         Ok(device) => {
             progress.end();
             Created {
                 device: Some(device),
+                said: None,
                 end: say_created(out),
             }
         }
-        Err(fault) => {
+        Err(not_made) => {
             progress.end();
             Created {
                 device: None,
-                end: Ok(End::Refused(fault)),
+                said: said_of(path, not_made.error),
+                end: Ok(End::Refused(not_made.fault)),
             }
         }
     }
@@ -88,23 +93,26 @@ fn say_created<W: Write>(out: &mut W) -> io::Result<End>
     Ok(End::Done)
 }
 
-/// What a check or a dump leaves: the index in the file, if it was opened, and how the command ends.
+/// What a check or a dump leaves: the index in the file, if it was opened, else the device as the opening left it, if the file was
+/// taken; what the system said of the last call that failed; and how the command ends.
 #[derive(Drop)]
-pub struct Looked<S> {
+pub struct Looked<'a, D, S> {
     pub store: Option<S>,
+    pub device: Option<D>,
+    pub said: Option<Said<'a>>,
     pub end: io::Result<End>,
 }
 
 /// Prints what a check of the index in a file answers, as `check_pages` does: with parents and children where that is asked
 /// for. Refused as `open_store` and `check_pages` are: nothing is printed then.
-pub fn check<R: Files<File = File> + Threads + Sync, S: Start, P: Progress, W: Write>(
+pub fn check<'a, R: Files<File = File> + Threads + Sync, S: Start, P: Progress, W: Write>(
     rt: &R,
     alloc: Global,
-    path: &str,
+    path: &'a str,
     parents: bool,
     progress: &P,
     out: &mut W,
-) -> Looked<Store<FileDevice<S>>>
+) -> Looked<'a, FileDevice<S>, Store<FileDevice<S>>>
     ensures ends { IfOk result.end IsCheckEnd }
     ensures opened { IfSome result.store
         (IsLookedAt ⟦<FileDevice<S> as Device>⟧ ⟦<Store<FileDevice<S>> as PageStore>⟧
@@ -121,7 +129,8 @@ pub fn check<R: Files<File = File> + Threads + Sync, S: Start, P: Progress, W: W
         PrintsDamage (g.backing store).honest parents (g.state store)
         (W.contents out.old) (W.contents out.new)) }
     ensures refused { (fault : Fault) → result.end ≡ Ok (End.Refused fault)
-        → MatchOption result.store (IsOpenFault fault)
+        → MatchOption result.store (IsOpeningRefused ⟦<FileDevice<S> as Device>⟧ IsAnyIndex
+        S.Start.bytes 64 fault result.device)
         (IsCheckRefused ⟦<FileDevice<S> as Device>⟧ ⟦<Store<FileDevice<S>> as PageStore>⟧
         S.Start.bytes fault) }
     ensures silent { (fault : Fault) → result.end ≡ Ok (End.Refused fault)
@@ -131,27 +140,36 @@ pub fn check<R: Files<File = File> + Threads + Sync, S: Start, P: Progress, W: W
         Ok(mut store) => {
             let end = check_pages(rt, alloc, &mut store, parents, progress, out);
             progress.end();
+            let said = said_of(path, store.error());
             Looked {
                 store: Some(store),
+                device: None,
+                said,
                 end,
             }
         }
-        Err(fault) => Looked {
+        Err(NotOpened {
+            fault,
+            error,
+            device,
+        }) => Looked {
             store: None,
+            device,
+            said: said_of(path, error),
             end: Ok(End::Refused(fault)),
         },
     }
 }
 
 /// Prints the same as [`check`], in this thread alone, as `check_pages_one` does.
-pub fn check_one<R: Files<File = File>, S: Start, P: Progress, W: Write>(
+pub fn check_one<'a, R: Files<File = File>, S: Start, P: Progress, W: Write>(
     rt: &R,
     alloc: Global,
-    path: &str,
+    path: &'a str,
     parents: bool,
     progress: &P,
     out: &mut W,
-) -> Looked<Store<FileDevice<S>>>
+) -> Looked<'a, FileDevice<S>, Store<FileDevice<S>>>
     ensures ends { IfOk result.end IsCheckEnd }
     ensures opened { IfSome result.store
         (IsLookedAt ⟦<FileDevice<S> as Device>⟧ ⟦<Store<FileDevice<S>> as PageStore>⟧
@@ -168,7 +186,8 @@ pub fn check_one<R: Files<File = File>, S: Start, P: Progress, W: Write>(
         PrintsDamage (g.backing store).honest parents (g.state store)
         (W.contents out.old) (W.contents out.new)) }
     ensures refused { (fault : Fault) → result.end ≡ Ok (End.Refused fault)
-        → MatchOption result.store (IsOpenFault fault)
+        → MatchOption result.store (IsOpeningRefused ⟦<FileDevice<S> as Device>⟧ IsAnyIndex
+        S.Start.bytes 64 fault result.device)
         (IsCheckRefused ⟦<FileDevice<S> as Device>⟧ ⟦<Store<FileDevice<S>> as PageStore>⟧
         S.Start.bytes fault) }
     ensures silent { (fault : Fault) → result.end ≡ Ok (End.Refused fault)
@@ -178,13 +197,22 @@ pub fn check_one<R: Files<File = File>, S: Start, P: Progress, W: Write>(
         Ok(mut store) => {
             let end = check_pages_one(alloc, &mut store, parents, progress, out);
             progress.end();
+            let said = said_of(path, store.error());
             Looked {
                 store: Some(store),
+                device: None,
+                said,
                 end,
             }
         }
-        Err(fault) => Looked {
+        Err(NotOpened {
+            fault,
+            error,
+            device,
+        }) => Looked {
             store: None,
+            device,
+            said: said_of(path, error),
             end: Ok(End::Refused(fault)),
         },
     }
@@ -192,12 +220,12 @@ pub fn check_one<R: Files<File = File>, S: Start, P: Progress, W: Write>(
 
 /// Prints each page in use of the index in a file, as `list_pages` does. Refused as `open_store` and `list_pages` are: nothing is
 /// printed of an index that wasn't opened.
-pub fn dump<R: Files<File = File>, S: Start, W: Write>(
+pub fn dump<'a, R: Files<File = File>, S: Start, W: Write>(
     rt: &R,
     alloc: Global,
-    path: &str,
+    path: &'a str,
     out: &mut W,
-) -> Looked<Store<FileDevice<S>>>
+) -> Looked<'a, FileDevice<S>, Store<FileDevice<S>>>
     ensures ends { IfOk result.end IsDoneOrRefused }
     ensures opened { IfSome result.store
         (IsLookedAt ⟦<FileDevice<S> as Device>⟧ ⟦<Store<FileDevice<S>> as PageStore>⟧
@@ -207,22 +235,36 @@ pub fn dump<R: Files<File = File>, S: Start, W: Write>(
         PrintsPages (g.backing store).honest (g.state store).pages
         (W.contents out.old) (W.contents out.new)) }
     ensures refused { (fault : Fault) → result.end ≡ Ok (End.Refused fault)
-        → MatchOption result.store (IsOpenFault fault) (λ store.
+        → MatchOption result.store (IsOpeningRefused ⟦<FileDevice<S> as Device>⟧ IsAnyIndex
+        S.Start.bytes 64 fault result.device) (λ store.
         let g = ⟦<Store<FileDevice<S>> as PageStore>⟧ in
         ListsFirst (g.backing store).honest (g.state store).pages
         (W.contents out.old) (W.contents out.new)) }
+    ensures cause { (fault : Fault) → result.end ≡ Ok (End.Refused fault)
+        → IfSome result.store
+        (IsDumpRefused ⟦<FileDevice<S> as Device>⟧ ⟦<Store<FileDevice<S>> as PageStore>⟧
+        S.Start.bytes fault) }
     ensures silent { IfNone result.store (W.contents out.new ≡ W.contents out.old) }
 {
     match open_store::<R, S>(rt, alloc, path, FRAMES) {
         Ok(mut store) => {
             let end = list_pages(&mut store, out);
+            let said = said_of(path, store.error());
             Looked {
                 store: Some(store),
+                device: None,
+                said,
                 end,
             }
         }
-        Err(fault) => Looked {
+        Err(NotOpened {
+            fault,
+            error,
+            device,
+        }) => Looked {
             store: None,
+            device,
+            said: said_of(path, error),
             end: Ok(End::Refused(fault)),
         },
     }

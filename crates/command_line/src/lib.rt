@@ -20,6 +20,7 @@ mod progress_line;
 mod receipts;
 mod refusal;
 mod running;
+mod said;
 mod stepping;
 mod streams;
 
@@ -31,4 +32,4 @@ pub use job_line::{JobLine, parse_job};
 pub use left::Left;
 pub use line::{Crash, Line, LineError, parse};
 pub use running::{Ran, run_world};
-pub use streams::{Executed, execute};
+pub use streams::{Executed, execute, refuse, refuse_words};

@@ -1,8 +1,9 @@
 //! All pages of a store, printed.
 
 ghost use Rattle.std.specs.Prelude.{◌≡◌, Ok, IfOk};
+ghost use Rattle.index_model.specs.Faults.{HasCause};
 ghost use Rattle.page_action.specs.States.{Continues};
-ghost use Rattle.command_line.specs.Listing.{PrintsPages, ListsFirst, IsDoneOrRefused};
+ghost use Rattle.command_line.specs.Listing.{PrintsPages, ListsFirst, IsDoneOrRefused, causes_of_listed};
 
 use crate::end::End;
 use index_model::Fault;
@@ -20,6 +21,8 @@ pub fn list_pages<S: PageStore, W: Write>(store: &mut S, out: &mut W) -> io::Res
     ensures refused { (fault : Fault) → result ≡ Ok (End.Refused fault)
         → ListsFirst (S.backing store.new).honest
         (S.state store.old).pages (W.contents out.old) (W.contents out.new) }
+    ensures cause { (fault : Fault) → result ≡ Ok (End.Refused fault)
+        → HasCause (causes_of_listed (S.state store.old) (S.backing store.old) (S.backing store.new)) fault }
 {
     for block in 0..store.used() {
         match store.fetch(block) {

@@ -2,6 +2,8 @@
 
 ghost use Rattle.std.specs.Prelude.{◌≡◌, ◌++◌, Ok, IfErr, IfOk, OnErr, OnOk, IsSome, IfSome, IfNone};
 ghost use Rattle.std.specs.Io.KnownBytes.{Appends};
+ghost use Rattle.device.specs.Disk.{first};
+ghost use Rattle.device.specs.Event.{after_calls};
 ghost use Rattle.sessions.specs.Finishing.{RunIsRefusedFor};
 ghost use Rattle.command_line.specs.Listing.{IsDoneOrRefused};
 ghost use Rattle.command_line.specs.Receipts.{run_text};
@@ -14,6 +16,7 @@ use crate::job_file::{JobFile, JobFileError, read_jobs};
 use crate::progress_line::{JobGate, ProgressLine};
 use crate::receipts::print_run;
 use crate::refusal::print_no_job;
+use crate::said::{Said, said_of};
 use device::{Device, FileDevice, Start};
 use index_model::{DeadRows, Fault, Progress};
 use page_action::PageStore;
@@ -45,10 +48,12 @@ pub struct RunSetting<'a> {
     pub progress: bool,
 }
 
-/// What a run of the jobs of a file leaves: the world after it, if it was made, and how the command ends.
+/// What a run of the jobs of a file leaves: the world after it, if it was made, what the system said, if that is why it wasn't, and
+/// how the command ends.
 #[derive(Drop)]
-pub struct RanFile<S, T> {
+pub struct RanFile<'a, S, T> {
     pub world: Option<World<S, T>>,
+    pub said: Option<Said<'a>>,
     pub end: io::Result<End>,
 }
 
@@ -59,6 +64,7 @@ pub struct RanFile<S, T> {
 /// fails; as `World::open` is; with `BadLimits` (18) for more than 65,536 jobs, or for more than 1,048,576 entries that scans may
 /// give in all; with `NoMemory` (1). A refusal of the checkpoint comes after what is printed of the jobs.
 pub fn run<
+    'a,
     R: Files<File = File> + Threads + Wait + Sync,
     S: Start + Send,
     W: Write,
@@ -66,10 +72,10 @@ pub fn run<
 >(
     rt: &R,
     alloc: Global,
-    asked: &RunSetting<'_>,
+    asked: &RunSetting<'a>,
     out: &mut W,
     err: &mut E,
-) -> RanFile<Store<FileDevice<S>>, DeadList>
+) -> RanFile<'a, Store<FileDevice<S>>, DeadList>
     ensures ends { IfOk result.end IsRunEnd }
     ensures run { result.end ≡ Ok End.Done → IsSome result.world }
     ensures silent { IfNone result.world (W.contents out.new ≡ W.contents out.old) }
@@ -81,7 +87,7 @@ pub fn run<
 {
     match read_file(rt, alloc, asked.jobs) {
         Ok(text) => run_text::<R, S, W, E>(rt, alloc, asked, text.as_slice(), out, err),
-        Err(error) => no_run(Err(error)),
+        Err(error) => no_run(said_of(asked.jobs, Some(error)), Err(error)),
     }
 }
 
@@ -95,6 +101,7 @@ fn read_file<R: Files<File = File>>(rt: &R, alloc: Global, path: &str) -> io::Re
 
 // Runs the jobs that the lines of this text spell.
 fn run_text<
+    'a,
     R: Files<File = File> + Threads + Wait + Sync,
     S: Start + Send,
     W: Write,
@@ -102,11 +109,11 @@ fn run_text<
 >(
     rt: &R,
     alloc: Global,
-    asked: &RunSetting<'_>,
+    asked: &RunSetting<'a>,
     text: &[u8],
     out: &mut W,
     err: &mut E,
-) -> RanFile<Store<FileDevice<S>>, DeadList>
+) -> RanFile<'a, Store<FileDevice<S>>, DeadList>
     ensures ends { IfOk result.end IsRunEnd }
     ensures run { result.end ≡ Ok End.Done → IsSome result.world }
     ensures silent { IfNone result.world (W.contents out.new ≡ W.contents out.old) }
@@ -117,8 +124,8 @@ fn run_text<
 {
     match read_jobs(alloc, text) {
         Ok(file) => run_file::<R, S, W, E>(rt, alloc, asked, file, out, err),
-        Err(JobFileError::NotAJob(line)) => no_run(say_no_job(err, line)),
-        Err(JobFileError::NoMemory) => no_run(Ok(End::Refused(Fault::NoMemory))),
+        Err(JobFileError::NotAJob(line)) => no_run(None, say_no_job(err, line)),
+        Err(JobFileError::NoMemory) => no_run(None, Ok(End::Refused(Fault::NoMemory))),
     }
 }
 
@@ -130,15 +137,20 @@ fn say_no_job<E: Write>(err: &mut E, line: u64) -> io::Result<End>
 }
 
 // No run was made.
-fn no_run<S, T>(end: io::Result<End>) -> RanFile<S, T>
+fn no_run<'a, S, T>(said: Option<Said<'a>>, end: io::Result<End>) -> RanFile<'a, S, T>
     ensures world { result.world ≡ None }
     ensures end { result.end ≡ end }
 {
-    RanFile { world: None, end }
+    RanFile {
+        world: None,
+        said,
+        end,
+    }
 }
 
 // Runs the jobs of a file that was read, over an index in a file that held what `S` says.
 fn run_file<
+    'a,
     R: Files<File = File> + Threads + Wait + Sync,
     S: Start + Send,
     W: Write,
@@ -146,11 +158,11 @@ fn run_file<
 >(
     rt: &R,
     alloc: Global,
-    asked: &RunSetting<'_>,
+    asked: &RunSetting<'a>,
     file: JobFile,
     out: &mut W,
     err: &mut E,
-) -> RanFile<Store<FileDevice<S>>, DeadList>
+) -> RanFile<'a, Store<FileDevice<S>>, DeadList>
     ensures ends { IfOk result.end IsDoneOrRefused }
     ensures run { result.end ≡ Ok End.Done → IsSome result.world }
     ensures silent { IfNone result.world (W.contents out.new ≡ W.contents out.old) }
@@ -162,7 +174,7 @@ fn run_file<
     let JobFile { jobs, sets } = file;
     let world = match open_world::<R, S>(rt, alloc, asked, sets) {
         Ok(world) => world,
-        Err(fault) => return no_run(Ok(End::Refused(fault))),
+        Err(refused) => return no_run(refused.said, Ok(End::Refused(refused.fault))),
     };
     let line = ProgressLine::new(err, "jobs", asked.progress);
     let gate = JobGate {
@@ -174,30 +186,58 @@ fn run_file<
             line.end();
             RanFile {
                 world: Some(world),
+                said: None,
                 end,
             }
         }
-        Err(not_run) => no_run(Ok(End::Refused(not_run.fault))),
+        Err(not_run) => no_run(None, Ok(End::Refused(not_run.fault))),
     }
 }
 
 // Opens the index in a file with a session for each worker, after any crash. Refused with `Io` (2) where the file isn't there or
 // can't be opened for writing, and else as `World::open` is.
-fn open_world<R: Files<File = File>, S: Start>(
+fn open_world<'a, R: Files<File = File>, S: Start>(
     rt: &R,
     alloc: Global,
-    asked: &RunSetting<'_>,
+    asked: &RunSetting<'a>,
     sets: Vec<DeadList>,
-) -> Result<World<Store<FileDevice<S>>, DeadList>, Fault>
+) -> Result<World<Store<FileDevice<S>>, DeadList>, Unopened<'a>>
     ensures { IfOk result
         (IsWorldOfFile ⟦<FileDevice<S> as Device>⟧ ⟦<Store<FileDevice<S>> as PageStore>⟧
         ⟦<DeadList as DeadRows>⟧ S.Start.bytes asked.now.frames asked.now.workers sets.items) }
 {
-    let device = FileDevice::<S>::open(rt, asked.path)?;
+    let device = taken::<R, S>(rt, asked.path)?;
     match World::open(alloc, device, asked.frames, asked.workers, sets) {
         Ok(world) => Ok(world),
-        Err(not_opened) => Err(not_opened.fault),
+        Err(not_opened) => Err(Unopened {
+            fault: not_opened.fault,
+            said: said_of(asked.path, not_opened.device.error()),
+        }),
     }
+}
+
+// The file of the index, or what the system said.
+fn taken<'a, R: Files<File = File>, S: Start>(
+    rt: &R,
+    path: &'a str,
+) -> Result<FileDevice<S>, Unopened<'a>>
+    ensures held { IfOk result (λ d. after_calls (S.Start.bytes d.len) d.events.list
+        ≡ first (S.Start.bytes d.len)) }
+{
+    match FileDevice::<S>::open(rt, path) {
+        Ok(device) => Ok(device),
+        Err(error) => Err(Unopened {
+            fault: Fault::Io,
+            said: said_of(path, Some(error)),
+        }),
+    }
+}
+
+// Why a world wasn't opened, and what the system said.
+#[derive(Clone, Copy)]
+struct Unopened<'a> {
+    fault: Fault,
+    said: Option<Said<'a>>,
 }
 
 /// What a run of jobs leaves: the world, and how the command ends.

@@ -18,10 +18,11 @@ use crate::left::Left;
 use crate::play::play;
 use crate::progress_line::ProgressLine;
 use crate::refusal::print_refusal;
+use crate::said::{Said, print_said};
 use crate::running;
 use clap::error::ErrorKind;
 use clap::{ArgMatches, Error};
-use device::{Device, FileDevice, Start};
+use device::{Device, FileDevice, Start, Zeros};
 use index_model::{DeadRows, Fault, Progress};
 use page_action::PageStore;
 use page_store::Store;
@@ -35,11 +36,11 @@ use std::thread::Threads;
 
 /// What the program leaves.
 #[derive(Drop)]
-pub struct Executed<D, S> {
+pub struct Executed<'a, D, N, S> {
     /// 0 where all was done, 1 where a check found damage, 2 where the program was refused.
     pub status: u8,
     /// What the command left.
-    pub left: Left<D, S>,
+    pub left: Left<'a, D, N, S>,
     /// Whether the output took all at the end.
     pub flushed: io::Result<()>,
 }
@@ -63,9 +64,9 @@ pub fn execute<
     input: &mut R,
     out: &mut W,
     err: &mut E,
-) -> Executed<FileDevice<B>, Store<FileDevice<B>>>
+) -> Executed<'a, FileDevice<B>, FileDevice<Zeros>, Store<FileDevice<B>>>
     // The command that the words name was run, with what they say, and printed what it tells.
-    ensures printed { PrintsCommand ⟦<FileDevice<B> as Device>⟧
+    ensures printed { PrintsCommand ⟦<FileDevice<B> as Device>⟧ ⟦<FileDevice<Zeros> as Device>⟧
         ⟦<Store<FileDevice<B>> as PageStore>⟧ ⟦<DeadList as DeadRows>⟧ B.Start.bytes
         (named_by (map S.text words.entry.now))
         (W.contents out.old) (W.contents out.new) result.left }
@@ -85,32 +86,79 @@ pub fn execute<
     let left = command::<F, B, S, R, W, E>(rt, alloc, words, input, out, err);
     let flushed = out.flush();
     Executed {
-        status: status(left.end(), &flushed, err),
+        status: status(left.end(), &left.said(), &flushed, err),
         left,
         flushed,
     }
 }
 
 /// The status of a command that ended so, and whose output was flushed so. A refusal is printed.
-fn status<E: Write>(end: &io::Result<End>, flushed: &io::Result<()>, err: &mut E) -> u8
+fn status<E: Write>(
+    end: &io::Result<End>,
+    said: &Option<Said<'_>>,
+    flushed: &io::Result<()>,
+    err: &mut E,
+) -> u8
     ensures ended { OnOk flushed.now (IfOk end.now (λ end. result ≡ status_of end)) }
     ensures broken { OnErr end.now (result ≡ 2) }
     ensures not_flushed { OnErr flushed.now (result ≡ 2) }
     ensures low { result ≤ 2 }
 {
     if let Err(error) = flushed {
-        return refuse(err, fault_of(error));
+        return refuse_stream(err, error);
     }
     match end {
         Ok(End::Done) => 0,
         Ok(End::Damaged) => 1,
         Ok(End::AlreadyPrinted) => 2,
-        Ok(End::Refused(fault)) => refuse(err, *fault),
-        Err(error) => refuse(err, fault_of(error)),
+        Ok(End::Refused(fault)) => refuse_for(err, *fault, said),
+        Err(error) => match said {
+            Some(_) => refuse_for(err, fault_of(error), said),
+            None => refuse_stream(err, error),
+        },
     }
 }
 
-fn refuse<E: Write>(err: &mut E, fault: Fault) -> u8
+// Says what refused the program, and, where that is a call of the system, what the system said.
+fn refuse_for<E: Write>(err: &mut E, fault: Fault, said: &Option<Said<'_>>) -> u8
+    ensures { result ≡ 2 }
+{
+    let is_io = fault == Fault::Io;
+    let _ = print_refusal(err, fault);
+    if let (true, Some(said)) = (is_io, said) {
+        let _ = print_said(err, said.path, &said.error);
+    }
+    2
+}
+
+// ... where a stream failed.
+fn refuse_stream<E: Write>(err: &mut E, error: &io::Error) -> u8
+    ensures { result ≡ 2 }
+{
+    let fault = fault_of(error);
+    let is_io = fault == Fault::Io;
+    let _ = print_refusal(err, fault);
+    if is_io {
+        let _ = print_said(err, "standard input or output", error);
+    }
+    2
+}
+
+/// Says on `err` why the words of the command line can't be read, and answers the program's status.
+pub fn refuse_words<E: Write>(err: &mut E, error: &io::Error) -> u8
+    ensures { result ≡ 2 }
+{
+    let fault = fault_of(error);
+    let is_io = fault == Fault::Io;
+    let status = refuse(err, fault);
+    if is_io {
+        let _ = err.write_all(b"btidx: a word of the command line isn't UTF-8\n");
+    }
+    status
+}
+
+/// Says on `err` what refused the program, and answers its status.
+pub fn refuse<E: Write>(err: &mut E, fault: Fault) -> u8
     ensures { result ≡ 2 }
 {
     let _ = print_refusal(err, fault);
@@ -141,8 +189,8 @@ fn command<
     input: &mut R,
     out: &mut W,
     err: &mut E,
-) -> Left<FileDevice<B>, Store<FileDevice<B>>>
-    ensures printed { PrintsCommand ⟦<FileDevice<B> as Device>⟧
+) -> Left<'a, FileDevice<B>, FileDevice<Zeros>, Store<FileDevice<B>>>
+    ensures printed { PrintsCommand ⟦<FileDevice<B> as Device>⟧ ⟦<FileDevice<Zeros> as Device>⟧
         ⟦<Store<FileDevice<B>> as PageStore>⟧ ⟦<DeadList as DeadRows>⟧ B.Start.bytes
         (named_by (map S.text words.entry.now))
         (W.contents out.old) (W.contents out.new) result }
@@ -186,6 +234,7 @@ fn print_usage<W: Write, E: Write>(error: &Error, out: &mut W, err: &mut E) -> i
 
 /// Runs the command that was named. One of another name is none: nothing is printed.
 fn run<
+    'a,
     F: Files<File = File> + Threads + Wait + Sync,
     B: Start + Send,
     R: Read,
@@ -194,12 +243,12 @@ fn run<
 >(
     rt: &F,
     alloc: Global,
-    matches: &ArgMatches<'_>,
+    matches: &ArgMatches<'a>,
     input: &mut R,
     out: &mut W,
     err: &mut E,
-) -> Left<FileDevice<B>, Store<FileDevice<B>>>
-    ensures printed { PrintsCommand ⟦<FileDevice<B> as Device>⟧
+) -> Left<'a, FileDevice<B>, FileDevice<Zeros>, Store<FileDevice<B>>>
+    ensures printed { PrintsCommand ⟦<FileDevice<B> as Device>⟧ ⟦<FileDevice<Zeros> as Device>⟧
         ⟦<Store<FileDevice<B>> as PageStore>⟧ ⟦<DeadList as DeadRows>⟧ B.Start.bytes
         (subcommand_rows_of matches.now)
         (W.contents out.old) (W.contents out.new) result }
@@ -216,7 +265,7 @@ fn run<
         )),
         Some(("create", matches)) => {
             let line = ProgressLine::new(err, "pages", has_progress(matches));
-            Left::Created(create::<F, B, _, W>(rt, path(matches), &limits(matches), &line, out))
+            Left::Created(create(rt, path(matches), &limits(matches), &line, out))
         }
         Some(("check", matches)) => {
             let line = ProgressLine::new(err, "pages", has_progress(matches));
@@ -228,13 +277,13 @@ fn run<
 }
 
 /// A check, in one thread where that is asked for: what is printed is the same.
-fn run_check<F: Files<File = File> + Threads + Sync, B: Start, P: Progress, W: Write>(
+fn run_check<'a, F: Files<File = File> + Threads + Sync, B: Start, P: Progress, W: Write>(
     rt: &F,
     alloc: Global,
-    matches: &ArgMatches<'_>,
+    matches: &ArgMatches<'a>,
     progress: &P,
     out: &mut W,
-) -> Looked<Store<FileDevice<B>>>
+) -> Looked<'a, FileDevice<B>, Store<FileDevice<B>>>
     ensures { ChecksAs ⟦<FileDevice<B> as Device>⟧ ⟦<Store<FileDevice<B>> as PageStore>⟧
         B.Start.bytes (one_text (found_of matches.now) (codes "parents"))
         (W.contents out.old) (W.contents out.new) result }

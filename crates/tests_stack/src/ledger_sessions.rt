@@ -90,7 +90,8 @@ fn answered(
     input: &mut &[u8],
     out: &mut Vec<u8>,
 ) -> io::Result<()> {
-    answer_lines(alloc, index, input, out)
+    let mut err = Vec::new(alloc);
+    answer_lines(alloc, index, "memory", input, out, &mut err)
 }
 
 /// What an index prints for these lines.

@@ -1,4 +1,4 @@
-use Rattle.std.proofs.Common.{◌≡◌, take}
+use Rattle.std.proofs.Common.{◌≡◌, true, take}
 use Rattle.command_line.proofs.Imports.{Continues, PrintsPages}
 use Rattle.command_line.proofs.listing.list_pages.Given as goal
 
@@ -10,5 +10,6 @@ invariant-loop-block g l =
     record {
       steps : Continues g.S.PageStore.follows l.fn.store l.store;
       state_is : state l.store ≡ state l.fn.store;
+      alive : (backing l.store).stopped ≡ true → (backing l.fn.store).stopped ≡ true;
       lists : PrintsPages (backing l.store).honest (take l.block (state l.fn.store).pages) (contents l.fn.out) (contents l.out);
     }

@@ -7,7 +7,7 @@ use Rattle.command_line.proofs.streams.command.Goals as goal
 
 pub returns-in-Ok-try_get_matches_from-clause-printed : goal.returns-in-Ok-try_get_matches_from-clause-printed
 returns-in-Ok-try_get_matches_from-clause-printed g c =
-    prints_as _ _ _ _ _ _ _ _ c.run.result (named_is _ _ _ c.in-Ok.ensures c.in-Ok-try_get_matches_from.ensures.matches) c.run.ensures.printed
+    prints_as _ _ _ _ _ _ _ _ _ c.run.result (named_is _ _ _ c.in-Ok.ensures c.in-Ok-try_get_matches_from.ensures.matches) c.run.ensures.printed
 
 pub returns-in-Ok-try_get_matches_from-clause-fit : goal.returns-in-Ok-try_get_matches_from-clause-fit
 returns-in-Ok-try_get_matches_from-clause-fit g c is_run = kept_line _ _ c.in-Ok.ensures c.in-Ok-try_get_matches_from.ensures.kinds

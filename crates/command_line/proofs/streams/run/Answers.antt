@@ -86,6 +86,7 @@ returns-in-Some-dump-default-clause-printed g c =
           opened = c.dump.ensures.opened;
           listed = c.dump.ensures.listed;
           refused = c.dump.ensures.refused;
+          cause = c.dump.ensures.cause;
           silent = none_then _ c.dump.ensures.silent (keeps_same _ _);
         };
       };
