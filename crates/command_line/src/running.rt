@@ -48,8 +48,8 @@ pub struct RunSetting<'a> {
     pub progress: bool,
 }
 
-/// What a run of the jobs of a file leaves: the world after it, if it was made, what the system said, if that is why it wasn't, and
-/// how the command ends.
+/// What a run of the jobs of a file leaves: the world after it, if it was made, what the system said of the last call that failed, if one
+/// did, and how the command ends.
 #[derive(Drop)]
 pub struct RanFile<'a, S, T> {
     pub world: Option<World<S, T>>,
@@ -184,9 +184,10 @@ fn run_file<
     match run_world(rt, alloc, world, jobs.as_slice(), asked.workers, &gate, out) {
         Ok(Ran { world, end }) => {
             line.end();
+            let said = said_of(asked.path, world.error());
             RanFile {
                 world: Some(world),
-                said: None,
+                said,
                 end,
             }
         }

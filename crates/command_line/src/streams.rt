@@ -108,7 +108,10 @@ fn status<E: Write>(
         return refuse_stream(err, error);
     }
     match end {
-        Ok(End::Done) => 0,
+        Ok(End::Done) => {
+            tell(err, said);
+            0
+        }
         Ok(End::Damaged) => 1,
         Ok(End::AlreadyPrinted) => 2,
         Ok(End::Refused(fault)) => refuse_for(err, *fault, said),
@@ -119,15 +122,19 @@ fn status<E: Write>(
     }
 }
 
-// Says what refused the program, and, where that is a call of the system, what the system said.
+// Says what the system said, if it said something.
+fn tell<E: Write>(err: &mut E, said: &Option<Said<'_>>) {
+    if let Some(said) = said {
+        let _ = print_said(err, said.path, &said.error);
+    }
+}
+
+// Says what refused the program, and what the system said, if that is why.
 fn refuse_for<E: Write>(err: &mut E, fault: Fault, said: &Option<Said<'_>>) -> u8
     ensures { result ≡ 2 }
 {
-    let is_io = fault == Fault::Io;
     let _ = print_refusal(err, fault);
-    if let (true, Some(said)) = (is_io, said) {
-        let _ = print_said(err, said.path, &said.error);
-    }
+    tell(err, said);
     2
 }
 

@@ -5,6 +5,7 @@ use device::Device;
 use index_model::DeadRows;
 use page_action::PageStore;
 use page_store::Store;
+use std::io::Error;
 
 impl<D: Device, T: DeadRows + Drop> World<Store<D>, T> {
     ghost use Rattle.std.specs.Prelude.{◌≡◌, ℕ, Bool, List};
@@ -55,6 +56,11 @@ impl<D: Device, T: DeadRows + Drop> World<Store<D>, T> {
             → IsIndexAfterPrefix (state_of D.Device self.now.store).limits start history
             (backing_of (held_by D.Device self.now.store)).durable image }
     {}
+
+    /// What the system said of the last call of the device that failed, if the device is of a system. No clause tells of it.
+    pub fn error(&self) -> Option<Error> {
+        self.store.error()
+    }
 
     /// The device below.
     pub fn into_device(self) -> D
