@@ -148,11 +148,13 @@ pub fn check<'a, R: Files<File = File> + Threads + Sync, S: Start, P: Progress, 
                 end,
             }
         }
-        Err(NotOpened {
-            fault,
-            error,
-            device,
-        }) => Looked {
+        Err(
+            NotOpened {
+                fault,
+                error,
+                device,
+            },
+        ) => Looked {
             store: None,
             device,
             said: said_of(path, error),
@@ -205,11 +207,13 @@ pub fn check_one<'a, R: Files<File = File>, S: Start, P: Progress, W: Write>(
                 end,
             }
         }
-        Err(NotOpened {
-            fault,
-            error,
-            device,
-        }) => Looked {
+        Err(
+            NotOpened {
+                fault,
+                error,
+                device,
+            },
+        ) => Looked {
             store: None,
             device,
             said: said_of(path, error),
@@ -257,11 +261,13 @@ pub fn dump<'a, R: Files<File = File>, S: Start, W: Write>(
                 end,
             }
         }
-        Err(NotOpened {
-            fault,
-            error,
-            device,
-        }) => Looked {
+        Err(
+            NotOpened {
+                fault,
+                error,
+                device,
+            },
+        ) => Looked {
             store: None,
             device,
             said: said_of(path, error),

@@ -2,8 +2,6 @@
 
 ghost use Rattle.std.specs.Prelude.{◌≡◌, ◌++◌, Ok, IfErr, IfOk, OnErr, OnOk, IsSome, IfSome, IfNone};
 ghost use Rattle.std.specs.Io.KnownBytes.{Appends};
-ghost use Rattle.device.specs.Disk.{first};
-ghost use Rattle.device.specs.Event.{after_calls};
 ghost use Rattle.sessions.specs.Finishing.{RunIsRefusedFor};
 ghost use Rattle.command_line.specs.Listing.{IsDoneOrRefused};
 ghost use Rattle.command_line.specs.Receipts.{run_text};
@@ -174,7 +172,9 @@ fn run_file<
     let JobFile { jobs, sets } = file;
     let world = match open_world::<R, S>(rt, alloc, asked, sets) {
         Ok(world) => world,
-        Err(refused) => return no_run(refused.said, Ok(End::Refused(refused.fault))),
+        Err(Unopened { fault, error }) => {
+            return no_run(said_of(asked.path, error), Ok(End::Refused(fault)));
+        }
     };
     let line = ProgressLine::new(err, "jobs", asked.progress);
     let gate = JobGate {
@@ -197,48 +197,39 @@ fn run_file<
 
 // Opens the index in a file with a session for each worker, after any crash. Refused with `Io` (2) where the file isn't there or
 // can't be opened for writing, and else as `World::open` is.
-fn open_world<'a, R: Files<File = File>, S: Start>(
+fn open_world<R: Files<File = File>, S: Start>(
     rt: &R,
     alloc: Global,
-    asked: &RunSetting<'a>,
+    asked: &RunSetting<'_>,
     sets: Vec<DeadList>,
-) -> Result<World<Store<FileDevice<S>>, DeadList>, Unopened<'a>>
+) -> Result<World<Store<FileDevice<S>>, DeadList>, Unopened>
     ensures { IfOk result
         (IsWorldOfFile ⟦<FileDevice<S> as Device>⟧ ⟦<Store<FileDevice<S>> as PageStore>⟧
         ⟦<DeadList as DeadRows>⟧ S.Start.bytes asked.now.frames asked.now.workers sets.items) }
 {
-    let device = taken::<R, S>(rt, asked.path)?;
+    let device = match FileDevice::<S>::open(rt, asked.path) {
+        Ok(device) => device,
+        Err(error) => {
+            return Err(Unopened {
+                fault: Fault::Io,
+                error: Some(error),
+            });
+        }
+    };
     match World::open(alloc, device, asked.frames, asked.workers, sets) {
         Ok(world) => Ok(world),
         Err(not_opened) => Err(Unopened {
             fault: not_opened.fault,
-            said: said_of(asked.path, not_opened.device.error()),
-        }),
-    }
-}
-
-// The file of the index, or what the system said.
-fn taken<'a, R: Files<File = File>, S: Start>(
-    rt: &R,
-    path: &'a str,
-) -> Result<FileDevice<S>, Unopened<'a>>
-    ensures held { IfOk result (λ d. after_calls (S.Start.bytes d.len) d.events.list
-        ≡ first (S.Start.bytes d.len)) }
-{
-    match FileDevice::<S>::open(rt, path) {
-        Ok(device) => Ok(device),
-        Err(error) => Err(Unopened {
-            fault: Fault::Io,
-            said: said_of(path, Some(error)),
+            error: not_opened.device.error(),
         }),
     }
 }
 
 // Why a world wasn't opened, and what the system said.
 #[derive(Clone, Copy)]
-struct Unopened<'a> {
+struct Unopened {
     fault: Fault,
-    said: Option<Said<'a>>,
+    error: Option<io::Error>,
 }
 
 /// What a run of jobs leaves: the world, and how the command ends.

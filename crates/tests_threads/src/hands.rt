@@ -344,6 +344,13 @@ fn seated<S: PageStore, T: DeadRows + Drop, J: JobsOn<S>>(
     (first(world, history, pending, book, keeper), hands)
 }
 
+// So many workers, and what they do, event by event.
+#[derive(Clone, Copy)]
+struct ByHand<'a> {
+    workers: u32,
+    lines: &'a [Line],
+}
+
 // Does the events, where the type of what lies under the lock tells of the jobs. Answers the records.
 fn act_named<
     S: PageStore + Drop,
@@ -357,15 +364,14 @@ fn act_named<
     blank: Blank,
     world: World<S, T>,
     jobs: &[Job],
-    workers: u32,
-    lines: &[Line],
+    by: ByHand<'_>,
 ) -> Result<Vec<Record>, Fail>
     requires name { blank.name ≡ J.name }
     requires parts { blank.parts ≡ J.parts }
     requires all { blank.parts ≡ 65 }
     requires seats { cell.now.table.shared.table_id ≡ J.seats }
     requires jobs { J.jobs ≡ jobs.now }
-    requires workers { J.workers ≡ workers }
+    requires workers { J.workers ≡ by.workers }
     requires handed { J.handed ≡ handed_of S.PageStore T.DeadRows world }
     requires stood { (contents : OneEntry → Bool) (history : List Action) (calls : List Call)
         → J.stood contents history calls
@@ -376,17 +382,17 @@ fn act_named<
     requires followed { (first : S) → J.followed first ↔ S.follows first world.store }
     requires keeper { keeper.table_id ≡ cell.now.table.shared.table_id }
     requires knows { known_by keeper ≡ keeper_of [] [] }
-    requires few { workers ≤ 64 }
-    requires sessions { workers ≤ length world.calls.slots.items }
+    requires few { by.workers ≤ 64 }
+    requires sessions { by.workers ≤ length world.calls.slots.items }
     requires rests { AreIdle world.calls.slots.items }
 {
-    let history = Vec::with_capacity(rt.alloc(), jobs.len().max(lines.len()))?;
-    let pending = Vec::with_capacity(rt.alloc(), workers as usize)?;
-    let hands = Vec::with_capacity(rt.alloc(), workers as usize)?;
+    let history = Vec::with_capacity(rt.alloc(), jobs.len().max(by.lines.len()))?;
+    let pending = Vec::with_capacity(rt.alloc(), by.workers as usize)?;
+    let hands = Vec::with_capacity(rt.alloc(), by.workers as usize)?;
     let (mut shared, mut hands) = seated::<S, T, J>(
-        cell, keeper, blank, world, history, pending, hands, workers,
+        cell, keeper, blank, world, history, pending, hands, by.workers,
     );
-    act_all(rt, rt.alloc(), cell, &mut shared, jobs, &mut hands, lines)?;
+    act_all(rt, rt.alloc(), cell, &mut shared, jobs, &mut hands, by.lines)?;
     let Shared {
         world: _,
         start: _,
@@ -418,5 +424,6 @@ pub fn act_by_hand<
         return Err(Fail::from(Fault::NoMemory));
     };
     let blank = Blank::new(65);
-    act_named::<S, T, Brand, R>(rt, &cell, keeper, blank, world, jobs, workers, lines)
+    let by = ByHand { workers, lines };
+    act_named::<S, T, Brand, R>(rt, &cell, keeper, blank, world, jobs, by)
 }

@@ -1,6 +1,6 @@
 use Rattle.std.proofs.Common.{sym, subst}
 use Rattle.command_line.proofs.Imports.{State, follows_same, AreSound}
-use Rattle.command_line.proofs.Looked.{report_stays, damage_stays, check_refused}
+use Rattle.command_line.proofs.Looked.{opening_refused, report_stays, damage_stays, check_refused}
 use Rattle.command_line.proofs.file_commands.check.Goals as goal
 
 pub returns-in-Ok-clause-opened : goal.returns-in-Ok-clause-opened
@@ -25,3 +25,7 @@ pub returns-in-Ok-clause-refused : goal.returns-in-Ok-clause-refused
 returns-in-Ok-clause-refused g c fault is =
     check_refused _ _ _ fault c.in-Ok.store _ (record { opened = c.in-Ok.ensures.opened; read = c.in-Ok.ensures.read; same = c.in-Ok.ensures.same })
     (c.check_pages-end.ensures.steps c.in-Ok.store (follows_same _)) c.check_pages-end.ensures.state (c.check_pages-end.ensures.refused fault is)
+
+pub returns-in-Err-clause-refused : goal.returns-in-Err-clause-refused
+returns-in-Err-clause-refused g c fault is =
+    opening_refused _ _ _ _ c.in-Err.field-0.fault fault c.in-Err.field-0.device (let h = is in cc) c.in-Err.ensures.cause c.in-Err.ensures.untaken
