@@ -1,5 +1,6 @@
 pub mod Imports
 pub mod Scripts
+pub mod Refusing
 pub mod Workers
 pub mod JobsRead
 pub mod Finished

@@ -1,8 +1,10 @@
 -- The lines of a job file, as they are spelled.
-use Rattle.std.specs.Prelude.{◌≡◌, ◌≤◌, ◌+◌, ℕ, Bool, List, [], ◌∷◌, ◌++◌, codes, ⊤}
+use Rattle.std.specs.Prelude.{◌≡◌, ◌≤◌, ◌+◌, ℕ, Bool, if◌then◌else◌, List, [], ◌∷◌, ◌++◌, codes, flat_map, length, map, ⊤}
 use Rattle.std.specs.Fmt.{decimal}
-use Rattle.text_forms.specs.Spelling.{is_one_of, words_of}
+use Rattle.std.specs.Str.{bytes_eq}
+use Rattle.text_forms.specs.Spelling.{is_one_of, row_text, words_of}
 use Rattle.text_forms.specs.Values.{IsEntryOfBytes, IsRangeOfBytes, AreRows, entry_words, range_words}
+use Rattle.command_line.specs.declared.dead.DeadList.{DeadList}
 use Rattle.command_line.specs.declared.job_line.JobLine.{JobLine}
 use Rattle.command_line.specs.declared.job_line.JobLine.TheVariants.{Insert, Scan, Bulk, Cleanup, Commit, Checkpoint}
 use Rattle.shared_world.specs.declared.job.Job.{Job}
@@ -21,14 +23,10 @@ job_words Checkpoint = codes "checkpoint" ∷ []
 abbrev pub IsRoom : ℕ → Type 0
 IsRoom room = (1 ≤ room) × (room ≤ 1048576)
 
-abbrev pub HasScanRoom : JobLine → Type 0
-HasScanRoom (Scan range room) = IsRoom room
-HasScanRoom line = ⊤
-
--- ... of a range whose keys there are; and the entries and rows of the other lines are such
+-- the values of a line are in their ranges: keys of at most 64 bytes, rows that there are, a scan's room
 abbrev pub HasJobValues : JobLine → Type 0
 HasJobValues (Insert entry) = IsEntryOfBytes entry
-HasJobValues (Scan range room) = IsRangeOfBytes range × HasScanRoom (Scan range room)
+HasJobValues (Scan range room) = IsRangeOfBytes range × IsRoom room
 HasJobValues (Bulk rows) = AreRows rows
 HasJobValues Cleanup = ⊤
 HasJobValues Commit = ⊤
@@ -56,8 +54,12 @@ sets_with set job = set
 pub record SpellsJob (set : ℕ) (text : List ℕ) (job : Job) : Type 0 where
   pub line : JobLine
   pub words : words_of text ≡ job_words line
-  pub room : HasScanRoom line
+  pub values : HasJobValues line
   pub is : job ≡ line_job set line
+
+-- ... spells none, wherever it stands
+abbrev pub SpellsNoJob : List ℕ → Type 0
+SpellsNoJob text = (set : ℕ) (job : Job) → SpellsJob set text job → ⊥
 
 -- lines spell jobs, each its own; so many bulk deletes are before them
 abbrev pub SpellJobs : ℕ → List (List ℕ) → List Job → Type 0
@@ -70,3 +72,27 @@ SpellJobs set (line ∷ lines) (job ∷ jobs) = SpellsJob set line job × SpellJ
 abbrev pub sets_after : ℕ → List Job → ℕ
 sets_after set [] = set
 sets_after set (job ∷ jobs) = sets_after (sets_with set job) jobs
+
+-- the line of this number, counted from 1, spells no job, and those before it spell jobs
+pub record IsFirstNoJob (number : ℕ) (lines : List (List ℕ)) : Type 0 where
+  pub before : List (List ℕ)
+  pub line : List ℕ
+  pub behind : List (List ℕ)
+  pub jobs : List Job
+  pub parts : lines ≡ before ++ line ∷ behind
+  pub place : number ≡ length before + 1
+  pub spelled : SpellJobs 0 before jobs
+  pub none : SpellsNoJob line
+
+-- the words of the rows that a line of these words names, if it is a bulk delete
+abbrev pub bulk_words : List (List ℕ) → List (List (List ℕ))
+bulk_words [] = []
+bulk_words (name ∷ rows) = if bytes_eq name (codes "bulk") then rows ∷ [] else []
+
+-- ... of each bulk delete of these lines, in their order
+abbrev pub all_bulk_words : List (List ℕ) → List (List (List ℕ))
+all_bulk_words lines = flat_map (λ line. bulk_words (words_of line)) lines
+
+-- the words of the rows of a set
+abbrev pub set_words : DeadList → List (List ℕ)
+set_words set = map row_text set.rows.items

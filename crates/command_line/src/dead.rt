@@ -1,5 +1,9 @@
 //! The sets of dead rows that `bulk` lines name.
 
+ghost use Rattle.std.specs.Prelude.{◌≡◌, IfOk};
+ghost use Rattle.text_forms.specs.Values.{AreRows};
+ghost use Rattle.command_line.specs.JobFiles.{set_words};
+
 use crate::line::Line;
 use index_model::{DeadRows, RowAddr};
 use std::alloc::{AllocError, Global};
@@ -8,7 +12,7 @@ use text_forms::Rows;
 /// The rows of a `bulk` line.
 #[derive(Drop)]
 pub struct DeadList {
-    rows: Vec<RowAddr>,
+    pub rows: Vec<RowAddr>,
 }
 
 impl DeadRows for DeadList {
@@ -31,7 +35,9 @@ pub fn dead_of(alloc: Global, line: Line<'_>) -> Result<Option<DeadList>, AllocE
 }
 
 /// The set of these rows.
-pub fn listed(alloc: Global, mut words: Rows<'_>) -> Result<DeadList, AllocError> {
+pub fn listed(alloc: Global, mut words: Rows<'_>) -> Result<DeadList, AllocError>
+    ensures { AreRows words.entry → IfOk result (λ set. words.entry ≡ set_words set) }
+{
     let mut rows = Vec::new(alloc);
     while let Some(row) = words.next() {
         rows.push(row)?;

@@ -1,8 +1,9 @@
 //! Job files.
 
-ghost use Rattle.std.specs.Prelude.{◌≡◌, ◌+◌, IfOk, vec_len};
-ghost use Rattle.command_line.specs.JobFiles.{SpellJobs, line_job, sets_with, sets_after};
+ghost use Rattle.std.specs.Prelude.{◌≡◌, ◌+◌, ◌++◌, ◌∷◌, [], ℕ, Err, IfErr, IfOk, map, vec_len};
+ghost use Rattle.command_line.specs.JobFiles.{HasJobValues, IsFirstNoJob, SpellJobs, all_bulk_words, bulk_words, job_words, line_job, set_words, sets_with, sets_after};
 ghost use Rattle.text_forms.specs.Spelling.{lines_of};
+ghost use Rattle.text_forms.specs.Values.{AreRows};
 
 use crate::dead::{DeadList, listed};
 use crate::job_line::{JobLine, parse_job};
@@ -31,6 +32,10 @@ pub enum JobFileError {
 pub fn read_jobs(alloc: Global, text: &[u8]) -> Result<JobFile, JobFileError>
     ensures jobs { IfOk result (λ file. SpellJobs 0 (lines_of text.now) file.jobs.items) }
     ensures sets { IfOk result (λ file. vec_len file.sets ≡ sets_after 0 file.jobs.items) }
+    ensures sets_are { IfOk result (λ file.
+        map set_words file.sets.items ≡ all_bulk_words (lines_of text.now)) }
+    ensures not_a_job { (n : ℕ) → result ≡ Err (JobFileError.NotAJob n)
+        → IsFirstNoJob n (lines_of text.now) }
 {
     let mut jobs = Vec::new(alloc);
     let mut sets = Vec::new(alloc);
@@ -61,6 +66,9 @@ fn add_set(
 ) -> Result<u32, JobFileError>
     ensures count { IfOk result (λ now. now ≡ sets_with count (line_job count line.entry)) }
     ensures sets { vec_len sets.old ≡ count → IfOk result (λ now. vec_len sets.new ≡ now) }
+    ensures sets_are { HasJobValues line.entry → IfOk result (λ now. map set_words sets.new.items
+        ≡ map set_words sets.old.items ++ bulk_words (job_words line.entry)) }
+    ensures refused { IfErr result (λ error. error ≡ JobFileError.NoMemory) }
 {
     match line {
         JobLine::Bulk(rows) => push_set(alloc, sets, rows, count),
@@ -78,7 +86,11 @@ fn push_set(
     rows: Rows<'_>,
     count: u32,
 ) -> Result<u32, JobFileError>
-    ensures { IfOk result (λ now. (now ≡ count + 1) × (vec_len sets.new ≡ vec_len sets.old + 1)) }
+    ensures count { IfOk result (λ now. now ≡ count + 1) }
+    ensures sets { IfOk result (λ now. vec_len sets.new ≡ vec_len sets.old + 1) }
+    ensures sets_are { AreRows rows.entry → IfOk result (λ now.
+        map set_words sets.new.items ≡ map set_words sets.old.items ++ rows.entry ∷ []) }
+    ensures refused { IfErr result (λ error. error ≡ JobFileError.NoMemory) }
 {
     let Ok(set) = listed(alloc, rows) else {
         return Err(JobFileError::NoMemory);

@@ -6,7 +6,7 @@ ghost use Rattle.index_model.specs.declared.entry.Entry.{Entry as TheEntry};
 ghost use Rattle.index_model.specs.declared.range.Range.{Range as TheRange};
 ghost use Rattle.text_forms.specs.Spelling.{words_of};
 ghost use Rattle.text_forms.specs.Values.{entry_words, range_words, IsEntryOfBytes, IsRangeOfBytes, AreRows};
-ghost use Rattle.command_line.specs.JobFiles.{job_words, HasJobValues, HasScanRoom, IsRoom, is_job_alone};
+ghost use Rattle.command_line.specs.JobFiles.{job_words, HasJobValues, IsRoom, is_job_alone};
 
 use index_model::{Entry, Range};
 use text_forms::{Rows, Words, all_rows, entry, is_word, number_u32, range};
@@ -27,7 +27,7 @@ pub enum JobLine<'a> {
 /// more than 64 bytes or with a row that there isn't.
 pub fn parse_job(text: &[u8]) -> Option<JobLine<'_>>
     ensures words { IfSome result (λ line. words_of text.now ≡ job_words line) }
-    ensures room { IfSome result HasScanRoom }
+    ensures valid { IfSome result HasJobValues }
     ensures only { (line : JobLine) → HasJobValues line → words_of text.now ≡ job_words line
         → result ≡ Some line }
 {
@@ -38,7 +38,7 @@ pub fn parse_job(text: &[u8]) -> Option<JobLine<'_>>
 
 fn job<'a>(words: &mut Words<'a>) -> Option<JobLine<'a>>
     ensures words { IfSome result (λ line. words.old ≡ job_words line ++ words.new) }
-    ensures room { IfSome result HasScanRoom }
+    ensures valid { IfSome result HasJobValues }
     ensures only { (line : JobLine) → HasJobValues line → words.old ≡ job_words line
         → (result ≡ Some line) × (words.new ≡ []) }
 {
@@ -52,7 +52,7 @@ fn job<'a>(words: &mut Words<'a>) -> Option<JobLine<'a>>
 // A job of one word.
 fn job_of_a_word(name: &[u8]) -> Option<JobLine<'static>>
     ensures words { IfSome result (λ line. name.now ∷ [] ≡ job_words line) }
-    ensures room { IfSome result HasScanRoom }
+    ensures valid { IfSome result HasJobValues }
     ensures cleanup { name.now ≡ codes "cleanup" → result ≡ Some JobLine.Cleanup }
     ensures commit { name.now ≡ codes "commit" → result ≡ Some JobLine.Commit }
     ensures checkpoint { name.now ≡ codes "checkpoint" → result ≡ Some JobLine.Checkpoint }
@@ -74,7 +74,7 @@ fn job_of_a_word(name: &[u8]) -> Option<JobLine<'static>>
 fn job_with_values<'a>(name: &[u8], words: &mut Words<'a>) -> Option<JobLine<'a>>
     ensures words { IfSome result (λ line.
         name.now ∷ words.old ≡ job_words line ++ words.new) }
-    ensures room { IfSome result HasScanRoom }
+    ensures valid { IfSome result HasJobValues }
     ensures insert { (entry : TheEntry) → IsEntryOfBytes entry → name.now ≡ codes "insert"
         → words.old ≡ entry_words entry
         → (result ≡ Some (JobLine.Insert entry)) × (words.new ≡ []) }
@@ -96,7 +96,7 @@ fn job_with_values<'a>(name: &[u8], words: &mut Words<'a>) -> Option<JobLine<'a>
 fn insert<'a>(words: &mut Words<'a>) -> Option<JobLine<'a>>
     ensures words { IfSome result (λ line.
         codes "insert" ∷ words.old ≡ job_words line ++ words.new) }
-    ensures room { IfSome result HasScanRoom }
+    ensures valid { IfSome result HasJobValues }
     ensures only { (entry : TheEntry) → IsEntryOfBytes entry → words.old ≡ entry_words entry
         → (result ≡ Some (JobLine.Insert entry)) × (words.new ≡ []) }
 {
@@ -110,7 +110,7 @@ fn insert<'a>(words: &mut Words<'a>) -> Option<JobLine<'a>>
 fn bulk<'a>(words: &mut Words<'a>) -> Option<JobLine<'a>>
     ensures words { IfSome result (λ line.
         codes "bulk" ∷ words.old ≡ job_words line ++ words.new) }
-    ensures room { IfSome result HasScanRoom }
+    ensures valid { IfSome result HasJobValues }
     ensures only { AreRows words.old
         → (result ≡ Some (JobLine.Bulk words.old)) × (words.new ≡ []) }
 {
@@ -124,7 +124,7 @@ fn bulk<'a>(words: &mut Words<'a>) -> Option<JobLine<'a>>
 fn scan<'a>(words: &mut Words<'a>) -> Option<JobLine<'a>>
     ensures words { IfSome result (λ line.
         codes "scan" ∷ words.old ≡ job_words line ++ words.new) }
-    ensures room { IfSome result HasScanRoom }
+    ensures valid { IfSome result HasJobValues }
     ensures only { (range : TheRange) (room : ℕ) → IsRangeOfBytes range → IsRoom room
         → words.old ≡ range_words range ++ decimal room ∷ []
         → (result ≡ Some (JobLine.Scan range room)) × (words.new ≡ []) }

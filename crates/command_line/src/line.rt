@@ -5,8 +5,8 @@ ghost use Rattle.std.specs.Fmt.{decimal};
 ghost use Rattle.index_model.specs.declared.entry.Entry.{Entry as TheEntry};
 ghost use Rattle.index_model.specs.declared.range.Range.{Range as TheRange};
 ghost use Rattle.text_forms.specs.Spelling.{words_of};
-ghost use Rattle.text_forms.specs.Values.{entry_words, range_words, IsEntryOfBytes, IsRangeOfBytes, AreRows, AreNoRange};
-ghost use Rattle.command_line.specs.Script.{line_words, crash_text, IsCount, IsSilentLine, Spells, HasValues, AreNoValues, AreRefused, is_plain, is_counted, is_of_session, has_range};
+ghost use Rattle.text_forms.specs.Values.{entry_words, range_words, IsEntryOfBytes, IsRangeOfBytes, AreRows, AreNoEntry, AreNoRange, AreNoRows};
+ghost use Rattle.command_line.specs.Script.{line_words, crash_text, IsCount, IsSilentLine, Spells, HasValues, IsSession, AreNoValues, AreRefused, is_plain, is_counted, is_of_session, names_entry, has_range, has_rows};
 
 use index_model::{Entry, Fault, Range};
 use text_forms::{Rows, Words, all_rows, entry, is_word, number, number_u32, range};
@@ -66,6 +66,8 @@ pub fn parse(text: &[u8]) -> Result<Line<'_>, LineError>
     ensures only { (line : Line) → HasValues line → Spells text.now line → result ≡ Ok line }
     ensures refused { (fault : Fault) → result ≡ Err (LineError.Refused fault)
         → AreRefused fault (words_of text.now) }
+    ensures only_refused { (fault : Fault) → AreRefused fault (words_of text.now)
+        → result ≡ Err (LineError.Refused fault) }
 {
     if text.is_empty() || text[0] == b'#' {
         return Ok(Line::Nothing);
@@ -90,6 +92,8 @@ fn event<'a>(words: &mut Words<'a>) -> Option<Result<Line<'a>, Fault>>
         → words.old ≡ line_words line → (result ≡ Some (Ok line)) × (words.new ≡ []) }
     ensures refused { (fault : Fault) → result ≡ Some (Err fault) → words.new ≡ []
         → AreRefused fault words.old }
+    ensures only_refused { (fault : Fault) → AreRefused fault words.old
+        → (result ≡ Some (Err fault)) × (words.new ≡ []) }
 {
     let name = words.next()?;
     if let Some(line) = plain(name) {
@@ -115,6 +119,9 @@ fn one_session<'a>(
         → (result ≡ Some (Ok line)) × (words.new ≡ []) }
     ensures refused { (fault : Fault) → result ≡ Some (Err fault) → words.new ≡ []
         → AreRefused fault (name.now ∷ value.now ∷ words.old) }
+    ensures only_refused { (fault : Fault) (session : ℕ) → value.now ≡ decimal session
+        → IsSession session → AreNoValues fault name.now words.old
+        → (result ≡ Some (Err fault)) × (words.new ≡ []) }
 {
     let session = number_u32(value)?;
     if let Some(line) = of_session(name, session) {
@@ -231,6 +238,12 @@ fn with_values<'a>(
         → (result ≡ Some (Ok (Line.List session range))) × (words.new ≡ []) }
     ensures refused { (fault : Fault) → result ≡ Some (Err fault) → words.new ≡ []
         → AreNoValues fault name.now words.old }
+    ensures no_entry { (fault : Fault) → names_entry name.now ≡ true
+        → AreNoEntry fault words.old [] → (result ≡ Some (Err fault)) × (words.new ≡ []) }
+    ensures no_rows { (fault : Fault) → has_rows name.now ≡ true → AreNoRows fault words.old
+        → (result ≡ Some (Err fault)) × (words.new ≡ []) }
+    ensures no_range { (fault : Fault) → has_range name.now ≡ true
+        → AreNoRange fault words.old [] → (result ≡ Some (Err fault)) × (words.new ≡ []) }
 {
     if is_word(name, b"insert") {
         return Some(entry(words)?.map(|entry| Line::Insert(session, entry)));
@@ -258,6 +271,8 @@ fn with_range<'a>(
         → (result ≡ Some (Ok (Line.List session range))) × (words.new ≡ []) }
     ensures refused { (fault : Fault) → result ≡ Some (Err fault)
         → (has_range name.now ≡ true) × AreNoRange fault words.old words.new }
+    ensures no_range { (fault : Fault) → has_range name.now ≡ true
+        → AreNoRange fault words.old [] → (result ≡ Some (Err fault)) × (words.new ≡ []) }
 {
     match name {
         b"scan" => Some(range(words)?.map(|range| Line::Scan(session, range))),
