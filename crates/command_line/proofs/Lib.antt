@@ -3,6 +3,7 @@ pub mod Scripts
 pub mod Workers
 pub mod JobsRead
 pub mod Finished
+pub mod NoRun
 pub mod Listed
 pub mod Stepped
 pub mod Checked

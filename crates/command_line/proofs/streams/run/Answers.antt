@@ -35,6 +35,7 @@ returns-in-Some-run-default-clause-printed g c =
           run = c.run.ensures.run;
           silent = none_then _ c.run.ensures.silent (keeps_same _ _);
           printed = c.run.ensures.printed;
+          refused = c.run.ensures.refused;
         };
       };
     }
