@@ -157,7 +157,7 @@ module _ (old mid new : Option (List ℕ)) (kept : Keeps mid new) where
   }
 
   play_kept : (setting : Setting) (script : RanScript) → PrintsPlay setting old mid script → PrintsPlay setting old new script
-  play_kept setting script p = record { run = p.run; asked = p.asked; silent = none_then script.engine p.silent (keeps_kept _ _ _ kept) }
+  play_kept setting script p = record { run = p.run; asked = p.asked; silent = none_then script.engine p.silent (keeps_kept _ _ _ kept); refused = p.refused }
 
   does_kept : {D N : Type 0} (d : DeviceGhosts D) (e : DeviceGhosts N) (g : Ghosts (Store D d)) (rows : SetGhosts DeadList) (bytes : ℕ → List ℕ) (named : Named) (what : Left D N (Store D d))
       → DoesCommand d e g rows bytes named old mid what → DoesCommand d e g rows bytes named old new what

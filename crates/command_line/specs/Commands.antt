@@ -21,6 +21,7 @@ use Rattle.command_line.specs.Reporting.{PrintsReport, PrintsDamage, AreSound, I
 use Rattle.command_line.specs.Running.{IsRunEnd}
 use Rattle.command_line.specs.RunRefusals.{IsRunOfJobFileRefused}
 use Rattle.command_line.specs.RunningFiles.{PrintsRunOfJobFile}
+use Rattle.command_line.specs.Settings.{IsNotMade}
 use Rattle.command_line.specs.declared.dead.DeadList.{DeadList}
 use Rattle.command_line.specs.declared.end.End.TheVariants.{Done, Damaged, Refused}
 use Rattle.command_line.specs.declared.engine.Setting.{Setting}
@@ -86,11 +87,12 @@ pub record PrintsRunning {D T : Type 0} (d : DeviceGhosts D) (g : Ghosts (Store 
   pub refused : (fault : Fault) → ran.end ≡ Ok (Refused fault)
       → IfNone ran.world (IsRunOfJobFileRefused d g rows bytes frames workers fault ran.device)
 
--- A script is run over an index of this setting; where there was no index nothing is printed.
+-- A script is run over an index of this setting; where there was no index nothing is printed, and it was refused for its cause.
 pub record PrintsPlay (setting : Setting) (old new : Option (List ℕ)) (script : RanScript) : Type 0 where
   pub run : script.end ≡ Ok Done → IsSome script.engine
   pub asked : IfSome script.engine (λ engine. engine.setting ≡ setting)
   pub silent : IfNone script.engine (Keeps old new)
+  pub refused : (fault : Fault) → script.end ≡ Ok (Refused fault) → IfNone script.engine (IsNotMade setting fault)
 
 -- what a command line names: a command, and what is said of its arguments
 abbrev pub Named : Type 0

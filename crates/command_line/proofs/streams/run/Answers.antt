@@ -17,6 +17,7 @@ returns-in-Some-play-default-clause-printed g c =
           run = c.play.ensures.run;
           asked = c.play.ensures.asked;
           silent = none_then _ c.play.ensures.silent (keeps_same _ _);
+          refused = c.play.ensures.refused;
         };
       };
     }
