@@ -5,7 +5,7 @@ pub use Rattle.std.proofs.lemmas.Option.{IfSome_then, get_or_from_slice_get, non
 pub use Rattle.std.proofs.lemmas.Result.{IfOk-weaker}
 pub use Rattle.std.specs.Io.KnownBytes.{Appends, Keeps}
 pub use Rattle.std.specs.List.{AllByRecursion, list_any}
-pub use Rattle.std.specs.Prelude.{Bool, Box, Err, IfNone, IfOk, IsSomeAnd, MatchOption, None, Ok, OnOk, Option, Result, Some, get_or, replicate, slice_index, take, vec_len}
+pub use Rattle.std.specs.Prelude.{Bool, Box, Err, IfNone, IfOk, IsSomeAnd, IsTrue, MatchOption, None, Ok, OnOk, Option, Result, Some, get_or, replicate, slice_index, take, vec_len}
 pub use Rattle.index_model.specs.declared.dead_rows.DeadRows.{Ghosts as SetGhosts}
 pub use Rattle.index_model.specs.declared.entry.Entry.{Entry}
 pub use Rattle.index_model.specs.declared.fault.Fault.{Fault}
@@ -37,5 +37,5 @@ pub use Rattle.command_line.specs.RunningFiles.{IsWorldOfFile, PrintsRunOfJobFil
 pub use Rattle.command_line.specs.Script.{Spells, line_words}
 pub use Rattle.command_line.specs.Stepping.{IsStepped, IsSteppedInsert, SameSizes, answers_to, steps_of}
 pub use Rattle.command_line.specs.declared.end.End.{End}
-pub use Rattle.command_line.specs.declared.end.End.TheVariants.{Damaged, Done, Refused}
+pub use Rattle.command_line.specs.declared.end.End.TheVariants.{AlreadyPrinted, Damaged, Done, Refused}
 pub use Rattle.command_line.specs.declared.engine.Setting.{Setting}

@@ -146,17 +146,18 @@ module _ (old mid new : Option (List ℕ)) (kept : Keeps mid new) where
     silent = none_then looked.store p.silent (keeps_kept _ _ _ kept);
   }
 
-  running_kept : {D T : Type 0} (d : DeviceGhosts D) (g : Ghosts (Store D d)) (rows : SetGhosts T) (bytes : ℕ → List ℕ) (frames workers : ℕ) (ran : RanFile (Store D d) T)
+  running_kept : {D T : Type 0} (d : DeviceGhosts D) (g : Ghosts (Store D d)) (rows : SetGhosts T) (bytes : ℕ → List ℕ) (frames workers : ℕ) (ran : RanFile D (Store D d) T)
       → PrintsRunning d g rows bytes frames workers old mid ran → PrintsRunning d g rows bytes frames workers old new ran
   running_kept d g rows bytes frames workers ran p = record {
     ends = p.ends;
     run = p.run;
     silent = none_then ran.world p.silent (keeps_kept _ _ _ kept);
     printed = IfSome_then ran.world p.printed (λ after. IfOk-weaker ran.end _ _ (run_kept d g rows bytes frames workers after));
+    refused = p.refused;
   }
 
   play_kept : (setting : Setting) (script : RanScript) → PrintsPlay setting old mid script → PrintsPlay setting old new script
-  play_kept setting script p = record { run = p.run; asked = p.asked; silent = none_then script.engine p.silent (keeps_kept _ _ _ kept) }
+  play_kept setting script p = record { run = p.run; asked = p.asked; silent = none_then script.engine p.silent (keeps_kept _ _ _ kept); refused = p.refused }
 
   does_kept : {D N : Type 0} (d : DeviceGhosts D) (e : DeviceGhosts N) (g : Ghosts (Store D d)) (rows : SetGhosts DeadList) (bytes : ℕ → List ℕ) (named : Named) (what : Left D N (Store D d))
       → DoesCommand d e g rows bytes named old mid what → DoesCommand d e g rows bytes named old new what

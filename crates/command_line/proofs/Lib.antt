@@ -4,6 +4,8 @@ pub mod Refusing
 pub mod Workers
 pub mod JobsRead
 pub mod Finished
+pub mod NoRun
+pub mod NoIndex
 pub mod Listed
 pub mod Stepped
 pub mod Checked

@@ -19,7 +19,9 @@ use Rattle.command_line.specs.Files.{IsLookedAt, IsCheckRefused, IsDumpRefused, 
 use Rattle.command_line.specs.Listing.{PrintsPages, ListsFirst, IsDoneOrRefused}
 use Rattle.command_line.specs.Reporting.{PrintsReport, PrintsDamage, AreSound, IsCheckEnd}
 use Rattle.command_line.specs.Running.{IsRunEnd}
+use Rattle.command_line.specs.RunRefusals.{IsRunOfJobFileRefused}
 use Rattle.command_line.specs.RunningFiles.{PrintsRunOfJobFile}
+use Rattle.command_line.specs.Settings.{IsNotMade}
 use Rattle.command_line.specs.declared.dead.DeadList.{DeadList}
 use Rattle.command_line.specs.declared.end.End.TheVariants.{Done, Damaged, Refused}
 use Rattle.command_line.specs.declared.engine.Setting.{Setting}
@@ -75,19 +77,22 @@ pub record PrintsDump {D : Type 0} (d : DeviceGhosts D) (g : Ghosts (Store D d))
   pub silent : IfNone looked.store (Keeps old new)
 
 -- The jobs of a file are run by so many workers, with so many pages in memory, and the run is printed; where there was none nothing is
--- printed.
+-- printed, and it was refused for its cause.
 pub record PrintsRunning {D T : Type 0} (d : DeviceGhosts D) (g : Ghosts (Store D d)) (rows : SetGhosts T) (bytes : ℕ → List ℕ)
-    (frames workers : ℕ) (old new : Option (List ℕ)) (ran : RanFile (Store D d) T) : Type 0 where
+    (frames workers : ℕ) (old new : Option (List ℕ)) (ran : RanFile D (Store D d) T) : Type 0 where
   pub ends : IfOk ran.end IsRunEnd
   pub run : ran.end ≡ Ok Done → IsSome ran.world
   pub silent : IfNone ran.world (Keeps old new)
   pub printed : IfSome ran.world (λ after. IfOk ran.end (PrintsRunOfJobFile d g rows bytes frames workers after old new))
+  pub refused : (fault : Fault) → ran.end ≡ Ok (Refused fault)
+      → IfNone ran.world (IsRunOfJobFileRefused d g rows bytes frames workers fault ran.device)
 
--- A script is run over an index of this setting; where there was no index nothing is printed.
+-- A script is run over an index of this setting; where there was no index nothing is printed, and it was refused for its cause.
 pub record PrintsPlay (setting : Setting) (old new : Option (List ℕ)) (script : RanScript) : Type 0 where
   pub run : script.end ≡ Ok Done → IsSome script.engine
   pub asked : IfSome script.engine (λ engine. engine.setting ≡ setting)
   pub silent : IfNone script.engine (Keeps old new)
+  pub refused : (fault : Fault) → script.end ≡ Ok (Refused fault) → IfNone script.engine (IsNotMade setting fault)
 
 -- what a command line names: a command, and what is said of its arguments
 abbrev pub Named : Type 0
@@ -137,7 +142,7 @@ pub record DoesDump {D : Type 0} (d : DeviceGhosts D) (g : Ghosts (Store D d)) (
 
 -- ... `run`, with the threads and the pages in memory that it says
 pub record DoesRun {D T : Type 0} (d : DeviceGhosts D) (g : Ghosts (Store D d)) (rows : SetGhosts T) (bytes : ℕ → List ℕ) (named : Named)
-    (old new : Option (List ℕ)) (ran : RanFile (Store D d) T) : Type 0 where
+    (old new : Option (List ℕ)) (ran : RanFile D (Store D d) T) : Type 0 where
   pub words : List Row
   pub workers : ℕ
   pub frames : ℕ

@@ -7,6 +7,7 @@ pub mod Running
 pub mod Settings
 pub mod Files
 pub mod RunningFiles
+pub mod RunRefusals
 pub mod Reporting
 pub mod Listing
 pub mod Ends

@@ -1,6 +1,6 @@
 //! The index that a script is run over: a device in memory, and the sessions of a world.
 
-ghost use Rattle.std.specs.Prelude.{◌≡◌, ◌≢◌, ◌∷◌, [], true, Bool, List, length, IfOk, OnOk, OnErr};
+ghost use Rattle.std.specs.Prelude.{◌≡◌, ◌≢◌, ◌↔◌, ◌∷◌, [], Bool, IsTrue, List, length, IfErr, IfOk, OnOk, OnErr, MatchResult};
 ghost use Rattle.device.specs.Memory.{trace_of, plan_of, left_by};
 ghost use Rattle.device.specs.Plans.{failing_at, stopping_at};
 ghost use Rattle.index_model.specs.Actions.{Action};
@@ -12,10 +12,11 @@ ghost use Rattle.page_codec.specs.declared.page.Page.{Page};
 ghost use Rattle.page_store.specs.Logged.{backing_of};
 ghost use Rattle.page_store.specs.Stores.{state_of, held_by, device_of};
 ghost use Rattle.recovery.specs.Index.{HasIndex};
+ghost use Rattle.recovery.specs.Opening.{IsNoMemoryOrIo};
 ghost use Rattle.tree_acts.specs.TheoremKeys.{IsTreeFor};
 ghost use Rattle.world.specs.Reopening.{BeginsWith, BeginsEmpty, BeginsAfterPrefix};
 ghost use Rattle.world.specs.Worlds.{WorldFits, WorldKeeps, ForEachWorldHistory, WorldIsRun};
-ghost use Rattle.command_line.specs.Settings.{IsSetting};
+ghost use Rattle.command_line.specs.Settings.{IsInRange, IsNotMade, IsSetting};
 ghost use Rattle.command_line.specs.Stepping.{IsSteppedInsert, IsStepped};
 
 use crate::dead::DeadList;
@@ -45,7 +46,7 @@ pub struct Setting {
 impl Setting {
     /// Whether each size is in its range.
     pub fn is_valid(&self) -> bool
-        ensures { result ≡ true → IsSetting self.now }
+        ensures { IsTrue result ↔ IsInRange self.now }
     {
         self.limits.are_valid()
             && 16 <= self.frames
@@ -78,13 +79,15 @@ pub struct Engine {
 
 impl Engine {
     /// An empty index, made on a device in memory and opened, and the sets of dead rows that its events name by their places.
-    /// Refused with `BadLimits` for a size out of its range, and with `NoMemory`.
+    /// Refused with `BadLimits` (18) for a size out of its range, with `NoMemory` (1), and with `Io` (2) where the device had no memory
+    /// for a write.
     pub fn new(alloc: Global, setting: &Setting, sets: Vec<DeadList>) -> Result<Engine, Fault>
         ensures setting { IfOk result (λ engine. engine.setting ≡ setting.now) }
         ensures sets { IfOk result (λ engine. engine.world.sets ≡ sets) }
         ensures empty { IfOk result (λ engine.
             BeginsEmpty ⟦<MemDevice as Device>⟧ ⟦<Store<MemDevice> as PageStore>⟧
             ⟦<DeadList as DeadRows>⟧ (made setting.now.limits) engine.world) }
+        ensures cause { IfErr result (IsNotMade setting.now) }
     {
         if !setting.is_valid() {
             return Err(Fault::BadLimits);
@@ -248,9 +251,9 @@ fn opened(
     ensures sets { IfOk result (λ world. world.sets ≡ sets) }
     ensures begins { IsSetting setting.now → (limits : Format) (pages : List Page)
         → HasIndex limits pages (trace_of device).now.seen → IsTreeFor limits pages
-        → IfOk result
+        → MatchResult result
         (BeginsWith ⟦<MemDevice as Device>⟧ ⟦<Store<MemDevice> as PageStore>⟧
-        ⟦<DeadList as DeadRows>⟧ limits pages) }
+        ⟦<DeadList as DeadRows>⟧ limits pages) IsNoMemoryOrIo }
 {
     match World::open(alloc, device, setting.frames, setting.sessions, sets) {
         Ok(world) => Ok(world),

@@ -18,7 +18,7 @@ pub enum Left<'a, D, N, S> {
     /// No command was run: help was asked for, the words were no command line, or there was no memory to read them.
     Nothing(io::Result<End>),
     Played(RanScript),
-    Ran(RanFile<'a, S, DeadList>),
+    Ran(RanFile<'a, D, S, DeadList>),
     Created(Created<'a, N>),
     Checked(Looked<'a, D, S>),
     Dumped(Looked<'a, D, S>),

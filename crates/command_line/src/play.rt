@@ -1,7 +1,8 @@
 //! Scripts.
 
-ghost use Rattle.std.specs.Prelude.{◌≡◌, Ok, IsSome, IfOk, IfSome, IfNone};
+ghost use Rattle.std.specs.Prelude.{◌≡◌, Ok, IsSome, IfErr, IfOk, IfSome, IfNone};
 ghost use Rattle.command_line.specs.Events.{line_event};
+ghost use Rattle.command_line.specs.Settings.{IsNotMade};
 
 use crate::dead::{DeadList, dead_of};
 use crate::end::End;
@@ -40,7 +41,7 @@ pub struct RanScript {
 }
 
 /// Reads a script to its end and runs it, printing an answer for each line. The first line that is no event ends it. Where there is
-/// no index, nothing is printed.
+/// no index, nothing is printed: it is refused as `Engine::new` is then.
 pub fn play<R: Read, W: Write, E: Write>(
     alloc: Global,
     setting: &Setting,
@@ -52,6 +53,8 @@ pub fn play<R: Read, W: Write, E: Write>(
     // It was run over an index with the pages in memory and the sessions that were asked for.
     ensures asked { IfSome result.engine (λ engine. engine.setting ≡ setting.now) }
     ensures silent { IfNone result.engine (W.contents out.new ≡ W.contents out.old) }
+    ensures refused { (fault : Fault) → result.end ≡ Ok (End.Refused fault)
+        → IfNone result.engine (IsNotMade setting.now fault) }
 {
     let mut text = Vec::new(alloc);
     match input.read_to_end(&mut text) {
@@ -74,6 +77,8 @@ fn play_text<W: Write, E: Write>(
     ensures run { result.end ≡ Ok End.Done → IsSome result.engine }
     ensures asked { IfSome result.engine (λ engine. engine.setting ≡ setting.now) }
     ensures silent { IfNone result.engine (W.contents out.new ≡ W.contents out.old) }
+    ensures refused { (fault : Fault) → result.end ≡ Ok (End.Refused fault)
+        → IfNone result.engine (IsNotMade setting.now fault) }
 {
     match begin(alloc, setting, text) {
         Ok(mut engine) => {
@@ -92,7 +97,8 @@ fn play_text<W: Write, E: Write>(
 
 /// An empty index, with the sets of the `bulk` lines up to the first crash. Refused as `Engine::new` is.
 fn begin(alloc: Global, setting: &Setting, text: &[u8]) -> Result<Engine, Fault>
-    ensures { IfOk result (λ engine. engine.setting ≡ setting.now) }
+    ensures setting { IfOk result (λ engine. engine.setting ≡ setting.now) }
+    ensures cause { IfErr result (IsNotMade setting.now) }
 {
     match sets_of(alloc, text) {
         Ok(sets) => Engine::new(alloc, setting, sets),

@@ -6,6 +6,7 @@ ghost use Rattle.sessions.specs.Finishing.{RunIsRefusedFor};
 ghost use Rattle.command_line.specs.Listing.{IsDoneOrRefused};
 ghost use Rattle.command_line.specs.Receipts.{run_text};
 ghost use Rattle.command_line.specs.Running.{IsRunEnd, PrintsDone, PrintsRun, end_after, last_text};
+ghost use Rattle.command_line.specs.RunRefusals.{IsRunOfJobFileRefused, IsRunOfTextRefused, IsRunOnFileRefused, IsWorldOpeningRefused};
 ghost use Rattle.command_line.specs.RunningFiles.{IsWorldOfFile, PrintsRunOnFile, PrintsRunOfText, PrintsRunOfJobFile};
 
 use crate::dead::DeadList;
@@ -30,7 +31,7 @@ use std::rt::Files;
 use std::sync::Wait;
 use std::thread::Threads;
 use text_forms::print_answer;
-use world::World;
+use world::{NotOpened, World};
 
 /// What a run is asked for.
 #[derive(Clone, Copy)]
@@ -46,11 +47,12 @@ pub struct RunSetting<'a> {
     pub progress: bool,
 }
 
-/// What a run of the jobs of a file leaves: the world after it, if it was made, what the system said of the last call that failed, if one
-/// did, and how the command ends.
+/// What a run of the jobs of a file leaves: the world after it, if it was made, else the device, if the file of the index was taken;
+/// what the system said of the last call that failed, if one did; and how the command ends.
 #[derive(Drop)]
-pub struct RanFile<'a, S, T> {
+pub struct RanFile<'a, D, S, T> {
     pub world: Option<World<S, T>>,
+    pub device: Option<D>,
     pub said: Option<Said<'a>>,
     pub end: io::Result<End>,
 }
@@ -73,7 +75,7 @@ pub fn run<
     asked: &RunSetting<'a>,
     out: &mut W,
     err: &mut E,
-) -> RanFile<'a, Store<FileDevice<S>>, DeadList>
+) -> RanFile<'a, FileDevice<S>, Store<FileDevice<S>>, DeadList>
     ensures ends { IfOk result.end IsRunEnd }
     ensures run { result.end ≡ Ok End.Done → IsSome result.world }
     ensures silent { IfNone result.world (W.contents out.new ≡ W.contents out.old) }
@@ -82,10 +84,15 @@ pub fn run<
         (PrintsRunOfJobFile ⟦<FileDevice<S> as Device>⟧ ⟦<Store<FileDevice<S>> as PageStore>⟧
         ⟦<DeadList as DeadRows>⟧ S.Start.bytes asked.now.frames asked.now.workers after
         (W.contents out.old) (W.contents out.new))) }
+    // A sound index isn't refused as damaged.
+    ensures refused { (fault : Fault) → result.end ≡ Ok (End.Refused fault) → IfNone result.world
+        (IsRunOfJobFileRefused ⟦<FileDevice<S> as Device>⟧ ⟦<Store<FileDevice<S>> as PageStore>⟧
+        ⟦<DeadList as DeadRows>⟧ S.Start.bytes asked.now.frames asked.now.workers fault
+        result.device) }
 {
     match read_file(rt, alloc, asked.jobs) {
         Ok(text) => run_text::<R, S, W, E>(rt, alloc, asked, text.as_slice(), out, err),
-        Err(error) => no_run(said_of(asked.jobs, Some(error)), Err(error)),
+        Err(error) => no_run(None, said_of(asked.jobs, Some(error)), Err(error)),
     }
 }
 
@@ -111,7 +118,7 @@ fn run_text<
     text: &[u8],
     out: &mut W,
     err: &mut E,
-) -> RanFile<'a, Store<FileDevice<S>>, DeadList>
+) -> RanFile<'a, FileDevice<S>, Store<FileDevice<S>>, DeadList>
     ensures ends { IfOk result.end IsRunEnd }
     ensures run { result.end ≡ Ok End.Done → IsSome result.world }
     ensures silent { IfNone result.world (W.contents out.new ≡ W.contents out.old) }
@@ -119,11 +126,15 @@ fn run_text<
         (PrintsRunOfText ⟦<FileDevice<S> as Device>⟧ ⟦<Store<FileDevice<S>> as PageStore>⟧
         ⟦<DeadList as DeadRows>⟧ S.Start.bytes asked.now.frames asked.now.workers text.now after
         (W.contents out.old) (W.contents out.new))) }
+    ensures refused { (fault : Fault) → result.end ≡ Ok (End.Refused fault) → IfNone result.world
+        (IsRunOfTextRefused ⟦<FileDevice<S> as Device>⟧ ⟦<Store<FileDevice<S>> as PageStore>⟧
+        ⟦<DeadList as DeadRows>⟧ S.Start.bytes asked.now.frames asked.now.workers text.now fault
+        result.device) }
 {
     match read_jobs(alloc, text) {
         Ok(file) => run_file::<R, S, W, E>(rt, alloc, asked, file, out, err),
-        Err(JobFileError::NotAJob(line)) => no_run(None, say_no_job(err, line)),
-        Err(JobFileError::NoMemory) => no_run(None, Ok(End::Refused(Fault::NoMemory))),
+        Err(JobFileError::NotAJob(line)) => no_run(None, None, say_no_job(err, line)),
+        Err(JobFileError::NoMemory) => no_run(None, None, Ok(End::Refused(Fault::NoMemory))),
     }
 }
 
@@ -135,12 +146,18 @@ fn say_no_job<E: Write>(err: &mut E, line: u64) -> io::Result<End>
 }
 
 // No run was made.
-fn no_run<'a, S, T>(said: Option<Said<'a>>, end: io::Result<End>) -> RanFile<'a, S, T>
+fn no_run<'a, D, S, T>(
+    device: Option<D>,
+    said: Option<Said<'a>>,
+    end: io::Result<End>,
+) -> RanFile<'a, D, S, T>
     ensures world { result.world ≡ None }
+    ensures device { result.device ≡ device }
     ensures end { result.end ≡ end }
 {
     RanFile {
         world: None,
+        device,
         said,
         end,
     }
@@ -160,7 +177,7 @@ fn run_file<
     file: JobFile,
     out: &mut W,
     err: &mut E,
-) -> RanFile<'a, Store<FileDevice<S>>, DeadList>
+) -> RanFile<'a, FileDevice<S>, Store<FileDevice<S>>, DeadList>
     ensures ends { IfOk result.end IsDoneOrRefused }
     ensures run { result.end ≡ Ok End.Done → IsSome result.world }
     ensures silent { IfNone result.world (W.contents out.new ≡ W.contents out.old) }
@@ -168,13 +185,21 @@ fn run_file<
         (PrintsRunOnFile ⟦<FileDevice<S> as Device>⟧ ⟦<Store<FileDevice<S>> as PageStore>⟧
         ⟦<DeadList as DeadRows>⟧ S.Start.bytes asked.now.frames asked.now.workers
         file.jobs.items file.sets.items after (W.contents out.old) (W.contents out.new))) }
+    ensures refused { (fault : Fault) → result.end ≡ Ok (End.Refused fault) → IfNone result.world
+        (IsRunOnFileRefused ⟦<FileDevice<S> as Device>⟧ ⟦<Store<FileDevice<S>> as PageStore>⟧
+        ⟦<DeadList as DeadRows>⟧ S.Start.bytes asked.now.frames asked.now.workers
+        file.jobs.items file.sets.items fault result.device) }
 {
     let JobFile { jobs, sets } = file;
     let world = match open_world::<R, S>(rt, alloc, asked, sets) {
         Ok(world) => world,
-        Err(Unopened { fault, error }) => {
-            return no_run(said_of(asked.path, error), Ok(End::Refused(fault)));
-        }
+        Err(
+            Unopened {
+                fault,
+                said,
+                device,
+            },
+        ) => return no_run(device, said, Ok(End::Refused(fault))),
     };
     let line = ProgressLine::new(err, "jobs", asked.progress);
     let gate = JobGate {
@@ -187,49 +212,56 @@ fn run_file<
             let said = said_of(asked.path, world.error());
             RanFile {
                 world: Some(world),
+                device: None,
                 said,
                 end,
             }
         }
-        Err(not_run) => no_run(None, Ok(End::Refused(not_run.fault))),
+        Err(NotRun { fault, world }) => {
+            no_run(Some(world.into_device()), None, Ok(End::Refused(fault)))
+        }
     }
 }
 
 // Opens the index in a file with a session for each worker, after any crash. Refused with `Io` (2) where the file isn't there or
-// can't be opened for writing, and else as `World::open` is.
-fn open_world<R: Files<File = File>, S: Start>(
+// can't be opened for writing, and else as `World::open` is, with the device.
+fn open_world<'a, R: Files<File = File>, S: Start>(
     rt: &R,
     alloc: Global,
-    asked: &RunSetting<'_>,
+    asked: &RunSetting<'a>,
     sets: Vec<DeadList>,
-) -> Result<World<Store<FileDevice<S>>, DeadList>, Unopened>
-    ensures { IfOk result
+) -> Result<World<Store<FileDevice<S>>, DeadList>, Unopened<'a, FileDevice<S>>>
+    ensures opened { IfOk result
         (IsWorldOfFile ⟦<FileDevice<S> as Device>⟧ ⟦<Store<FileDevice<S>> as PageStore>⟧
         ⟦<DeadList as DeadRows>⟧ S.Start.bytes asked.now.frames asked.now.workers sets.items) }
+    ensures refused { IfErr result (λ unopened.
+        IsWorldOpeningRefused ⟦<FileDevice<S> as Device>⟧ S.Start.bytes asked.now.frames
+        asked.now.workers unopened.fault unopened.device) }
 {
     let device = match FileDevice::<S>::open(rt, asked.path) {
         Ok(device) => device,
-        Err(error) => {
-            return Err(Unopened {
-                fault: Fault::Io,
-                error: Some(error),
-            });
-        }
+        Err(error) => return Err(Unopened {
+            fault: Fault::Io,
+            said: said_of(asked.path, Some(error)),
+            device: None,
+        }),
     };
     match World::open(alloc, device, asked.frames, asked.workers, sets) {
         Ok(world) => Ok(world),
-        Err(not_opened) => Err(Unopened {
-            fault: not_opened.fault,
-            error: not_opened.device.error(),
+        Err(NotOpened { fault, device, .. }) => Err(Unopened {
+            fault,
+            said: said_of(asked.path, device.error()),
+            device: Some(device),
         }),
     }
 }
 
-// Why a world wasn't opened, and what the system said.
-#[derive(Clone, Copy)]
-struct Unopened {
+// Why a world wasn't opened, what the system said, and the device as the opening left it, if the file was taken.
+#[derive(Drop)]
+struct Unopened<'a, D> {
     fault: Fault,
-    error: Option<io::Error>,
+    said: Option<Said<'a>>,
+    device: Option<D>,
 }
 
 /// What a run of jobs leaves: the world, and how the command ends.

@@ -10,3 +10,7 @@ returns-in-Ok c = record {
   begins = λ allowed limits pages index tree.
       c.in-Ok.ensures.begins refl (allowed.frames_from, allowed.frames_to) allowed.sessions_from allowed.sessions_to limits pages index tree;
 }
+
+pub returns-in-Err-clause-begins : goal.returns-in-Err-clause-begins
+returns-in-Err-clause-begins c allowed limits pages index tree =
+    c.in-Err.ensures.begins refl (allowed.frames_from, allowed.frames_to) allowed.sessions_from allowed.sessions_to limits pages index tree

@@ -17,6 +17,7 @@ returns-in-Some-play-default-clause-printed g c =
           run = c.play.ensures.run;
           asked = c.play.ensures.asked;
           silent = none_then _ c.play.ensures.silent (keeps_same _ _);
+          refused = c.play.ensures.refused;
         };
       };
     }
@@ -35,6 +36,7 @@ returns-in-Some-run-default-clause-printed g c =
           run = c.run.ensures.run;
           silent = none_then _ c.run.ensures.silent (keeps_same _ _);
           printed = c.run.ensures.printed;
+          refused = c.run.ensures.refused;
         };
       };
     }
