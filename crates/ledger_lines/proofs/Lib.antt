@@ -2,6 +2,5 @@ pub mod Imports
 pub mod Putting
 pub mod Refusing
 pub mod Given
-pub mod Fresh
 pub mod Answered
 pub mod Ending

@@ -156,7 +156,7 @@ IfNotServed (Found served) p = ⊤
 IfNotServed (Made served) p = ⊤
 
 -- why no index was opened: one in a file that held these bytes, if it was sound, for want of memory or of the device alone
-pub record IsOpeningRefused {D : Type 0} (d : DeviceGhosts D) (bytes : ℕ → List ℕ) (refusal : Refusal D) : Type 0 where
+pub record IsLedgerRefused {D : Type 0} (d : DeviceGhosts D) (bytes : ℕ → List ℕ) (refusal : Refusal D) : Type 0 where
   pub fault : IsOpenFault refusal.fault
   pub cause : IfSome refusal.device (IsNotOpened d IsTreeFor bytes 64 refusal.fault)
 
@@ -176,6 +176,6 @@ pub record ServesNew {D : Type 0} (d : DeviceGhosts D) (g : Ghosts (Store D d)) 
 abbrev pub ServesFile : {D N : Type 0} (d : DeviceGhosts D) (g : Ghosts (Store D d)) (e : DeviceGhosts N) (h : Ghosts (Store N e)) → (Dead → Row → Bool) → (ℕ → List ℕ)
     → Option (List ℕ) → Option (List ℕ) → Option (List ℕ) → Kept D N → Type 0
 ServesFile d g e h is_in bytes input before after NoPath = ⊤
-ServesFile d g e h is_in bytes input before after (Refused refusal) = IsOpeningRefused d bytes refusal
+ServesFile d g e h is_in bytes input before after (Refused refusal) = IsLedgerRefused d bytes refusal
 ServesFile d g e h is_in bytes input before after (Found served) = ServesFound d g is_in bytes input before after served
 ServesFile d g e h is_in bytes input before after (Made served) = ServesNew e h is_in input before after served

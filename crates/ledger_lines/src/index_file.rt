@@ -15,6 +15,7 @@ use std::alloc::Global;
 use std::fs::{self, File};
 use std::io;
 use std::rt::Files;
+use world::new_indexes_are_trees;
 
 /// The sizes of a new index: some 17 megabytes.
 const LIMITS: Limits = Limits {
@@ -122,6 +123,7 @@ fn make<F: Files<File = File>>(
             });
         }
     };
+    new_indexes_are_trees();
     match Index::open(alloc, device, FRAMES) {
         Ok(index) => Ok(index),
         Err(refused) => Err(Refusal {
