@@ -13,7 +13,10 @@ use std::rt::Files;
 
 /// The file that is there.
 pub fn file(rt: &impl Files<File = File>, path: &str) -> Result<FileDevice<Unknown>, Fault> {
-    FileDevice::open(rt, path)
+    match FileDevice::open(rt, path) {
+        Ok(device) => Ok(device),
+        Err(_) => Err(Fault::Io),
+    }
 }
 
 pub fn len(device: &MemDevice) -> u64 {
