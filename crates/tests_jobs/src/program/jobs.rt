@@ -211,12 +211,16 @@ fn are_refused(
     clear(rt, path);
     clear(rt, jobs);
     let words = ["btidx", "run", path, jobs];
-    runs(rt, words.as_slice(), "", "", "btidx: refused 2 Io\n", 2)?;
+    let said =
+        "btidx: refused 2 Io\nbtidx: btidx_no_run.jobs: No such file or directory (os error 2)\n";
+    runs(rt, words.as_slice(), "", "", said, 2)?;
     write(rt, jobs, "puts\n")?;
     let said = "btidx: line 1: not a job\n";
     runs(rt, words.as_slice(), "", "", said, 2)?;
     write(rt, jobs, "commit\n")?;
-    runs(rt, words.as_slice(), "", "", "btidx: refused 2 Io\n", 2)
+    let said =
+        "btidx: refused 2 Io\nbtidx: btidx_no_run.idx: No such file or directory (os error 2)\n";
+    runs(rt, words.as_slice(), "", "", said, 2)
 }
 
 /// What is refused, and in which order: the job file, the index, the sizes.

@@ -30,7 +30,9 @@ fn short_are_refused(rt: HostRuntime) -> Result<(), Fail> {
         is_refused(&rt, path, "btidx: refused 14 BadSuper\n")?;
     }
     remove(&rt, path)?;
-    is_refused(&rt, path, "btidx: refused 2 Io\n")
+    let said =
+        "btidx: refused 2 Io\nbtidx: btidx_both_short.idx: No such file or directory (os error 2)\n";
+    is_refused(&rt, path, said)
 }
 
 fn entry(key: u8) -> Entry {

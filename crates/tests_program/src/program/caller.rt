@@ -3,9 +3,7 @@
 ghost use Rattle.std.specs.Prelude.{◌≡◌, IfOk};
 
 use access_method::in_file::{self, InFile};
-use access_method::{
-    Entry, Fault, Index, Limits, NoProgress, PageStore, Range, ScanToken, Start,
-};
+use access_method::{Entry, Fault, Index, Limits, NoProgress, PageStore, Range, ScanToken, Start};
 use std::alloc::Global;
 use std::fs::File;
 use std::rt::Files;

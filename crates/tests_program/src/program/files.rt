@@ -191,15 +191,18 @@ fn refused_files(rt: HostRuntime) -> Result<(), Fail> {
     let path = "btidx_refused.idx";
     create(&rt, path)?;
     // The path is there.
-    is_not_created(&rt, path, "4", "btidx: refused 2 Io\n")?;
+    let said = "btidx: refused 2 Io\nbtidx: btidx_refused.idx: File exists (os error 17)\n";
+    is_not_created(&rt, path, "4", said)?;
     checks(&rt, path, FRESH, 0)?;
     remove(&rt, path)?;
     // The limits are tested first, and no file is made.
     is_not_created(&rt, path, "3", "btidx: refused 18 BadLimits\n")?;
     // The path isn't there, or is a folder.
-    for missing in [path, "."] {
-        are_refused(&rt, missing, "btidx: refused 2 Io\n")?;
-    }
+    let said =
+        "btidx: refused 2 Io\nbtidx: btidx_refused.idx: No such file or directory (os error 2)\n";
+    are_refused(&rt, path, said)?;
+    let said = "btidx: refused 2 Io\nbtidx: .: Is a directory (os error 21)\n";
+    are_refused(&rt, ".", said)?;
     // A file of 100 bytes.
     fs::write(&rt, path, [0; 100].as_slice())?;
     are_refused(&rt, path, "btidx: refused 14 BadSuper\n")?;

@@ -62,7 +62,8 @@ fn output_fails(rt: HostRuntime) -> Result<(), Fail> {
     for script in ["put 0 61 (0,1)\nforce\n", "put 0 61 (0,1)\nforce\nputt\n"] {
         let Printed { out, err, status } = into_narrow(&rt, script);
         assert_eq!(rt; text(&out), "added 1\nforc");
-        assert_eq!(rt; text(&err), "btidx: refused 2 Io\n");
+        let said = "btidx: refused 2 Io\nbtidx: standard input or output: no storage space\n";
+        assert_eq!(rt; text(&err), said);
         assert_eq!(rt; status, 2);
     }
     Ok(())
