@@ -392,7 +392,15 @@ fn act_named<
     let (mut shared, mut hands) = seated::<S, T, J>(
         cell, keeper, blank, world, history, pending, hands, by.workers,
     );
-    act_all(rt, rt.alloc(), cell, &mut shared, jobs, &mut hands, by.lines)?;
+    act_all(
+        rt,
+        rt.alloc(),
+        cell,
+        &mut shared,
+        jobs,
+        &mut hands,
+        by.lines,
+    )?;
     let Shared {
         world: _,
         start: _,
