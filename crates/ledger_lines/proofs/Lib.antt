@@ -4,3 +4,4 @@ pub mod Refusing
 pub mod Given
 pub mod Answered
 pub mod Ending
+pub mod Refused

@@ -1,13 +1,17 @@
 -- How a ledger's index is opened or made.
-use Rattle.std.specs.Prelude.{◌≡◌, ℕ, false, IsTrue, List}
-use Rattle.access_method.specs.Files.{bytes_before}
+use Rattle.std.specs.Prelude.{◌≡◌, ℕ, false, IsTrue, List, Option, None, Some}
+use Rattle.access_method.specs.Files.{bytes_before, IsNotOpened}
 use Rattle.access_method.specs.Indexes.{IndexBegins}
 use Rattle.access_method.specs.declared.index.Index.{Index}
 use Rattle.device.specs.declared.device.Device.{Ghosts as DeviceGhosts}
 use Rattle.index_model.specs.Formats.{made}
 use Rattle.index_model.specs.declared.entry.Entry.{Entry}
+use Rattle.index_model.specs.declared.fault.Fault.{Fault}
+use Rattle.index_model.specs.declared.fault.Fault.TheVariants.{Io}
 use Rattle.index_model.specs.declared.format.Format.{Format}
 use Rattle.index_model.specs.declared.limits.Limits.{Limits}
+use Rattle.ledger_lines.specs.declared.index_file.Left.{Left}
+use Rattle.ledger_lines.specs.declared.index_file.Left.TheVariants.{Nothing, Found as FoundThere, Made as MadeNew}
 use Rattle.ledger_lines.specs.declared.index_file.Opened.{Opened}
 use Rattle.ledger_lines.specs.declared.index_file.Opened.TheVariants.{Found, Made}
 use Rattle.page_action.specs.Contents.{entry_on_live_leaf}
@@ -16,6 +20,7 @@ use Rattle.page_codec.specs.declared.page.Page.{Page}
 use Rattle.page_store.specs.Stores.{device_of}
 use Rattle.page_store.specs.declared.store.Store.{Store}
 use Rattle.recovery.specs.Index.{HasIndex}
+use Rattle.recovery.specs.Opening.{IsNoMemoryOrIo}
 use Rattle.tree_acts.specs.TheoremKeys.{IsTreeFor}
 
 -- the sizes of a new ledger
@@ -43,3 +48,22 @@ BeginsNew d g index = IsTrue (d.is_honest (device_of d index.store)) → BeginsE
 abbrev pub OpensAs : {I N : Type 0} → (I → Type 0) → (N → Type 0) → Opened I N → Type 0
 OpensAs Is New (Found index) = Is index
 OpensAs Is New (Made index) = New index
+
+-- the device that an opening of a file that was there has left, if it took the file
+abbrev pub left_of : {D N : Type 0} → Option D → Left D N
+left_of None = Nothing
+left_of (Some device) = FoundThere device
+
+-- Why no new index is served: it couldn't be made, for a call of the file; or it was, and there was no memory to open it or its device failed,
+-- as far as that kept the disk model.
+abbrev pub IsNotMade : {D N : Type 0} → DeviceGhosts N → Fault → Left D N → Type 0
+IsNotMade e fault Nothing = fault ≡ Io
+IsNotMade e fault (FoundThere device) = ⊥
+IsNotMade e fault (MadeNew device) = IsTrue (e.is_honest device) → IsNoMemoryOrIo fault
+
+-- Why no index is served: the file couldn't be taken or made; or else why that in a file which held these bytes, or the new one, isn't opened.
+-- A sound one is refused for want of memory or of the device alone.
+abbrev pub IsNotServed : {D N : Type 0} → DeviceGhosts D → DeviceGhosts N → (ℕ → List ℕ) → Fault → Left D N → Type 0
+IsNotServed d e bytes fault Nothing = fault ≡ Io
+IsNotServed d e bytes fault (FoundThere device) = IsNotOpened d IsTreeFor bytes 64 fault device
+IsNotServed d e bytes fault (MadeNew device) = IsTrue (e.is_honest device) → IsNoMemoryOrIo fault

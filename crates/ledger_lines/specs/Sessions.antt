@@ -1,7 +1,7 @@
 -- What a ledger answers to the lines of its input, and how it ends.
 use Rattle.std.specs.Prelude.{◌≡◌, ◌≢◌, ◌⊎◌, ℕ, Bool, Option, List, [], ◌∷◌, ◌++◌, IfErr, IfSome, IsOk, OnErr, OnOk, ⊤}
 use Rattle.std.specs.Io.KnownBytes.{Appends}
-use Rattle.access_method.specs.Files.{IsAtRest, IsLastOver, IsNotOpened, IsOpenFault, StaysOnDevice}
+use Rattle.access_method.specs.Files.{IsAtRest, IsLastOver, IsOpenFault, StaysOnDevice}
 use Rattle.access_method.specs.declared.index.Index.{Index}
 use Rattle.device.specs.declared.device.Device.{Ghosts as DeviceGhosts}
 use Rattle.index_model.specs.Faults.{HasCause}
@@ -12,16 +12,14 @@ use Rattle.page_action.specs.declared.page_store.PageStore.{Ghosts}
 use Rattle.page_store.specs.Stores.{state_of}
 use Rattle.page_store.specs.declared.store.Store.{Store}
 use Rattle.text_forms.specs.Spelling.{lines_of, words_of}
-use Rattle.tree_acts.specs.TheoremKeys.{IsTreeFor}
 use Rattle.ledger_lines.specs.Breaking.{AppendsFirst, IsBrokenOff}
 use Rattle.ledger_lines.specs.Calls.{Replies}
 use Rattle.ledger_lines.specs.Files.{IsOnDisk}
-use Rattle.ledger_lines.specs.Opening.{BeginsFrom, BeginsNew}
+use Rattle.ledger_lines.specs.Opening.{BeginsFrom, BeginsNew, IsNotServed}
 use Rattle.ledger_lines.specs.Lines.{LedgerLineFails, HasLedgerValues, ledger_words}
 use Rattle.ledger_lines.specs.Replies.{ReplyIsDurable, reply_text}
 use Rattle.ledger_lines.specs.declared.dead.Dead.{Dead}
 use Rattle.ledger_lines.specs.declared.line.Line.{Line}
-use Rattle.ledger_lines.specs.declared.index_file.Refusal.{Refusal}
 use Rattle.ledger_lines.specs.declared.program.Kept.{Kept}
 use Rattle.ledger_lines.specs.declared.program.Kept.TheVariants.{NoPath, Refused, Found, Made}
 use Rattle.ledger_lines.specs.declared.program.Served.{Served}
@@ -155,11 +153,6 @@ IfNotServed (Refused refusal) p = p
 IfNotServed (Found served) p = ⊤
 IfNotServed (Made served) p = ⊤
 
--- why no index was opened: one in a file that held these bytes, if it was sound, for want of memory or of the device alone
-pub record IsLedgerRefused {D : Type 0} (d : DeviceGhosts D) (bytes : ℕ → List ℕ) (refusal : Refusal D) : Type 0 where
-  pub fault : IsOpenFault refusal.fault
-  pub cause : IfSome refusal.device (IsNotOpened d IsTreeFor bytes 64 refusal.fault)
-
 -- the index in a file that held these bytes was opened, and lines were answered
 pub record ServesFound {D : Type 0} (d : DeviceGhosts D) (g : Ghosts (Store D d)) (is_in : Dead → Row → Bool) (bytes : ℕ → List ℕ) (input before after : Option (List ℕ)) (served : Served D) : Type 0 where
   pub opened : Index (Store D d)
@@ -176,6 +169,6 @@ pub record ServesNew {D : Type 0} (d : DeviceGhosts D) (g : Ghosts (Store D d)) 
 abbrev pub ServesFile : {D N : Type 0} (d : DeviceGhosts D) (g : Ghosts (Store D d)) (e : DeviceGhosts N) (h : Ghosts (Store N e)) → (Dead → Row → Bool) → (ℕ → List ℕ)
     → Option (List ℕ) → Option (List ℕ) → Option (List ℕ) → Kept D N → Type 0
 ServesFile d g e h is_in bytes input before after NoPath = ⊤
-ServesFile d g e h is_in bytes input before after (Refused refusal) = IsLedgerRefused d bytes refusal
+ServesFile d g e h is_in bytes input before after (Refused refusal) = IsOpenFault refusal.fault × IsNotServed d e bytes refusal.fault refusal.left
 ServesFile d g e h is_in bytes input before after (Found served) = ServesFound d g is_in bytes input before after served
 ServesFile d g e h is_in bytes input before after (Made served) = ServesNew e h is_in input before after served

@@ -1,9 +1,8 @@
 //! The index in a file, as it is opened or made.
 
-ghost use Rattle.std.specs.Prelude.{◌≡◌, None, IfErr, IfOk, IfSome};
-ghost use Rattle.access_method.specs.Files.{IsNotOpened, IsOpenFault};
-ghost use Rattle.tree_acts.specs.TheoremKeys.{IsTreeFor};
-ghost use Rattle.ledger_lines.specs.Opening.{BeginsFrom, BeginsNew, OpensAs};
+ghost use Rattle.std.specs.Prelude.{◌≡◌, IfErr, IfOk};
+ghost use Rattle.access_method.specs.Files.{IsOpenFault};
+ghost use Rattle.ledger_lines.specs.Opening.{BeginsFrom, BeginsNew, IsNotMade, IsNotServed, OpensAs, left_of};
 
 use access_method::Index;
 use access_method::in_file::{self, InFile, NotOpened};
@@ -35,13 +34,43 @@ pub enum Opened<I, N> {
     Made(N),
 }
 
-/// Why no index was opened: the fault, what the system said, if that is why, and the device over a file that was there, as the
-/// opening left it.
+/// The device over the file, as a refused opening left it: none, where the file couldn't be taken or made; that of a file that was
+/// there; or that of a new one.
 #[derive(Drop)]
-pub struct Refusal<D> {
+pub enum Left<D, N> {
+    Nothing,
+    Found(D),
+    Made(N),
+}
+
+/// Why no index was opened: the fault, what the system said, if that is why, and the device.
+#[derive(Drop)]
+pub struct Refusal<D, N> {
     pub fault: Fault,
     pub error: Option<io::Error>,
-    pub device: Option<D>,
+    pub left: Left<D, N>,
+}
+
+// No file was taken or made, for what the system said.
+fn nothing<D, N>(error: Option<io::Error>) -> Refusal<D, N>
+    ensures fault { result.fault ≡ Fault.Io }
+    ensures left { result.left ≡ Left.Nothing }
+{
+    Refusal {
+        fault: Fault::Io,
+        error,
+        left: Left::Nothing,
+    }
+}
+
+// The device that an opening of a file that was there has left.
+fn found_left<D, N>(device: Option<D>) -> Left<D, N>
+    ensures { result ≡ left_of device }
+{
+    match device {
+        Some(device) => Left::Found(device),
+        None => Left::Nothing,
+    }
 }
 
 /// Opens the index in a file, after any crash; where there is no file, makes an empty one. Refused with `Io` (2) where the file
@@ -50,27 +79,23 @@ pub fn open<F: Files<File = File>, S: Start>(
     rt: &F,
     alloc: Global,
     path: &str,
-) -> Result<Opened<InFile<S>, InFile<Zeros>>, Refusal<FileDevice<S>>>
+) -> Result<Opened<InFile<S>, InFile<Zeros>>, Refusal<FileDevice<S>, FileDevice<Zeros>>>
     // Where the file held an index whose pages are a B-link tree, it is opened with them; a new one begins without entries.
     ensures begins { IfOk result (OpensAs
         (BeginsFrom ⟦<FileDevice<S> as Device>⟧ ⟦<Store<FileDevice<S>> as PageStore>⟧ S.Start.bytes)
         (BeginsNew ⟦<FileDevice<Zeros> as Device>⟧ ⟦<Store<FileDevice<Zeros>> as PageStore>⟧)) }
     // Such an index is refused for want of memory or of the device alone.
-    ensures cause { IfErr result (λ refusal. IfSome refusal.device
-        (IsNotOpened ⟦<FileDevice<S> as Device>⟧ IsTreeFor S.Start.bytes 64 refusal.fault)) }
+    ensures cause { IfErr result (λ refusal. IsNotServed ⟦<FileDevice<S> as Device>⟧
+        ⟦<FileDevice<Zeros> as Device>⟧ S.Start.bytes refusal.fault refusal.left) }
     ensures fault { IfErr result (λ refusal. IsOpenFault refusal.fault) }
 {
     match fs::exists(rt, path) {
         Ok(true) => found::<F, S>(rt, alloc, path),
-        Ok(false) => match make(rt, alloc, path) {
+        Ok(false) => match make::<F, FileDevice<S>>(rt, alloc, path) {
             Ok(index) => Ok(Opened::Made(index)),
-            Err(refusal) => Err(without_device(&refusal)),
+            Err(refusal) => Err(refusal),
         },
-        Err(error) => Err(Refusal {
-            fault: Fault::Io,
-            error: Some(error),
-            device: None,
-        }),
+        Err(error) => Err(nothing(Some(error))),
     }
 }
 
@@ -79,12 +104,12 @@ fn found<F: Files<File = File>, S: Start>(
     rt: &F,
     alloc: Global,
     path: &str,
-) -> Result<Opened<InFile<S>, InFile<Zeros>>, Refusal<FileDevice<S>>>
+) -> Result<Opened<InFile<S>, InFile<Zeros>>, Refusal<FileDevice<S>, FileDevice<Zeros>>>
     ensures begins { IfOk result (OpensAs
         (BeginsFrom ⟦<FileDevice<S> as Device>⟧ ⟦<Store<FileDevice<S>> as PageStore>⟧ S.Start.bytes)
         (BeginsNew ⟦<FileDevice<Zeros> as Device>⟧ ⟦<Store<FileDevice<Zeros>> as PageStore>⟧)) }
-    ensures cause { IfErr result (λ refusal. IfSome refusal.device
-        (IsNotOpened ⟦<FileDevice<S> as Device>⟧ IsTreeFor S.Start.bytes 64 refusal.fault)) }
+    ensures cause { IfErr result (λ refusal. IsNotServed ⟦<FileDevice<S> as Device>⟧
+        ⟦<FileDevice<Zeros> as Device>⟧ S.Start.bytes refusal.fault refusal.left) }
     ensures fault { IfErr result (λ refusal. IsOpenFault refusal.fault) }
 {
     match in_file::open::<F, S>(rt, alloc, path, FRAMES) {
@@ -98,19 +123,21 @@ fn found<F: Files<File = File>, S: Start>(
         ) => Err(Refusal {
             fault,
             error,
-            device,
+            left: found_left(device),
         }),
     }
 }
 
 // Makes an empty index in a new file, and opens that very one.
-fn make<F: Files<File = File>>(
+fn make<F: Files<File = File>, D>(
     rt: &F,
     alloc: Global,
     path: &str,
-) -> Result<InFile<Zeros>, Refusal<FileDevice<Zeros>>>
+) -> Result<InFile<Zeros>, Refusal<D, FileDevice<Zeros>>>
     ensures begins { IfOk result
         (BeginsNew ⟦<FileDevice<Zeros> as Device>⟧ ⟦<Store<FileDevice<Zeros>> as PageStore>⟧) }
+    ensures cause { IfErr result (λ refusal. IsNotMade ⟦<FileDevice<Zeros> as Device>⟧
+        refusal.fault refusal.left) }
     ensures fault { IfErr result (λ refusal. IsOpenFault refusal.fault) }
 {
     let device = match in_file::create(rt, path, &LIMITS, &NoProgress) {
@@ -119,7 +146,7 @@ fn make<F: Files<File = File>>(
             return Err(Refusal {
                 fault: not_made.fault,
                 error: not_made.error,
-                device: None,
+                left: Left::Nothing,
             });
         }
     };
@@ -129,19 +156,7 @@ fn make<F: Files<File = File>>(
         Err(refused) => Err(Refusal {
             fault: refused.fault,
             error: refused.device.error(),
-            device: Some(refused.device),
+            left: Left::Made(refused.device),
         }),
-    }
-}
-
-// The same, of a new file.
-fn without_device<D, E>(refusal: &Refusal<D>) -> Refusal<E>
-    ensures fault { result.fault ≡ refusal.now.fault }
-    ensures device { result.device ≡ None }
-{
-    Refusal {
-        fault: refusal.fault,
-        error: refusal.error,
-        device: None,
     }
 }

@@ -12,6 +12,6 @@ mod said;
 mod session;
 
 pub use dead::Dead;
-pub use index_file::Refusal;
+pub use index_file::{Left, Refusal};
 pub use program::{Ended, Kept, Served, ledger, refuse, refuse_words};
 pub use session::answer_lines;

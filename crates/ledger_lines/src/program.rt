@@ -42,7 +42,7 @@ pub enum Kept<D, N> {
     /// The words name no file.
     NoPath,
     /// None was opened.
-    Refused(Refusal<D>),
+    Refused(Refusal<D, N>),
     Found(Served<D>),
     Made(Served<N>),
 }
