@@ -56,10 +56,10 @@ left_of (Some device) = FoundThere device
 
 -- Why no new index is served: it couldn't be made, for a call of the file; or it was, and there was no memory to open it or its device failed,
 -- as far as that kept the disk model.
-abbrev pub IsNotMade : {D N : Type 0} → DeviceGhosts N → Fault → Left D N → Type 0
-IsNotMade e fault Nothing = fault ≡ Io
-IsNotMade e fault (FoundThere device) = ⊥
-IsNotMade e fault (MadeNew device) = IsTrue (e.is_honest device) → IsNoMemoryOrIo fault
+abbrev pub IsNewNotServed : {D N : Type 0} → DeviceGhosts N → Fault → Left D N → Type 0
+IsNewNotServed e fault Nothing = fault ≡ Io
+IsNewNotServed e fault (FoundThere device) = ⊥
+IsNewNotServed e fault (MadeNew device) = IsTrue (e.is_honest device) → IsNoMemoryOrIo fault
 
 -- Why no index is served: the file couldn't be taken or made; or else why that in a file which held these bytes, or the new one, isn't opened.
 -- A sound one is refused for want of memory or of the device alone.

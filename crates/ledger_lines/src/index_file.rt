@@ -2,7 +2,7 @@
 
 ghost use Rattle.std.specs.Prelude.{◌≡◌, IfErr, IfOk};
 ghost use Rattle.access_method.specs.Files.{IsOpenFault};
-ghost use Rattle.ledger_lines.specs.Opening.{BeginsFrom, BeginsNew, IsNotMade, IsNotServed, OpensAs, left_of};
+ghost use Rattle.ledger_lines.specs.Opening.{BeginsFrom, BeginsNew, IsNewNotServed, IsNotServed, OpensAs, left_of};
 
 use access_method::Index;
 use access_method::in_file::{self, InFile, NotOpened};
@@ -136,7 +136,7 @@ fn make<F: Files<File = File>, D>(
 ) -> Result<InFile<Zeros>, Refusal<D, FileDevice<Zeros>>>
     ensures begins { IfOk result
         (BeginsNew ⟦<FileDevice<Zeros> as Device>⟧ ⟦<Store<FileDevice<Zeros>> as PageStore>⟧) }
-    ensures cause { IfErr result (λ refusal. IsNotMade ⟦<FileDevice<Zeros> as Device>⟧
+    ensures cause { IfErr result (λ refusal. IsNewNotServed ⟦<FileDevice<Zeros> as Device>⟧
         refusal.fault refusal.left) }
     ensures fault { IfErr result (λ refusal. IsOpenFault refusal.fault) }
 {
