@@ -8,7 +8,7 @@ ghosts-act_named-J-Jobs g a = record {
   jobs = a.jobs.now;
   stood = WorldFits g.S.PageStore g.T.DeadRows a.world;
   kept_then = WorldKeeps g.S.PageStore g.T.DeadRows a.world;
-  workers = a.workers;
+  workers = a.by.workers;
   handed = handed_of g.S.PageStore g.T.DeadRows a.world;
 }
 
