@@ -15,7 +15,7 @@ ghost use Rattle.command_line.specs.Reporting.{PrintsReport, PrintsDamage, AreSo
 use crate::checking::{check_pages, check_pages_one};
 use crate::end::End;
 use crate::listing::list_pages;
-use crate::said::{Said, said_of};
+use crate::said::{Said, said_of, said_of_making};
 use access_method::in_file::{self, NotOpened, open_store};
 use device::{Device, FileDevice, Start, Zeros};
 use index_model::{Fault, Limits, Progress};
@@ -77,7 +77,7 @@ pub fn create<'a, R: Files<File = File>, P: Progress, W: Write>(
             progress.end();
             Created {
                 device: None,
-                said: said_of(path, not_made.error),
+                said: said_of_making(path, not_made.error),
                 end: Ok(End::Refused(not_made.fault)),
             }
         }

@@ -92,7 +92,13 @@ pub fn run<
 {
     match read_file(rt, alloc, asked.jobs) {
         Ok(text) => run_text::<R, S, W, E>(rt, alloc, asked, text.as_slice(), out, err),
-        Err(error) => no_run(None, said_of(asked.jobs, Some(error)), Err(error)),
+        Err(error) => {
+            let said = Said {
+                path: asked.jobs,
+                error,
+            };
+            no_run(None, Some(said), Err(error))
+        }
     }
 }
 

@@ -219,7 +219,7 @@ fn are_refused(
     runs(rt, words.as_slice(), "", "", said, 2)?;
     write(rt, jobs, "commit\n")?;
     let said =
-        "btidx: refused 2 Io\nbtidx: btidx_no_run.idx: No such file or directory (os error 2)\n";
+        "btidx: refused 2 Io\n";
     runs(rt, words.as_slice(), "", "", said, 2)
 }
 

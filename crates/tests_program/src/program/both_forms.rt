@@ -31,7 +31,7 @@ fn short_are_refused(rt: HostRuntime) -> Result<(), Fail> {
     }
     remove(&rt, path)?;
     let said =
-        "btidx: refused 2 Io\nbtidx: btidx_both_short.idx: No such file or directory (os error 2)\n";
+        "btidx: refused 2 Io\n";
     is_refused(&rt, path, said)
 }
 

@@ -191,7 +191,7 @@ fn refused_files(rt: HostRuntime) -> Result<(), Fail> {
     let path = "btidx_refused.idx";
     create(&rt, path)?;
     // The path is there.
-    let said = "btidx: refused 2 Io\nbtidx: btidx_refused.idx: File exists (os error 17)\n";
+    let said = "btidx: refused 2 Io\n";
     is_not_created(&rt, path, "4", said)?;
     checks(&rt, path, FRESH, 0)?;
     remove(&rt, path)?;
@@ -199,7 +199,7 @@ fn refused_files(rt: HostRuntime) -> Result<(), Fail> {
     is_not_created(&rt, path, "3", "btidx: refused 18 BadLimits\n")?;
     // The path isn't there, or is a folder.
     let said =
-        "btidx: refused 2 Io\nbtidx: btidx_refused.idx: No such file or directory (os error 2)\n";
+        "btidx: refused 2 Io\n";
     are_refused(&rt, path, said)?;
     let said = "btidx: refused 2 Io\nbtidx: .: Is a directory (os error 21)\n";
     are_refused(&rt, ".", said)?;
