@@ -218,8 +218,7 @@ fn are_refused(
     let said = "btidx: line 1: not a job\n";
     runs(rt, words.as_slice(), "", "", said, 2)?;
     write(rt, jobs, "commit\n")?;
-    let said =
-        "btidx: refused 2 Io\n";
+    let said = "btidx: refused 2 Io\n";
     runs(rt, words.as_slice(), "", "", said, 2)
 }
 

@@ -30,8 +30,7 @@ fn short_are_refused(rt: HostRuntime) -> Result<(), Fail> {
         is_refused(&rt, path, "btidx: refused 14 BadSuper\n")?;
     }
     remove(&rt, path)?;
-    let said =
-        "btidx: refused 2 Io\n";
+    let said = "btidx: refused 2 Io\n";
     is_refused(&rt, path, said)
 }
 

@@ -198,8 +198,7 @@ fn refused_files(rt: HostRuntime) -> Result<(), Fail> {
     // The limits are tested first, and no file is made.
     is_not_created(&rt, path, "3", "btidx: refused 18 BadLimits\n")?;
     // The path isn't there, or is a folder.
-    let said =
-        "btidx: refused 2 Io\n";
+    let said = "btidx: refused 2 Io\n";
     are_refused(&rt, path, said)?;
     let said = "btidx: refused 2 Io\nbtidx: .: Is a directory (os error 21)\n";
     are_refused(&rt, ".", said)?;
