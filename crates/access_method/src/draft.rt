@@ -127,12 +127,13 @@ pub(crate) fn make_draft<R: Files<File = File>>(
     made
 }
 
-/// Gives a draft that is whole its own name, and takes the draft's from it, so that it is so after a crash too. Refused with
-/// what the system said where that name is there, the file system has no links, or a call fails: the file has neither name then, if
-/// the system lets them be removed.
+/// Gives a draft that is whole its own name, which it has after a crash too, and takes the draft's from it. Refused with what the
+/// system said where that name is there, the file system has no links, or a call fails: the file has neither name then, if the
+/// system lets them be removed.
 ///
-/// A crash before its end may leave the file both names, or, where the folder wasn't synced, one of them: the next making at this
-/// path takes the draft's name away, and one that leads to a file with another name too is left alone.
+/// A crash may leave the file both names: also one soon after this, as the folder isn't synced again. A crash before its own name
+/// is synced may leave one of them. The next making at this path takes the draft's name away, and one that leads to a file with
+/// another name too is left alone.
 pub(crate) fn place_draft<R: Files<File = File>>(
     rt: &R,
     draft: &str,

@@ -113,13 +113,13 @@ impl FileDevice<Zeros> {
         ensures runs { IfOk result (λ d. d.stopped ≡ false) }
     {
         want_len(len)?;
-        let file = apart(File::create_new(rt, path)?)?;
+        let file = match apart(File::create_new(rt, path)?) {
+            Ok(file) => file,
+            Err(error) => return Err(unmade(rt, path, error)),
+        };
         match place_zeros(rt, &file, path, len) {
             Ok(()) => Ok(FileDevice::of_file(file, len)),
-            Err(error) => {
-                let _ = fs::remove_file(rt, path);
-                Err(error)
-            }
+            Err(error) => Err(unmade(rt, path, error)),
         }
     }
 
@@ -257,6 +257,12 @@ fn len_of(file: &File) -> io::Result<u64> {
     // Reads and writes name their place: nothing else uses the file's position.
     let mut file = file;
     file.seek(SeekFrom::End(0))
+}
+
+/// Removes the file that was made at a path, if the system lets it be, and hands back why.
+fn unmade<R: Files<File = File>>(rt: &R, path: &str, error: Error) -> Error {
+    let _ = fs::remove_file(rt, path);
+    error
 }
 
 /// Makes a file this long, all of it written with zeros, and syncs it and its folder. Refused with what the system says.
