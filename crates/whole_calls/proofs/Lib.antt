@@ -17,3 +17,4 @@ pub mod Filling
 pub mod Lasting
 pub mod Whole
 pub mod OneSteps
+pub mod Parting

@@ -8,3 +8,4 @@ pub mod Refusing
 pub mod Stepping
 pub mod Made
 pub mod OneStep
+pub mod Parts

@@ -141,8 +141,10 @@ fn begun(answer: Answer) -> Result<(), Fault>
     }
 }
 
-// Begins a call.
-pub(crate) fn begin<S: PageStore, T: DeadRows>(
+/// Begins a call, which is run in parts. Refused with `Stopped` (3), `NoSession` (12), also where a
+/// bulk delete's set isn't there, `SessionBusy` (13), and of a bulk delete or a cleanup
+/// `VacuumRunning` (11), in this order; nothing is changed then.
+pub fn begin<S: PageStore, T: DeadRows>(
     store: &mut S,
     calls: &mut Calls,
     sets: &[T],

@@ -1,0 +1,72 @@
+use Rattle.std.proofs.Common.{map, ◌≡◌, ◌≢◌, refl, ◌∙◌, rules}
+use Rattle.whole_calls.proofs.Imports.{runs_on_same, runs_on_then, Going, snapshot_of, slot_of}
+use Rattle.whole_calls.specs.Parts.{PartIsRun}
+use Rattle.whole_calls.proofs.Composing.{joined, joined_second, goes_nowhere, goes_told}
+use Rattle.whole_calls.proofs.Lasting.{reached_here, moved_beyond}
+use Rattle.whole_calls.proofs.Made.{made_nowhere, made_last, made_then, made_told}
+use Rattle.whole_calls.proofs.Parting.{part_came, part_comes, part_told, part_goes_on}
+use Rattle.whole_calls.proofs.Gone.{far_last}
+use Rattle.whole_calls.proofs.Tellings.{step_comes, comes_on}
+use Rattle.whole_calls.proofs.parts.take_steps.Goals as goal
+
+pub loop-left-init : goal.loop-left-init
+loop-left-init g c = record {
+  steps = λ f h. h;
+  sessions = refl;
+  others = λ o ne. refl;
+  goes = goes_nowhere g.met.S.PageStore.laws reached_here;
+  runs_on = runs_on_same (slot_of c.args.calls.now.slots.items c.args.session);
+  made = made_nowhere tt;
+}
+
+pub loop-left-preserved : goal.loop-left-preserved
+loop-left-preserved g c =
+    let laws = g.met.S.PageStore.laws in
+    let session = c.args.session in
+    let so_far = c.loop-left.invariant in
+    let went = c.step.ensures in
+    let going : c.step.result ≡ Going = search rules in
+    record {
+      steps = λ f h. went.steps f (so_far.steps f h);
+      sessions = went.others.sessions ∙ so_far.sessions;
+      others = λ o ne. went.others.others o ne ∙ so_far.others o ne;
+      goes = joined laws _ so_far.steps went.steps so_far.goes went.goes (λ xs ys none so. tt)
+          (λ start h hc k kc l lc fx fy fz one two. moved_beyond going one (record { steps = went.steps; others = went.others.others }) refl went.limits two);
+      runs_on = runs_on_then (slot_of c.args.calls.now.slots.items session) (slot_of c.loop-left.calls.slots.items session) (slot_of c.step.new.calls.slots.items session) so_far.runs_on went.runs_on;
+      made = made_then so_far.made went.made (λ xs ys one two. tt);
+    }
+
+pub returns-in_default-clause-goes : goal.returns-in_default-clause-goes
+returns-in_default-clause-goes g c =
+    let over : c.step.result ≢ Going = search rules in
+    let so_far = c.loop-left.invariant in
+    part_came over
+    (joined_second g.met.S.PageStore.laws (PartIsRun g.S.PageStore c.args.session c.args.least_room c.step.result) so_far.steps c.step.ensures.steps so_far.goes c.step.ensures.goes
+    (λ start h hc k kc l lc fx fy fz one two.
+    record {
+      told = part_told c.args.session c.step.result _ _ over (far_last c.args.session c.step.result _ (snapshot_of _ k kc) _ one.far two.told);
+      going = λ is. absurd (over is);
+      ends = λ apart. record {
+        finish = record { last = snapshot_of _ k kc; fits = fy; gone = one; lasts = record { steps = c.step.ensures.steps; others = c.step.ensures.others.others }; step = two };
+        on = so_far.runs_on;
+      };
+    }))
+
+pub returns-clause-goes : goal.returns-clause-goes
+returns-clause-goes g c =
+    goes_told _ c.loop-left.invariant.goes (λ start h hc k kc answers fits by gone. (tt, part_goes_on g.S.PageStore c.args.session c.args.least_room start _ _ gone))
+
+pub returns-in_default-clause-made : goal.returns-in_default-clause-made
+returns-in_default-clause-made g c =
+    let over : c.step.result ≢ Going = search rules in
+    made_told (made_last c.loop-left.invariant.made c.step.ensures.made) (λ xs so. part_comes c.step.result xs over so)
+
+pub returns-clause-made : goal.returns-clause-made
+returns-clause-made g c = c.loop-left.invariant.made
+
+pub returns-in_default-clause-kind : goal.returns-in_default-clause-kind
+returns-in_default-clause-kind g c over =
+    let sets = map g.T.DeadRows.is_in c.args.sets.now in
+    let mid = slot_of c.loop-left.calls.slots.items c.args.session in
+    comes_on sets (slot_of c.args.calls.now.slots.items c.args.session) mid c.step.result c.loop-left.invariant.runs_on
+    (step_comes sets mid (slot_of c.step.new.calls.slots.items c.args.session) c.step.result c.step.ensures.kind)

@@ -1,0 +1,32 @@
+-- A call of one session that is run in parts, between calls of others.
+use Rattle.std.specs.Prelude.{◌≡◌, ◌≢◌, ℕ, Bool, Option, Some, None}
+use Rattle.index_model.specs.declared.entry.Entry.{Entry}
+use Rattle.page_action.specs.declared.page_store.PageStore.{Ghosts}
+use Rattle.session_calls.specs.Ops.{RunsOn}
+use Rattle.session_calls.specs.Slots.{slot_of}
+use Rattle.session_calls.specs.declared.answer.Answer.{Answer}
+use Rattle.session_calls.specs.declared.answer.Answer.TheVariants.{Going}
+use Rattle.schedule.specs.TheoremMoments.{Moment}
+use Rattle.whole_calls.specs.Meanings.{HasRunSoFar, SessionStepMeans}
+use Rattle.whole_calls.specs.Stepping.{FinishIsRun, HasReached}
+
+-- what a part came to: the answer of its last step, unless the call goes on
+abbrev pub part_outcome : Answer → Option Answer
+part_outcome Going = None
+part_outcome answer = Some answer
+
+-- what a part of the session's running call tells: that it has gone on; or that its last step answered so
+abbrev pub PartMeans : {S : Type 0} → ℕ → Answer → Moment S → Moment S → Type 0
+PartMeans session Going old new = HasRunSoFar session old new
+PartMeans session answer old new = SessionStepMeans session answer old new
+
+-- steps that went on, up to a moment that fits, and the last one; and what the session ran before that is the call that it ran at first
+pub record PartEnds {S : Type 0} (g : Ghosts S) (session least_room : ℕ) (answer : Answer) (start : Entry → Bool) (old new : Moment S) : Type 0 where
+  pub finish : FinishIsRun g session least_room answer start old new
+  pub on : RunsOn (slot_of old.slots session) (slot_of finish.last.slots session)
+
+-- what a part of the session's call does to whatever fitted before
+pub record PartIsRun {S : Type 0} (g : Ghosts S) (session least_room : ℕ) (answer : Answer) (start : Entry → Bool) (old new : Moment S) : Type 0 where
+  pub told : PartMeans session answer old new
+  pub going : answer ≡ Going → HasReached g session old new
+  pub ends : answer ≢ Going → PartEnds g session least_room answer start old new
