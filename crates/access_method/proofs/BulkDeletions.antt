@@ -1,16 +1,21 @@
 -- What a bulk delete of an index does, read off the run.
 use Rattle.whole_calls.proofs.Removing.{remove_there, all_once, all_were, all_counted, left_by_all}
-use Rattle.std.proofs.Common.{◌≡◌, ℕ, suc, Bool, true, false, Option, Some, None, unwrap_or, Result, Ok, Err, List, [], ◌∷◌, ◌++◌, length, drop, slice_get, refl, sym, ap, subst, arith, inl, inr, ◌∙◌}
+use Rattle.std.proofs.Common.{◌≡◌, ℕ, zero, suc, ◌<◌, Bool, true, false, Option, Some, None, unwrap_or, Result, Ok, Err, List, [], ◌∷◌, ◌++◌, length, drop, slice_get, refl, sym, ap, subst, arith, inl, inr, ◌∙◌}
 use Rattle.std.specs.Prelude.{◌&&◌, not, if◌then◌else◌, IfOk}
 use Rattle.vacuum.specs.declared.steps.BulkDeleteOp.{BulkDeleteOp}
 use Rattle.schedule.specs.TheoremCrashes.{KeepsHistory, IsCrashSafe}
 use Rattle.access_method.proofs.Imports.{cases_eq, take_all, Effect, Add, Remove, Shape, Action, said_of, later_or, last_said, contents_after, is_there_after, AskBulkDelete, Vacuumed, Call}
 use Rattle.access_method.proofs.Imports.{IsAddedIn, actions_between, IsBulkDeleteAnswer, Meets, removed_by, is_among, Row, Entry, Fault, VacuumStats, contents_after-append, there_before}
 use Rattle.access_method.proofs.Imports.{there_now, Ghosts, ended, Op, Bulk, ToBulk, OthersStay, StoreAndSlots, Moment, snapshot_of, Fits, slot_of, get_append_new, CallRuns, VacuumMeans}
+use Rattle.access_method.proofs.Imports.{Insert, Scan, Cleanup, get_some, get_within}
+use Rattle.schedule.proofs.Fitting.{fits_from, beyond_of, matches_of, running_of}
+use Rattle.schedule.specs.MomentInvariants.{SlotMatches, SlotRuns}
+use Rattle.session_calls.specs.BulkDeletions.{IsBulkDeleteSoFar}
+use Rattle.session_calls.specs.Ops.{set_at}
 use Rattle.access_method.proofs.Imports.{vacuum_outcome, StatsCountEntries, StatsCountPages, removed_of, acts_by, AreOwnEffects, first_call, IsBulkDeletedOrLess}
 
 -- what a bulk delete does says of no entry that it is there,
-says_none : (dead : Row → Bool) (number : ℕ) (call : Call) (count : ℕ) (effects : List Effect) (e : Entry) → call.ask ≡ AskBulkDelete dead
+pub says_none : (dead : Row → Bool) (number : ℕ) (call : Call) (count : ℕ) (effects : List Effect) (e : Entry) → call.ask ≡ AskBulkDelete dead
     → AreOwnEffects call count effects
     → last_said (acts_by number effects) e ≡ Some true → ⊥
 says_none dead number call count [] e ask own says = cc
@@ -28,7 +33,7 @@ says_none dead number call count (Remove es ∷ effects) e ask own says = of (la
     of (Some b) later is h = later (is ∙ h)
 
 -- and nothing of one whose row isn't dead;
-says_nothing : (dead : Row → Bool) (number : ℕ) (call : Call) (count : ℕ) (effects : List Effect) (e : Entry) → call.ask ≡ AskBulkDelete dead
+pub says_nothing : (dead : Row → Bool) (number : ℕ) (call : Call) (count : ℕ) (effects : List Effect) (e : Entry) → call.ask ≡ AskBulkDelete dead
     → AreOwnEffects call count effects → dead e.row ≡ false
     → last_said (acts_by number effects) e ≡ None
 says_nothing dead number call count [] e ask own alive = refl
@@ -55,13 +60,13 @@ drop_front [] ys = refl
 drop_front (x ∷ xs) ys = drop_front xs ys
 
 -- a bulk delete over this set
-module _ {S : Type 0} (g : Ghosts S) (dead : Row → Bool) (old new : StoreAndSlots S) (sets_are : old.sets ≡ dead ∷ []) (start : Entry → Bool)
+module _ {S : Type 0} (g : Ghosts S) (index_own dead : Row → Bool) (old new : StoreAndSlots S) (sets_are : old.sets ≡ index_own ∷ dead ∷ []) (start : Entry → Bool)
     (history : List Action) (calls : List Call) (fits : Fits g start (snapshot_of old history calls)) where
   abbrev bulk_delete_call : Call
-  bulk_delete_call = first_call 63 (ToBulk 0) (snapshot_of old history calls)
+  bulk_delete_call = first_call 63 (ToBulk 1) (snapshot_of old history calls)
 
   asks : bulk_delete_call.ask ≡ AskBulkDelete dead
-  asks = ap (λ (l : List (Row → Bool)). AskBulkDelete (unwrap_or (slice_get l 0) (λ row. false))) sets_are
+  asks = ap (λ (l : List (Row → Bool)). AskBulkDelete (unwrap_or (slice_get l 1) (λ row. false))) sets_are
 
   -- of an entry, before and after what it did
   module _ (then_history : List Action) (effects : List Effect) (own : AreOwnEffects bulk_delete_call (length history) effects) (is : then_history ≡ history ++ acts_by (length calls) effects) where
@@ -108,7 +113,7 @@ module _ {S : Type 0} (g : Ghosts S) (dead : Row → Bool) (old new : StoreAndSl
   removed_so false false dies same there = refl
 
   pub bulk_deleted_or_less : (result : Result VacuumStats Fault)
-      → (r : CallRuns g 63 (VacuumMeans 63 (ToBulk 0) result) (vacuum_outcome result) old new start history calls) → StatsCountEntries (g.state new.store) result
+      → (r : CallRuns g 63 (VacuumMeans 63 (ToBulk 1) result) (vacuum_outcome result) old new start history calls) → StatsCountEntries (g.state new.store) result
       → IfOk result (λ stats. StatsCountPages (g.state new.store) stats × (stats.pages_newly_deleted ≡ 0))
       → IsBulkDeletedOrLess g dead result old.store new.store
   bulk_deleted_or_less (Ok stats) r left pages =
@@ -118,7 +123,7 @@ module _ {S : Type 0} (g : Ghosts S) (dead : Row → Bool) (old new : StoreAndSl
       let meets : Meets start r.then_history (length calls) call = r.ran.fits.explains.meets (length calls) call found in
       let right : IsBulkDeleteAnswer start r.then_history (length calls) (length history) (length r.then_history) dead stats =
       subst (λ (l : List (Row → Bool)).
-      IsBulkDeleteAnswer start r.then_history (length calls) (length history) (length r.then_history) (unwrap_or (slice_get l 0) (λ row. false)) stats) sets_are meets.right in
+      IsBulkDeleteAnswer start r.then_history (length calls) (length history) (length r.then_history) (unwrap_or (slice_get l 1) (λ row. false)) stats) sets_are meets.right in
       let apt = remove_there start (length calls) r.then_calls call dead found asks history r.then_history t.effects t.history_is r.ran.fits.explains.owned in
       let after : (e : Entry) → contents_after start r.then_history e ≡ (contents_after start history e && not (dead e.row)) = λ e. of e (dead e.row) refl t.effects t.own t.history_is right in
       record {
@@ -160,16 +165,95 @@ module _ {S : Type 0} (g : Ghosts S) (dead : Row → Bool) (old new : StoreAndSl
         came = λ e there. fits.explains.contents e ∙ was_there r.then_history t.effects t.own t.history_is e (sym (r.ran.fits.explains.contents e) ∙ there);
       }
 
--- the sessions of an index run no bulk delete after one
-pub none_sweeps : (old new : List (Option Op)) → OthersStay 63 old new → slot_of new 63 ≡ None
-    → ((session set : ℕ) (op : BulkDeleteOp) → slice_get old session ≡ Some (Some (Bulk set op)) → ⊥)
-    → (session set : ℕ) (op : BulkDeleteOp) → slice_get new session ≡ Some (Some (Bulk set op)) → ⊥
-none_sweeps old new others over before session set op at = elim (cases_eq session 63) [
-  | inl same ↦ (
+-- where each bulk delete that runs finds its set under the same number, a moment fits with other sets
+module _ {S : Type 0} (g : Ghosts S) (start : Entry → Bool) (now : Moment S) (sets : List (Row → Bool)) where
+  abbrev then_with : Moment S
+  then_with = record now { sets = sets }
+
+  abbrev Finds : ℕ → Type 0
+  Finds set = set < length now.sets → slice_get sets set ≡ slice_get now.sets set
+
+  same_slot : (session : ℕ) (slot : Option Op) → ((set : ℕ) (op : BulkDeleteOp) → slot ≡ Some (Bulk set op) → Finds set) → SlotMatches g start now session slot → SlotMatches g start then_with session slot
+  same_slot session None finds h = record { none = h.none; idle = h.idle }
+  same_slot session (Some (Insert op)) finds h = record {
+    number = h.number;
+    call = h.call;
+    is = h.is;
+    only = h.only;
+    runs = record { ask = h.runs.ask; session = h.runs.session; added = h.runs.added; started = h.runs.started; fits = h.runs.fits; knows = h.runs.knows };
+    deletions = tt;
+  }
+  same_slot session (Some (Scan op)) finds h = record {
+    number = h.number;
+    call = h.call;
+    is = h.is;
+    only = h.only;
+    runs = record { ask = h.runs.ask; session = h.runs.session; added = h.runs.added; started = h.runs.started; fits = h.runs.fits; knows = h.runs.knows };
+    deletions = tt;
+  }
+  same_slot session (Some (Cleanup op)) finds h = record {
+    number = h.number;
+    call = h.call;
+    is = h.is;
+    only = h.only;
+    runs = record { ask = h.runs.ask; session = h.runs.session; added = h.runs.added; started = h.runs.started; fits = h.runs.fits; knows = h.runs.knows };
+    deletions = tt;
+  }
+  same_slot session (Some (Bulk set op)) finds h =
+      let found : slice_get sets set ≡ slice_get now.sets set = finds set op refl h.deletions.0 in
+      let same : set_at sets set ≡ set_at now.sets set = ap (λ (o : Option (Row → Bool)). unwrap_or o (λ row. false)) found in
+      let there = get_some now.sets set h.deletions.0 in
+      record {
+        number = h.number;
+        call = h.call;
+        is = h.is;
+        only = h.only;
+        runs = record {
+          ask = h.runs.ask ∙ ap (λ (d : Row → Bool). AskBulkDelete d) (sym same);
+          session = h.runs.session;
+          added = h.runs.added;
+          started = h.runs.started;
+          fits = h.runs.fits;
+          knows = h.runs.knows;
+        };
+        deletions = (
+          get_within sets set there.0 (found ∙ there.1),
+          subst (λ (d : Row → Bool). IsBulkDeleteSoFar (g.state now.store) d start now.history h.number h.call.began op) (sym same) h.deletions.1,
+        );
+      }
+
+  pub fits_as : ((session set : ℕ) (op : BulkDeleteOp) → slice_get now.slots session ≡ Some (Some (Bulk set op)) → Finds set) → Fits g start now → Fits g start then_with
+  fits_as finds fits = fits_from (record {
+    matches = (matches_of fits);
+    unique = fits.explains.unique;
+    running = λ session slot h. same_slot session slot (λ set op is. finds session set op (h ∙ ap Some is)) (running_of fits session slot h);
+    vacuums = fits.invariant.vacuums;
+    beyond = beyond_of fits;
+    known = fits.explains.known;
+    meets = fits.explains.meets;
+    owned = fits.explains.owned;
+  })
+
+-- the number of the set of each bulk delete that runs is one of those that there are
+pub within_sets : {S : Type 0} (g : Ghosts S) (start : Entry → Bool) (now : Moment S) → Fits g start now
+    → (session set : ℕ) (op : BulkDeleteOp) → slice_get now.slots session ≡ Some (Some (Bulk set op)) → set < length now.sets
+within_sets g start now fits session set op at = (let runs : SlotRuns g start now session (Bulk set op) = running_of fits session (Some (Bulk set op)) at in runs.deletions.0)
+
+-- an index's own set has one number, whether there is another beside it
+pub finds_own : (own dead : Row → Bool) (set : ℕ) → set < 1 → slice_get (own ∷ dead ∷ []) set ≡ slice_get (own ∷ []) set
+finds_own own dead zero within = refl
+finds_own own dead (suc n) within = absurd (omega (arith, within))
+
+-- after a bulk delete that is over, those that run are those that ran before
+pub runs_before : (old new : List (Option Op)) → OthersStay 63 old new → slot_of new 63 ≡ None
+    → (session set : ℕ) (op : BulkDeleteOp) → slice_get new session ≡ Some (Some (Bulk set op)) → slice_get old session ≡ Some (Some (Bulk set op))
+runs_before old new others over session set op at = elim (cases_eq session 63) [
+  | inl same ↦ absurd (
       let here : slice_get new 63 ≡ Some (Some (Bulk set op)) = subst (λ (s : ℕ). slice_get new s ≡ Some (Some (Bulk set op))) same at in
       let some : slot_of new 63 ≡ Some (Bulk set op) = ap (λ (o : Option (Option Op)). unwrap_or o None) here in
+      let none : Some (Bulk set op) ≡ None = sym some ∙ over in
       cc)
-  | inr apart ↦ before session set op (sym (others session apart) ∙ at)
+  | inr apart ↦ sym (others session apart) ∙ at
 ]
 
 -- a stretch is crash-safe whatever the sets are

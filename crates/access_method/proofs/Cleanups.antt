@@ -6,12 +6,12 @@ use Rattle.access_method.proofs.Imports.{ToCleanup, StoreAndSlots, snapshot_of, 
 use Rattle.access_method.proofs.Imports.{AreOwnEffects, first_call, IsCleanedUp}
 
 -- what a cleanup does says nothing of any entry
-says_nothing : (number : ℕ) (call : Call) (count : ℕ) (effects : List Effect) (e : Entry) → call.ask ≡ AskCleanup → AreOwnEffects call count effects
+pub cleans_nothing : (number : ℕ) (call : Call) (count : ℕ) (effects : List Effect) (e : Entry) → call.ask ≡ AskCleanup → AreOwnEffects call count effects
     → last_said (acts_by number effects) e ≡ None
-says_nothing number call count [] e ask own = refl
-says_nothing number call count (Add x ∷ effects) e ask own = absurd (rw ask at own.0)
-says_nothing number call count (Remove es ∷ effects) e ask own = absurd (rw ask at own.0)
-says_nothing number call count (Shape ∷ effects) e ask own = ap (λ (o : Option Bool). later_or o None) (says_nothing number call (suc count) effects e ask own.1)
+cleans_nothing number call count [] e ask own = refl
+cleans_nothing number call count (Add x ∷ effects) e ask own = absurd (rw ask at own.0)
+cleans_nothing number call count (Remove es ∷ effects) e ask own = absurd (rw ask at own.0)
+cleans_nothing number call count (Shape ∷ effects) e ask own = ap (λ (o : Option Bool). later_or o None) (cleans_nothing number call (suc count) effects e ask own.1)
 
 -- so the contents are those before
 module _ {S : Type 0} (g : Ghosts S) (old new : StoreAndSlots S) (start : Entry → Bool) (history : List Action) (calls : List Call) (fits : Fits g start (snapshot_of old history calls)) where
@@ -22,7 +22,7 @@ module _ {S : Type 0} (g : Ghosts S) (old new : StoreAndSlots S) (start : Entry 
   stays then_history effects own is e =
       ap (λ (l : List Action). contents_after start l e) is ∙ contents_after-append start history (acts_by (length calls) effects) e
       ∙ ap (λ (o : Option Bool). unwrap_or o (contents_after start history e))
-      (says_nothing (length calls) (first_call 63 ToCleanup (snapshot_of old history calls)) (length history) effects e refl own)
+      (cleans_nothing (length calls) (first_call 63 ToCleanup (snapshot_of old history calls)) (length history) effects e refl own)
 
   pub cleaned_up : (result : Result VacuumStats Fault)
       → (r : CallRuns g 63 (VacuumMeans 63 ToCleanup result) (vacuum_outcome result) old new start history calls)

@@ -16,6 +16,7 @@ pub use Rattle.index_model.specs.declared.fault.Fault.TheVariants.{LogFull, NoFr
 pub use Rattle.index_model.specs.declared.format.Format.{Format}
 pub use Rattle.index_model.specs.declared.range.Range.{Range}
 pub use Rattle.index_model.specs.declared.stats.VacuumStats.{VacuumStats}
+pub use Rattle.vacuum.specs.declared.steps.BulkDeleteOp.{BulkDeleteOp}
 pub use Rattle.device.specs.Disk.{MayCrashTo, Trace}
 pub use Rattle.page_action.specs.Causes.{causes_of_forced, has_failed, is_at_end, nothing_wrong, other_row_is_there, with_row}
 pub use Rattle.page_action.specs.States.{Backing, State}
@@ -52,6 +53,7 @@ pub use Rattle.whole_calls.specs.Vacuuming.{StatsCountCleaned, StatsCountDeleted
 pub use Rattle.whole_calls.specs.declared.inserted.Inserted.{Inserted}
 pub use Rattle.world.proofs.Leaving.{left_index}
 pub use Rattle.access_method.specs.Indexes.{AnswersScan, IndexFits, IndexKeeps, InsertsOrKeeps, IsBulkDeletedOrLess, IsCleanedUp, RescanMeans, has_entry, slots_with, slots_within}
-pub use Rattle.access_method.specs.Refusals.{InsertHasCause, InsertsUnhindered, IsForWantOfSpace, IsOfSpace, NothingHinders, causes_of_aminsert, causes_of_run, none_is_left}
-pub use Rattle.access_method.specs.Tokens.{NoneVacuums, SeatsAgree, seat_for}
+pub use Rattle.access_method.specs.Refusals.{InsertHasCause, InsertsUnhindered, IsForWantOfSpace, IsOfSpace, NothingHinders, causes_of_aminsert, causes_of_run, causes_of_vacuum}
+pub use Rattle.access_method.specs.Refusals.{none_is_left}
+pub use Rattle.access_method.specs.Tokens.{IsVacuumSeat, NoVacuumIsOpen, SeatsAgree, seat_for, sitter_of}
 pub use Rattle.access_method.specs.declared.index.Index.{Index}

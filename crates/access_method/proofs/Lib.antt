@@ -7,3 +7,4 @@ pub mod Refusals
 pub mod Opened
 pub mod Closing
 pub mod Scans
+pub mod Partwise

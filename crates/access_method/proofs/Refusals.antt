@@ -1,15 +1,15 @@
 -- The causes of refusals of an index's calls, and what is left of them where nothing hinders a call.
 use Rattle.latch_table.specs.Holdings.{holding_of, nothing_held}
 use Rattle.page_delete.specs.Spares.{IsAlone}
-use Rattle.std.proofs.Common.{◌≡◌, ℕ, Bool, true, false, ◌||◌, nat_lt, nat_le, Option, Some, None, Result, Ok, Err, length, slice_get, refl, sym, ap, arith, inl, inr, ◌∙◌, suc, [], ◌∷◌, List, not, ◌++◌}
+use Rattle.std.proofs.Common.{◌≡◌, ℕ, Bool, true, false, ◌||◌, nat_lt, nat_le, Option, Some, None, Result, Ok, Err, length, slice_get, refl, sym, ap, subst, arith, inl, inr, ◌∙◌, suc, [], ◌∷◌, List, not, ◌++◌}
 use Rattle.session_calls.proofs.Meeting.{other_row_so}
 use Rattle.access_method.proofs.Imports.{InsertIsRun, CallRuns, Event, IsRun, ForEachHistory, Fits, Answer, Call, Action, Op, Insert, Scan, Bulk, Cleanup, others_idle, VacuumStats, Row, is_none}
 use Rattle.access_method.proofs.Imports.{IfErr, IsOk, unwrap_or, cases_lt, or_cases, ltb-true, leb-true, eqb-true, lt-ltb, HasCause, Entry, Fault, Format, NoMemory, Io, Stopped, Blocked, Exists}
 use Rattle.access_method.proofs.Imports.{KeyTooLong, BadRow, IndexFull, LogFull, NoFrame, VacuumRunning, NoSession, SessionBusy, BadSuper, BadVersion, LogDamaged, PageDamaged, BadLimits, TooTall}
 use Rattle.access_method.proofs.Imports.{DeviceTooSmall, KeyExists, has_failed, is_at_end, other_row_is_there, Ghosts, IsFaultCaused, is_vacuum, is_busy, ToInsert, ToBulk, ToCleanup}
 use Rattle.access_method.proofs.Imports.{StoreAndSlots, Moment, snapshot_of, slot_of, slot_vacuums, one_vacuums, IsFreeSession, get_some, another_runs, causes_of_inserted, causes_of_called}
-use Rattle.access_method.proofs.Imports.{is_tall, InsertCallIsCaused, causes_of_gone, Inserted, slots_within, has_entry, InsertsOrKeeps, slots_with, causes_of_run, causes_of_aminsert}
-use Rattle.access_method.proofs.Imports.{none_is_left, InsertHasCause, NothingHinders, IsForWantOfSpace, IsOfSpace, InsertsUnhindered, NoneVacuums, Index}
+use Rattle.access_method.proofs.Imports.{is_tall, InsertCallIsCaused, causes_of_gone, Inserted, slots_within, has_entry, InsertsOrKeeps, slots_with, causes_of_run, causes_of_vacuum, causes_of_aminsert}
+use Rattle.access_method.proofs.Imports.{none_is_left, InsertHasCause, NothingHinders, IsForWantOfSpace, IsOfSpace, InsertsUnhindered, Index, cases_eq}
 use Rattle.schedule.proofs.Fitting.{beyond_of, running_of}
 
 true_false : true ≡ false → ⊥
@@ -214,7 +214,7 @@ none_vacuums (Some (Scan op) ∷ slots) none = none_vacuums slots (λ session op
 none_vacuums (Some (Bulk set op) ∷ slots) none = absurd (none 0 (Bulk set op) refl refl)
 none_vacuums (Some (Cleanup op) ∷ slots) none = absurd (none 0 (Cleanup op) refl refl)
 
-pub calm_slots : (slots : List (Option Op)) → NoneVacuums slots → one_vacuums slots ≡ false
+pub calm_slots : (slots : List (Option Op)) → ((session : ℕ) → slot_vacuums (slot_of slots session) ≡ false) → one_vacuums slots ≡ false
 calm_slots slots none = none_vacuums slots (λ session op at is. true_false (sym is ∙ sym (ap (λ (o : Option (Option Op)). slot_vacuums (unwrap_or o None)) at) ∙ none session))
 
 -- where no open scan's call runs, nobody else holds a page
@@ -236,43 +236,48 @@ all_alone g start now fits idle other differ = by (slice_get now.slots other) re
     by (Some None) at = (let free : IsFreeSession g now other = running_of fits other None at in free.idle.holds)
     by (Some (Some op)) at = absurd (let same : Some op ≡ None = sym (ap (λ (o : Option (Option Op)). unwrap_or o None) at) ∙ none in cc)
 
+-- where no other call runs than that of inserts, none vacuums
+pub calm_alone : (slots : List (Option Op)) → slot_of slots 63 ≡ None → another_runs slots 63 ≡ false → one_vacuums slots ≡ false
+calm_alone slots inserts idle = calm_slots slots (λ session. elim (cases_eq session 63) [
+  | inl same ↦ ap slot_vacuums (subst (λ (n : ℕ). slot_of slots n ≡ None) (sym same) inserts)
+  | inr apart ↦ ap slot_vacuums (others_idle slots 63 idle session apart)
+])
+
 -- why a bulk delete is refused
 module _ {S : Type 0} (g : Ghosts S) (dead : Row → Bool) (old : Index S) (new : S) (inserts : slot_of old.calls.slots.items 63 ≡ None)
-    (slots : length old.calls.slots.items ≡ 64) (none : one_vacuums old.calls.slots.items ≡ false) where
-  no_sets : (not (nat_lt 0 (length (dead ∷ []))) || is_none (slice_get old.calls.slots.items 63)) ≡ true → ⊥
-  no_sets h = elim (or_cases (not (nat_lt 0 (length (dead ∷ [])))) (is_none (slice_get old.calls.slots.items 63)) h) [
-    | inl no_set ↦ true_false (sym no_set ∙ ap not (lt-ltb 0 1 (omega arith)))
+    (slots : length old.calls.slots.items ≡ 64) where
+  no_sets : (not (nat_lt 1 (length ((λ (row : Row). false) ∷ dead ∷ []))) || is_none (slice_get old.calls.slots.items 63)) ≡ true → ⊥
+  no_sets h = elim (or_cases (not (nat_lt 1 (length ((λ (row : Row). false) ∷ dead ∷ [])))) (is_none (slice_get old.calls.slots.items 63)) h) [
+    | inl no_set ↦ true_false (sym no_set ∙ ap not (lt-ltb 1 2 (omega arith)))
     | inr no_session ↦ true_false (sym no_session ∙ there_at old slots)
   ]
 
   sweep_cause : (fault : Fault)
-      → HasCause (causes_of_called g 63 (ToBulk 0) (slots_with dead old) (causes_of_gone g 63 5 false (slots_with dead old) new)) fault → HasCause (causes_of_run g 63 old new) fault
+      → HasCause (causes_of_called g 63 (ToBulk 1) (slots_with dead old) (causes_of_gone g 63 5 false (slots_with dead old) new)) fault → HasCause (causes_of_vacuum g 63 old new) fault
   sweep_cause Stopped h = stopped_called g old new h
-  sweep_cause VacuumRunning h = absurd (true_false (sym h ∙ none))
   sweep_cause NoSession h = absurd (no_sets h)
   sweep_cause SessionBusy h = absurd (true_false (sym h ∙ ap is_busy inserts))
   sweep_cause fault h = h
 
   pub swept_cause : (result : Result VacuumStats Fault)
-      → IfErr result (HasCause (causes_of_called g 63 (ToBulk 0) (slots_with dead old) (causes_of_gone g 63 5 false (slots_with dead old) new)))
-      → IfErr result (HasCause (causes_of_run g 63 old new))
+      → IfErr result (HasCause (causes_of_called g 63 (ToBulk 1) (slots_with dead old) (causes_of_gone g 63 5 false (slots_with dead old) new)))
+      → IfErr result (HasCause (causes_of_vacuum g 63 old new))
   swept_cause (Ok stats) h = tt
   swept_cause (Err fault) h = sweep_cause fault h
 
 -- why a cleanup is refused
 module _ {S : Type 0} (g : Ghosts S) (old : Index S) (new : S) (inserts : slot_of old.calls.slots.items 63 ≡ None)
-    (slots : length old.calls.slots.items ≡ 64) (none : one_vacuums old.calls.slots.items ≡ false) where
+    (slots : length old.calls.slots.items ≡ 64) where
   clean_cause : (fault : Fault) → HasCause (causes_of_called g 63 ToCleanup (slots_within old) (causes_of_gone g 63 5 false (slots_within old) new)) fault
-      → HasCause (causes_of_run g 63 old new) fault
+      → HasCause (causes_of_vacuum g 63 old new) fault
   clean_cause Stopped h = stopped_called g old new h
-  clean_cause VacuumRunning h = absurd (true_false (sym h ∙ none))
   clean_cause NoSession h = absurd (true_false (sym h ∙ there_at old slots))
   clean_cause SessionBusy h = absurd (true_false (sym h ∙ ap is_busy inserts))
   clean_cause fault h = h
 
   pub cleaned_cause : (result : Result VacuumStats Fault)
       → IfErr result (HasCause (causes_of_called g 63 ToCleanup (slots_within old) (causes_of_gone g 63 5 false (slots_within old) new)))
-      → IfErr result (HasCause (causes_of_run g 63 old new))
+      → IfErr result (HasCause (causes_of_vacuum g 63 old new))
   cleaned_cause (Ok stats) h = tt
   cleaned_cause (Err fault) h = clean_cause fault h
 
@@ -282,8 +287,12 @@ pub give_cause : {S : Type 0} (g : Ghosts S) (session : ℕ) (old : Index S) (ne
 give_cause g session old new Stopped h = stopped_run g old new h
 give_cause g session old new fault h = h
 
--- a call that nothing hinders, and that is refused for nothing of its own
-pub finishes : {S X : Type 0} (g : Ghosts S) (session : ℕ) (old : Index S) (new : S) (result : Result X Fault) → NothingHinders g session old new
-    → (g.state new).frames ≡ (g.state old.store).frames → IfErr result (HasCause (causes_of_run g session old new)) → IsOk result
-finishes g session old new (Ok x) un same h = refl
-finishes g session old new (Err fault) un same h = absurd (run_unhindered g session old new un same fault h)
+-- a bulk delete or a cleanup that nothing hinders, and that is refused for nothing of its own
+pub finishes : {S X : Type 0} (g : Ghosts S) (old : Index S) (new : S) (result : Result X Fault) → slot_of old.calls.slots.items 63 ≡ None → NothingHinders g 63 old new
+    → (g.state new).frames ≡ (g.state old.store).frames → IfErr result (HasCause (causes_of_vacuum g 63 old new)) → IsOk result
+finishes g old new (Ok x) inserts un same h = refl
+finishes g old new (Err fault) inserts un same h = absurd (run_unhindered g 63 old new un same fault (apart fault h))
+  where
+    apart : (f : Fault) → HasCause (causes_of_vacuum g 63 old new) f → HasCause (causes_of_run g 63 old new) f
+    apart VacuumRunning is = absurd (true_false (sym is ∙ calm_alone old.calls.slots.items inserts un.alone))
+    apart f is = is

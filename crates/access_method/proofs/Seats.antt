@@ -7,26 +7,36 @@ use Rattle.page_codec.specs.declared.page.Page.{Page}
 use Rattle.access_method.proofs.Imports.{cases_eq, eq-eqb, ne_eqb, Action, AskScan, ◌||◌, Bool, true, false, HasCause, Fault, NoMemory, Io, Stopped, Blocked, Exists, KeyTooLong, BadRow, IndexFull}
 use Rattle.access_method.proofs.Imports.{LogFull, NoFrame, VacuumRunning, NoSession, SessionBusy, BadSuper, BadVersion, LogDamaged, PageDamaged, BadLimits, TooTall, DeviceTooSmall, KeyExists}
 use Rattle.access_method.proofs.Imports.{nothing_wrong, is_at_end, Backing, Range, Ghosts, DeadSets, begun_call, RunsOn, ToScan, Op, Moment, slot_of, slot_vacuums, OthersStay, causes_of_begun_at}
-use Rattle.access_method.proofs.Imports.{in_replicate, get_set_same, get_set_other, get_some, EndMeans, BeginMeans, true_false, Index, IndexFits, IndexKeeps, RescanMeans, SeatsAgree, NoneVacuums}
-use Rattle.access_method.proofs.Imports.{seat_for}
+use Rattle.access_method.proofs.Imports.{in_replicate, get_set_same, get_set_other, get_some, EndMeans, BeginMeans, true_false, Index, IndexFits, IndexKeeps, RescanMeans, SeatsAgree, Bulk}
+use Rattle.session_calls.specs.Ops.{asks_vacuum}
+use Rattle.session_calls.specs.Slots.{is_of_sets}
+use Rattle.session_calls.specs.declared.request.Request.{Request}
+use Rattle.std.specs.Prelude.{◌&&◌, not}
+use Rattle.access_method.proofs.Imports.{seat_for, BulkDeleteOp, sitter_of, IsVacuumSeat, NoVacuumIsOpen}
 use Rattle.access_method.specs.declared.token.Seat.{Seat}
+use Rattle.access_method.specs.declared.token.Sitter.{Sitter}
+use Rattle.access_method.specs.declared.token.Sitter.TheVariants.{Scan as SitsToScan, Vacuum as SitsToVacuum}
 
 -- no token is open
-pub closed_at : (n i number : ℕ) (seats : List (Option Seat)) → seats ≡ replicate n None → seat_for number (slice_get seats i) ≡ None
+pub closed_at : (n i number : ℕ) (seats : List (Option Sitter)) → seats ≡ replicate n None → seat_for number (slice_get seats i) ≡ None
 closed_at n i number seats is = of (slice_get seats i) refl
   where
-    of : (o : Option (Option Seat)) → slice_get seats i ≡ o → seat_for number o ≡ None
+    of : (o : Option (Option Sitter)) → slice_get seats i ≡ o → seat_for number o ≡ None
     of None at = refl
     of (Some None) at = refl
-    of (Some (Some seat)) at = (let e : Some seat ≡ None = in_replicate n None (Some seat) i (ap (λ (l : List (Option Seat)). slice_get l i) (sym is) ∙ at) in absurd cc)
+    of (Some (Some sitter)) at = (let e : Some sitter ≡ None = in_replicate n None (Some sitter) i (ap (λ (l : List (Option Sitter)). slice_get l i) (sym is) ∙ at) in absurd cc)
+
+-- no vacuum is open where no seat is taken
+pub none_seated : (n i : ℕ) (seats : List (Option Sitter)) → seats ≡ replicate n None → IsVacuumSeat seats i → ⊥
+none_seated n i seats is at = (let e : Some SitsToVacuum ≡ None = in_replicate n None (Some SitsToVacuum) i (ap (λ (l : List (Option Sitter)). slice_get l i) (sym is) ∙ at) in absurd cc)
 
 -- the seat that is read there is the token's, or another's
-pub seat_found : (seats : List (Option Seat)) (session number : ℕ) (seat : Seat) → session < length seats → get_or seats session None ≡ Some seat
+pub seat_found : (seats : List (Option Sitter)) (session number : ℕ) (seat : Seat) → session < length seats → get_or seats session None ≡ Some (SitsToScan seat)
     → seat.number ≡ number
     → Some seat ≡ seat_for number (slice_get seats session)
 seat_found seats session number seat within is same = rw (slice_get-get_or seats session None within, is, eq-eqb seat.number number same) refl
 
-pub seat_of_another : (seats : List (Option Seat)) (session number : ℕ) (seat : Seat) → session < length seats → get_or seats session None ≡ Some seat
+pub seat_of_another : (seats : List (Option Sitter)) (session number : ℕ) (seat : Seat) → session < length seats → get_or seats session None ≡ Some (SitsToScan seat)
     → seat.number ≢ number
     → None ≡ seat_for number (slice_get seats session)
 seat_of_another seats session number seat within is other = rw (slice_get-get_or seats session None within, is, ne_eqb seat.number number other) refl
@@ -50,46 +60,138 @@ runs_calm before None on none = refl
 runs_calm None (Some op) on none = absurd on
 runs_calm (Some before) (Some op) on none = stays_vacuum before op on ∙ none
 
--- no session vacuums after a change of one session's slot, which doesn't
-module _ (old new : List (Option Op)) (session : ℕ) (none : NoneVacuums old) (stay : OthersStay session old new) where
-  pub calm_still : slot_vacuums (slot_of new session) ≡ false → NoneVacuums new
-  calm_still here other = elim (cases_eq other session) [
-    | inl same ↦ subst (λ (n : ℕ). slot_vacuums (slot_of new n) ≡ false) (sym same) here
-    | inr apart ↦ ap slot_vacuums (stays_at old new session other stay apart) ∙ none other
-  ]
+-- and what vacuums vacuums on, or is over
+sits_on : (before slot : Option Op) → RunsOn before slot → (before ≢ None → slot_vacuums before ≡ true) → slot ≢ None → slot_vacuums slot ≡ true
+sits_on before None on sits busy = absurd (busy refl)
+sits_on None (Some op) on sits busy = absurd on
+sits_on (Some before) (Some op) on sits busy = stays_vacuum before op on ∙ sits (λ e. cc)
 
-  pub calm_over : slot_of new session ≡ None → NoneVacuums new
-  calm_over over = calm_still (ap slot_vacuums over)
-
-  pub calm_on : RunsOn (slot_of old session) (slot_of new session) → NoneVacuums new
-  calm_on on = calm_still (runs_calm (slot_of old session) (slot_of new session) on (none session))
-
-module _ (old new : List (Option Op)) (seats : List (Option Seat)) (session : ℕ) (agree : SeatsAgree old seats) (low : session < 63) (stay : OthersStay session old new) where
+module _ (old new : List (Option Op)) (seats : List (Option Sitter)) (session : ℕ) (agree : SeatsAgree old seats) (low : session < 63) (stay : OthersStay session old new) where
   inserts_stay : slot_of new 63 ≡ None
   inserts_stay = stays_at old new session 63 stay (λ e. (omega arith)) ∙ agree.inserts
 
-  -- a seat is changed, whose session runs nothing
-  pub agree_over : (seat : Option Seat) → slot_of new session ≡ None → SeatsAgree new (slice_set seats session seat)
-  agree_over seat over = record {
-    inserts = inserts_stay;
-    free = λ other h. elim (cases_eq other session) [
-      | inl same ↦ subst (λ (n : ℕ). slot_of new n ≡ None) (sym same) over
-      | inr apart ↦ stays_at old new session other stay apart ∙ agree.free other (sym (get_set_other seats session other seat apart) ∙ h)
-    ];
-  }
+  -- another session that vacuums did so before
+  vacuums_before : (other : ℕ) → other ≢ session → slot_vacuums (slot_of new other) ≡ true → IsVacuumSeat seats other
+  vacuums_before other apart vacuums = agree.vacuums other (ap slot_vacuums (sym (stays_at old new session other stay apart)) ∙ vacuums)
 
-  -- a seat is taken
-  pub agree_taken : (seat : Seat) → session < length seats → SeatsAgree new (slice_set seats session (Some seat))
-  agree_taken seat within = record {
+  -- ... and runs what it ran
+  sits_still : (other : ℕ) → other ≢ session → IsVacuumSeat seats other → slot_of new other ≢ None → slot_vacuums (slot_of new other) ≡ true
+  sits_still other apart h busy =
+      let same = stays_at old new session other stay apart in
+      ap slot_vacuums same ∙ agree.sits other h (λ over. busy (same ∙ over))
+
+  -- a seat is changed, that is then no vacuum's, and whose session doesn't vacuum
+  module _ (sitter : Option Sitter) (apart : sitter ≡ Some SitsToVacuum → ⊥) (within : session < length seats) where
+    abbrev changed : List (Option Sitter)
+    changed = slice_set seats session sitter
+
+    here : (other : ℕ) → other ≡ session → slice_get changed other ≡ Some sitter
+    here other same = subst (λ (n : ℕ). slice_get changed n ≡ Some sitter) (sym same) (get_set_same seats session sitter within)
+
+    was_vacuums : (other : ℕ) → IsVacuumSeat changed other → IsVacuumSeat seats other
+    was_vacuums other h = elim (cases_eq other session) [
+      | inl same ↦ absurd (let at = here other same in apart (ap (λ (o : Option (Option Sitter)). unwrap_or o None) (sym at ∙ h)))
+      | inr differ ↦ sym (get_set_other seats session other sitter differ) ∙ h
+    ]
+
+    agree_changed : ((other : ℕ) → slice_get changed other ≡ Some None → slot_of new other ≡ None) → slot_vacuums (slot_of new session) ≡ false → SeatsAgree new changed
+    agree_changed free calm = record {
+      inserts = inserts_stay;
+      free = free;
+      vacuums = λ other h. elim (cases_eq other session) [
+        | inl same ↦ absurd (true_false (sym h ∙ subst (λ (n : ℕ). slot_vacuums (slot_of new n) ≡ false) (sym same) calm))
+        | inr differ ↦ get_set_other seats session other sitter differ ∙ vacuums_before other differ h
+      ];
+      sits = λ other h. elim (cases_eq other session) [
+        | inl same ↦ absurd (let at = here other same in apart (ap (λ (o : Option (Option Sitter)). unwrap_or o None) (sym at ∙ h)))
+        | inr differ ↦ sits_still other differ (was_vacuums other h)
+      ];
+      one = λ one other h k. agree.one one other (was_vacuums one h) (was_vacuums other k);
+    }
+
+  no_vacuum_sits : (seat : Option Seat) → sitter_of seat ≡ Some SitsToVacuum → ⊥
+  no_vacuum_sits None e = cc
+  no_vacuum_sits (Some seat) e = cc
+
+  -- a seat is changed, whose session runs nothing
+  pub agree_over : (seat : Option Seat) → session < length seats → slot_of new session ≡ None → SeatsAgree new (slice_set seats session (sitter_of seat))
+  agree_over seat within over = agree_changed (sitter_of seat) (no_vacuum_sits seat) within (λ other h. elim (cases_eq other session) [
+    | inl same ↦ subst (λ (n : ℕ). slot_of new n ≡ None) (sym same) over
+    | inr apart ↦ stays_at old new session other stay apart ∙ agree.free other (sym (get_set_other seats session other (sitter_of seat) apart) ∙ h)
+  ]) (ap slot_vacuums over)
+
+  -- a seat is taken by a scan
+  pub agree_taken : (seat : Seat) → session < length seats → slot_vacuums (slot_of new session) ≡ false → SeatsAgree new (slice_set seats session (Some (SitsToScan seat)))
+  agree_taken seat within calm = agree_changed (Some (SitsToScan seat)) (no_vacuum_sits (Some seat)) within (λ other h. elim (cases_eq other session) [
+    | inl same ↦ absurd (let a : Some (Some (SitsToScan seat)) ≡ Some None = sym (here (Some (SitsToScan seat)) (no_vacuum_sits (Some seat)) within other same) ∙ h in cc)
+    | inr apart ↦ stays_at old new session other stay apart ∙ agree.free other (sym (get_set_other seats session other (Some (SitsToScan seat)) apart) ∙ h)
+  ]) calm
+
+  -- ... by a vacuum, where none is open
+  pub agree_begun : session < length seats → NoVacuumIsOpen seats → slot_vacuums (slot_of new session) ≡ true → SeatsAgree new (slice_set seats session (Some SitsToVacuum))
+  agree_begun within none begun = record {
     inserts = inserts_stay;
     free = λ other h. elim (cases_eq other session) [
-      | inl same ↦ (
-          let a : slice_get (slice_set seats session (Some seat)) session ≡ Some None = subst (λ (n : ℕ). slice_get (slice_set seats session (Some seat)) n ≡ Some None) same h in
-          let b : slice_get (slice_set seats session (Some seat)) session ≡ Some (Some seat) = get_set_same seats session (Some seat) within in
-          absurd cc)
-      | inr apart ↦ stays_at old new session other stay apart ∙ agree.free other (sym (get_set_other seats session other (Some seat) apart) ∙ h)
+      | inl same ↦ absurd (let a : Some (Some SitsToVacuum) ≡ Some None = sym (there other same) ∙ h in cc)
+      | inr apart ↦ stays_at old new session other stay apart ∙ agree.free other (sym (get_set_other seats session other (Some SitsToVacuum) apart) ∙ h)
     ];
+    vacuums = λ other h. elim (cases_eq other session) [
+      | inl same ↦ there other same
+      | inr apart ↦ absurd (none other (vacuums_before other apart h))
+    ];
+    sits = λ other h busy. subst (λ (n : ℕ). slot_vacuums (slot_of new n) ≡ true) (sym (only other h)) begun;
+    one = λ one other h k. only other k ∙ sym (only one h);
   }
+    where
+      there : (other : ℕ) → other ≡ session → slice_get (slice_set seats session (Some SitsToVacuum)) other ≡ Some (Some SitsToVacuum)
+      there other same = subst (λ (n : ℕ). slice_get (slice_set seats session (Some SitsToVacuum)) n ≡ Some (Some SitsToVacuum)) (sym same) (get_set_same seats session (Some SitsToVacuum) within)
+
+      only : (other : ℕ) → IsVacuumSeat (slice_set seats session (Some SitsToVacuum)) other → other ≡ session
+      only other h = elim (cases_eq other session) [
+        | inl same ↦ same
+        | inr apart ↦ absurd (none other (sym (get_set_other seats session other (Some SitsToVacuum) apart) ∙ h))
+      ]
+
+  -- no seat is changed; the session's is taken, and what it runs vacuums only if it did before
+  pub agree_on : (sitter : Sitter) → slice_get seats session ≡ Some (Some sitter) → RunsOn (slot_of old session) (slot_of new session) → SeatsAgree new seats
+  agree_on sitter taken on = record {
+    inserts = inserts_stay;
+    free = λ other h. elim (cases_eq other session) [
+      | inl same ↦ absurd (let a : Some (Some sitter) ≡ Some None = sym (subst (λ (n : ℕ). slice_get seats n ≡ Some (Some sitter)) (sym same) taken) ∙ h in cc)
+      | inr apart ↦ stays_at old new session other stay apart ∙ agree.free other h
+    ];
+    vacuums = λ other h. elim (cases_eq other session) [
+      | inl same ↦ subst (λ (n : ℕ). IsVacuumSeat seats n) (sym same) (agree.vacuums session (was (slot_vacuums (slot_of old session)) refl (subst (λ (n : ℕ). slot_vacuums (slot_of new n) ≡ true) same h)))
+      | inr apart ↦ vacuums_before other apart h
+    ];
+    sits = λ other h. elim (cases_eq other session) [
+      | inl same ↦ subst (λ (n : ℕ). slot_of new n ≢ None → slot_vacuums (slot_of new n) ≡ true) (sym same)
+          (sits_on (slot_of old session) (slot_of new session) on (agree.sits session (subst (λ (n : ℕ). IsVacuumSeat seats n) same h)))
+      | inr apart ↦ sits_still other apart h
+    ];
+    one = agree.one;
+  }
+    where
+      was : (b : Bool) → slot_vacuums (slot_of old session) ≡ b → slot_vacuums (slot_of new session) ≡ true → slot_vacuums (slot_of old session) ≡ true
+      was true at h = at
+      was false at h = absurd (true_false (sym h ∙ runs_calm (slot_of old session) (slot_of new session) on at))
+
+-- where no vacuum is open no session runs a bulk delete
+pub none_runs : (slots : List (Option Op)) (seats : List (Option Sitter)) → SeatsAgree slots seats → NoVacuumIsOpen seats
+    → (session set : ℕ) (op : BulkDeleteOp) → slice_get slots session ≡ Some (Some (Bulk set op)) → ⊥
+none_runs slots seats agree none session set op at =
+    none session (agree.vacuums session (ap (λ (o : Option (Option Op)). slot_vacuums (unwrap_or o None)) at))
+
+-- ... nor after the end of the one that was open
+pub none_runs_on : (old new : List (Option Op)) (seats : List (Option Sitter)) (session : ℕ) → SeatsAgree old seats → OthersStay session old new → IsVacuumSeat seats session
+    → slot_of new session ≡ None → (other set : ℕ) (op : BulkDeleteOp) → slice_get new other ≡ Some (Some (Bulk set op)) → ⊥
+none_runs_on old new seats session agree stay seat over other set op at = elim (cases_eq other session) [
+  | inl same ↦ absurd (let a : Some (Bulk set op) ≡ None = sym (runs_there other at) ∙ subst (λ (n : ℕ). slot_of new n ≡ None) (sym same) over in cc)
+  | inr apart ↦ apart (agree.one session other seat (agree.vacuums other (ap slot_vacuums (sym (stays_at old new session other stay apart) ∙ runs_there other at))))
+]
+  where
+    runs_there : (n : ℕ) → slice_get new n ≡ Some (Some (Bulk set op)) → slot_of new n ≡ Some (Bulk set op)
+    runs_there n h = ap (λ (o : Option (Option Op)). unwrap_or o None) h
 
 -- an end, and then a beginning
 pub rescan_told : {S : Type 0} (session : ℕ) (range : Range) (u : Unit {0}) (x y z : Moment S) → EndMeans session x y
@@ -108,37 +210,38 @@ empty_slot slots session within over =
     let same : slot_of slots session ≡ found.0 = ap (λ (o : Option (Option Op)). unwrap_or o None) found.1 in
     found.1 ∙ ap (λ (o : Option Op). Some o) (sym same ∙ over)
 
-no_cause : (stopped : Bool) → stopped ≡ false → (fault : Fault) → HasCause (record nothing_wrong { is_stopped = stopped; session_has_a_call = false }) fault → ⊥
-no_cause stopped runs NoMemory h = cc
-no_cause stopped runs Io h = cc
-no_cause stopped runs Stopped h = cc
-no_cause stopped runs (Blocked b) h = cc
-no_cause stopped runs Exists h = cc
-no_cause stopped runs KeyTooLong h = h
-no_cause stopped runs BadRow h = h
-no_cause stopped runs IndexFull h = cc
-no_cause stopped runs LogFull h = cc
-no_cause stopped runs NoFrame h = cc
-no_cause stopped runs VacuumRunning h = cc
-no_cause stopped runs NoSession h = cc
-no_cause stopped runs SessionBusy h = cc
-no_cause stopped runs BadSuper h = h
-no_cause stopped runs BadVersion h = h
-no_cause stopped runs LogDamaged h = h
-no_cause stopped runs (PageDamaged b) h = cc
-no_cause stopped runs BadLimits h = h
-no_cause stopped runs TooTall h = cc
-no_cause stopped runs DeviceTooSmall h = h
-no_cause stopped runs (KeyExists row) h = cc
+no_cause : (stopped no_session vacuums : Bool) → stopped ≡ false → no_session ≡ false → vacuums ≡ false → (fault : Fault)
+    → HasCause (record nothing_wrong { is_stopped = stopped; session_has_a_call = false; no_such_session = no_session; vacuum_runs = vacuums }) fault → ⊥
+no_cause stopped no_session vacuums runs there calm NoMemory h = cc
+no_cause stopped no_session vacuums runs there calm Io h = cc
+no_cause stopped no_session vacuums runs there calm Stopped h = cc
+no_cause stopped no_session vacuums runs there calm (Blocked b) h = cc
+no_cause stopped no_session vacuums runs there calm Exists h = cc
+no_cause stopped no_session vacuums runs there calm KeyTooLong h = h
+no_cause stopped no_session vacuums runs there calm BadRow h = h
+no_cause stopped no_session vacuums runs there calm IndexFull h = cc
+no_cause stopped no_session vacuums runs there calm LogFull h = cc
+no_cause stopped no_session vacuums runs there calm NoFrame h = cc
+no_cause stopped no_session vacuums runs there calm VacuumRunning h = cc
+no_cause stopped no_session vacuums runs there calm NoSession h = cc
+no_cause stopped no_session vacuums runs there calm SessionBusy h = cc
+no_cause stopped no_session vacuums runs there calm BadSuper h = h
+no_cause stopped no_session vacuums runs there calm BadVersion h = h
+no_cause stopped no_session vacuums runs there calm LogDamaged h = h
+no_cause stopped no_session vacuums runs there calm (PageDamaged b) h = cc
+no_cause stopped no_session vacuums runs there calm BadLimits h = h
+no_cause stopped no_session vacuums runs there calm TooTall h = cc
+no_cause stopped no_session vacuums runs there calm DeviceTooSmall h = h
+no_cause stopped no_session vacuums runs there calm (KeyExists row) h = cc
 
--- a scan that may begin is not refused
+-- a call that may begin is not refused; a bulk delete and a cleanup may while none vacuums
 pub may_begin : {S : Type 0} (g : Ghosts S) (old store : S) (slots : List (Option Op)) (session : ℕ) (fault : Fault) (at_end : Bool)
     → ((g.backing old).stopped || (is_at_end (g.state old).begun || at_end)) ≡ false → g.backing store ≡ g.backing old → (g.state store).begun ≡ (g.state old).begun
-    → session < length slots → slot_of slots session ≡ None → (vacuums : Bool) (sets : DeadSets) (range : Range)
-    → HasCause (causes_of_begun_at g store vacuums sets (ToScan range) (slice_get slots session)) fault → ⊥
-may_begin g old store slots session fault at_end may backing begun within over vacuums sets range cause =
-    no_cause ((g.backing store).stopped || is_at_end (g.state store).begun) runs fault
-    (subst (λ (o : Option (Option Op)). HasCause (causes_of_begun_at g store vacuums sets (ToScan range) o) fault) (empty_slot slots session within over) cause)
+    → session < length slots → slot_of slots session ≡ None → (vacuums : Bool) (sets : DeadSets) (request : Request) → is_of_sets sets request ≡ true → (asks_vacuum request && vacuums) ≡ false
+    → HasCause (causes_of_begun_at g store vacuums sets request (slice_get slots session)) fault → ⊥
+may_begin g old store slots session fault at_end may backing begun within over vacuums sets request there calm cause =
+    no_cause ((g.backing store).stopped || is_at_end (g.state store).begun) (not (is_of_sets sets request)) (asks_vacuum request && vacuums) runs (ap not there) calm fault
+    (subst (λ (o : Option (Option Op)). HasCause (causes_of_begun_at g store vacuums sets request o) fault) (empty_slot slots session within over) cause)
   where
     first : (a b c : Bool) → (a || (b || c)) ≡ false → (a || b) ≡ false
     first false false c h = refl

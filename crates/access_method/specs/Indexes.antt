@@ -36,14 +36,23 @@ use Rattle.whole_calls.specs.Vacuuming.{VacuumMeans, vacuum_outcome, StatsCountC
 use Rattle.whole_calls.specs.Meanings.{HasNone}
 use Rattle.whole_calls.specs.declared.inserted.Inserted.{Inserted}
 use Rattle.access_method.specs.Counted.{counted}
-use Rattle.access_method.specs.Tokens.{seat_of, AreTaken}
+use Rattle.access_method.specs.Rows.{is_row_in}
+use Rattle.access_method.specs.Tokens.{seat_of, sitter_of, AreTaken, IsVacuumSeat, NoVacuumIsOpen}
 use Rattle.access_method.specs.declared.index.Index.{Index}
+use Rattle.access_method.specs.declared.index.NamedRows.{NamedRows}
+use Rattle.access_method.specs.declared.index.NamedRows.TheVariants.{Own, Lent}
 use Rattle.access_method.specs.declared.token.ScanToken.{ScanToken}
 use Rattle.access_method.specs.declared.token.Seat.{Seat}
+use Rattle.access_method.specs.declared.token.Sitter.TheVariants.{Scan as SitsToScan, Vacuum as SitsToVacuum}
 
--- the store of an index, and what its sessions run; between its calls none names a set of dead rows
+-- the rows of the index itself, or of a bulk delete that is run to its end by one call
+abbrev pub is_named_row : {T : Type 0} → (T → Row → Bool) → NamedRows T → Row → Bool
+is_named_row is_in (Own rows) = is_row_in rows.now
+is_named_row is_in (Lent rows) = is_in rows.now
+
+-- the store of an index, and what its sessions run; the one set of dead rows is that of the bulk delete that goes on in parts
 abbrev pub slots_within : {S : Type 0} → Index S → StoreAndSlots S
-slots_within index = record { store = index.store; slots = index.calls.slots.items; sets = [] }
+slots_within index = record { store = index.store; slots = index.calls.slots.items; sets = is_row_in index.rows ∷ [] }
 
 -- these contents at the start, this history and these calls fit the index
 abbrev pub IndexFits : {S : Type 0} → Ghosts S → Index S → (Entry → Bool) → List Action → List Call → Type 0
@@ -77,16 +86,20 @@ pub record IndexIsKept {S : Type 0} (g : Ghosts S) (upkeep : Upkeep) (result : R
 abbrev pub ForEachIndexHistory : {S : Type 0} → Ghosts S → Index S → Index S → ((Entry → Bool) → List Action → List Call → Type 0) → Type 0
 ForEachIndexHistory g old new goes = ForEachHistory g (slots_within old) (slots_within new) goes
 
--- the same, with one set of dead rows
+-- the same, with another set of dead rows beside the index's own
 abbrev pub slots_with : {S : Type 0} → (Row → Bool) → Index S → StoreAndSlots S
-slots_with dead index = record { store = index.store; slots = index.calls.slots.items; sets = dead ∷ [] }
+slots_with dead index = record { store = index.store; slots = index.calls.slots.items; sets = is_row_in index.rows ∷ dead ∷ [] }
 
--- A bulk delete of this set goes, run to its end: there is a run of events over the index with this set, of which one answered
--- what the call came to. The index is fitted by what comes after it; where the history was kept, it is so still, and a crash in
+-- ... in place of the index's own
+abbrev pub slots_naming : {S : Type 0} → (Row → Bool) → Index S → StoreAndSlots S
+slots_naming dead index = record { store = index.store; slots = index.calls.slots.items; sets = dead ∷ [] }
+
+-- A bulk delete of this set goes, run to its end: there is a run of events over the index with this set beside its own, of which one
+-- answered what the call came to. The index is fitted by what comes after it; where the history was kept, it is so still, and a crash in
 -- between leaves a prefix of it.
 pub record BulkDeleteRuns {S : Type 0} (g : Ghosts S) (dead : Row → Bool) (result : Result VacuumStats Fault) (old new : Index S) (start : Entry → Bool)
     (history : List Action) (calls : List Call) : Type 0 where
-  pub deletions : CallRuns g 63 (VacuumMeans 63 (ToBulk 0) result) (vacuum_outcome result) (slots_with dead old) (slots_with dead new) start history calls
+  pub deletions : CallRuns g 63 (VacuumMeans 63 (ToBulk 1) result) (vacuum_outcome result) (slots_with dead old) (slots_with dead new) start history calls
   pub fits : IndexFits g new start deletions.then_history deletions.then_calls
   pub safe : IndexKeeps g old start history calls → IsCrashSafe g start (snapshot_of (slots_within old) history calls) (snapshot_of (slots_within new) deletions.then_history deletions.then_calls)
 
@@ -100,12 +113,12 @@ pub record IsNewToken {S : Type 0} (old new : Index S) (token : ScanToken) : Typ
   pub number_is : token.number ≡ old.given
   pub given_is : new.given ≡ suc old.given
   pub was_free : slice_get old.seats token.session ≡ Some None
-  pub seats_is : new.seats ≡ slice_set old.seats token.session (Some (record { number = token.number; is_refused = false }))
+  pub seats_is : new.seats ≡ slice_set old.seats token.session (Some (SitsToScan (record { number = token.number; is_refused = false })))
 
 -- the seat of an open token is this now; no other token is changed
 pub record SeatBecomes {S : Type 0} (token : ScanToken) (seat : Option Seat) (old new : Index S) : Type 0 where
   pub given_is : new.given ≡ old.given
-  pub seats_is : new.seats ≡ slice_set old.seats token.session seat
+  pub seats_is : new.seats ≡ slice_set old.seats token.session (sitter_of seat)
 
 -- its seat, answering, or refused
 abbrev pub seat_with : ScanToken → Bool → Option Seat

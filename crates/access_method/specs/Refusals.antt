@@ -15,15 +15,15 @@ use Rattle.page_action.specs.Causes.{nothing_wrong, has_failed, is_at_end, other
 use Rattle.page_action.specs.States.{State}
 use Rattle.page_action.specs.declared.page_store.PageStore.{Ghosts}
 use Rattle.session_calls.specs.Ops.{IsFaultCaused}
+use Rattle.session_calls.specs.Slots.{one_vacuums}
 use Rattle.whole_calls.specs.Refusing.{another_runs, has_no_block, is_tall}
 use Rattle.whole_calls.specs.declared.inserted.Inserted.{Inserted}
 use Rattle.access_method.specs.Indexes.{has_entry}
 use Rattle.access_method.specs.declared.index.Index.{Index}
 
 -- What may be the cause where a call is refused between these moments: a device call failed meanwhile; the log had failed before, or
--- a counter is at its end; the call of an open scan, another one, still runs, and may hold a page or a frame; there are fewer frames
--- than one act needs. The log is never full, there is a session, which has no other call, no bulk delete or cleanup runs, and no page
--- is damaged.
+-- a counter is at its end; another call still runs, of an open scan or in parts, and may hold a page or a frame; there are fewer frames
+-- than one act needs. The log is never full, there is a session, which has no other call, and no page is damaged.
 abbrev pub causes_of_run : {S : Type 0} → Ghosts S → ℕ → Index S → S → Circumstances
 causes_of_run g session old new = record nothing_wrong {
   device_failed = has_failed (g.backing old.store) (g.backing new);
@@ -31,6 +31,10 @@ causes_of_run g session old new = record nothing_wrong {
   is_held_by_another = λ b. another_runs old.calls.slots.items session;
   frames_are_pinned = another_runs old.calls.slots.items session || nat_lt (g.state new).frames 4;
 }
+
+-- ... of a bulk delete or a cleanup also that one goes on in parts
+abbrev pub causes_of_vacuum : {S : Type 0} → Ghosts S → ℕ → Index S → S → Circumstances
+causes_of_vacuum g session old new = record (causes_of_run g session old new) { vacuum_runs = one_vacuums old.calls.slots.items }
 
 -- ... of an insert also that its entry was there, or another row of its key, that no block can be had, or that the root is on level 31,
 -- as far as these say so
@@ -56,7 +60,7 @@ InsertHasCause g entry (Err fault) old new =
     HasCause (causes_of_aminsert g (has_entry g old.store entry) (other_row_is_there (g.state old.store) entry) (none_is_left (g.state old.store).begun (g.state new))
     (is_tall (g.state new)) old new) fault
 
--- Nothing hinders a call of this session between these moments: no other open scan's call runs, the log hasn't failed before and no
+-- Nothing hinders a call of this session between these moments: no other session's call runs, the log hasn't failed before and no
 -- device call meanwhile, no counter is at its end, and there are 16 frames.
 pub record NothingHinders {S : Type 0} (g : Ghosts S) (session : ℕ) (old : Index S) (new : S) : Type 0 where
   pub alone : another_runs old.calls.slots.items session ≡ false
@@ -66,7 +70,7 @@ pub record NothingHinders {S : Type 0} (g : Ghosts S) (session : ℕ) (old : Ind
   pub acts : (g.state new).acts < 18446744073709551615
   pub frames : 16 ≤ (g.state old.store).frames
 
--- no open scan's call runs, and no page is half-dead
+-- no call runs, of an open scan or in parts, and no page is half-dead
 pub record NothingIsOpen {S : Type 0} (g : Ghosts S) (index : Index S) : Type 0 where
   pub alone : another_runs index.calls.slots.items 63 ≡ false
   pub none_dead : (block : ℕ) → state_in (g.state index.store) block ≢ HalfDead

@@ -2,11 +2,13 @@
 
 ghost use Rattle.std.specs.Prelude.{◌≡◌, ◌<◌, IfSome, length};
 ghost use Rattle.access_method.specs.Counted.{counted};
-ghost use Rattle.access_method.specs.Tokens.{SeatsAgree, NoneVacuums, IsFreeSeat};
+ghost use Rattle.access_method.specs.Rows.{is_row_in};
+ghost use Rattle.access_method.specs.Tokens.{SeatsAgree, IsFreeSeat, IsSeatOfVacuum};
 ghost use Rattle.vacuum.specs.Counts.{deleted_count, free_count};
 
 use crate::info::IndexInfo;
-use crate::token::{ScanToken, Seat};
+use crate::rows::RowSet;
+use crate::token::{ScanToken, Seat, Sitter};
 use device::Device;
 use index_model::{DeadRows, Entry, Fault, Range, RowAddr, Session, VacuumStats};
 use page_action::PageStore;
@@ -20,19 +22,21 @@ use vacuum::count_deleted;
 use whole_calls::{Inserted, bulk_delete, clean_up, give, give_up, insert, open};
 
 // How many images of pages the log has room for before a step: an act takes four at most, and a force that it makes one more.
-const LEAST_ROOM: u32 = 5;
+pub(crate) const LEAST_ROOM: u32 = 5;
 
-/// The index of one user over a store of pages. Session 63 runs its inserts, bulk deletes and cleanups, sessions 0 to 62 its open
-/// scans; each call is run to its end before it answers, so that between calls no session vacuums. Nothing takes memory.
+/// The index of one user over a store of pages. Session 63 runs its inserts, and the bulk deletes and cleanups that are run to their
+/// ends by one call. Sessions 0 to 62 run its open scans, and a bulk delete or cleanup that goes on in parts, one at most. Nothing
+/// takes memory.
 #[derive(Drop)]
 pub struct Index<S> {
-    store: S,
-    calls: Calls,
-    seats: [Option<Seat>; 63],
-    given: u64,
+    pub(crate) store: S,
+    pub(crate) calls: Calls,
+    pub(crate) seats: [Option<Sitter>; 63],
+    // Those of the bulk delete that goes on in parts.
+    pub(crate) rows: RowSet,
+    pub(crate) given: u64,
     ghost sessions: { length calls.slots.items ≡ 64 },
     ghost agree: { SeatsAgree calls.slots.items seats },
-    ghost none_vacuums: { NoneVacuums calls.slots.items },
 }
 
 /// Why an index was not made, with the store as it was.
@@ -42,33 +46,37 @@ pub struct NotMade<S> {
     pub store: S,
 }
 
-// A set of dead rows without rows.
-struct EmptySet {}
-
-impl DeadRows for EmptySet {
-    ghost use Rattle.std.specs.Prelude.{false};
-
-    ghost is_in = { λ rows row. false };
-
-    fn is_dead(&self, _row: RowAddr) -> bool {
-        false
-    }
-}
-
-// What scans and inserts are given: they name no set.
-const NO_SETS: [EmptySet; 0] = [];
-
-// The one set that a bulk delete names.
+// A set of rows that is lent for a call.
 #[derive(Drop)]
-struct BorrowedRows<'a, T> {
-    rows: &'a T,
+pub(crate) struct LentRows<'a, T> {
+    pub(crate) rows: &'a T,
 }
 
-impl<T: DeadRows> DeadRows for BorrowedRows<'_, T> {
-    ghost is_in = { λ set row. T.is_in set.rows.now row };
+impl<T: DeadRows> DeadRows for LentRows<'_, T> {
+    ghost is_in = { λ set. T.is_in set.rows.now };
 
     fn is_dead(&self, row: RowAddr) -> bool {
         self.rows.is_dead(row)
+    }
+}
+
+// The index's own rows, or those of a bulk delete that is run to its end by one call.
+#[derive(Drop)]
+enum NamedRows<'a, T> {
+    Own(&'a RowSet),
+    Lent(&'a T),
+}
+
+impl<T: DeadRows> DeadRows for NamedRows<'_, T> {
+    ghost use Rattle.access_method.specs.Indexes.{is_named_row};
+
+    ghost is_in = { is_named_row T.is_in };
+
+    fn is_dead(&self, row: RowAddr) -> bool {
+        match self {
+            NamedRows::Own(rows) => rows.is_dead(row),
+            NamedRows::Lent(rows) => rows.is_dead(row),
+        }
     }
 }
 
@@ -83,13 +91,26 @@ fn count(answer: Answer) -> Result<u64, Fault>
     }
 }
 
-// The first seat that no open scan has.
-fn free_seat(seats: &[Option<Seat>]) -> Option<usize>
+// The first seat that is free.
+pub(crate) fn free_seat(seats: &[Option<Sitter>]) -> Option<usize>
     ensures free { IsFreeSeat seats.now result }
     ensures low { IfSome result (λ at. at < length seats.now) }
 {
     for at in 0..seats.len() {
         if seats[at].is_none() {
+            return Some(at);
+        }
+    }
+    None
+}
+
+// The seat of the vacuum that goes on in parts.
+pub(crate) fn vacuum_seat(seats: &[Option<Sitter>]) -> Option<usize>
+    ensures seat { IsSeatOfVacuum seats.now result }
+    ensures low { IfSome result (λ at. at < length seats.now) }
+{
+    for at in 0..seats.len() {
+        if let Some(Sitter::Vacuum) = seats[at] {
             return Some(at);
         }
     }
@@ -135,7 +156,7 @@ impl<S: PageStore> Index<S> {
     ghost use Rattle.index_model.specs.declared.entry.Entry.{Entry as IndexEntry};
     ghost use Rattle.index_model.specs.declared.range.Range.{Range as TheRange};
     ghost use Rattle.access_method.specs.Counted.{upkeep_outcome};
-    ghost use Rattle.access_method.specs.Refusals.{causes_of_run, InsertHasCause, NothingHinders, NothingIsOpen, InsertsUnhindered, GiveHasCause, GivesUnhindered};
+    ghost use Rattle.access_method.specs.Refusals.{causes_of_vacuum, InsertHasCause, NothingHinders, NothingIsOpen, InsertsUnhindered, GiveHasCause, GivesUnhindered};
 
     /// An index over the store, with no call and no open scan. Where the store's pages are in order and it has made no
     /// act, the index is fitted by the contents of its pages, no actions and no calls; over an own device it keeps them
@@ -156,6 +177,7 @@ impl<S: PageStore> Index<S> {
                 store,
                 calls,
                 seats: [None; 63],
+                rows: RowSet::new(),
                 given: 0,
             }),
             Err(fault) => Err(NotMade { fault, store }),
@@ -187,7 +209,7 @@ impl<S: PageStore> Index<S> {
         insert(
             &mut self.store,
             &mut self.calls,
-            &NO_SETS,
+            &[LentRows { rows: &self.rows }],
             63,
             entry,
             LEAST_ROOM,
@@ -196,8 +218,9 @@ impl<S: PageStore> Index<S> {
 
     /// Deletes every entry whose row is in the set, and answers statistics: what it removed, how many entries are left, how
     /// many pages are in use and deleted then, and how many of these may be used again. Open scans stay as they are. Refused
-    /// with `Blocked` (4) where an open scan stands on a leaf, with `Io` (2), `Stopped` (3) and `NoFrame` (10), and with
-    /// `PageDamaged` (17) on pages that are no tree: what it has removed stays removed, and no other entry is gone.
+    /// with `VacuumRunning` (11) where one goes on in parts, with `Blocked` (4) where an open scan stands on a leaf, with `Io`
+    /// (2), `Stopped` (3) and `NoFrame` (10), and with `PageDamaged` (17) on pages that are no tree: what it has removed stays
+    /// removed, and no other entry is gone.
     pub fn ambulkdelete<T: DeadRows>(&mut self, dead: &T) -> Result<VacuumStats, Fault>
         ensures steps { Continues S.follows self.old.store self.new.store }
         ensures deletions { ForEachIndexHistory S.PageStore self.old self.new
@@ -208,9 +231,9 @@ impl<S: PageStore> Index<S> {
         ensures deletes { ForEachIndexHistory S.PageStore self.old self.new
             (λ start history calls. IsBulkDeletedOrLess S.PageStore (T.is_in dead.now) result
             self.old.store self.new.store) }
-        // It never answers `LogFull`, `NoSession`, `SessionBusy` nor `VacuumRunning`.
+        // It never answers `LogFull`, `NoSession` nor `SessionBusy`.
         ensures cause { ForEachIndexHistory S.PageStore self.old self.new (λ start history calls.
-            IfErr result (HasCause (causes_of_run S.PageStore 63 self.old self.new.store))) }
+            IfErr result (HasCause (causes_of_vacuum S.PageStore 63 self.old self.new.store))) }
         ensures finishes { ForEachIndexHistory S.PageStore self.old self.new (λ start history calls.
             NothingHinders S.PageStore 63 self.old self.new.store → IsOk result) }
         ensures tokens { SameTokens self.old self.new }
@@ -218,9 +241,9 @@ impl<S: PageStore> Index<S> {
         bulk_delete(
             &mut self.store,
             &mut self.calls,
-            &[BorrowedRows { rows: dead }],
+            &[NamedRows::Own(&self.rows), NamedRows::Lent(dead)],
             63,
-            0,
+            1,
             LEAST_ROOM,
         )
     }
@@ -228,8 +251,9 @@ impl<S: PageStore> Index<S> {
     /// Deletes empty leaves and counts the entries: begins a cleanup and runs its steps to the end. The contents stay,
     /// whatever it answers, and so do open scans; a leaf on which one stands is passed. Where it answers, no half-dead page
     /// is left, `num_index_tuples` is the number of entries, and of the pages that are deleted then (`pages_deleted`) it
-    /// tells how many it deleted and how many may be used again. Refused with `Io` (2) and `Stopped` (3), with `Blocked` (4)
-    /// or `NoFrame` (10) where open scans hold what it needs, and with `PageDamaged` (17) on pages that are no tree.
+    /// tells how many it deleted and how many may be used again. Refused with `VacuumRunning` (11) where one goes on in parts,
+    /// with `Io` (2) and `Stopped` (3), with `Blocked` (4) or `NoFrame` (10) where open scans hold what it needs, and with
+    /// `PageDamaged` (17) on pages that are no tree.
     pub fn amvacuumcleanup(&mut self) -> Result<VacuumStats, Fault>
         ensures steps { Continues S.follows self.old.store self.new.store }
         ensures runs { IndexIsRun S.PageStore 63 (VacuumMeans 63 ToCleanup result)
@@ -244,14 +268,20 @@ impl<S: PageStore> Index<S> {
         ensures spares { ForEachIndexHistory S.PageStore self.old self.new
             (λ start history calls. NothingIsOpen S.PageStore self.old
             → ResultLeavesNeeded (S.state self.new.store) result) }
-        // It never answers `LogFull`, `NoSession`, `SessionBusy` nor `VacuumRunning`.
+        // It never answers `LogFull`, `NoSession` nor `SessionBusy`.
         ensures cause { ForEachIndexHistory S.PageStore self.old self.new (λ start history calls.
-            IfErr result (HasCause (causes_of_run S.PageStore 63 self.old self.new.store))) }
+            IfErr result (HasCause (causes_of_vacuum S.PageStore 63 self.old self.new.store))) }
         ensures finishes { ForEachIndexHistory S.PageStore self.old self.new (λ start history calls.
             NothingHinders S.PageStore 63 self.old self.new.store → IsOk result) }
         ensures tokens { SameTokens self.old self.new }
     {
-        clean_up(&mut self.store, &mut self.calls, &NO_SETS, 63, LEAST_ROOM)
+        clean_up(
+            &mut self.store,
+            &mut self.calls,
+            &[LentRows { rows: &self.rows }],
+            63,
+            LEAST_ROOM,
+        )
     }
 
     /// Makes all actions durable and answers their number. Refused with `Stopped` (3) and `Io` (2).
@@ -324,7 +354,7 @@ impl<S: PageStore> Index<S> {
             return None;
         }
         match self.seats[at] {
-            Some(seat) if seat.number == token.number => Some(seat),
+            Some(Sitter::Scan(seat)) if seat.number == token.number => Some(seat),
             _ => None,
         }
     }
@@ -376,16 +406,16 @@ impl<S: PageStore> Index<S> {
         match give(
             &mut self.store,
             &mut self.calls,
-            &NO_SETS,
+            &[LentRows { rows: &self.rows }],
             token.session,
             LEAST_ROOM,
         ) {
             Ok(given) => Ok(given),
             Err(fault) => {
-                self.seats[token.session as usize] = Some(Seat {
+                self.seats[token.session as usize] = Some(Sitter::Scan(Seat {
                     number: token.number,
                     is_refused: true,
-                });
+                }));
                 Err(fault)
             }
         }
@@ -409,13 +439,18 @@ impl<S: PageStore> Index<S> {
         let Some(_seat) = self.find(token) else {
             return Err(Fault::NoSession);
         };
-        give_up(&mut self.store, &mut self.calls, &NO_SETS, token.session);
+        give_up(
+            &mut self.store,
+            &mut self.calls,
+            &[LentRows { rows: &self.rows }],
+            token.session,
+        );
         self.seats[token.session as usize] = None;
         Ok(())
     }
 
     // Whether no scan can begin: the log has failed, or a counter is at its end.
-    fn is_at_end(&self) -> bool
+    pub(crate) fn is_at_end(&self) -> bool
         ensures value { result ≡ cannot_begin S.PageStore self.now }
         ensures given { result ≡ false → self.now.given < 18446744073709551615 }
     {
@@ -447,12 +482,18 @@ impl<S: PageStore> Index<S> {
             return Err(Fault::NoSession);
         };
         let session = at as u32;
-        open(&mut self.store, &mut self.calls, &NO_SETS, session, range)?;
+        open(
+            &mut self.store,
+            &mut self.calls,
+            &[LentRows { rows: &self.rows }],
+            session,
+            range,
+        )?;
         let number = self.given;
-        self.seats[at] = Some(Seat {
+        self.seats[at] = Some(Sitter::Scan(Seat {
             number,
             is_refused: false,
-        });
+        }));
         self.given += 1;
         Ok(ScanToken { number, session })
     }
@@ -485,18 +526,23 @@ impl<S: PageStore> Index<S> {
         if self.is_at_end() {
             return Err(Fault::Stopped);
         }
-        give_up(&mut self.store, &mut self.calls, &NO_SETS, token.session);
+        give_up(
+            &mut self.store,
+            &mut self.calls,
+            &[LentRows { rows: &self.rows }],
+            token.session,
+        );
         open(
             &mut self.store,
             &mut self.calls,
-            &NO_SETS,
+            &[LentRows { rows: &self.rows }],
             token.session,
             range,
         )?;
-        self.seats[token.session as usize] = Some(Seat {
+        self.seats[token.session as usize] = Some(Sitter::Scan(Seat {
             number: token.number,
             is_refused: false,
-        });
+        }));
         Ok(())
     }
 

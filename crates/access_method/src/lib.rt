@@ -1,10 +1,13 @@
-//! The index of one user: its calls, each run to its end; and one in a file, made, opened and closed.
+//! The index of one user: its calls, each run to its end, or a bulk delete and a cleanup in parts; and one in a file, made, opened and
+//! closed.
 #![tactic(auto)]
 
 mod draft;
 pub mod in_file;
 mod index;
 mod info;
+mod parts;
+mod rows;
 mod token;
 mod watched;
 
@@ -16,5 +19,6 @@ pub use index_model::{
 };
 pub use info::IndexInfo;
 pub use page_action::PageStore;
+pub use rows::RowSet;
 pub use token::ScanToken;
 pub use whole_calls::Inserted;

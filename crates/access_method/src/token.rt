@@ -1,4 +1,4 @@
-//! Tokens of open scans.
+//! Tokens of open scans, and who has a session.
 
 /// An open scan. Each number is given once by an index.
 #[derive(Clone, Copy, Debug, PartialEq, Eq)]
@@ -14,4 +14,13 @@ pub(crate) struct Seat {
     pub(crate) number: u64,
     /// A fault has ended its call.
     pub(crate) is_refused: bool,
+}
+
+/// Who has a session.
+#[derive(Clone, Copy)]
+pub(crate) enum Sitter {
+    /// An open scan.
+    Scan(Seat),
+    /// The bulk delete or cleanup that goes on in parts.
+    Vacuum,
 }

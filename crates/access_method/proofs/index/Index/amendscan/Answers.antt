@@ -1,5 +1,5 @@
-use Rattle.std.proofs.Common.{None, ◌∙◌}
-use Rattle.access_method.proofs.Seats.{agree_over, calm_over}
+use Rattle.std.proofs.Common.{None, ◌∙◌, rules}
+use Rattle.access_method.proofs.Seats.{agree_over}
 use Rattle.access_method.proofs.index.Index.amendscan.Goals as goal
 
 pub returns-clause-made : goal.returns-clause-made
@@ -12,8 +12,5 @@ invariant_of-self g c =
           ∙ c.args.self.now.sessions;
       agree =
           agree_over c.args.self.now.calls.slots.items c.give_up.new.calls.slots.items c.args.self.now.seats c.args.token.session
-          c.args.self.now.agree c.in-Some.ensures.low c.give_up.ensures.others.others None c.give_up.ensures.over;
-      none_vacuums =
-          calm_over c.args.self.now.calls.slots.items c.give_up.new.calls.slots.items c.args.token.session c.args.self.now.none_vacuums
-          c.give_up.ensures.others.others c.give_up.ensures.over;
+          c.args.self.now.agree c.in-Some.ensures.low c.give_up.ensures.others.others None (search rules) c.give_up.ensures.over;
     }

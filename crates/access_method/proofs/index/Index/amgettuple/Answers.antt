@@ -1,8 +1,9 @@
 use Rattle.access_method.proofs.Refusals.{give_cause, run_unhindered, frames_stay}
-use Rattle.std.proofs.Common.{true, false, Ok, Some, sym, ◌∙◌}
+use Rattle.std.proofs.Common.{◌∷◌, true, false, Ok, Some, sym, ◌∙◌, rules}
 use Rattle.access_method.proofs.Imports.{[], snapshot_of, here_with, runs_has_call, true_false, slots_within}
 use Rattle.access_method.proofs.Results.{gives_right}
-use Rattle.access_method.proofs.Seats.{agree_over, calm_on, not_refused}
+use Rattle.access_method.proofs.Seats.{agree_over, not_refused}
+use Rattle.access_method.specs.Rows.{is_row_in}
 use Rattle.access_method.proofs.index.Index.amgettuple.Goals as goal
 
 -- the token is not open
@@ -60,15 +61,14 @@ returns-in-Ok-clause-runs g c is_open busy = c.in-Ok.ensures.goes
 
 pub returns-in-Ok-clause-answers : goal.returns-in-Ok-clause-answers
 returns-in-Ok-clause-answers g c honest start history calls fits =
-    gives_right g.S.PageStore c.args.token.session (Ok c.in-Ok.given) (slots_within c.args.self.now) (here_with c.give.new.store c.give.new.calls.slots.items []) start history calls
+    gives_right g.S.PageStore c.args.token.session (Ok c.in-Ok.given) (slots_within c.args.self.now) (here_with c.give.new.store c.give.new.calls.slots.items (is_row_in c.args.self.now.rows ∷ [])) start history calls
     (c.in-Ok.ensures.goes honest start history calls fits)
 
 pub invariant_of-self-in-Err : goal.invariant_of-self-in-Err
 invariant_of-self-in-Err g c = record {
   sessions = c.give.ensures.others.sessions ∙ c.args.self.now.sessions;
   agree = agree_over c.args.self.now.calls.slots.items c.give.new.calls.slots.items c.args.self.now.seats c.args.token.session c.args.self.now.agree c.in-Some.ensures.low c.give.ensures.others.others
-      (Some (record { number = c.args.token.number; is_refused = true })) c.in-Err.ensures.over;
-  none_vacuums = calm_on c.args.self.now.calls.slots.items c.give.new.calls.slots.items c.args.token.session c.args.self.now.none_vacuums c.give.ensures.others.others c.give.ensures.runs_on;
+      (Some (record { number = c.args.token.number; is_refused = true })) (search rules) c.in-Err.ensures.over;
 }
 
 pub returns-in-Err-clause-cause : goal.returns-in-Err-clause-cause
@@ -78,6 +78,6 @@ returns-in-Err-clause-cause g c seat honest start history calls fits number call
 pub returns-in-Err-clause-gives : goal.returns-in-Err-clause-gives
 returns-in-Err-clause-gives g c seat honest start history calls fits number call range is ask un =
     let same = frames_stay g.S.PageStore c.args.token.session _ _ (slots_within c.args.self.now)
-    (here_with c.give.new.store c.give.new.calls.slots.items []) start history calls (c.in-Err.ensures.goes honest start history calls fits) in
+    (here_with c.give.new.store c.give.new.calls.slots.items (is_row_in c.args.self.now.rows ∷ [])) start history calls (c.in-Err.ensures.goes honest start history calls fits) in
     absurd (run_unhindered g.S.PageStore c.args.token.session c.args.self.now c.give.new.store un same c.in-Err.fault
     (give_cause g.S.PageStore c.args.token.session c.args.self.now c.give.new.store c.in-Err.fault (c.in-Err.ensures.cause honest start history calls fits number call range is ask)))

@@ -1,4 +1,5 @@
-use Rattle.std.proofs.Common.{[], refl, sym}
+use Rattle.std.proofs.Common.{[], ◌∷◌, refl, sym}
+use Rattle.access_method.specs.Rows.{is_row_in}
 use Rattle.access_method.proofs.Imports.{Checkpoints, Checkpoint, makes_runs}
 use Rattle.access_method.proofs.Results.{number_told, durable_told, cause_told, goes_told_kept, room_told}
 use Rattle.access_method.proofs.index.Index.checkpoint.Goals as goal
@@ -6,10 +7,10 @@ use Rattle.access_method.proofs.index.Index.checkpoint.Goals as goal
 pub returns-clause-runs : goal.returns-clause-runs
 returns-clause-runs g c =
     goes_told_kept g.S.PageStore g.met.S.PageStore.laws Checkpoints Checkpoint c.checkpoint.result _ _ _ c.count.ensures refl tt
-    c.checkpoint.ensures.answers (makes_runs g.S.PageStore g.met.S.PageStore.laws _ _ _ _ (c.checkpoint.ensures.makes c.args.self.now.calls.slots.items []))
+    c.checkpoint.ensures.answers (makes_runs g.S.PageStore g.met.S.PageStore.laws _ _ _ _ (c.checkpoint.ensures.makes c.args.self.now.calls.slots.items (is_row_in c.args.self.now.rows ∷ [])))
 
 pub returns-clause-made : goal.returns-clause-made
-returns-clause-made g c = record { answer = c.checkpoint.result; handed_on = sym c.count.ensures; made = c.checkpoint.ensures.makes c.args.self.now.calls.slots.items [] }
+returns-clause-made g c = record { answer = c.checkpoint.result; handed_on = sym c.count.ensures; made = c.checkpoint.ensures.makes c.args.self.now.calls.slots.items (is_row_in c.args.self.now.rows ∷ []) }
 
 pub returns-clause-number : goal.returns-clause-number
 returns-clause-number g c = number_told g.S.PageStore Checkpoints c.checkpoint.result _ _ _ c.count.ensures tt c.checkpoint.ensures.answers c.checkpoint.ensures.kept

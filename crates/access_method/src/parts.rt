@@ -1,0 +1,167 @@
+//! Bulk deletes and cleanups that go on in parts, between other calls.
+
+ghost use Rattle.std.specs.Prelude.{◌≡◌};
+ghost use Rattle.access_method.specs.Parts.{IsPartAnswer, part_answer};
+
+use crate::index::{Index, LEAST_ROOM, LentRows, free_seat, vacuum_seat};
+use crate::rows::RowSet;
+use crate::token::Sitter;
+use index_model::{Fault, VacuumStats};
+use page_action::PageStore;
+use session_calls::{Answer, Request};
+use whole_calls::{begin, give_up, take_steps};
+
+// What a part answers whose last step answered this.
+fn told(answer: Answer) -> Result<Option<VacuumStats>, Fault>
+    ensures { IsPartAnswer answer → part_answer result ≡ answer }
+{
+    match answer {
+        Answer::Going => Ok(None),
+        Answer::Finished(stats) => Ok(Some(stats)),
+        Answer::Refused(fault) => Err(fault),
+        _ => Err(Fault::NoSession),
+    }
+}
+
+impl<S: PageStore> Index<S> {
+    ghost use Rattle.std.specs.Prelude.{◌≡◌, ◌≢◌, ◌<◌, ℕ, false, None, Some, Ok, Err, IfErr, IfOk, OnOk, OnErr, length};
+    ghost use Rattle.page_action.specs.States.{Continues};
+    ghost use Rattle.schedule.specs.Sessions.{op_of};
+    ghost use Rattle.whole_calls.specs.Made.{ComesTo};
+    ghost use Rattle.whole_calls.specs.Parts.{PartMeans, part_outcome};
+    ghost use Rattle.access_method.specs.Indexes.{ForEachIndexHistory, IndexIsRun, IndexMakes, SameTokens, cannot_begin};
+    ghost use Rattle.access_method.specs.Tokens.{NoVacuumIsOpen, IsFreeSeat, IsVacuumSeat};
+    ghost use Rattle.access_method.specs.Parts.{BulkDeleteIsOpened, CleanupIsOpened, NotBegunFor, PartCounts, PartIsCaused, PartKeeps, VacuumIsEnded, part_answer};
+
+    // A session for a bulk delete or a cleanup that goes on in parts. Refused with `Stopped` (3), `NoSession` (12) and `VacuumRunning`
+    // (11), in this order.
+    fn place_for_vacuum(&self) -> Result<usize, Fault>
+        ensures low { IfOk result (λ at. at < length self.now.seats) }
+        ensures free { IfOk result (λ at. IsFreeSeat self.now.seats (Some at)) }
+        ensures none { OnOk result (NoVacuumIsOpen self.now.seats) }
+        ensures may { OnOk result (cannot_begin S.PageStore self.now ≡ false) }
+        ensures cause { IfErr result (NotBegunFor S.PageStore self.now) }
+    {
+        if self.is_at_end() {
+            return Err(Fault::Stopped);
+        }
+        let Some(at) = free_seat(&self.seats) else {
+            return Err(Fault::NoSession);
+        };
+        match vacuum_seat(&self.seats) {
+            Some(_) => Err(Fault::VacuumRunning),
+            None => Ok(at),
+        }
+    }
+
+    /// Begins a bulk delete of these rows, which goes on in parts: by [`Index::vacuum`], between other calls, until
+    /// [`Index::end_vacuum`]. It has one of the sessions of open scans meanwhile. It takes the entries that are there now, and of
+    /// those that are inserted meanwhile any. Refused with `Stopped` (3) where the log has failed or a counter is at its end, then
+    /// with `NoSession` (12) where all 63 sessions are taken, then with `VacuumRunning` (11) where one goes on already: nothing is
+    /// changed, and the rows are dropped.
+    pub fn begin_bulk_delete(&mut self, rows: RowSet) -> Result<(), Fault>
+        ensures steps { Continues S.follows self.old.store self.new.store }
+        ensures opened { OnOk result (BulkDeleteIsOpened S.PageStore rows self.old self.new) }
+        ensures refused { OnErr result (self.new ≡ self.old) }
+        ensures cause { IfErr result (NotBegunFor S.PageStore self.old) }
+    {
+        let at = self.place_for_vacuum()?;
+        let request = Request::Bulk(0);
+        begin(
+            &mut self.store,
+            &mut self.calls,
+            &[LentRows { rows: &rows }],
+            at as u32,
+            request,
+        )?;
+        self.rows = rows;
+        self.seats[at] = Some(Sitter::Vacuum);
+        Ok(())
+    }
+
+    /// Begins a cleanup that goes on in parts, as [`Index::begin_bulk_delete`] begins a bulk delete, and refused as that is.
+    pub fn begin_cleanup(&mut self) -> Result<(), Fault>
+        ensures steps { Continues S.follows self.old.store self.new.store }
+        ensures opened { OnOk result (CleanupIsOpened S.PageStore self.old self.new) }
+        ensures refused { OnErr result (self.new ≡ self.old) }
+        ensures cause { IfErr result (NotBegunFor S.PageStore self.old) }
+    {
+        let at = self.place_for_vacuum()?;
+        begin(
+            &mut self.store,
+            &mut self.calls,
+            &[LentRows { rows: &self.rows }],
+            at as u32,
+            Request::Cleanup,
+        )?;
+        self.seats[at] = Some(Sitter::Vacuum);
+        Ok(())
+    }
+
+    /// So many steps more of the bulk delete or cleanup that goes on in parts, at most: each does one act at most, so a few pages. Answers
+    /// None where it goes on, and its statistics once it has finished. Refused with `NoSession` (12) where none is open, or it has
+    /// finished. Refused with `Blocked` (4) where an open scan stands on a leaf that it needs, with `Io` (2), `Stopped` (3), `NoFrame`
+    /// (10), and with `PageDamaged` (17) on pages that are no tree: it stays open then, with what it has done, and its next part tries
+    /// the same step again.
+    pub fn vacuum(&mut self, steps: u32) -> Result<Option<VacuumStats>, Fault>
+        ensures steps { Continues S.follows self.old.store self.new.store }
+        ensures none { NoVacuumIsOpen self.old.seats → (result ≡ Err Fault.NoSession) × (self.new ≡ self.old) }
+        ensures over { (session : ℕ) → IsVacuumSeat self.old.seats session → op_of self.old.calls session ≡ None
+            → (result ≡ Err Fault.NoSession) × (self.new ≡ self.old) }
+        ensures runs { (session : ℕ) → IsVacuumSeat self.old.seats session → op_of self.old.calls session ≢ None
+            → IndexIsRun S.PageStore session (PartMeans session (part_answer result))
+            (part_outcome (part_answer result)) self.old self.new }
+        // Whatever the pages are.
+        ensures made { (session : ℕ) → IsVacuumSeat self.old.seats session → op_of self.old.calls session ≢ None
+            → IndexMakes S.PageStore session (ComesTo (part_outcome (part_answer result))) self.old self.new }
+        ensures keeps { (session : ℕ) → IsVacuumSeat self.old.seats session
+            → ForEachIndexHistory S.PageStore self.old self.new (λ start history calls.
+            PartKeeps S.PageStore session self.old self.new.store calls) }
+        ensures counts { (session : ℕ) → IsVacuumSeat self.old.seats session
+            → ForEachIndexHistory S.PageStore self.old self.new (λ start history calls.
+            PartCounts S.PageStore session result self.new.store calls) }
+        // It never answers `LogFull`, `SessionBusy` nor `VacuumRunning`.
+        ensures cause { (session : ℕ) → IsVacuumSeat self.old.seats session
+            → ForEachIndexHistory S.PageStore self.old self.new (λ start history calls.
+            PartIsCaused S.PageStore session result self.old self.new.store calls) }
+        ensures tokens { SameTokens self.old self.new }
+        ensures rows { self.new.rows ≡ self.old.rows }
+    {
+        let Some(at) = vacuum_seat(&self.seats) else {
+            return Err(Fault::NoSession);
+        };
+        if !self.calls.is_running(at as u32) {
+            return Err(Fault::NoSession);
+        }
+        told(take_steps(
+            &mut self.store,
+            &mut self.calls,
+            &[LentRows { rows: &self.rows }],
+            at as u32,
+            steps,
+            LEAST_ROOM,
+        ))
+    }
+
+    /// Ends the bulk delete or cleanup that goes on in parts: one that hasn't finished is given up, and what it has removed stays
+    /// removed. Its session is free then, and its rows are dropped. Refused with `NoSession` (12) where none is open.
+    pub fn end_vacuum(&mut self) -> Result<(), Fault>
+        ensures steps { Continues S.follows self.old.store self.new.store }
+        ensures none { NoVacuumIsOpen self.old.seats → (result ≡ Err Fault.NoSession) × (self.new ≡ self.old) }
+        ensures ended { (session : ℕ) → IsVacuumSeat self.old.seats session
+            → (result ≡ Ok tt) × VacuumIsEnded S.PageStore session self.old self.new }
+    {
+        let Some(at) = vacuum_seat(&self.seats) else {
+            return Err(Fault::NoSession);
+        };
+        give_up(
+            &mut self.store,
+            &mut self.calls,
+            &[LentRows { rows: &self.rows }],
+            at as u32,
+        );
+        self.rows = RowSet::new();
+        self.seats[at] = None;
+        Ok(())
+    }
+}
