@@ -1,6 +1,5 @@
 pub mod Asking
 pub mod Meanings
-pub mod Naming
 pub mod Serving
 pub mod Giving
 pub mod Making

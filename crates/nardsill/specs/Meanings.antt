@@ -52,6 +52,11 @@ pub record SpellsStats (stats : VacuumStats) (answer : Answer) : Type 0 where
   pub deleted : answer.pages_deleted ≡ stats.pages_deleted
   pub free : answer.pages_free ≡ stats.pages_free
 
+-- a part has ended, with these statistics, or goes on
+abbrev pub AnswersPart : Option VacuumStats → Answer → Type 0
+AnswersPart None answer = answer.session ≡ 0
+AnswersPart (Some stats) answer = (answer.session ≡ 1) × SpellsStats stats answer
+
 -- so many actions are durable
 pub record AnswersDurable (actions : ℕ) (answer : Answer) : Type 0 where
   pub number : answer.number ≡ actions

@@ -1,9 +1,10 @@
 -- What a call of C's does, and what its answer means.
-use Rattle.std.specs.Prelude.{◌≡◌, ◌≢◌, ◌⊎◌, ◌||◌, ℕ, true, false, Option, Some, None, IsSome, Result, Err, IfOk, IfErr, OnOk, OnErr, ⊤}
+use Rattle.std.specs.Prelude.{◌≡◌, ◌≢◌, ◌⊎◌, ◌||◌, ℕ, true, false, Option, Some, None, IsSome, Result, Ok, Err, IfOk, IfErr, OnOk, OnErr, ⊤}
 use Rattle.access_method.specs.Counted.{upkeep_outcome}
 use Rattle.access_method.specs.Indexes.{ForEachIndexHistory, IndexIsRun, IndexInserts, IndexMakes, InsertsOrKeeps, IsCleanedUp, IsNewToken, IsBulkDeletedOrLess, SameTokens, NotOpenedFor, NotRescannedFor, RescanMeans, SeatBecomes, BulkDeleteRuns, seat_with, slots_with}
-use Rattle.access_method.specs.Refusals.{InsertHasCause, causes_of_run}
-use Rattle.access_method.specs.Tokens.{seat_of}
+use Rattle.access_method.specs.Parts.{BulkDeleteIsOpened, CleanupIsOpened, NotBegunFor, PartCounts, PartIsCaused, PartKeeps, VacuumIsEnded, part_answer}
+use Rattle.access_method.specs.Refusals.{InsertHasCause, causes_of_vacuum}
+use Rattle.access_method.specs.Tokens.{IsVacuumSeat, NoVacuumIsOpen, seat_of}
 use Rattle.access_method.specs.declared.index.Index.{Index}
 use Rattle.access_method.specs.declared.token.ScanToken.{ScanToken}
 use Rattle.index_model.specs.Faults.{HasCause}
@@ -22,15 +23,16 @@ use Rattle.session_calls.specs.Ops.{op_before}
 use Rattle.session_calls.specs.declared.answer.Answer.TheVariants.{Begun}
 use Rattle.session_calls.specs.declared.request.Request.TheVariants.{Scan as ToScan, Cleanup as ToCleanup}
 use Rattle.whole_calls.specs.Made.{ComesTo, InsertComesTo, IsMadeOf}
+use Rattle.whole_calls.specs.Parts.{PartMeans, part_outcome}
 use Rattle.whole_calls.specs.Vacuuming.{VacuumMeans, vacuum_outcome}
 use Rattle.whole_calls.specs.Meanings.{HasBegun, IsSameHistory, EndMeans}
 use Rattle.whole_calls.specs.declared.inserted.Inserted.{Inserted}
 use Rattle.nardsill.specs.Asking.{SpellsNoEntry, SpellsNoRange, SpellsEntry, SpellsRange, row_asked, token_asked}
-use Rattle.nardsill.specs.Naming.{is_dead_row, same_row}
-use Rattle.nardsill.specs.Meanings.{AnswersFault, Tells, AnswersDurable, AnswersInserted, SpellsStats, AnswersToken}
+use Rattle.access_method.specs.Rows.{is_row_in, same_row}
+use Rattle.nardsill.specs.Meanings.{AnswersFault, Tells, AnswersDurable, AnswersInserted, AnswersPart, SpellsStats, AnswersToken}
 use Rattle.nardsill.specs.declared.answer.Answer.{Answer}
 use Rattle.nardsill.specs.declared.ask.Ask.{Ask}
-use Rattle.nardsill.specs.declared.dead.Dead.{Dead}
+use Rattle.access_method.specs.declared.rows.RowSet.{RowSet}
 
 -- what was asked is misspelled, and that is its fault: the call is refused, and nothing is changed
 pub record IsMisspelled {S : Type 0} (IsNone : Fault → Type 0) (answer : Answer) (old new : Index S) : Type 0 where
@@ -89,20 +91,20 @@ pub record ClosesHandle {S : Type 0} (g : Ghosts S) (ask : Ask) (answer : Answer
   pub closed : seat_of old.seats (token_asked ask) ≡ None → (outcome ≡ Err NoSession) × (new ≡ old)
 
 -- a row was named beside those that were; or none is named any more, as it is no row, or there is no memory
-abbrev pub Names : Ask → Answer → Dead → Dead → Type 0
+abbrev pub Names : Ask → Answer → RowSet → RowSet → Type 0
 Names ask answer old new =
-    (IsRow (row_asked ask) × (answer.status ≡ 0) × ((row : Row) → is_dead_row new row ≡ (same_row (row_asked ask) row || is_dead_row old row)))
+    (IsRow (row_asked ask) × (answer.status ≡ 0) × ((row : Row) → is_row_in new row ≡ (same_row (row_asked ask) row || is_row_in old row)))
     ⊎ ((IsRow (row_asked ask) → ⊥) × AnswersFault BadRow answer × (new.rows ≡ None))
     ⊎ (IsRow (row_asked ask) × AnswersFault NoMemory answer × (new.rows ≡ None))
 
 -- all entries of the rows that were named were to be deleted
-pub record Deletes {S : Type 0} (g : Ghosts S) (dead : Dead) (answer : Answer) (old new : Index S) : Type 0 where
+pub record Deletes {S : Type 0} (g : Ghosts S) (dead : RowSet) (answer : Answer) (old new : Index S) : Type 0 where
   pub outcome : Result VacuumStats Fault
   pub told : Tells SpellsStats outcome answer
-  pub runs : ForEachIndexHistory g old new (BulkDeleteRuns g (is_dead_row dead) outcome old new)
-  pub made : IsMadeOf g 63 5 (ComesTo (vacuum_outcome outcome)) (slots_with (is_dead_row dead) old) (slots_with (is_dead_row dead) new)
-  pub does : ForEachIndexHistory g old new (λ start history calls. IsBulkDeletedOrLess g (is_dead_row dead) outcome old.store new.store)
-  pub cause : ForEachIndexHistory g old new (λ start history calls. IfErr outcome (HasCause (causes_of_run g 63 old new.store)))
+  pub runs : ForEachIndexHistory g old new (BulkDeleteRuns g (is_row_in dead) outcome old new)
+  pub made : IsMadeOf g 63 5 (ComesTo (vacuum_outcome outcome)) (slots_with (is_row_in dead) old) (slots_with (is_row_in dead) new)
+  pub does : ForEachIndexHistory g old new (λ start history calls. IsBulkDeletedOrLess g (is_row_in dead) outcome old.store new.store)
+  pub cause : ForEachIndexHistory g old new (λ start history calls. IfErr outcome (HasCause (causes_of_vacuum g 63 old new.store)))
   pub tokens : SameTokens old new
 
 -- empty leaves were to be deleted
@@ -112,8 +114,48 @@ pub record CleansIndex {S : Type 0} (g : Ghosts S) (answer : Answer) (old new : 
   pub runs : IndexIsRun g 63 (VacuumMeans 63 ToCleanup outcome) (vacuum_outcome outcome) old new
   pub made : IndexMakes g 63 (ComesTo (vacuum_outcome outcome)) old new
   pub does : ForEachIndexHistory g old new (λ start history calls. IsCleanedUp g outcome old.store new.store)
-  pub cause : ForEachIndexHistory g old new (λ start history calls. IfErr outcome (HasCause (causes_of_run g 63 old new.store)))
+  pub cause : ForEachIndexHistory g old new (λ start history calls. IfErr outcome (HasCause (causes_of_vacuum g 63 old new.store)))
   pub tokens : SameTokens old new
+
+-- a bulk delete of the rows that were named was to begin, which goes on in parts
+pub record BeginsDelete {S : Type 0} (g : Ghosts S) (dead : RowSet) (answer : Answer) (old new : Index S) : Type 0 where
+  pub outcome : Result (Unit {0}) Fault
+  pub told : Tells AnswersNothing outcome answer
+  pub opened : OnOk outcome (BulkDeleteIsOpened g dead old new)
+  pub same : OnErr outcome (new ≡ old)
+  pub cause : IfErr outcome (NotBegunFor g old)
+
+-- ... a cleanup
+pub record BeginsCleanup {S : Type 0} (g : Ghosts S) (answer : Answer) (old new : Index S) : Type 0 where
+  pub outcome : Result (Unit {0}) Fault
+  pub told : Tells AnswersNothing outcome answer
+  pub opened : OnOk outcome (CleanupIsOpened g old new)
+  pub same : OnErr outcome (new ≡ old)
+  pub cause : IfErr outcome (NotBegunFor g old)
+
+-- the one that goes on was to go on; `PartOf` has what is told of its session
+pub record PartOf {S : Type 0} (g : Ghosts S) (outcome : Result (Option VacuumStats) Fault) (session : ℕ) (old new : Index S) : Type 0 where
+  pub over : op_of old.calls session ≡ None → (outcome ≡ Err NoSession) × (new ≡ old)
+  pub runs : op_of old.calls session ≢ None → IndexIsRun g session (PartMeans session (part_answer outcome)) (part_outcome (part_answer outcome)) old new
+  pub made : op_of old.calls session ≢ None → IndexMakes g session (ComesTo (part_outcome (part_answer outcome))) old new
+  pub keeps : ForEachIndexHistory g old new (λ start history calls. PartKeeps g session old new.store calls)
+  pub counts : ForEachIndexHistory g old new (λ start history calls. PartCounts g session outcome new.store calls)
+  pub cause : ForEachIndexHistory g old new (λ start history calls. PartIsCaused g session outcome old new.store calls)
+
+pub record GoesOn {S : Type 0} (g : Ghosts S) (answer : Answer) (old new : Index S) : Type 0 where
+  pub outcome : Result (Option VacuumStats) Fault
+  pub told : Tells AnswersPart outcome answer
+  pub none : NoVacuumIsOpen old.seats → (outcome ≡ Err NoSession) × (new ≡ old)
+  pub part : (session : ℕ) → IsVacuumSeat old.seats session → PartOf g outcome session old new
+  pub tokens : SameTokens old new
+  pub rows : new.rows ≡ old.rows
+
+-- ... was to be over
+pub record EndsVacuum {S : Type 0} (g : Ghosts S) (answer : Answer) (old new : Index S) : Type 0 where
+  pub outcome : Result (Unit {0}) Fault
+  pub told : Tells AnswersNothing outcome answer
+  pub none : NoVacuumIsOpen old.seats → (outcome ≡ Err NoSession) × (new ≡ old)
+  pub ended : (session : ℕ) → IsVacuumSeat old.seats session → (outcome ≡ Ok tt) × VacuumIsEnded g session old new
 
 -- all actions were to be made durable, by a commit or a checkpoint
 pub record MakesDurable {S : Type 0} (g : Ghosts S) (upkeep : Upkeep) (answer : Answer) (old new : Index S) : Type 0 where
@@ -127,12 +169,13 @@ pub record MakesDurable {S : Type 0} (g : Ghosts S) (upkeep : Upkeep) (answer : 
 
 -- no call has this number
 abbrev pub IsUnknown : ℕ → Type 0
-IsUnknown what = (what ≢ 1) × (what ≢ 2) × (what ≢ 3) × (what ≢ 4) × (what ≢ 5) × (what ≢ 6) × (what ≢ 7) × (what ≢ 8) × (what ≢ 9)
+IsUnknown what =
+    (what ≢ 1) × (what ≢ 2) × (what ≢ 3) × (what ≢ 4) × (what ≢ 5) × (what ≢ 6) × (what ≢ 7) × (what ≢ 8) × (what ≢ 9) × (what ≢ 11) × (what ≢ 12) × (what ≢ 13) × (what ≢ 14)
 
 -- What is answered to a call of an open index, and what has become of it and of the rows that were named. 1 inserts, 2 opens a scan, 3
 -- begins one anew, 4 closes one, 5 names a row, 6 deletes the entries of the rows that were named, 7 cleans up, 8 commits, 9 makes a
--- checkpoint.
-pub record ServesCall {S : Type 0} (g : Ghosts S) (ask : Ask) (answer : Answer) (old new : Index S) (dead left : Dead) : Type 0 where
+-- checkpoint. In parts, 11 begins to delete, 12 to clean up, 13 goes on and 14 ends.
+pub record ServesCall {S : Type 0} (g : Ghosts S) (ask : Ask) (answer : Answer) (old new : Index S) (dead left : RowSet) : Type 0 where
   pub inserted : ask.what ≡ 1 → Inserts g ask answer old new ⊎ IsMisspelled (SpellsNoEntry ask) answer old new
   pub began : ask.what ≡ 2 → BeginsScan g ask answer old new ⊎ IsMisspelled (SpellsNoRange ask) answer old new
   pub begun_again : ask.what ≡ 3 → BeginsAgain g ask answer old new ⊎ IsMisspelled (SpellsNoRange ask) answer old new
@@ -142,11 +185,15 @@ pub record ServesCall {S : Type 0} (g : Ghosts S) (ask : Ask) (answer : Answer) 
   pub cleaned : ask.what ≡ 7 → CleansIndex g answer old new
   pub committed : ask.what ≡ 8 → MakesDurable g Forces answer old new
   pub written : ask.what ≡ 9 → MakesDurable g Checkpoints answer old new
+  pub began_delete : ask.what ≡ 11 → BeginsDelete g dead answer old new × (left.rows ≡ None)
+  pub began_cleanup : ask.what ≡ 12 → BeginsCleanup g answer old new
+  pub went_on : ask.what ≡ 13 → GoesOn g answer old new
+  pub ended : ask.what ≡ 14 → EndsVacuum g answer old new
   pub unknown : IsUnknown ask.what → AnswersFault NoSession answer × (new ≡ old)
   -- where it says how many actions are durable, so many are
   pub durable : answer.is_durable ≡ true → (g.backing new.store).durable ≡ answer.number
   -- rows stay named but by the calls that name and take them
-  pub kept : ask.what ≢ 5 → ask.what ≢ 6 → left ≡ dead
+  pub kept : ask.what ≢ 5 → ask.what ≢ 6 → ask.what ≢ 11 → left ≡ dead
   pub steps : Continues g.follows old.store new.store
 
 -- this holds of the index before and of that after; both are there
@@ -157,7 +204,7 @@ OfBoth P None new = ⊥
 
 -- What is answered to a call of a handle. 10 lets it go: what is left of it owns no file, and no memory but its own block, which is
 -- C's to free. A handle without an index answers no other call.
-pub record IsServed {S : Type 0} (g : Ghosts S) (ask : Ask) (answer : Answer) (old new : Option (Index S)) (dead left : Dead) : Type 0 where
+pub record IsServed {S : Type 0} (g : Ghosts S) (ask : Ask) (answer : Answer) (old new : Option (Index S)) (dead left : RowSet) : Type 0 where
   pub let_go : ask.what ≡ 10 → (new ≡ None) × (left.rows ≡ None) × (answer.status ≡ 0)
   pub empty : ask.what ≢ 10 → old ≡ None → AnswersFault NoSession answer × (new ≡ None) × (left ≡ dead)
   pub served : ask.what ≢ 10 → IsSome old → OfBoth (λ before after. ServesCall g ask answer before after dead left) old new

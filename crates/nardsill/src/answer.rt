@@ -16,7 +16,7 @@ pub struct Answer {
     pub number: u64,
     /// The fault that left an insert unfinished, or 0; how many entries are left.
     pub other: u64,
-    /// A token's session.
+    /// A token's session; of a part, whether what goes on in parts has finished, 1, or goes on, 0.
     pub session: u32,
     /// So many actions as `number` tells are durable.
     pub is_durable: bool,

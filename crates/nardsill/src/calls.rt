@@ -4,19 +4,19 @@ ghost use Rattle.std.specs.Prelude.{◌≡◌, ◌⊎◌, ◌≢◌, None, false
 ghost use Rattle.page_action.specs.States.{Continues};
 ghost use Rattle.schedule.specs.TheoremKinds.{Forces, Checkpoints};
 ghost use Rattle.nardsill.specs.Asking.{SpellsNoEntry, SpellsNoRange};
-ghost use Rattle.nardsill.specs.Serving.{BeginsScan, BeginsAgain, CleansIndex, ClosesHandle, Deletes, Inserts, IsMisspelled, IsServed, IsUnknown, MakesDurable, Names, ServesCall, AnswersNothing};
-ghost use Rattle.nardsill.specs.Meanings.{AnswersFault, Tells, AnswersDurable, AnswersInserted, SpellsStats, AnswersToken};
+ghost use Rattle.nardsill.specs.Serving.{BeginsCleanup, BeginsDelete, BeginsScan, BeginsAgain, CleansIndex, ClosesHandle, Deletes, EndsVacuum, GoesOn, Inserts, IsMisspelled, IsServed, IsUnknown, MakesDurable, Names, ServesCall, AnswersNothing};
+ghost use Rattle.nardsill.specs.Meanings.{AnswersFault, Tells, AnswersDurable, AnswersInserted, AnswersPart, SpellsStats, AnswersToken};
 
 use crate::answer::{Answer, DONE, counted, refused, unfinished};
 use crate::ask::Ask;
-use crate::dead::Dead;
 use crate::handle::Handle;
-use access_method::{Index, ScanToken};
+use access_method::{Index, RowSet, ScanToken};
 use device::{FileDevice, Unknown};
 use index_model::{Fault, VacuumStats};
 use page_action::PageStore;
 use page_store::Store;
 use std::alloc::Global;
+use std::mem;
 use whole_calls::Inserted;
 
 /// Does what is asked, whatever it is.
@@ -36,7 +36,7 @@ pub fn serve(handle: &mut Handle, ask: Ask) -> Answer
 }
 
 // A call of an index that is open.
-fn call<S: PageStore>(alloc: Global, index: &mut Index<S>, dead: &mut Dead, ask: &Ask) -> Answer
+fn call<S: PageStore>(alloc: Global, index: &mut Index<S>, dead: &mut RowSet, ask: &Ask) -> Answer
     ensures { ServesCall S.PageStore ask.now result index.old index.new dead.old dead.new }
 {
     match ask.what {
@@ -49,6 +49,10 @@ fn call<S: PageStore>(alloc: Global, index: &mut Index<S>, dead: &mut Dead, ask:
         7 => clean_up(index),
         8 => commit(index),
         9 => checkpoint(index),
+        11 => begin_delete(index, dead),
+        12 => begin_clean_up(index),
+        13 => go_on(index, ask),
+        14 => end_vacuum(index),
         _ => refused(Fault::NoSession),
     }
 }
@@ -140,7 +144,7 @@ fn close<S: PageStore>(index: &mut Index<S>, ask: &Ask) -> Answer
 }
 
 // Names a row that the next bulk delete takes.
-fn name(alloc: Global, dead: &mut Dead, ask: &Ask) -> Answer
+fn name(alloc: Global, dead: &mut RowSet, ask: &Ask) -> Answer
     ensures means { Names ask.now result dead.old dead.new }
     ensures quiet { result.is_durable ≡ false }
 {
@@ -155,7 +159,7 @@ fn name(alloc: Global, dead: &mut Dead, ask: &Ask) -> Answer
 }
 
 // Deletes all entries of the rows that were named, and forgets these.
-fn delete<S: PageStore>(index: &mut Index<S>, dead: &mut Dead) -> Answer
+fn delete<S: PageStore>(index: &mut Index<S>, dead: &mut RowSet) -> Answer
     ensures steps { Continues S.follows index.old.store index.new.store }
     ensures means { Deletes S.PageStore dead.old result index.old index.new }
     ensures forgotten { dead.new.rows ≡ None }
@@ -183,6 +187,58 @@ fn clean_up<S: PageStore>(index: &mut Index<S>) -> Answer
     ensures quiet { result.is_durable ≡ false }
 {
     stats_answer(index.amvacuumcleanup())
+}
+
+// Begins to delete all entries of the rows that were named, in parts, and forgets these.
+fn begin_delete<S: PageStore>(index: &mut Index<S>, dead: &mut RowSet) -> Answer
+    ensures steps { Continues S.follows index.old.store index.new.store }
+    ensures means { BeginsDelete S.PageStore dead.old result index.old index.new }
+    ensures forgotten { dead.new.rows ≡ None }
+    ensures quiet { result.is_durable ≡ false }
+{
+    let rows = mem::replace(dead, RowSet::new());
+    done(index.begin_bulk_delete(rows))
+}
+
+// Begins to clean up, in parts.
+fn begin_clean_up<S: PageStore>(index: &mut Index<S>) -> Answer
+    ensures steps { Continues S.follows index.old.store index.new.store }
+    ensures means { BeginsCleanup S.PageStore result index.old index.new }
+    ensures quiet { result.is_durable ≡ false }
+{
+    done(index.begin_cleanup())
+}
+
+// So many steps more of what goes on in parts.
+fn go_on<S: PageStore>(index: &mut Index<S>, ask: &Ask) -> Answer
+    ensures steps { Continues S.follows index.old.store index.new.store }
+    ensures means { GoesOn S.PageStore result index.old index.new }
+    ensures quiet { result.is_durable ≡ false }
+{
+    part_answer(index.vacuum(ask.block))
+}
+
+fn part_answer(outcome: Result<Option<VacuumStats>, Fault>) -> Answer
+    ensures told { Tells AnswersPart outcome result }
+    ensures quiet { result.is_durable ≡ false }
+{
+    match outcome {
+        Ok(Some(stats)) => Answer {
+            session: 1,
+            ..counted(&stats)
+        },
+        Ok(None) => DONE,
+        Err(fault) => refused(fault),
+    }
+}
+
+// Ends what goes on in parts.
+fn end_vacuum<S: PageStore>(index: &mut Index<S>) -> Answer
+    ensures steps { Continues S.follows index.old.store index.new.store }
+    ensures means { EndsVacuum S.PageStore result index.old index.new }
+    ensures quiet { result.is_durable ≡ false }
+{
+    done(index.end_vacuum())
 }
 
 // Makes all that was done durable.

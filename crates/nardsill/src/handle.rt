@@ -2,9 +2,8 @@
 
 ghost use Rattle.std.specs.Prelude.{◌≡◌, IfSome, None};
 
-use crate::dead::Dead;
 use crate::loose::Loose;
-use access_method::Index;
+use access_method::{Index, RowSet};
 use device::{FileDevice, Unknown};
 use page_store::Store;
 use std::alloc::Global;
@@ -17,7 +16,7 @@ pub type InFile = Index<Store<FileDevice<Unknown>>>;
 pub struct Handle {
     pub alloc: Global,
     pub index: Option<InFile>,
-    pub dead: Dead,
+    pub dead: RowSet,
 }
 
 impl Handle {
@@ -29,7 +28,7 @@ impl Handle {
         Handle {
             alloc,
             index: None,
-            dead: Dead { rows: None },
+            dead: RowSet::new(),
         }
     }
 }

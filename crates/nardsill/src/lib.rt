@@ -25,7 +25,6 @@ mod answer;
 mod ask;
 mod calls;
 mod checking;
-mod dead;
 mod facts;
 mod giving;
 mod handle;
