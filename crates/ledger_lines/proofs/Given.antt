@@ -2,7 +2,7 @@
 use Rattle.std.specs.Prelude.{Result, Ok, flat_map}
 use Rattle.std.proofs.Common.{◌≡◌, ℕ, ◌+◌, false, Option, Some, List, [], ◌∷◌, ◌++◌, length, refl, sym, ap, subst, ◌∙◌, append-nil, append_assoc, length-append, arith}
 use Rattle.access_method.specs.declared.token.ScanToken.{ScanToken}
-use Rattle.access_method.specs.declared.token.Seat.{Seat}
+use Rattle.access_method.specs.declared.token.Sitter.{Sitter}
 use Rattle.index_model.specs.declared.entry.Entry.{Entry}
 use Rattle.ledger_lines.proofs.Imports.{AppendsFirst, BreaksScan, Appends-trans, Appends, SameTokens, TokenAfter, seat_with, seat_of, Index, Fault, Ghosts, GivesEach, IsGive, PrintsScan, listed_line}
 
@@ -29,7 +29,7 @@ module _ {S : Type 0} (g : Ghosts S) (token : ScanToken) where
       → seat_of new.seats token ≡ seat_with token false
   stays_open r o old new same after seat =
       let kept : SameTokens old new = subst (λ (x : Result (Option Entry) Fault). TokenAfter token x old new) same after in
-      ap (λ (seats : List (Option Seat)). seat_of seats token) kept.seats_is ∙ seat
+      ap (λ (seats : List (Option Sitter)). seat_of seats token) kept.seats_is ∙ seat
 
 lines_more : (given : List Entry) (entry : Entry) → flat_map listed_line given ++ listed_line entry ≡ flat_map listed_line (given ++ entry ∷ [])
 lines_more [] entry = sym (append-nil (listed_line entry))

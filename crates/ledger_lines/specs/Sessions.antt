@@ -33,10 +33,10 @@ pub record IsReplied {S : Type 0} (g : Ghosts S) (is_in : Dead → Row → Bool)
   pub spelled : words ≡ ledger_words line
   pub replies : Replies g is_in line old new before after reply
 
--- what words that spell no line are replied with: that they don't, or that there is no such key or row
+-- what words that spell no line are replied with: that there is no such key or row; or that they don't, where no key or row is at fault
 abbrev pub NotDoneReplies : List (List ℕ) → Reply → Type 0
 NotDoneReplies words (IsRefused fault) = LedgerLineFails fault words
-NotDoneReplies words NotALine = ⊤
+NotDoneReplies words NotALine = (fault : Fault) → LedgerLineFails fault words → ⊥
 NotDoneReplies words reply = ⊥
 
 -- ... were replied to: nothing is changed, and nothing printed before the reply
