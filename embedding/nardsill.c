@@ -44,8 +44,8 @@ struct gathering {
 
 struct nardsill {
     pthread_mutex_t lock;
+    struct nardsill_shell *shell; /* embedding/fuzz.c knows its place */
     struct gathering gathering;
-    struct nardsill_shell *shell;
     nardsill_scan *scans; /* those that are open */
     uint32_t frames, count;
     int descriptor;       /* the library's own, for a forked child to close */
@@ -163,12 +163,10 @@ static void keep(nardsill *index) {
     pthread_mutex_unlock(&all_lock);
 }
 
-static void forget(nardsill *index) {
-    pthread_mutex_lock(&all_lock);
+static void forget_locked(nardsill *index) {
     nardsill **at = &all;
     while (*at && *at != index) at = &(*at)->next;
     if (*at) *at = index->next;
-    pthread_mutex_unlock(&all_lock);
 }
 
 static void let_go(struct nardsill_shell *shell) {
@@ -412,10 +410,13 @@ static struct outcome open_index(const char *path, int is_path, uint32_t frames,
     return outcome;
 }
 
+/* No fork comes between: its child would have the file, and not know it. */
 static void free_index(nardsill *index) {
-    forget(index);
+    pthread_mutex_lock(&all_lock);
+    forget_locked(index);
     flock(index->descriptor, LOCK_UN);
     let_go(index->shell);
+    pthread_mutex_unlock(&all_lock);
     free_locks(index);
     free(index);
 }
