@@ -1,15 +1,18 @@
-/* The calls of nardsill.h, over the exports of the proved library: opens the file, checks pointers, and takes the handle's lock. */
+/* The calls of nardsill.h, over the exports of the proved library: opens the file, checks pointers, takes the handle's lock, and makes
+   one call for commits that come together. */
 #define _GNU_SOURCE
 #include "nardsill.h"
 #include "nardsill_proved.h"
 #include <errno.h>
 #include <fcntl.h>
 #include <pthread.h>
+#include <stdatomic.h>
 #include <stdio.h>
 #include <stdlib.h>
 #include <string.h>
 #include <sys/file.h>
 #include <sys/stat.h>
+#include <time.h>
 #include <unistd.h>
 
 /* What C and the proved library share is laid out alike: crates/nardsill has the same numbers. */
@@ -25,9 +28,24 @@ IS_LAID_OUT(nardsill_check_ask, 8, frames, 4);
 IS_LAID_OUT(nardsill_checked, 48, unfinished, 40);
 _Static_assert(sizeof(nardsill_entry) == 76 && offsetof(nardsill_entry, key) == 9, "nardsill_entry");
 
+struct commit;
+
+/* Commits share a call of the library. Those that have come wait for the committers of the last call, who may come again. */
+struct gathering {
+    pthread_cond_t bell;    /* rung when a call has told its commits */
+    struct commit *commits; /* those that wait for the next call, the last that came first */
+    unsigned expected;      /* committers of the last call that haven't come again */
+    atomic_uint at_lock;    /* threads that have committed before, and wait for the handle's lock */
+    unsigned vain, skips;   /* how often in a row nobody came while one waited, 6 at most; and how many calls don't wait therefore */
+    uint64_t call;          /* the number of the last call, from 1 on */
+    uint64_t seen[64];      /* the call of a thread's last commit; two threads may have one place */
+    uint64_t took, last;    /* how long the last call took, and when the last commit came, in nanoseconds */
+};
+
 struct nardsill {
     pthread_mutex_t lock;
-    struct nardsill_shell *shell;
+    struct nardsill_shell *shell; /* embedding/fuzz.c knows its place */
+    struct gathering gathering;
     nardsill_scan *scans; /* those that are open */
     uint32_t frames, count;
     int descriptor;       /* the library's own, for a forked child to close */
@@ -145,12 +163,10 @@ static void keep(nardsill *index) {
     pthread_mutex_unlock(&all_lock);
 }
 
-static void forget(nardsill *index) {
-    pthread_mutex_lock(&all_lock);
+static void forget_locked(nardsill *index) {
     nardsill **at = &all;
     while (*at && *at != index) at = &(*at)->next;
     if (*at) *at = index->next;
-    pthread_mutex_unlock(&all_lock);
 }
 
 static void let_go(struct nardsill_shell *shell) {
@@ -301,6 +317,24 @@ int nardsill_create(const char *path, const nardsill_limits *limits) {
                                                                      .log_bytes = limits->log_bytes, .unique = limits->unique}));
 }
 
+/* Makes a handle's lock and its bell. 0, or 1 where the system has no room for them. */
+static int make_locks(nardsill *index) {
+    pthread_condattr_t clock;
+    if (pthread_condattr_init(&clock)) return 1;
+    /* The clock of the day may be set back, and a wait would last so much longer. */
+    int failed = pthread_condattr_setclock(&clock, CLOCK_MONOTONIC) || pthread_cond_init(&index->gathering.bell, &clock);
+    pthread_condattr_destroy(&clock);
+    if (failed) return 1;
+    if (!pthread_mutex_init(&index->lock, 0)) return 0;
+    pthread_cond_destroy(&index->gathering.bell);
+    return 1;
+}
+
+static void free_locks(nardsill *index) {
+    pthread_mutex_destroy(&index->lock);
+    pthread_cond_destroy(&index->gathering.bell);
+}
+
 /* Opens the index in a file of this library's own, in a handle that has no index yet. */
 static struct outcome take(nardsill *index, int fd) {
     int file = fd;
@@ -319,8 +353,14 @@ static struct outcome start(int fd, uint32_t frames, nardsill **out) {
     nardsill *index = calloc(1, sizeof *index);
     if (!index) return only(NARDSILL_NO_MEMORY);
     index->frames = frames ? frames : 64;
-    struct outcome outcome = pthread_mutex_init(&index->lock, 0) ? only(NARDSILL_NO_MEMORY) : take(index, fd);
+    index->gathering.call = 1;
+    if (make_locks(index)) {
+        free(index);
+        return only(NARDSILL_NO_MEMORY);
+    }
+    struct outcome outcome = take(index, fd);
     if (outcome.status) {
+        free_locks(index);
         free(index);
         return outcome;
     }
@@ -370,11 +410,14 @@ static struct outcome open_index(const char *path, int is_path, uint32_t frames,
     return outcome;
 }
 
+/* No fork comes between: its child would have the file, and not know it. */
 static void free_index(nardsill *index) {
-    forget(index);
+    pthread_mutex_lock(&all_lock);
+    forget_locked(index);
     flock(index->descriptor, LOCK_UN);
     let_go(index->shell);
-    pthread_mutex_destroy(&index->lock);
+    pthread_mutex_unlock(&all_lock);
+    free_locks(index);
     free(index);
 }
 
@@ -405,6 +448,17 @@ int nardsill_open_fd(int fd, uint32_t frames, nardsill **out) {
     return open_and_leave(path, 0, frames, out);
 }
 
+/* This thread's number behind 0, in the order of their first commits; 0 before that. */
+static _Thread_local unsigned committer;
+
+/* Takes the handle's lock. A committer is seen where it waits for that: commits may wait for it. */
+static void take_lock(nardsill *index) {
+    if (!pthread_mutex_trylock(&index->lock)) return;
+    if (committer) index->gathering.at_lock++;
+    pthread_mutex_lock(&index->lock);
+    if (committer) index->gathering.at_lock--;
+}
+
 /* A call of the library, by a thread that has the handle's lock. */
 static struct nardsill_answer ask_locked(nardsill *index, struct nardsill_ask ask) {
     errno = 0;
@@ -413,7 +467,7 @@ static struct nardsill_answer ask_locked(nardsill *index, struct nardsill_ask as
 
 /* A call of its own, with the lock; what it tells stands at `answer`, if that is wanted. */
 static struct outcome call(nardsill *index, struct nardsill_ask ask, struct nardsill_answer *answer) {
-    pthread_mutex_lock(&index->lock);
+    take_lock(index);
     struct nardsill_answer got = ask_locked(index, ask);
     struct outcome outcome = told_by(got);
     pthread_mutex_unlock(&index->lock);
@@ -453,7 +507,7 @@ int nardsill_insert(nardsill *index, const void *key, size_t key_len, nardsill_r
     int status = !key && key_len ? NARDSILL_MISUSE : refusal_of(index);
     if (status) return refused(status);
     struct kept kept = enter();
-    pthread_mutex_lock(&index->lock);
+    take_lock(index);
     struct nardsill_answer answer = insert_locked(index, key, key_len, row);
     struct outcome outcome = told_by(answer);
     pthread_mutex_unlock(&index->lock);
@@ -468,7 +522,7 @@ int nardsill_insert_many(nardsill *index, const nardsill_entry *entries, size_t 
     struct kept kept = enter();
     size_t i = 0;
     struct outcome outcome = only(0);
-    pthread_mutex_lock(&index->lock);
+    take_lock(index);
     for (; i < count; i++) {
         outcome = told_by(insert_locked(index, entries[i].key, entries[i].key_len, entries[i].row));
         if (outcome.status) break;
@@ -541,7 +595,7 @@ int nardsill_get(nardsill *index, const void *key, size_t key_len, nardsill_row 
     if (status) return refused(status);
     end_key(&ask, ask.key, key_len);
     struct kept kept = enter();
-    pthread_mutex_lock(&index->lock);
+    take_lock(index);
     struct outcome outcome = get_locked(index, ask, out);
     pthread_mutex_unlock(&index->lock);
     return leave_with(kept, outcome);
@@ -565,7 +619,7 @@ static void remove_scan(nardsill *index, nardsill_scan *scan) {
 static struct outcome begin(nardsill *index, struct nardsill_ask ask, nardsill_scan **out) {
     nardsill_scan *scan = malloc(sizeof *scan);
     if (!scan) return only(NARDSILL_NO_MEMORY);
-    pthread_mutex_lock(&index->lock);
+    take_lock(index);
     struct nardsill_answer answer = ask_locked(index, ask);
     struct outcome outcome = told_by(answer);
     *scan = (nardsill_scan){index, answer.number, answer.session, 0, 0};
@@ -630,7 +684,7 @@ int nardsill_scan_read(nardsill_scan *scan, nardsill_entry *out, size_t room, si
     int status = !count || (!out && room) ? NARDSILL_MISUSE : refusal_of_scan(scan);
     if (status) return refused(status);
     struct kept kept = enter();
-    pthread_mutex_lock(&scan->index->lock);
+    take_lock(scan->index);
     struct outcome outcome = read_locked(scan, out, room, count);
     pthread_mutex_unlock(&scan->index->lock);
     return leave_with(kept, outcome);
@@ -646,7 +700,7 @@ void nardsill_scan_close(nardsill_scan *scan) {
     nardsill *index = scan->index;
     if (index && !index->is_parents) {
         struct kept kept = enter();
-        pthread_mutex_lock(&index->lock);
+        take_lock(index);
         ask_locked(index, (struct nardsill_ask){.what = NARDSILL_END, .session = scan->session, .number = scan->number});
         remove_scan(index, scan);
         pthread_mutex_unlock(&index->lock);
@@ -676,7 +730,7 @@ int nardsill_delete_rows(nardsill *index, const nardsill_row *rows, size_t count
     int status = (!rows && count) || !is_sized(stats) ? NARDSILL_MISUSE : refusal_of(index);
     if (status) return refused(status);
     struct kept kept = enter();
-    pthread_mutex_lock(&index->lock);
+    take_lock(index);
     struct nardsill_answer answer = delete_locked(index, rows, count);
     struct outcome outcome = told_by(answer);
     pthread_mutex_unlock(&index->lock);
@@ -694,25 +748,120 @@ int nardsill_vacuum(nardsill *index, nardsill_stats *stats) {
     return leave_with(kept, outcome);
 }
 
-static int force(nardsill *index, uint32_t what, uint64_t *actions) {
+/* A commit, on its thread's stack, and what the call told that covers it. Whoever makes that call has the handle's lock; all that is
+   here lies under it. So what a commit covers was done before the call began. */
+struct commit {
+    struct commit *next;
+    int is_over;
+    struct outcome outcome;
+    uint64_t actions;
+};
+
+enum { MOST_WAIT = 20000000 };
+
+static uint64_t nanoseconds(void) {
+    struct timespec now;
+    clock_gettime(CLOCK_MONOTONIC, &now);
+    return (uint64_t)now.tv_sec * 1000000000u + (uint64_t)now.tv_nsec;
+}
+
+static uint64_t lesser(uint64_t a, uint64_t b) { return a < b ? a : b; }
+
+static void number_thread(void) {
+    static atomic_uint numbers;
+    if (!committer) committer = 1 + atomic_fetch_add(&numbers, 1);
+}
+
+/* Puts a commit to those that wait. */
+static void join(struct gathering *all, struct commit *mine) {
+    uint64_t *seen = all->seen + committer % 64;
+    if (*seen == all->call) all->expected--;
+    *seen = all->call + 1;
+    /* It is worth while to wait. */
+    if (all->commits) all->vain = all->skips = 0;
+    mine->next = all->commits;
+    all->commits = mine;
+    all->last = nanoseconds();
+}
+
+/* The first commit waits until another has made the call, or no other came for as long as the last call took. */
+static void wait_first(nardsill *index, const struct commit *mine) {
+    struct gathering *all = &index->gathering;
+    uint64_t begun = all->last;
+    while (!mine->is_over) {
+        uint64_t until = lesser(all->last + all->took, begun + MOST_WAIT);
+        if (nanoseconds() >= until) break;
+        const struct timespec end = {(time_t)(until / 1000000000u), (long)(until % 1000000000u)};
+        pthread_cond_timedwait(&all->bell, &index->lock, &end);
+    }
+    if (all->last > begun) return;
+    /* Threads that commit in turn would wait each time. */
+    if (all->vain < 6) all->vain++;
+    all->skips = (1u << all->vain) - 1;
+}
+
+/* Waits for other commits, if some are expected. The last one that is expected doesn't wait, and makes the call. A committer that waits
+   for the lock may never get it from one that commits again and again, so that one soon waits for it. */
+static void gather(nardsill *index, const struct commit *mine) {
+    struct gathering *all = &index->gathering;
+    if (mine->next) {
+        while (all->expected && !mine->is_over) pthread_cond_wait(&all->bell, &index->lock);
+    } else if (all->at_lock ? all->skips % 8 : all->skips) {
+        all->skips--;
+    } else if (all->expected || all->at_lock) {
+        wait_first(index, mine);
+    }
+}
+
+/* Makes one call for all commits that are there, and tells each of them what it told. */
+static void commit_all(nardsill *index) {
+    struct gathering *all = &index->gathering;
+    uint64_t begun = nanoseconds();
+    struct nardsill_answer answer = ask_locked(index, (struct nardsill_ask){.what = NARDSILL_COMMIT});
+    struct outcome outcome = told_by(answer);
+    all->took = nanoseconds() - begun;
+    for (struct commit *one = all->commits; one; one = one->next) {
+        one->outcome = outcome;
+        one->actions = answer.number;
+        one->is_over = 1;
+    }
+    all->commits = 0;
+    all->expected = 0;
+    all->call++;
+    for (unsigned i = 0; i < 64; i++) all->expected += all->seen[i] == all->call;
+    pthread_cond_broadcast(&all->bell);
+}
+
+int nardsill_commit(nardsill *index, uint64_t *actions) {
+    int status = refusal_of(index);
+    if (status) return refused(status);
+    struct kept kept = enter();
+    struct commit mine = {.is_over = 0};
+    number_thread();
+    take_lock(index);
+    join(&index->gathering, &mine);
+    gather(index, &mine);
+    if (!mine.is_over) commit_all(index);
+    pthread_mutex_unlock(&index->lock);
+    if (!mine.outcome.status && actions) *actions = mine.actions;
+    return leave_with(kept, mine.outcome);
+}
+
+int nardsill_checkpoint(nardsill *index, uint64_t *actions) {
     int status = refusal_of(index);
     if (status) return refused(status);
     struct kept kept = enter();
     struct nardsill_answer answer;
-    struct outcome outcome = call(index, (struct nardsill_ask){.what = what}, &answer);
+    struct outcome outcome = call(index, (struct nardsill_ask){.what = NARDSILL_CHECKPOINT}, &answer);
     if (!outcome.status && actions) *actions = answer.number;
     return leave_with(kept, outcome);
 }
-
-int nardsill_commit(nardsill *index, uint64_t *actions) { return force(index, NARDSILL_COMMIT, actions); }
-
-int nardsill_checkpoint(nardsill *index, uint64_t *actions) { return force(index, NARDSILL_CHECKPOINT, actions); }
 
 int nardsill_info(nardsill *index, nardsill_details *out) {
     int status = !out || out->size != sizeof *out ? NARDSILL_MISUSE : refusal_of(index);
     if (status) return refused(status);
     struct kept kept = enter();
-    pthread_mutex_lock(&index->lock);
+    take_lock(index);
     struct nardsill_facts facts = nardsill_proved_info(index->shell);
     uint32_t scans = index->count;
     pthread_mutex_unlock(&index->lock);

@@ -134,7 +134,8 @@ NARDSILL_LOOK int nardsill_delete_rows(nardsill *index, const nardsill_row *rows
 /* Deletes empty pages, and counts what is there. */
 NARDSILL_LOOK int nardsill_vacuum(nardsill *index, nardsill_stats *stats);
 
-/* Makes all that was done durable; `actions` is how many were since the opening. A checkpoint writes the pages home too. */
+/* Makes all that was done durable; `actions` is how many were since the opening. A checkpoint writes the pages home too. Commits of
+   threads share a sync: one may wait for those that it shared the last one with, 20 ms at most. */
 NARDSILL_LOOK int nardsill_commit(nardsill *index, uint64_t *actions);
 NARDSILL_LOOK int nardsill_checkpoint(nardsill *index, uint64_t *actions);
 

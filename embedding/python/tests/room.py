@@ -43,8 +43,8 @@ def listed(entries: Any) -> List[Any]:
     return [(key, tuple(row)) for key, row in entries]
 
 
-def run_all(*work: Callable[[], None]) -> None:
-    """Runs each in a thread, and raises the first exception of one."""
+def run_all(*work: Callable[[], None], within: float = 90) -> None:
+    """Runs each in a thread, and raises the first exception of one. Each ends within so many seconds."""
     failed: List[BaseException] = []
 
     def kept(one: Callable[[], None]) -> None:
@@ -57,7 +57,7 @@ def run_all(*work: Callable[[], None]) -> None:
     for thread in threads:
         thread.start()
     for thread in threads:
-        thread.join(90)
+        thread.join(within)
         assert not thread.is_alive(), "a thread waits for ever"
     if failed:
         raise failed[0]

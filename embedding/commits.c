@@ -1,0 +1,613 @@
+/* Commits of many threads: what each is told, how many syncs they share, and what they wait for. */
+#define _GNU_SOURCE
+#include "testing.h"
+#include <pthread.h>
+#include <semaphore.h>
+#include <signal.h>
+#include <stdatomic.h>
+#include <sys/types.h>
+#include <sys/wait.h>
+#include <time.h>
+#include <unistd.h>
+
+#define PATH "commits.idx"
+#define OTHER "commits-other.idx"
+
+enum { MOST_THREADS = 32, MOST_ACTIONS = 20000 };
+
+/* The thread sanitizer knows no process with threads that is forked. */
+#ifdef __SANITIZE_THREAD__
+enum { IS_WATCHED = 1 };
+#else
+enum { IS_WATCHED = 0 };
+#endif
+
+static const nardsill_limits limits = {sizeof limits, 50, 4096, 1 << 22, 0};
+
+/* The syncs that were made, and from which on they fail, with which number; 0 for never. How long each takes beside, in microseconds. */
+static atomic_uint syncs;
+static unsigned failing;
+static int why;
+static unsigned slowness;
+/* The waits that calls made, those that wait now, and the longest that one was ready to wait. */
+static atomic_uint waits, waiting;
+static uint64_t longest;
+/* Whether waits with an end last until they are rung. */
+static atomic_int is_held;
+/* Whether a sync runs. A thread that finds the lock taken is kept from it, and whether it is there. */
+static atomic_int is_syncing, is_kept, is_there;
+static pthread_t kept;
+
+int __real_fdatasync(int fd);
+int __real_fsync(int fd);
+ssize_t __real_pwrite(int fd, const void *from, size_t count, off_t at);
+int __real_pthread_mutex_lock(pthread_mutex_t *lock);
+int __real_pthread_cond_wait(pthread_cond_t *bell, pthread_mutex_t *lock);
+int __real_pthread_cond_timedwait(pthread_cond_t *bell, pthread_mutex_t *lock, const struct timespec *until);
+
+/* What stood where bytes were written that aren't synced: a crash may bring it back. */
+struct written {
+    struct written *before;
+    off_t at;
+    size_t count;
+    char was[];
+};
+
+static struct written *unsynced;
+
+static void forget_unsynced(void) {
+    while (unsynced) {
+        struct written *one = unsynced;
+        unsynced = one->before;
+        free(one);
+    }
+}
+
+/* The file as a crash may leave it, without each write that wasn't synced. */
+static void crash(const char *path) {
+    FILE *file = fopen(path, "r+");
+    HOLDS(file);
+    for (struct written *one = unsynced; one; one = one->before) IS(one->count, pwrite(fileno(file), one->was, one->count, one->at));
+    fclose(file);
+    forget_unsynced();
+}
+
+static int sync_by(int (*real)(int), int fd) {
+    unsigned number = ++syncs;
+    is_syncing = 1;
+    if (slowness) usleep(slowness);
+    is_syncing = 0;
+    if (failing && number >= failing) {
+        errno = why;
+        return -1;
+    }
+    int status = real(fd);
+    if (!status) forget_unsynced();
+    return status;
+}
+
+int __wrap_fdatasync(int fd) { return sync_by(__real_fdatasync, fd); }
+
+int __wrap_fsync(int fd) { return sync_by(__real_fsync, fd); }
+
+ssize_t __wrap_pwrite(int fd, const void *from, size_t count, off_t at) {
+    if (failing) {
+        struct written *one = malloc(sizeof *one + count);
+        HOLDS(one);
+        *one = (struct written){unsynced, at, count};
+        memset(one->was, 0, count);
+        HOLDS(pread(fd, one->was, count, at) >= 0);
+        unsynced = one;
+    }
+    return __real_pwrite(fd, from, count, at);
+}
+
+int __wrap_pthread_mutex_lock(pthread_mutex_t *lock) {
+    if (is_kept && pthread_equal(kept, pthread_self())) {
+        is_there = 1;
+        while (is_kept) usleep(100);
+    }
+    return __real_pthread_mutex_lock(lock);
+}
+
+int __wrap_pthread_cond_wait(pthread_cond_t *bell, pthread_mutex_t *lock) {
+    waits++;
+    waiting++;
+    int status = __real_pthread_cond_wait(bell, lock);
+    waiting--;
+    return status;
+}
+
+static uint64_t nanoseconds(void) {
+    struct timespec now;
+    clock_gettime(CLOCK_MONOTONIC, &now);
+    return (uint64_t)now.tv_sec * 1000000000u + (uint64_t)now.tv_nsec;
+}
+
+int __wrap_pthread_cond_timedwait(pthread_cond_t *bell, pthread_mutex_t *lock, const struct timespec *until) {
+    struct timespec end = *until;
+    uint64_t now = nanoseconds(), at = (uint64_t)end.tv_sec * 1000000000u + (uint64_t)end.tv_nsec;
+    if (at > now && at - now > longest) longest = at - now;
+    HOLDS(longest < 1000000000u);
+    if (is_held) end.tv_sec += 30;
+    waits++;
+    waiting++;
+    int status = __real_pthread_cond_timedwait(bell, lock, &end);
+    waiting--;
+    return status;
+}
+
+/* A tenth of a millisecond: none of the tests waits for 100,000 of them. */
+static void tick(unsigned *ticks) {
+    HOLDS(++*ticks < 100000);
+    usleep(100);
+}
+
+static void wait_until(unsigned waiters) {
+    for (unsigned ticks = 0; waiting != waiters;) tick(&ticks);
+}
+
+static void wait_for(sem_t *done) {
+    for (unsigned ticks = 0; sem_trywait(done);) tick(&ticks);
+}
+
+/* A thread that inserts an entry and commits, each time that it is sent. */
+struct committer {
+    pthread_t thread;
+    sem_t go, done;
+    nardsill *index;
+    unsigned who, sent;
+    int is_over, inserted, status, error;
+    nardsill_fault fault;
+    uint64_t action, told;
+};
+
+static int insert_next(nardsill *index, unsigned who, unsigned at, uint64_t *action) {
+    unsigned char key[16];
+    key_of(at * MOST_THREADS + who, key);
+    return nardsill_insert(index, key, 16, row_of(at, 1 + who), action);
+}
+
+static void *commits_when_sent(void *at) {
+    struct committer *me = at;
+    for (;;) {
+        sem_wait(&me->go);
+        if (me->is_over) return 0;
+        me->inserted = insert_next(me->index, me->who, me->sent++, &me->action);
+        errno = 77;
+        me->status = nardsill_commit(me->index, &me->told);
+        me->error = errno;
+        me->fault = *nardsill_last_fault();
+        sem_post(&me->done);
+    }
+}
+
+static void start(struct committer *all, unsigned count, nardsill *index) {
+    for (unsigned i = 0; i < count; i++) {
+        all[i] = (struct committer){.index = index, .who = i};
+        sem_init(&all[i].go, 0, 0);
+        sem_init(&all[i].done, 0, 0);
+        IS(0, pthread_create(&all[i].thread, 0, commits_when_sent, all + i));
+    }
+}
+
+static void send(struct committer *one) { sem_post(&one->go); }
+
+/* Its commit was answered with success, and covers what it inserted before. */
+static void judge(const struct committer *one) {
+    IS(0, one->inserted);
+    IS(0, one->status);
+    IS(77, one->error);
+    HOLDS(one->told >= one->action);
+}
+
+static void succeeded(struct committer *one) {
+    wait_for(&one->done);
+    judge(one);
+}
+
+/* Whether its commit waits; else it has succeeded. */
+static int waits_or_ends(struct committer *one) {
+    for (unsigned ticks = 0; !waiting;) {
+        tick(&ticks);
+        if (sem_trywait(&one->done)) continue;
+        judge(one);
+        return 0;
+    }
+    return 1;
+}
+
+static void stop(struct committer *all, unsigned count) {
+    for (unsigned i = 0; i < count; i++) {
+        all[i].is_over = 1;
+        sem_post(&all[i].go);
+        pthread_join(all[i].thread, 0);
+        sem_destroy(&all[i].go);
+        sem_destroy(&all[i].done);
+    }
+}
+
+/* Lets these committers share one call: each of them is then expected at the next. */
+static void share(struct committer *all, unsigned count) {
+    is_held = 1;
+    send(all);
+    succeeded(all);
+    for (unsigned i = 1; i < count; i++) {
+        send(all + i);
+        wait_until(i);
+    }
+    unsigned before = syncs;
+    send(all);
+    for (unsigned i = 0; i < count; i++) succeeded(all + i);
+    IS(2, syncs - before);
+    is_held = 0;
+}
+
+/* Who commits alone waits for nobody: not for threads that insert and scan, and not on either of two indexes. */
+struct beside {
+    nardsill *index;
+    atomic_int is_over;
+    unsigned who;
+};
+
+static void *inserts(void *at) {
+    struct beside *me = at;
+    for (unsigned i = 0; !me->is_over && i < MOST_ACTIONS; i++) IS(0, insert_next(me->index, me->who, i, 0));
+    return 0;
+}
+
+static void *scans(void *at) {
+    struct beside *me = at;
+    while (!me->is_over) counted(me->index);
+    return 0;
+}
+
+static void alone(void) {
+    nardsill *indexes[2] = {made(PATH, &limits), made(OTHER, &limits)};
+    uint64_t action, told;
+    syncs = waits = 0;
+    for (unsigned i = 0; i < 100; i++) {
+        for (int k = 0; k < 2; k++) {
+            IS(0, insert_next(indexes[k], 0, i, &action));
+            IS(0, nardsill_commit(indexes[k], &told));
+            HOLDS(told >= action);
+        }
+    }
+    IS(400, syncs);
+    /* Nothing is forced where nothing was done. */
+    IS(0, nardsill_commit(indexes[0], 0));
+    IS(400, syncs);
+    struct beside beside[2] = {{.index = indexes[0], .who = 1}, {.index = indexes[0], .who = 2}};
+    pthread_t threads[2];
+    IS(0, pthread_create(threads, 0, inserts, beside));
+    IS(0, pthread_create(threads + 1, 0, scans, beside + 1));
+    for (unsigned i = 100; i < 200; i++) {
+        IS(0, insert_next(indexes[0], 0, i, &action));
+        IS(0, nardsill_commit(indexes[0], &told));
+        HOLDS(told >= action);
+    }
+    for (int k = 0; k < 2; k++) beside[k].is_over = 1;
+    for (int k = 0; k < 2; k++) pthread_join(threads[k], 0);
+    IS(0, waits);
+    for (int k = 0; k < 2; k++) IS(0, nardsill_close(indexes[k]));
+    unlink(OTHER);
+}
+
+/* A child whose calls of the parent's handle are refused, at once. */
+static void fork_one(nardsill *index) {
+    int status;
+    if (IS_WATCHED) return;
+    pid_t child = fork();
+    if (!child) {
+        alarm(20);
+        _exit(nardsill_commit(index, 0) != NARDSILL_FORKED || nardsill_close(index) != NARDSILL_FORKED);
+    }
+    waitpid(child, &status, 0);
+    IS(0, status);
+}
+
+/* A commit waits for those of the last call, and meanwhile other calls go on, and forks. */
+static void meanwhile(void) {
+    nardsill *index = made(PATH, &limits);
+    struct committer all[3];
+    nardsill_row row;
+    unsigned char key[16];
+    start(all, 3, index);
+    share(all, 3);
+    unsigned entries = counted(index), before = syncs;
+    is_held = 1;
+    send(all);
+    send(all + 1);
+    wait_until(2);
+    IS(0, insert_next(index, 9, 9, 0));
+    key_of(9 * MOST_THREADS + 9, key);
+    IS(0, nardsill_get(index, key, 16, &row));
+    IS(entries + 3, counted(index));
+    IS(before, syncs);
+    fork_one(index);
+    /* A thread isn't cancelled where it waits. */
+    pthread_cancel(all[1].thread);
+    usleep(1000);
+    IS(2, waiting);
+    send(all + 2);
+    succeeded(all);
+    succeeded(all + 2);
+    IS(before + 2, syncs);
+    void *ended;
+    pthread_join(all[1].thread, &ended);
+    HOLDS(ended == PTHREAD_CANCELED);
+    is_held = 0;
+    stop(all, 1);
+    stop(all + 2, 1);
+    IS(0, nardsill_close(index));
+}
+
+/* Who commits no more is waited for once: as long as the last call took, and 20 ms at most. */
+static void stopped(void) {
+    nardsill *index = made(PATH, &limits);
+    struct committer all[2];
+    start(all, 2, index);
+    slowness = 50000;
+    share(all, 2);
+    waits = 0;
+    longest = 0;
+    send(all);
+    succeeded(all);
+    HOLDS(waits && longest > 10000000 && longest <= 20000000);
+    waits = 0;
+    slowness = 1000;
+    for (int i = 0; i < 20; i++) {
+        send(all);
+        succeeded(all);
+    }
+    IS(0, waits);
+    slowness = 0;
+    stop(all, 2);
+    IS(0, nardsill_close(index));
+}
+
+/* Threads that commit in turn, by a lock of their own, wait for each other seldom, and as long as a call takes at most. */
+static void in_turn(void) {
+    nardsill *index = made(PATH, &limits);
+    struct committer all[2];
+    start(all, 2, index);
+    slowness = 1000;
+    waits = 0;
+    uint64_t before = 0;
+    for (int i = 0; i < 200; i++) {
+        uint64_t begun = nanoseconds();
+        longest = 0;
+        send(all + i % 2);
+        succeeded(all + i % 2);
+        /* The call before took less than its commit. */
+        HOLDS(longest <= before);
+        before = nanoseconds() - begun;
+    }
+    /* The second one, and the next behind 1, 3, 7, 15, 31, 63 and 63 that don't wait. */
+    HOLDS(waits >= 8 && waits < 12);
+    slowness = 0;
+    /* Where they come together again, they share again. */
+    is_held = 1;
+    int who = 0;
+    for (send(all); !waits_or_ends(all + who); send(all + who)) who = !who;
+    for (int i = 0; i < 3; i++) {
+        unsigned made = syncs;
+        send(all + !who);
+        for (int k = 0; k < 2; k++) succeeded(all + k);
+        IS(made + 2, syncs);
+        send(all + who);
+        wait_until(1);
+    }
+    is_held = 0;
+    send(all + !who);
+    for (int k = 0; k < 2; k++) succeeded(all + k);
+    stop(all, 2);
+    IS(0, nardsill_close(index));
+}
+
+/* A commit waits for a committer that waits for the lock: else that may never get it from one that commits again and again. */
+static void at_the_lock(void) {
+    nardsill *index = made(PATH, &limits);
+    struct committer all[2];
+    unsigned ticks = 0;
+    start(all, 2, index);
+    for (int i = 1; i >= 0; i--) {
+        send(all + i);
+        succeeded(all + i);
+    }
+    slowness = 100000;
+    send(all);
+    while (!is_syncing) tick(&ticks);
+    kept = all[1].thread;
+    is_kept = 1;
+    send(all + 1);
+    while (!is_there) tick(&ticks);
+    succeeded(all);
+    slowness = 0;
+    waits = 0;
+    send(all);
+    wait_until(1);
+    is_kept = 0;
+    succeeded(all + 1);
+    succeeded(all);
+    HOLDS(waits);
+    stop(all, 2);
+    IS(0, nardsill_close(index));
+}
+
+/* A failure is told to each whose actions the call was to cover. */
+static void failed(int error) {
+    nardsill *index = made(PATH, &limits);
+    struct committer all[4];
+    nardsill_details details = NARDSILL_DETAILS;
+    start(all, 4, index);
+    share(all, 4);
+    is_held = 1;
+    for (int i = 0; i < 3; i++) {
+        send(all + i);
+        wait_until((unsigned)i + 1);
+    }
+    why = error;
+    failing = 1;
+    send(all + 3);
+    for (int i = 0; i < 4; i++) {
+        wait_for(&all[i].done);
+        IS(NARDSILL_IO, all[i].status);
+        IS(error, all[i].error);
+        IS(NARDSILL_IO, all[i].fault.status);
+        IS(error, all[i].fault.error);
+        HOLDS(!all[i].fault.page && !all[i].fault.row.block && !all[i].fault.row.offset);
+    }
+    failing = 0;
+    is_held = 0;
+    IS(0, nardsill_info(index, &details));
+    IS(1, details.stopped);
+    for (int i = 0; i < 4; i++) send(all + i);
+    for (int i = 0; i < 4; i++) {
+        wait_for(&all[i].done);
+        IS(NARDSILL_STOPPED, all[i].inserted);
+        IS(NARDSILL_STOPPED, all[i].status);
+        IS(NARDSILL_STOPPED, all[i].fault.status);
+    }
+    stop(all, 4);
+    IS(NARDSILL_STOPPED, nardsill_close(index));
+    forget_unsynced();
+}
+
+/* Threads that insert and commit, again and again, to an end or to a refusal. */
+struct worker {
+    nardsill *index;
+    unsigned who, count, rests;
+    uint64_t told;
+};
+
+/* The entry that an action has inserted: its thread and its number there. */
+static struct { unsigned who, at; int is_there; } entries[MOST_ACTIONS];
+
+static void *works(void *at) {
+    struct worker *me = at;
+    for (unsigned i = 0; i < me->count; i++) {
+        uint64_t action, told = 0;
+        int status = insert_next(me->index, me->who, i, &action);
+        if (status) {
+            HOLDS(failing && status == NARDSILL_STOPPED);
+            return 0;
+        }
+        HOLDS(action > 0 && action < MOST_ACTIONS);
+        entries[action].who = me->who;
+        entries[action].at = i;
+        entries[action].is_there = 1;
+        if (me->rests && (i + me->who) % me->rests == 0) usleep(2000);
+        status = nardsill_commit(me->index, &told);
+        if (status) {
+            HOLDS(failing && (status == NARDSILL_STOPPED || (status == NARDSILL_IO && errno == why && nardsill_last_fault()->error == why)));
+            IS(status, nardsill_last_fault()->status);
+            return 0;
+        }
+        HOLDS(told >= action);
+        me->told = told;
+    }
+    return 0;
+}
+
+/* Runs so many threads with so many commits each. Answers up to which action one of them was told that all is durable. */
+static uint64_t run(nardsill *index, unsigned threads, unsigned count, unsigned rests) {
+    struct worker workers[MOST_THREADS];
+    pthread_t ids[MOST_THREADS];
+    uint64_t told = 0;
+    memset(entries, 0, sizeof entries);
+    for (unsigned i = 0; i < threads; i++) {
+        workers[i] = (struct worker){index, i, count, rests, 0};
+        IS(0, pthread_create(ids + i, 0, works, workers + i));
+    }
+    for (unsigned i = 0; i < threads; i++) {
+        pthread_join(ids[i], 0);
+        if (workers[i].told > told) told = workers[i].told;
+    }
+    return told;
+}
+
+/* A new index which writes no page home before its end: that would take syncs too. */
+static nardsill *made_wide(void) {
+    static const nardsill_limits wide = {sizeof wide, 50, 4096, 1 << 24, 0};
+    nardsill *index;
+    unlink(PATH);
+    IS(0, nardsill_create(PATH, &wide));
+    IS(0, nardsill_open(PATH, 1024, &index));
+    return index;
+}
+
+/* The syncs of so many threads, by 100 commits. Other work on the machine may part them: the best of some runs counts. */
+static void shared(unsigned threads, unsigned count, unsigned rests, unsigned most) {
+    unsigned best = 1000;
+    for (int i = 0; i < 6 && best > most; i++) {
+        nardsill *index = made_wide();
+        syncs = 0;
+        HOLDS(run(index, threads, count, rests) >= threads * count);
+        unsigned found = (100 * syncs + threads * count - 1) / (threads * count);
+        if (found < best) best = found;
+        IS(threads * count, counted(index));
+        IS(0, nardsill_close(index));
+    }
+    printf("commits: %u threads%s: %u syncs by 100 commits\n", threads, rests ? " that rest" : "", best);
+    HOLDS(best <= most || IS_WATCHED);
+}
+
+/* Syncs fail from one on, while eight threads commit: what was told as durable is there behind a crash, and nobody waits for ever. */
+static void failing_beside_others(unsigned from) {
+    nardsill *index = made(PATH, &limits);
+    unsigned char key[16];
+    nardsill_row row;
+    syncs = 0;
+    why = EIO;
+    failing = from;
+    uint64_t told = run(index, 8, 1000, 0);
+    HOLDS(syncs >= from);
+    failing = 0;
+    HOLDS(told < MOST_ACTIONS);
+    IS(NARDSILL_STOPPED, nardsill_close(index));
+    crash(PATH);
+    IS(0, nardsill_open(PATH, 64, &index));
+    for (uint64_t i = 1; i <= told; i++) {
+        /* A split is an action too. */
+        if (!entries[i].is_there) continue;
+        key_of(entries[i].at * MOST_THREADS + entries[i].who, key);
+        IS(0, nardsill_get(index, key, 16, &row));
+        HOLDS(row.block == entries[i].at && row.offset == 1 + entries[i].who);
+    }
+    IS(0, nardsill_close(index));
+}
+
+/* Children of a process whose threads commit: their calls are refused, and the parent's go on. */
+static void forks_beside_commits(void) {
+    nardsill *index = made(PATH, &limits);
+    struct worker workers[4];
+    pthread_t ids[4];
+    for (unsigned i = 0; i < 4; i++) {
+        workers[i] = (struct worker){index, i, 200, 0, 0};
+        IS(0, pthread_create(ids + i, 0, works, workers + i));
+    }
+    for (int i = 0; i < 30; i++) fork_one(index);
+    for (unsigned i = 0; i < 4; i++) pthread_join(ids[i], 0);
+    IS(800, counted(index));
+    IS(0, nardsill_close(index));
+}
+
+int main(void) {
+    alarm(60);
+    alone();
+    meanwhile();
+    stopped();
+    in_turn();
+    at_the_lock();
+    failed(EIO);
+    failed(ENOSPC);
+    shared(8, 300, 0, 30);
+    shared(32, 300, 0, 8);
+    shared(8, 300, 20, 40);
+    for (unsigned from = 1; from < 40; from += 3) failing_beside_others(from);
+    forks_beside_commits();
+    unlink(PATH);
+    puts("commits: all is as it must be");
+    return 0;
+}
