@@ -44,6 +44,8 @@ mod tally;
 #[cfg(test)]
 mod trial;
 #[cfg(test)]
+mod vacuum_parts;
+#[cfg(test)]
 mod worse;
 #[cfg(test)]
 mod worse_edits;

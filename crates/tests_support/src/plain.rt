@@ -1,7 +1,7 @@
 //! Calls without their contracts. A test looks at the answers alone, and what a call promises would be carried, call by call, to
 //! the end of the test that makes it.
 
-use access_method::{Index, Inserted, ScanToken};
+use access_method::{Index, Inserted, RowSet, ScanToken};
 use device::{CrashImage, Device, MemDevice};
 use index_model::{DeadRows, Entry, Fault, Limits, Range, VacuumStats};
 use page_action::{PageStore, find_misplaced};
@@ -320,4 +320,24 @@ pub fn bulk_delete<S: PageStore, T: DeadRows>(
 
 pub fn clean_up<S: PageStore>(index: &mut Index<S>) -> Result<VacuumStats, Fault> {
     index.amvacuumcleanup()
+}
+
+pub fn begin_bulk_delete<S: PageStore>(index: &mut Index<S>, rows: RowSet) -> Result<(), Fault> {
+    index.begin_bulk_delete(rows)
+}
+
+pub fn begin_cleanup<S: PageStore>(index: &mut Index<S>) -> Result<(), Fault> {
+    index.begin_cleanup()
+}
+
+/// So many steps more of the bulk delete or cleanup that goes on in parts.
+pub fn vacuum<S: PageStore>(
+    index: &mut Index<S>,
+    steps: u32,
+) -> Result<Option<VacuumStats>, Fault> {
+    index.vacuum(steps)
+}
+
+pub fn end_vacuum<S: PageStore>(index: &mut Index<S>) -> Result<(), Fault> {
+    index.end_vacuum()
 }
