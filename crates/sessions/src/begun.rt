@@ -1,6 +1,7 @@
 //! A run in a scope of its own.
 
 ghost use Rattle.std.specs.Prelude.{◌≡◌, ◌≤◌, ◌<◌, ◌+◌, [], IfOk, IfErr, length, vec_capacity};
+ghost use Rattle.worker_seats.specs.Seats.{IsCellOf};
 ghost use Rattle.world.specs.Worlds.{inside};
 ghost use Rattle.shared_world.specs.Ended.{AreIdle, HasRun};
 ghost use Rattle.shared_world.specs.Handed.{IsAsHanded};
@@ -44,7 +45,7 @@ pub fn run_all<
     last: u32,
 ) -> Result<(World<S, T>, u64, Vec<Record>, Vec<G::Hand>), World<S, T>>
     requires list { J.jobs ≡ K.list }
-    requires cell { cell.now.table.shared.table_id ≡ J.seats }
+    requires cell { IsCellOf J.seats cell.now.shared.table_id }
     requires queue { queue.now.table.shared.table_id ≡ J.queue }
     requires parts { J.parts ≡ 65 }
     requires handles { (handles.items ≡ []) × (last < vec_capacity handles) }

@@ -1,6 +1,7 @@
 //! What the workers of a run share.
 
 ghost use Rattle.std.specs.Prelude.{◌≡◌};
+ghost use Rattle.worker_seats.specs.Seats.{IsCellOf};
 
 use crate::door::Door;
 use crate::gate::Gate;
@@ -31,6 +32,6 @@ pub struct RunContext<
     pub door: &'a Door,
     pub gate: &'a G,
     pub ghost list: { J.jobs ≡ K.list },
-    pub ghost seats: { cell.now.table.shared.table_id ≡ J.seats },
+    pub ghost seats: { IsCellOf J.seats cell.now.shared.table_id },
     pub ghost tickets: { queue.now.table.shared.table_id ≡ J.queue },
 }

@@ -250,6 +250,6 @@ pub fn hire<
     let hand = run.gate.hand(last);
     let (seats, pass, hands) = work_out(run, own, pass, hand, handles, staff, seats, hands);
     let shared = take_out(run);
-    let (world, start, history) = ended(run.rt, run.cell, shared, seats, all, &pass);
+    let (world, start, history) = ended(run.cell, shared, seats, all, &pass);
     Ok((world, start, history, hands))
 }

@@ -8,7 +8,7 @@ ghost use Rattle.index_model.specs.Calls.{Call};
 ghost use Rattle.index_model.specs.declared.entry.Entry.{Entry as OneEntry};
 ghost use Rattle.page_action.specs.States.{Continues, IsLater};
 ghost use Rattle.worker_seats.specs.Queue.{below, queue_view, times, weigh};
-ghost use Rattle.worker_seats.specs.Seats.{keeper_of, known_by};
+ghost use Rattle.worker_seats.specs.Seats.{IsCellOf, keeper_of, known_by};
 ghost use Rattle.world.specs.Worlds.{WorldFits, WorldKeeps, inside};
 ghost use Rattle.shared_world.specs.Acted.{HasActed};
 ghost use Rattle.shared_world.specs.Ended.{AreIdle, jobs_of_records};
@@ -123,7 +123,7 @@ fn run_named<
     requires name { blank.name ≡ J.name }
     requires parts { blank.parts ≡ J.parts }
     requires all { blank.parts ≡ 65 }
-    requires seats { cell.now.table.shared.table_id ≡ J.seats }
+    requires seats { IsCellOf J.seats cell.now.shared.table_id }
     requires queue { queue.now.table.shared.table_id ≡ J.queue }
     requires jobs { J.jobs ≡ jobs.now }
     requires list { K.list ≡ jobs.now }
@@ -136,7 +136,7 @@ fn run_named<
         → J.kept_then contents history calls
         ↔ WorldKeeps S.PageStore T.DeadRows world contents history calls }
     requires followed { (first : S) → J.followed first ↔ S.follows first world.store }
-    requires keeper { keeper.table_id ≡ cell.now.table.shared.table_id }
+    requires keeper { keeper.table_id ≡ cell.now.shared.table_id }
     requires knows { known_by keeper ≡ keeper_of [] [] }
     requires pass { IsPassOf queue.now pass }
     requires whole { view pass ≡ queue_view 1024 (length jobs.now) [] }

@@ -3,7 +3,7 @@
 ghost use Rattle.std.specs.Prelude.{◌≡◌, ◌≤◌, ◌<◌, ◌+◌, [], ℕ, IfSome, None, length, Some, slice_get, vec_len, vec_capacity};
 ghost use Rattle.crossbeam_queue.specs.Passes.{view};
 ghost use Rattle.worker_seats.specs.Queue.{KnowsAll, jobs_in, sum_over, weigh};
-ghost use Rattle.worker_seats.specs.Seats.{keeper_of, known_by, notes_by};
+ghost use Rattle.worker_seats.specs.Seats.{IsCellOf, keeper_of, known_by, notes_by};
 ghost use Rattle.world.specs.Worlds.{inside};
 ghost use Rattle.shared_world.specs.Ended.{AreIdle, HasRun};
 ghost use Rattle.shared_world.specs.Handed.{IsAsHanded};
@@ -16,7 +16,6 @@ use crate::record::{Pending, Record};
 use crate::shared::Shared;
 use index_model::DeadRows;
 use page_action::PageStore;
-use std::sync::Wait;
 use std::sync::ledger::{Book, Share};
 use worker_seats::{QueuePass, Seat, SeatCell, SeatPass, tally_up};
 use world::World;
@@ -58,15 +57,14 @@ pub fn first<S: PageStore, T: DeadRows + Drop, J: JobsOn<S>>(
 
 /// What a run has left, told with all seats, and every part of the ledger and of the queue: the world, how many actions there were
 /// as it began, and the records of the jobs.
-pub fn ended<S: PageStore, T: DeadRows + Drop, J: JobsOn<S>, X, R: Wait>(
-    rt: &R,
+pub fn ended<S: PageStore, T: DeadRows + Drop, J: JobsOn<S>, X>(
     cell: &SeatCell,
     shared: Shared<S, T, J>,
     seats: Vec<Seat<J>>,
     all: Share<J>,
     pass: &QueuePass<X>,
 ) -> (World<S, T>, u64, Vec<Record>)
-    requires cell { cell.now.table.shared.table_id ≡ J.seats }
+    requires cell { IsCellOf J.seats cell.now.shared.table_id }
     requires workers { vec_len seats ≡ J.workers }
     requires ranked { (k : ℕ) → IfSome (slice_get seats.items k) (λ s. s.worker ≡ k) }
     requires rests { (k : ℕ) → IfSome (slice_get seats.items k)
@@ -94,6 +92,6 @@ pub fn ended<S: PageStore, T: DeadRows + Drop, J: JobsOn<S>, X, R: Wait>(
         mut book,
         mut keeper,
     } = shared;
-    tally_up(rt, cell, &mut keeper, &mut book, seats, all, pass);
+    tally_up(cell, &mut keeper, &mut book, seats, all, pass);
     (world, start, history)
 }

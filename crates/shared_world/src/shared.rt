@@ -5,7 +5,7 @@ ghost use Rattle.page_action.specs.States.{Continues};
 ghost use Rattle.whole_calls.specs.Going.{CallIsRun};
 ghost use Rattle.whole_calls.specs.Made.{IsMadeOf};
 ghost use Rattle.whole_calls.specs.OneStep.{IsMadeAsStep, OneStepAlways, OneStepComesTo, OneStepIsRun};
-ghost use Rattle.worker_seats.specs.Seats.{keeper_of, known_by};
+ghost use Rattle.worker_seats.specs.Seats.{IsCellOf, keeper_of, known_by};
 ghost use Rattle.world.specs.Worlds.{SameSessions, inside};
 ghost use Rattle.shared_world.specs.Acted.{HasActed};
 ghost use Rattle.shared_world.specs.Doing.{HasTaken, IsEventDone, IsFullScan, IsToBeCut, MayBeDone, ended_at, given_after};
@@ -22,7 +22,6 @@ use index_model::{DeadRows, Entry};
 use page_action::PageStore;
 use schedule::{Event, one_call_runs, ready_entries_may_come_next, refused_calls_fit};
 use session_calls::Answer;
-use std::sync::Wait;
 use std::sync::ledger::Book;
 use worker_seats::{Seat, SeatCell, SeatPass, check, end, start};
 use world::World;
@@ -170,16 +169,15 @@ fn beginning(session: u32, job: Job) -> Event
 impl<S: PageStore, T: DeadRows + Drop, J: JobsOn<S>> Shared<S, T, J> {
     /// Begins a job: a call of the worker's session, or a commit or a checkpoint, which is done whole. Where that is refused,
     /// and after a commit and a checkpoint, it is recorded, and has its place.
-    pub fn begin<R: Wait>(
+    pub fn begin(
         &mut self,
-        rt: &R,
         cell: &SeatCell,
         seat: Seat<J>,
         job: u32,
         asked: Job,
         given: Vec<Entry>,
     ) -> Turn<J>
-        requires cell { cell.now.table.shared.table_id ≡ J.seats }
+        requires cell { IsCellOf J.seats cell.now.shared.table_id }
         requires idle { (known_by seat.pass).job ≡ None }
         requires job { slice_get J.jobs job ≡ Some asked }
         requires given { given.items ≡ [] }
@@ -213,7 +211,7 @@ impl<S: PageStore, T: DeadRows + Drop, J: JobsOn<S>> Shared<S, T, J> {
             keeper,
         } = self;
         refused_calls_fit::<S>();
-        let seat = check(rt, cell, keeper, seat);
+        let seat = check(cell, keeper, seat);
         let answer = world.one(beginning(worker, asked));
         if is_begun(&answer) {
             pending[worker as usize] = Some(Pending {
@@ -222,7 +220,7 @@ impl<S: PageStore, T: DeadRows + Drop, J: JobsOn<S>> Shared<S, T, J> {
                 from,
                 seen,
             });
-            let seat = start(rt, cell, keeper, seat, job);
+            let seat = start(cell, keeper, seat, job);
             return told(seat, answer, None);
         }
         let done = Pending {
@@ -232,14 +230,14 @@ impl<S: PageStore, T: DeadRows + Drop, J: JobsOn<S>> Shared<S, T, J> {
             seen,
         };
         history.push_reserved(record(worker, done, &answer, from));
-        let seat = end(rt, cell, keeper, book, seat, job);
+        let seat = end(cell, keeper, book, seat, job);
         told(seat, answer, Some(seen))
     }
 
     /// A step of the session's call, with the checkpoint before it for which the log has too little room. Where its answer is the
     /// last, it is recorded, and has its place; where it is blocked, it goes on.
-    pub fn step<R: Wait>(&mut self, rt: &R, cell: &SeatCell, seat: Seat<J>, job: u32) -> Turn<J>
-        requires cell { cell.now.table.shared.table_id ≡ J.seats }
+    pub fn step(&mut self, cell: &SeatCell, seat: Seat<J>, job: u32) -> Turn<J>
+        requires cell { IsCellOf J.seats cell.now.shared.table_id }
         requires runs { (known_by seat.pass).job ≡ Some job }
         requires room { vec_len self.old.history < vec_capacity self.old.history }
         ensures worker { result.seat.worker ≡ seat.worker }
@@ -269,7 +267,7 @@ impl<S: PageStore, T: DeadRows + Drop, J: JobsOn<S>> Shared<S, T, J> {
             keeper,
         } = self;
         one_call_runs::<S>();
-        let seat = check(rt, cell, keeper, seat);
+        let seat = check(cell, keeper, seat);
         let answer = world.take_step(worker, 5);
         // It runs on exactly if the answer isn't the last.
         if world.is_running(worker) {
@@ -282,20 +280,14 @@ impl<S: PageStore, T: DeadRows + Drop, J: JobsOn<S>> Shared<S, T, J> {
         };
         let own = done.job;
         history.push_reserved(record(worker, done, &answer, to));
-        let seat = end(rt, cell, keeper, book, seat, own);
+        let seat = end(cell, keeper, book, seat, own);
         told(seat, answer, Some(place))
     }
 
     /// Asks the session's call for its next entry, which is put after those that it has given. Where their room is full, nothing
     /// is done, and there is no answer.
-    pub fn next<R: Wait>(
-        &mut self,
-        rt: &R,
-        cell: &SeatCell,
-        seat: Seat<J>,
-        job: u32,
-    ) -> (Seat<J>, Option<Answer>)
-        requires cell { cell.now.table.shared.table_id ≡ J.seats }
+    pub fn next(&mut self, cell: &SeatCell, seat: Seat<J>, job: u32) -> (Seat<J>, Option<Answer>)
+        requires cell { IsCellOf J.seats cell.now.shared.table_id }
         requires runs { (known_by seat.pass).job ≡ Some job }
         ensures worker { result.0.worker ≡ seat.worker }
         ensures start { self.new.start ≡ self.old.start }
@@ -316,7 +308,7 @@ impl<S: PageStore, T: DeadRows + Drop, J: JobsOn<S>> Shared<S, T, J> {
             keeper,
         } = self;
         one_call_runs::<S>();
-        let seat = check(rt, cell, keeper, seat);
+        let seat = check(cell, keeper, seat);
         let Some(mut running) = pending[worker as usize].take() else {
             unreachable!()
         };
@@ -327,15 +319,14 @@ impl<S: PageStore, T: DeadRows + Drop, J: JobsOn<S>> Shared<S, T, J> {
 
     /// Gives the call of the session's scan up, where its room is full and it has an entry more ready: it is recorded with what it
     /// gave, and has its place. Else nothing is done.
-    pub fn end<R: Wait>(
+    pub fn end(
         &mut self,
-        rt: &R,
         cell: &SeatCell,
         seat: Seat<J>,
         job: u32,
         asked: Job,
     ) -> (Seat<J>, Option<u64>)
-        requires cell { cell.now.table.shared.table_id ≡ J.seats }
+        requires cell { IsCellOf J.seats cell.now.shared.table_id }
         requires runs { (known_by seat.pass).job ≡ Some job }
         requires job { slice_get J.jobs job ≡ Some asked }
         requires room { vec_len self.old.history < vec_capacity self.old.history }
@@ -362,7 +353,7 @@ impl<S: PageStore, T: DeadRows + Drop, J: JobsOn<S>> Shared<S, T, J> {
         } = self;
         one_call_runs::<S>();
         ready_entries_may_come_next::<S>();
-        let seat = check(rt, cell, keeper, seat);
+        let seat = check(cell, keeper, seat);
         let ready = world.ready(worker);
         if is_full(asked, &pending[worker as usize], ready) {
             let answer = world.one(Event::End(worker));
@@ -373,7 +364,7 @@ impl<S: PageStore, T: DeadRows + Drop, J: JobsOn<S>> Shared<S, T, J> {
             };
             let own = done.job;
             history.push_reserved(record(worker, done, &answer, until));
-            let seat = end(rt, cell, keeper, book, seat, own);
+            let seat = end(cell, keeper, book, seat, own);
             return (seat, Some(place));
         }
         (seat, None)

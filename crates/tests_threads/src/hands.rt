@@ -4,7 +4,7 @@ ghost use Rattle.std.specs.Prelude.{◌≡◌, ◌≤◌, ◌<◌, ◌+◌, ◌�
 ghost use Rattle.index_model.specs.Actions.{Action};
 ghost use Rattle.index_model.specs.Calls.{Call};
 ghost use Rattle.index_model.specs.declared.entry.Entry.{Entry as OneEntry};
-ghost use Rattle.worker_seats.specs.Seats.{keeper_of, known_by};
+ghost use Rattle.worker_seats.specs.Seats.{IsCellOf, keeper_of, known_by};
 ghost use Rattle.world.specs.Worlds.{WorldFits, WorldKeeps, inside};
 ghost use Rattle.shared_world.specs.Ended.{AreIdle};
 ghost use Rattle.shared_world.specs.Handed.{handed_of, IsAsHanded};
@@ -18,7 +18,6 @@ use shared_world::{Job, Jobs, JobsOn, Pending, Record, Shared, Turn, first};
 use std::alloc::Global;
 use std::marker::Brand;
 use std::process::Abort;
-use std::sync::Wait;
 use std::sync::ledger::Blank;
 use std::test::{Fail, *};
 use worker_seats::{Seat, SeatCell, SeatPass, make_cell, open};
@@ -132,8 +131,7 @@ fn runs<J: Jobs>(seat: Seat<J>, job: u32, told: Told) -> Done<J>
     }
 }
 
-fn begin<S: PageStore, T: DeadRows + Drop, J: JobsOn<S>, R: Wait>(
-    rt: &R,
+fn begin<S: PageStore, T: DeadRows + Drop, J: JobsOn<S>>(
     alloc: Global,
     cell: &SeatCell,
     shared: &mut Shared<S, T, J>,
@@ -141,7 +139,7 @@ fn begin<S: PageStore, T: DeadRows + Drop, J: JobsOn<S>, R: Wait>(
     resting: Resting<J>,
     job: u32,
 ) -> Result<Done<J>, Fault>
-    requires cell { cell.now.table.shared.table_id ≡ J.seats }
+    requires cell { IsCellOf J.seats cell.now.shared.table_id }
     requires jobs { J.jobs ≡ jobs.now }
 {
     let Resting { seat } = resting;
@@ -158,20 +156,19 @@ fn begin<S: PageStore, T: DeadRows + Drop, J: JobsOn<S>, R: Wait>(
         seat,
         answer,
         place,
-    } = shared.begin(rt, cell, seat, job, *asked, given);
+    } = shared.begin(cell, seat, job, *asked, given);
     match place {
         None => Ok(runs(seat, job, told_by(&answer))),
         Some(place) => Ok(rests(seat, told_by(&answer), place)),
     }
 }
 
-fn step<S: PageStore, T: DeadRows + Drop, J: JobsOn<S>, R: Wait>(
-    rt: &R,
+fn step<S: PageStore, T: DeadRows + Drop, J: JobsOn<S>>(
     cell: &SeatCell,
     shared: &mut Shared<S, T, J>,
     running: Running<J>,
 ) -> Result<Done<J>, Fault>
-    requires cell { cell.now.table.shared.table_id ≡ J.seats }
+    requires cell { IsCellOf J.seats cell.now.shared.table_id }
 {
     let Running { seat, job } = running;
     if shared.history.len() >= shared.history.capacity() {
@@ -181,23 +178,22 @@ fn step<S: PageStore, T: DeadRows + Drop, J: JobsOn<S>, R: Wait>(
         seat,
         answer,
         place,
-    } = shared.step(rt, cell, seat, job);
+    } = shared.step(cell, seat, job);
     match place {
         None => Ok(runs(seat, job, told_by(&answer))),
         Some(place) => Ok(rests(seat, told_by(&answer), place)),
     }
 }
 
-fn next<S: PageStore, T: DeadRows + Drop, J: JobsOn<S>, R: Wait>(
-    rt: &R,
+fn next<S: PageStore, T: DeadRows + Drop, J: JobsOn<S>>(
     cell: &SeatCell,
     shared: &mut Shared<S, T, J>,
     running: Running<J>,
 ) -> Done<J>
-    requires cell { cell.now.table.shared.table_id ≡ J.seats }
+    requires cell { IsCellOf J.seats cell.now.shared.table_id }
 {
     let Running { seat, job } = running;
-    let (seat, answer) = shared.next(rt, cell, seat, job);
+    let (seat, answer) = shared.next(cell, seat, job);
     let told = match answer {
         None => Told::Nothing,
         Some(answer) => told_by(&answer),
@@ -205,14 +201,13 @@ fn next<S: PageStore, T: DeadRows + Drop, J: JobsOn<S>, R: Wait>(
     runs(seat, job, told)
 }
 
-fn end<S: PageStore, T: DeadRows + Drop, J: JobsOn<S>, R: Wait>(
-    rt: &R,
+fn end<S: PageStore, T: DeadRows + Drop, J: JobsOn<S>>(
     cell: &SeatCell,
     shared: &mut Shared<S, T, J>,
     jobs: &[Job],
     running: Running<J>,
 ) -> Result<Done<J>, Fault>
-    requires cell { cell.now.table.shared.table_id ≡ J.seats }
+    requires cell { IsCellOf J.seats cell.now.shared.table_id }
     requires jobs { J.jobs ≡ jobs.now }
 {
     let Running { seat, job } = running;
@@ -222,7 +217,7 @@ fn end<S: PageStore, T: DeadRows + Drop, J: JobsOn<S>, R: Wait>(
     let Some(asked) = jobs.get(job as usize) else {
         return Err(Fault::NoSession);
     };
-    let (seat, place) = shared.end(rt, cell, seat, job, *asked);
+    let (seat, place) = shared.end(cell, seat, job, *asked);
     match place {
         None => Ok(runs(seat, job, Told::Nothing)),
         Some(place) => Ok(rests(seat, Told::Ended, place)),
@@ -230,8 +225,7 @@ fn end<S: PageStore, T: DeadRows + Drop, J: JobsOn<S>, R: Wait>(
 }
 
 // One event of a worker. Refused with `NoSession` for one that its session isn't ready for.
-fn act_one<S: PageStore, T: DeadRows + Drop, J: JobsOn<S>, R: Wait>(
-    rt: &R,
+fn act_one<S: PageStore, T: DeadRows + Drop, J: JobsOn<S>>(
     alloc: Global,
     cell: &SeatCell,
     shared: &mut Shared<S, T, J>,
@@ -239,18 +233,18 @@ fn act_one<S: PageStore, T: DeadRows + Drop, J: JobsOn<S>, R: Wait>(
     hand: Hand<J>,
     what: Act,
 ) -> Result<Done<J>, Fault>
-    requires cell { cell.now.table.shared.table_id ≡ J.seats }
+    requires cell { IsCellOf J.seats cell.now.shared.table_id }
     requires jobs { J.jobs ≡ jobs.now }
 {
     match hand {
         Hand::Rests(resting) => match what {
-            Act::Begin(job) => begin(rt, alloc, cell, shared, jobs, resting, job),
+            Act::Begin(job) => begin(alloc, cell, shared, jobs, resting, job),
             _ => Err(Fault::NoSession),
         },
         Hand::Runs(running) => match what {
-            Act::Step => step(rt, cell, shared, running),
-            Act::Next => Ok(next(rt, cell, shared, running)),
-            Act::End => end(rt, cell, shared, jobs, running),
+            Act::Step => step(cell, shared, running),
+            Act::Next => Ok(next(cell, shared, running)),
+            Act::End => end(cell, shared, jobs, running),
             Act::Begin(_) => Err(Fault::NoSession),
         },
     }
@@ -258,7 +252,7 @@ fn act_one<S: PageStore, T: DeadRows + Drop, J: JobsOn<S>, R: Wait>(
 
 // Does each event, and compares what the worker is told. No event without a place makes a record.
 fn act_all<S: PageStore, T: DeadRows + Drop, J: JobsOn<S>>(
-    rt: &(impl Abort + Print + Eprint + Wait),
+    rt: &(impl Abort + Print + Eprint),
     alloc: Global,
     cell: &SeatCell,
     shared: &mut Shared<S, T, J>,
@@ -266,7 +260,7 @@ fn act_all<S: PageStore, T: DeadRows + Drop, J: JobsOn<S>>(
     hands: &mut Vec<Option<Hand<J>>>,
     lines: &[Line],
 ) -> Result<(), Fail>
-    requires cell { cell.now.table.shared.table_id ≡ J.seats }
+    requires cell { IsCellOf J.seats cell.now.shared.table_id }
     requires jobs { J.jobs ≡ jobs.now }
 {
     let mut records = 0usize;
@@ -282,7 +276,7 @@ fn act_all<S: PageStore, T: DeadRows + Drop, J: JobsOn<S>>(
             hand,
             told,
             place: at,
-        } = act_one(rt, alloc, cell, shared, jobs, hand, what)?;
+        } = act_one(alloc, cell, shared, jobs, hand, what)?;
         assert_eq!(rt; told, wanted, "line {number}");
         assert_eq!(rt; at, place, "line {number}");
         if at.is_some() {
@@ -320,11 +314,11 @@ fn seated<S: PageStore, T: DeadRows + Drop, J: JobsOn<S>>(
     requires name { blank.name ≡ J.name }
     requires parts { blank.parts ≡ J.parts }
     requires all { blank.parts ≡ 65 }
-    requires seats { cell.now.table.shared.table_id ≡ J.seats }
+    requires seats { IsCellOf J.seats cell.now.shared.table_id }
     requires workers { J.workers ≡ workers }
     requires handed { IsAsHanded S.PageStore J.handed (inside T.DeadRows world) }
     requires stood { Stands S.PageStore J.stood J.kept_then J.followed (inside T.DeadRows world) }
-    requires keeper { keeper.table_id ≡ cell.now.table.shared.table_id }
+    requires keeper { keeper.table_id ≡ cell.now.shared.table_id }
     requires knows { known_by keeper ≡ keeper_of [] [] }
     requires few { workers ≤ 64 }
     requires sessions { workers ≤ length world.calls.slots.items }
@@ -356,7 +350,7 @@ fn act_named<
     S: PageStore + Drop,
     T: DeadRows + Drop,
     J: JobsOn<S>,
-    R: Abort + AllocGlobal + Print + Eprint + Wait,
+    R: Abort + AllocGlobal + Print + Eprint,
 >(
     rt: &R,
     cell: &SeatCell,
@@ -369,7 +363,7 @@ fn act_named<
     requires name { blank.name ≡ J.name }
     requires parts { blank.parts ≡ J.parts }
     requires all { blank.parts ≡ 65 }
-    requires seats { cell.now.table.shared.table_id ≡ J.seats }
+    requires seats { IsCellOf J.seats cell.now.shared.table_id }
     requires jobs { J.jobs ≡ jobs.now }
     requires workers { J.workers ≡ by.workers }
     requires handed { J.handed ≡ handed_of S.PageStore T.DeadRows world }
@@ -380,7 +374,7 @@ fn act_named<
         → J.kept_then contents history calls
         ↔ WorldKeeps S.PageStore T.DeadRows world contents history calls }
     requires followed { (first : S) → J.followed first ↔ S.follows first world.store }
-    requires keeper { keeper.table_id ≡ cell.now.table.shared.table_id }
+    requires keeper { keeper.table_id ≡ cell.now.shared.table_id }
     requires knows { known_by keeper ≡ keeper_of [] [] }
     requires few { by.workers ≤ 64 }
     requires sessions { by.workers ≤ length world.calls.slots.items }
@@ -417,7 +411,7 @@ fn act_named<
 pub fn act_by_hand<
     S: PageStore + Drop,
     T: DeadRows + Drop,
-    R: Abort + AllocGlobal + Print + Eprint + Wait,
+    R: Abort + AllocGlobal + Print + Eprint,
 >(
     rt: &R,
     world: World<S, T>,

@@ -3,19 +3,17 @@
 ghost use Rattle.std.specs.Prelude.{◌≡◌, ◌<◌, ◌+◌, ℕ, [], length, Some, None, IfSome, slice_get, vec_len};
 ghost use Rattle.crossbeam_queue.specs.Passes.{view};
 ghost use Rattle.worker_seats.specs.Queue.{below, jobs_in, sum_below, sum_over, times, weigh, KnowsAll};
-ghost use Rattle.worker_seats.specs.Seats.{keeper_of, known_by, notes_by};
+ghost use Rattle.worker_seats.specs.Seats.{IsCellOf, keeper_of, known_by, notes_by};
 
 use crate::job_queue::QueuePass;
 use crate::run::Run;
 use crate::seat::{Seat, check};
 use crate::seating::{SeatCell, SeatPass};
-use std::sync::Wait;
 use std::sync::ledger::{Book, Share};
 
 /// With all seats, and every part of the ledger and of the queue: the workers' notes are all that there are, no session runs a
 /// call, and the log has the jobs that were handed out, each once.
-pub fn tally_up<J: Run, T, R: Wait>(
-    rt: &R,
+pub fn tally_up<J: Run, T>(
     cell: &SeatCell,
     keeper: &mut SeatPass,
     book: &mut Book<J>,
@@ -23,7 +21,7 @@ pub fn tally_up<J: Run, T, R: Wait>(
     mut all: Share<J>,
     pass: &QueuePass<T>,
 )
-    requires cell { cell.now.table.shared.table_id ≡ J.seats }
+    requires cell { IsCellOf J.seats cell.now.shared.table_id }
     requires of { keeper.old.table_id ≡ J.seats }
     requires keeper { known_by keeper.old
         ≡ keeper_of (known_by keeper.old).log (known_by keeper.old).running }
@@ -51,7 +49,7 @@ pub fn tally_up<J: Run, T, R: Wait>(
         → times job (jobs_in (known_by keeper.old).log) ≡ 1 }
 {
     for seat in seats {
-        let seat = check(rt, cell, keeper, seat);
+        let seat = check(cell, keeper, seat);
         let Seat {
             worker: _,
             share,
