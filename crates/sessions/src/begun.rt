@@ -1,7 +1,6 @@
 //! A run in a scope of its own.
 
 ghost use Rattle.std.specs.Prelude.{◌≡◌, ◌≤◌, ◌<◌, ◌+◌, [], IfOk, IfErr, length, vec_capacity};
-ghost use Rattle.worker_seats.specs.Seats.{IsCellOf};
 ghost use Rattle.world.specs.Worlds.{inside};
 ghost use Rattle.shared_world.specs.Ended.{AreIdle, HasRun};
 ghost use Rattle.shared_world.specs.Handed.{IsAsHanded};
@@ -22,7 +21,7 @@ use shared_world::{JobsOn, Record};
 use std::sync::{Mutex, Wait};
 use std::thread;
 use std::thread::{PromisedHandle, Threads};
-use worker_seats::{JobQueue, SeatCell, Worker};
+use worker_seats::{JobQueue, Worker};
 use world::World;
 
 /// Runs all jobs, by threads in a scope. Where a thread can't be started, the world is given back and nothing was run.
@@ -37,7 +36,6 @@ pub fn run_all<
 >(
     rt: &'x R,
     queue: &'x JobQueue<JobTicket<K>>,
-    cell: &'x SeatCell,
     gate: &'x G,
     world: World<S, T>,
     room: Room<J, K, G::Hand>,
@@ -45,7 +43,6 @@ pub fn run_all<
     last: u32,
 ) -> Result<(World<S, T>, u64, Vec<Record>, Vec<G::Hand>), World<S, T>>
     requires list { J.jobs ≡ K.list }
-    requires cell { IsCellOf J.seats cell.now.shared.table_id }
     requires queue { queue.now.table.shared.table_id ≡ J.queue }
     requires parts { J.parts ≡ 65 }
     requires handles { (handles.items ≡ []) × (last < vec_capacity handles) }
@@ -65,7 +62,6 @@ pub fn run_all<
     let context = RunContext {
         rt,
         queue,
-        cell,
         slot: &slot,
         door: &shares,
         gate,

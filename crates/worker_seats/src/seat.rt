@@ -1,8 +1,9 @@
 //! A worker's seat.
 
 ghost use Rattle.std.specs.Prelude.{◌≡◌, ◌<◌, ◌+◌, ◌++◌, ◌∷◌, [], true, length, Some, None, slice_get, slice_set};
-ghost use Rattle.worker_seats.specs.Seats.{IsCellOf, SeatFits, after_note, after_start, beside, keeper_in, keeper_of, known_by, notes_by, seat_in, seat_view};
+ghost use Rattle.worker_seats.specs.Seats.{SeatFits, after_note, after_start, beside, keeper_in, keeper_of, known_by, notes_by, seat_in, seat_view};
 
+use crate::desk::Desk;
 use crate::run::Run;
 use crate::seating::{Checks, Notes, Opening, SeatCell, SeatPass, Sitting, Starts};
 use std::marker::PhantomData;
@@ -24,17 +25,12 @@ pub struct Seat<J: Run> {
 }
 
 /// Tells what the seat knows at the keeper's moment.
-pub fn check<J: Run>(cell: &SeatCell, keeper: &mut SeatPass, seat: Seat<J>) -> Seat<J>
-    requires cell { IsCellOf J.seats cell.now.shared.table_id }
-    requires of { keeper.old.table_id ≡ J.seats }
-    requires keeper { known_by keeper.old
-        ≡ keeper_of (known_by keeper.old).log (known_by keeper.old).running }
-    ensures of { keeper.new.table_id ≡ J.seats }
-    ensures keeper { known_by keeper.new ≡ known_by keeper.old }
-    ensures job { slice_get (known_by keeper.old).running seat.worker
+pub fn check<J: Run>(desk: &mut Desk<J>, seat: Seat<J>) -> Seat<J>
+    ensures keeper { known_by desk.new.keeper ≡ known_by desk.old.keeper }
+    ensures job { slice_get (known_by desk.old.keeper).running seat.worker
         ≡ Some (known_by seat.pass).job }
     ensures notes { (known_by seat.pass).notes
-        ≡ notes_by seat.worker (known_by keeper.old).log }
+        ≡ notes_by seat.worker (known_by desk.old.keeper).log }
     ensures worker { result.worker ≡ seat.worker }
     ensures view { known_by result.pass ≡ known_by seat.pass }
 {
@@ -44,6 +40,11 @@ pub fn check<J: Run>(cell: &SeatCell, keeper: &mut SeatPass, seat: Seat<J>) -> S
         pass,
         of,
     } = seat;
+    let Desk {
+        cell,
+        keeper,
+        of: _,
+    } = desk;
     sit_down(cell, keeper, pass);
     look(cell, keeper);
     let pass = leave(cell, keeper);
@@ -56,14 +57,9 @@ pub fn check<J: Run>(cell: &SeatCell, keeper: &mut SeatPass, seat: Seat<J>) -> S
 }
 
 /// The call of the seat's session begins, for this job.
-pub fn start<J: Run>(cell: &SeatCell, keeper: &mut SeatPass, seat: Seat<J>, job: u32) -> Seat<J>
-    requires cell { IsCellOf J.seats cell.now.shared.table_id }
-    requires of { keeper.old.table_id ≡ J.seats }
-    requires keeper { known_by keeper.old
-        ≡ keeper_of (known_by keeper.old).log (known_by keeper.old).running }
-    ensures of { keeper.new.table_id ≡ J.seats }
-    ensures keeper { known_by keeper.new ≡ keeper_of (known_by keeper.old).log
-        (slice_set (known_by keeper.old).running seat.worker (Some job)) }
+pub fn start<J: Run>(desk: &mut Desk<J>, seat: Seat<J>, job: u32) -> Seat<J>
+    ensures keeper { known_by desk.new.keeper ≡ keeper_of (known_by desk.old.keeper).log
+        (slice_set (known_by desk.old.keeper).running seat.worker (Some job)) }
     ensures worker { result.worker ≡ seat.worker }
     ensures job { (known_by result.pass).job ≡ Some job }
     ensures notes { (known_by result.pass).notes ≡ (known_by seat.pass).notes }
@@ -74,6 +70,11 @@ pub fn start<J: Run>(cell: &SeatCell, keeper: &mut SeatPass, seat: Seat<J>, job:
         pass,
         of,
     } = seat;
+    let Desk {
+        cell,
+        keeper,
+        of: _,
+    } = desk;
     sit_down(cell, keeper, pass);
     begin(cell, keeper, job);
     let pass = leave(cell, keeper);
@@ -86,25 +87,14 @@ pub fn start<J: Run>(cell: &SeatCell, keeper: &mut SeatPass, seat: Seat<J>, job:
 }
 
 /// The call of the seat's session ends, with its note, and its share counts one more.
-pub fn end<J: Run>(
-    cell: &SeatCell,
-    keeper: &mut SeatPass,
-    book: &mut Book<J>,
-    seat: Seat<J>,
-    job: u32,
-) -> Seat<J>
-    requires cell { IsCellOf J.seats cell.now.shared.table_id }
-    requires of { keeper.old.table_id ≡ J.seats }
-    requires keeper { known_by keeper.old
-        ≡ keeper_of (known_by keeper.old).log (known_by keeper.old).running }
-    ensures of { keeper.new.table_id ≡ J.seats }
-    ensures keeper { known_by keeper.new
-        ≡ keeper_of ((known_by keeper.old).log ++ (seat.worker, job) ∷ [])
-        (slice_set (known_by keeper.old).running seat.worker None) }
+pub fn end<J: Run>(desk: &mut Desk<J>, book: &mut Book<J>, seat: Seat<J>, job: u32) -> Seat<J>
+    ensures keeper { known_by desk.new.keeper
+        ≡ keeper_of ((known_by desk.old.keeper).log ++ (seat.worker, job) ∷ [])
+        (slice_set (known_by desk.old.keeper).running seat.worker None) }
     ensures worker { result.worker ≡ seat.worker }
     ensures job { (known_by result.pass).job ≡ None }
     ensures notes { (known_by result.pass).notes
-        ≡ (known_by seat.pass).notes ++ (length (known_by keeper.old).log, job) ∷ [] }
+        ≡ (known_by seat.pass).notes ++ (length (known_by desk.old.keeper).log, job) ∷ [] }
     ensures book { book.new.total ≡ book.old.total + 1 }
 {
     let Seat {
@@ -113,6 +103,11 @@ pub fn end<J: Run>(
         pass,
         of,
     } = seat;
+    let Desk {
+        cell,
+        keeper,
+        of: _,
+    } = desk;
     sit_down(cell, keeper, pass);
     note(cell, keeper, job);
     let pass = leave(cell, keeper);
@@ -191,20 +186,22 @@ fn note(cell: &SeatCell, keeper: &mut SeatPass, job: u32)
 }
 
 /// A seat for one session more, with a share of its own.
-pub fn open<J: Run>(cell: &SeatCell, keeper: &mut SeatPass, share: Share<J>, worker: u32) -> Seat<J>
-    requires cell { IsCellOf J.seats cell.now.shared.table_id }
-    requires of { keeper.old.table_id ≡ J.seats }
-    requires keeper { known_by keeper.old ≡ keeper_of [] (known_by keeper.old).running }
-    requires worker { worker ≡ length (known_by keeper.old).running }
+pub fn open<J: Run>(desk: &mut Desk<J>, share: Share<J>, worker: u32) -> Seat<J>
+    requires keeper { known_by desk.old.keeper ≡ keeper_of [] (known_by desk.old.keeper).running }
+    requires worker { worker ≡ length (known_by desk.old.keeper).running }
     requires part { share.parts ≡ 1 }
     requires amount { share.amount ≡ 0 }
-    ensures of { keeper.new.table_id ≡ J.seats }
-    ensures keeper { known_by keeper.new
-        ≡ keeper_of [] ((known_by keeper.old).running ++ None ∷ []) }
+    ensures keeper { known_by desk.new.keeper
+        ≡ keeper_of [] ((known_by desk.old.keeper).running ++ None ∷ []) }
     ensures worker { result.worker ≡ worker }
     ensures job { (known_by result.pass).job ≡ None }
     ensures notes { (known_by result.pass).notes ≡ [] }
 {
+    let Desk {
+        cell,
+        keeper,
+        of: _,
+    } = desk;
     let pass = cell.shared.split_seat::<Opening>(keeper);
     Seat {
         worker,

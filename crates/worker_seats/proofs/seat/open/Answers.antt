@@ -4,4 +4,5 @@ use Rattle.worker_seats.proofs.seat.open.Goals as goal
 
 pub split_seat-pass-requires : goal.split_seat-pass-requires
 split_seat-pass-requires g c =
-    (c.requires.of ∙ sym c.requires.cell.of, c.requires.cell.word, widens _ _ (keeps_as _ _ c.requires.keeper refl))
+    let desk = c.args.desk.now in
+    (desk.own ∙ sym desk.seats.of, desk.seats.word, widens _ _ (keeps_as _ _ c.requires.keeper refl))
