@@ -1,5 +1,6 @@
 -- When a worker may do an event, and whether the lock was opened.
 use Rattle.std.specs.Prelude.{Bool, true, false, nat_lt, vec_len, vec_capacity}
+use Rattle.std.specs.declared.sync.ledger.Ledger.{Ghosts as LedgerGhosts}
 use Rattle.index_model.specs.declared.dead_rows.DeadRows.{Ghosts as SetGhosts}
 use Rattle.page_action.specs.declared.page_store.PageStore.{Ghosts as StoreGhosts}
 use Rattle.worker_seats.specs.declared.run.Run.{Ghosts as RunGhosts}
@@ -9,13 +10,13 @@ use Rattle.sessions.specs.declared.slot.Slot.{Slot}
 use Rattle.sessions.specs.declared.slot.Slot.TheVariants.{Waiting, Open, Closed}
 
 -- the lock was opened, and there is room for one record more
-abbrev pub may_record : {S T J : Type 0} {s : StoreGhosts S} {t : SetGhosts T} {past : StoreJobGhosts J S} {j : JobGhosts J} {r : RunGhosts J} → Slot S T J s t past j r → Bool
+abbrev pub may_record : {S T J : Type 0} {s : StoreGhosts S} {t : SetGhosts T} {past : StoreJobGhosts J S} {j : JobGhosts J} {r : RunGhosts J} {l : LedgerGhosts J} → Slot S T J s t past j r l → Bool
 may_record Waiting = false
 may_record (Open shared) = nat_lt (vec_len shared.history) (vec_capacity shared.history)
 may_record Closed = false
 
 -- the lock was opened
-abbrev pub is_open : {S T J : Type 0} {s : StoreGhosts S} {t : SetGhosts T} {past : StoreJobGhosts J S} {j : JobGhosts J} {r : RunGhosts J} → Slot S T J s t past j r → Bool
+abbrev pub is_open : {S T J : Type 0} {s : StoreGhosts S} {t : SetGhosts T} {past : StoreJobGhosts J S} {j : JobGhosts J} {r : RunGhosts J} {l : LedgerGhosts J} → Slot S T J s t past j r l → Bool
 is_open Waiting = false
 is_open (Open shared) = true
 is_open Closed = false

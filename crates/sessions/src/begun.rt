@@ -21,7 +21,7 @@ use shared_world::{JobsOn, Record};
 use std::sync::{Mutex, Wait};
 use std::thread;
 use std::thread::{PromisedHandle, Threads};
-use worker_seats::{JobQueue, SeatCell, Worker};
+use worker_seats::{JobQueue, Worker};
 use world::World;
 
 /// Runs all jobs, by threads in a scope. Where a thread can't be started, the world is given back and nothing was run.
@@ -36,7 +36,6 @@ pub fn run_all<
 >(
     rt: &'x R,
     queue: &'x JobQueue<JobTicket<K>>,
-    cell: &'x SeatCell,
     gate: &'x G,
     world: World<S, T>,
     room: Room<J, K, G::Hand>,
@@ -44,7 +43,6 @@ pub fn run_all<
     last: u32,
 ) -> Result<(World<S, T>, u64, Vec<Record>, Vec<G::Hand>), World<S, T>>
     requires list { J.jobs ≡ K.list }
-    requires cell { cell.now.table.shared.table_id ≡ J.seats }
     requires queue { queue.now.table.shared.table_id ≡ J.queue }
     requires parts { J.parts ≡ 65 }
     requires handles { (handles.items ≡ []) × (last < vec_capacity handles) }
@@ -64,7 +62,6 @@ pub fn run_all<
     let context = RunContext {
         rt,
         queue,
-        cell,
         slot: &slot,
         door: &shares,
         gate,

@@ -10,10 +10,10 @@ use index_model::DeadRows;
 use page_action::PageStore;
 use shared_world::JobsOn;
 use std::sync::{Mutex, Wait};
-use worker_seats::{JobQueue, SeatCell};
+use worker_seats::JobQueue;
 
-/// What the workers of a run share: the queue of its jobs, the cell of their seats, what lies under the lock, what lies beside it,
-/// and who is told of each job. The types tell of the same jobs, cell and queue.
+/// What the workers of a run share: the queue of its jobs, what lies under the lock, what lies beside it, and who is told of each
+/// job. The types tell of the same jobs and queue.
 #[derive(Drop)]
 pub struct RunContext<
     'a,
@@ -26,11 +26,9 @@ pub struct RunContext<
 > {
     pub rt: &'a R,
     pub queue: &'a JobQueue<JobTicket<K>>,
-    pub cell: &'a SeatCell,
     pub slot: &'a Mutex<Slot<S, T, J>>,
     pub door: &'a Door,
     pub gate: &'a G,
     pub ghost list: { J.jobs ≡ K.list },
-    pub ghost seats: { cell.now.table.shared.table_id ≡ J.seats },
     pub ghost tickets: { queue.now.table.shared.table_id ≡ J.queue },
 }

@@ -28,7 +28,7 @@ use std::mem;
 use std::sync::Wait;
 use std::sync::ledger::Share;
 use std::thread::{PromisedHandle, Scope, Threads};
-use worker_seats::{Parts, QueuePass, Seat, SeatPass, Telling, Worker, gather, open};
+use worker_seats::{Desk, Parts, QueuePass, Seat, Telling, Worker, gather, open};
 use world::World;
 
 // Puts a value under the lock, and wakes all.
@@ -67,7 +67,7 @@ fn start_all<
 >(
     scope: &'s Scope<'s, E>,
     run: &'s RunContext<'s, S, T, J, K, G, R>,
-    keeper: &mut SeatPass,
+    desk: &mut Desk<J>,
     pass: &mut QueuePass<JobTicket<K>>,
     all: &mut Share<J>,
     pending: &mut Vec<Option<Pending>>,
@@ -75,17 +75,15 @@ fn start_all<
     last: u32,
 ) -> bool
     requires few { last < 64 }
-    requires keeper { (keeper.old.table_id ≡ J.seats)
-        × (known_by keeper.old ≡ keeper_of [] []) }
+    requires keeper { known_by desk.old.keeper ≡ keeper_of [] [] }
     requires pass { IsPassOf run.now.queue.now pass.old }
     requires whole { (view pass.old).parts ≡ 1024 }
     requires popped { (view pass.old).popped ≡ [] }
     requires all { (all.old.parts ≡ 65) × (all.old.amount ≡ 0) }
     requires pending { (pending.old.items ≡ []) × (last < vec_capacity pending.old) }
     requires handles { (handles.old.items ≡ []) × (last < vec_capacity handles.old) }
-    ensures of { result ≡ true → keeper.new.table_id ≡ J.seats }
     ensures keeper { result ≡ true
-        → known_by keeper.new ≡ keeper_of [] (jobs_of pending.new.items) }
+        → known_by desk.new.keeper ≡ keeper_of [] (jobs_of pending.new.items) }
     ensures pass { result ≡ true → IsPassOf run.now.queue.now pass.new }
     ensures whole { result ≡ true → (view pass.new).parts + last ≡ 1024 }
     ensures pushed { result ≡ true → (view pass.new).pushed ≡ (view pass.old).pushed }
@@ -101,7 +99,7 @@ fn start_all<
 {
     for w in 0..last {
         let share = all.split_off(1, 0);
-        let seat = open(run.cell, keeper, share, w);
+        let seat = open(desk, share, w);
         let mine = run.queue.another::<Parts>(pass);
         let hand = run.gate.hand(w);
         pending.push_reserved(None);
@@ -218,7 +216,7 @@ pub fn hire<
     ensures told { IfOk result (λ r. HaveTold G.Hand.told J.workers r.3.items r.2.items) }
 {
     let Room {
-        mut keeper,
+        mut desk,
         mut pass,
         book,
         mut all,
@@ -231,7 +229,7 @@ pub fn hire<
     let started = start_all(
         scope,
         run,
-        &mut keeper,
+        &mut desk,
         &mut pass,
         &mut all,
         &mut pending,
@@ -243,13 +241,13 @@ pub fn hire<
         return Err(world);
     }
     let share = all.split_off(1, 0);
-    let own = open(run.cell, &mut keeper, share, last);
+    let own = open(&mut desk, share, last);
     pending.push_reserved(None);
-    let shared = first(world, history, pending, book, keeper);
+    let shared = first(world, history, pending, book, desk);
     put(run, Slot::Open(shared));
     let hand = run.gate.hand(last);
     let (seats, pass, hands) = work_out(run, own, pass, hand, handles, staff, seats, hands);
     let shared = take_out(run);
-    let (world, start, history) = ended(run.rt, run.cell, shared, seats, all, &pass);
+    let (world, start, history) = ended(shared, seats, all, &pass);
     Ok((world, start, history, hands))
 }

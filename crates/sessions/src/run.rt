@@ -8,7 +8,7 @@ ghost use Rattle.index_model.specs.Calls.{Call};
 ghost use Rattle.index_model.specs.declared.entry.Entry.{Entry as OneEntry};
 ghost use Rattle.page_action.specs.States.{Continues, IsLater};
 ghost use Rattle.worker_seats.specs.Queue.{below, queue_view, times, weigh};
-ghost use Rattle.worker_seats.specs.Seats.{keeper_of, known_by};
+ghost use Rattle.worker_seats.specs.Seats.{IsCellOf, keeper_of, known_by};
 ghost use Rattle.world.specs.Worlds.{WorldFits, WorldKeeps, inside};
 ghost use Rattle.shared_world.specs.Acted.{HasActed};
 ghost use Rattle.shared_world.specs.Ended.{AreIdle, jobs_of_records};
@@ -32,7 +32,7 @@ use std::marker::Brand;
 use std::sync::Wait;
 use std::sync::ledger::Blank;
 use std::thread::Threads;
-use worker_seats::{JobQueue, QueuePass, SeatCell, SeatPass, fill, make_cell, make_queue};
+use worker_seats::{Desk, JobQueue, QueuePass, SeatCell, SeatPass, fill, make_cell, make_queue};
 use world::World;
 
 // The world given back, since there is no memory for a run on it.
@@ -111,7 +111,7 @@ fn run_named<
     rt: &R,
     alloc: Global,
     queue: &JobQueue<JobTicket<K>>,
-    cell: &SeatCell,
+    cell: SeatCell,
     keeper: SeatPass,
     pass: QueuePass<JobTicket<K>>,
     blank: Blank,
@@ -123,7 +123,7 @@ fn run_named<
     requires name { blank.name ≡ J.name }
     requires parts { blank.parts ≡ J.parts }
     requires all { blank.parts ≡ 65 }
-    requires seats { cell.now.table.shared.table_id ≡ J.seats }
+    requires seats { IsCellOf J.seats cell.shared.table_id }
     requires queue { queue.now.table.shared.table_id ≡ J.queue }
     requires jobs { J.jobs ≡ jobs.now }
     requires list { K.list ≡ jobs.now }
@@ -136,7 +136,7 @@ fn run_named<
         → J.kept_then contents history calls
         ↔ WorldKeeps S.PageStore T.DeadRows world contents history calls }
     requires followed { (first : S) → J.followed first ↔ S.follows first world.store }
-    requires keeper { keeper.table_id ≡ cell.now.table.shared.table_id }
+    requires keeper { keeper.table_id ≡ cell.shared.table_id }
     requires knows { known_by keeper ≡ keeper_of [] [] }
     requires pass { IsPassOf queue.now pass }
     requires whole { view pass ≡ queue_view 1024 (length jobs.now) [] }
@@ -150,7 +150,8 @@ fn run_named<
         HaveTold G.Hand.told workers r.1.items r.0.history.items) }
 {
     let (book, all) = blank.open::<J>();
-    let Some(room) = make_room::<J, K, G::Hand>(alloc, keeper, pass, book, all, jobs.len(), workers)
+    let desk = Desk::new(cell, keeper);
+    let Some(room) = make_room::<J, K, G::Hand>(alloc, desk, pass, book, all, jobs.len(), workers)
     else {
         return Err(no_memory(world));
     };
@@ -160,7 +161,7 @@ fn run_named<
     let Ok(handles) = Vec::with_capacity(alloc, workers as usize) else {
         return Err(no_memory(world));
     };
-    match run_all(rt, queue, cell, gate, world, room, handles, workers - 1) {
+    match run_all(rt, queue, gate, world, room, handles, workers - 1) {
         Ok((world, start, history, hands)) => {
             Ok((finish(world, start, history, receipts, calls), hands))
         }
@@ -201,7 +202,7 @@ fn run_listed<
     };
     let blank = Blank::new(65);
     run_named::<S, T, Brand, K, G, R>(
-        rt, alloc, &queue, &cell, keeper, pass, blank, world, jobs, workers, gate,
+        rt, alloc, &queue, cell, keeper, pass, blank, world, jobs, workers, gate,
     )
 }
 

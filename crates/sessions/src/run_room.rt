@@ -9,13 +9,13 @@ use crate::ticket::{JobList, JobTicket};
 use shared_world::{Jobs, Pending, Record};
 use std::alloc::Global;
 use std::sync::ledger::{Book, Share};
-use worker_seats::{QueuePass, Seat, SeatPass, Telling, Worker};
+use worker_seats::{Desk, QueuePass, Seat, Telling, Worker};
 
-/// What a run is given before it begins: the passes of the whole queue and of the keeper of the seats, the ledger, and room for
-/// the records, the jobs whose calls run, the workers and their hands.
+/// What a run is given before it begins: the desk of the seats, the pass of the whole queue, the ledger, and room for the records,
+/// the jobs whose calls run, the workers and their hands.
 #[derive(Drop)]
 pub struct Room<J: Jobs, K: JobList, H: Telling> {
-    pub keeper: SeatPass,
+    pub desk: Desk<J>,
     pub pass: QueuePass<JobTicket<K>>,
     pub book: Book<J>,
     pub all: Share<J>,
@@ -24,8 +24,7 @@ pub struct Room<J: Jobs, K: JobList, H: Telling> {
     pub staff: Vec<Worker<J, JobTicket<K>, H>>,
     pub hands: Vec<H>,
     pub seats: Vec<Seat<J>>,
-    pub ghost of_seats: { keeper.table_id ≡ J.seats },
-    pub ghost keeper_is: { known_by keeper ≡ keeper_of [] [] },
+    pub ghost keeper_is: { known_by desk.keeper ≡ keeper_of [] [] },
     pub ghost of_queue: { pass.table_id ≡ J.queue },
     pub ghost pass_rests: { pass.me.1 ≡ [] },
     pub ghost pass_is: { view pass ≡ queue_view 1024 (length J.jobs) [] },
@@ -47,15 +46,14 @@ pub struct Room<J: Jobs, K: JobList, H: Telling> {
 /// The room of a run of so many jobs by so many workers. None where there is no memory for it.
 pub fn make_room<J: Jobs, K: JobList, H: Telling + Drop>(
     alloc: Global,
-    keeper: SeatPass,
+    desk: Desk<J>,
     pass: QueuePass<JobTicket<K>>,
     book: Book<J>,
     all: Share<J>,
     jobs: usize,
     workers: u32,
 ) -> Option<Room<J, K, H>>
-    requires of { keeper.table_id ≡ J.seats }
-    requires keeper { known_by keeper ≡ keeper_of [] [] }
+    requires keeper { known_by desk.keeper ≡ keeper_of [] [] }
     requires queue { pass.table_id ≡ J.queue }
     requires pass { pass.me.1 ≡ [] }
     requires whole { view pass ≡ queue_view 1024 (length J.jobs) [] }
@@ -71,7 +69,7 @@ pub fn make_room<J: Jobs, K: JobList, H: Telling + Drop>(
     let hands = Vec::with_capacity(alloc, workers as usize).ok()?;
     let seats = Vec::with_capacity(alloc, workers as usize).ok()?;
     Some(Room {
-        keeper,
+        desk,
         pass,
         book,
         all,

@@ -45,7 +45,7 @@ fn begin_in<S: PageStore, T: DeadRows + Drop, J: JobsOn<S>, K: JobList, G: Gate,
     let Slot::Open(shared) = &mut *guard else {
         unreachable!()
     };
-    shared.begin(run.rt, run.cell, seat, job, *asked, room)
+    shared.begin(seat, job, *asked, room)
 }
 
 // Makes a step of the session's call, in a hold of the lock.
@@ -65,7 +65,7 @@ fn step_in<S: PageStore, T: DeadRows + Drop, J: JobsOn<S>, K: JobList, G: Gate, 
     let Slot::Open(shared) = &mut *guard else {
         unreachable!()
     };
-    shared.step(run.rt, run.cell, seat, job)
+    shared.step(seat, job)
 }
 
 // Asks the session's call for its next entry, in a hold of the lock.
@@ -85,7 +85,7 @@ fn next_in<S: PageStore, T: DeadRows + Drop, J: JobsOn<S>, K: JobList, G: Gate, 
     let Slot::Open(shared) = &mut *guard else {
         unreachable!()
     };
-    let (seat, _) = shared.next(run.rt, run.cell, seat, job);
+    let (seat, _) = shared.next(seat, job);
     seat
 }
 
@@ -108,7 +108,7 @@ fn end_in<S: PageStore, T: DeadRows + Drop, J: JobsOn<S>, K: JobList, G: Gate, R
     let Slot::Open(shared) = &mut *guard else {
         unreachable!()
     };
-    shared.end(run.rt, run.cell, seat, job, *asked)
+    shared.end(seat, job, *asked)
 }
 
 // Takes so many entries that are ready.

@@ -5,7 +5,7 @@ use Rattle.index_model.specs.declared.range.Range.{Range}
 use Rattle.schedule.specs.Ready.{MayComeNext, ReadyMayComeNext}
 use Rattle.shared_world.proofs.Imports.{Action, ThereAtSomeMoment, AskScan, Call, at_some_moment_later, Entry, SetGhosts, Ghosts, is_last, AnswersEnd, GivesLess, RunsUntilLast, is_busy, ready_count}
 use Rattle.shared_world.proofs.Imports.{has_call, slot_of, DeadSets, asked_by, Request, Answer, Gave, Ended, Op, OneCallRuns, Takes, GivesUp, StoreAndSlots, snapshot_of, Next, End, goes_does}
-use Rattle.shared_world.proofs.Imports.{RunGhosts, get_within, inside, World, JobGhosts, StoreJobGhosts, Shared, Job, Scan, Pending, IsEventDone, MayBeDone, HasTaken, IsFullScan, given_after, IsRoomOf, request_of}
+use Rattle.shared_world.proofs.Imports.{LedgerGhosts, RunGhosts, get_within, inside, World, JobGhosts, StoreJobGhosts, Shared, Job, Scan, Pending, IsEventDone, MayBeDone, HasTaken, IsFullScan, given_after, IsRoomOf, request_of}
 use Rattle.shared_world.proofs.Imports.{IsCut, record_of}
 use Rattle.shared_world.proofs.Happening.{keeps_going, keeps_ended}
 use Rattle.shared_world.proofs.Handing.{IsNext}
@@ -76,7 +76,7 @@ module _ {S : Type 0} (g : Ghosts S) (w v : StoreAndSlots S) (s : ℕ) (runs : h
   end_runs answer did = (sym (busy_is v.slots s) ∙ ap is_busy did.always.left.over, others_run_on w.slots v.slots s (did.always.others s refl))
 
 -- ... and what either leaves under the lock
-module _ {S T J : Type 0} {g : Ghosts S} {rows : SetGhosts T} {past : StoreJobGhosts J S} {j : JobGhosts J} {run : RunGhosts J} (self : Shared S T J g rows past j run) (world : World S T)
+module _ {S T J : Type 0} {g : Ghosts S} {rows : SetGhosts T} {past : StoreJobGhosts J S} {j : JobGhosts J} {run : RunGhosts J} {ledger : LedgerGhosts J} (self : Shared S T J g rows past j run ledger) (world : World S T)
     (one : OneCallRuns g) (next : IsNext g (inside rows self.world) (inside rows world)) (s : ℕ) {job : ℕ} {p : Pending} (here : RunsAt self s job p) where
   abbrev w : StoreAndSlots S
   w = inside rows self.world

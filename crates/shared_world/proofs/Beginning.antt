@@ -6,7 +6,7 @@ use Rattle.shared_world.specs.declared.job.Job.TheVariants.{Insert, Scan, Bulk, 
 use Rattle.shared_world.proofs.Imports.{HasCause, Entry, SetGhosts, Fault, Blocked, Ghosts, IsCaused, DeadSets, asked_by, has_call, one_vacuums, slot_has_call, Answer, Begun, Forced, Checkpointed}
 use Rattle.shared_world.proofs.Imports.{Refused, Op, Request, RefusedCallsFit, AnswersEvent, AnswersBeginning, EventAlways, UpkeepIsDone, Stays, kept_answer, causes_of_begun_at, EventDoes}
 use Rattle.shared_world.proofs.Imports.{EventEffect, KeepsHistory, Upkeep, Forces, Flushes, Checkpoints, Kind, BeginsCall, MaintainsStore, kind_of, StoreAndSlots, Moment, snapshot_of, ForEachHistory}
-use Rattle.shared_world.proofs.Imports.{EventFollows, Fits, Event, goes_does, begins_told, keeps_silent, RunGhosts, get_within, inside, World, JobGhosts, StoreJobGhosts, Shared, Job, Pending, event_of, request_of}
+use Rattle.shared_world.proofs.Imports.{EventFollows, Fits, Event, goes_does, begins_told, keeps_silent, LedgerGhosts, RunGhosts, get_within, inside, World, JobGhosts, StoreJobGhosts, Shared, Job, Pending, event_of, request_of}
 use Rattle.shared_world.proofs.Imports.{upkeep_of, begins, IsRoomOf, IsBlocked, KeepsFitting, record_of}
 use Rattle.shared_world.proofs.Noting.{set_same, busy_is, OthersRunOn, rests_there, matches_runs, matches_stays}
 use Rattle.shared_world.proofs.Handing.{IsNext}
@@ -75,7 +75,7 @@ kept_of g Checkpoints answer x y (inr h) count e = absurd (checkpointed_not coun
 kept_of g Flushes answer x y h count e = absurd cc
 
 -- a beginning under the lock, and what it leaves there
-module _ {S T J : Type 0} {g : Ghosts S} {rows : SetGhosts T} {past : StoreJobGhosts J S} {j : JobGhosts J} {run : RunGhosts J} (self : Shared S T J g rows past j run) (world : World S T)
+module _ {S T J : Type 0} {g : Ghosts S} {rows : SetGhosts T} {past : StoreJobGhosts J S} {j : JobGhosts J} {run : RunGhosts J} {ledger : LedgerGhosts J} (self : Shared S T J g rows past j run ledger) (world : World S T)
     (next : IsNext g (inside rows self.world) (inside rows world)) (s : ℕ) (p : Pending) (idle : slice_get self.pending.items s ≡ Some None) (job : Job)
     (is : slice_get j.jobs p.job ≡ Some job) (event : Event) (event_is : event ≡ event_of s job) (answer : Answer)
     (goes : ForEachHistory g (inside rows self.world) (inside rows world) (EventFollows g (inside rows self.world) (inside rows world) event answer))

@@ -4,6 +4,7 @@ pub use Rattle.std.proofs.lemmas.Bool.Decides.{nat_tests}
 pub use Rattle.std.proofs.lemmas.List.{append-nil, length-map}
 pub use Rattle.std.proofs.lemmas.Option.{slice_get_read}
 pub use Rattle.std.specs.List.{AllByRecursion}
+pub use Rattle.std.specs.declared.sync.ledger.Ledger.{Ghosts as LedgerGhosts}
 pub use Rattle.index_model.proofs.Histories.{at_some_moment_later}
 pub use Rattle.index_model.specs.Actions.{Action, Effect, ThereAtSomeMoment}
 pub use Rattle.index_model.specs.Calls.{AskScan, Call, Running}

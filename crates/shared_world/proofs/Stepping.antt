@@ -2,7 +2,7 @@
 use Rattle.std.proofs.Common.{◌≡◌, ◌⊎◌, true, false, ℕ, not, [], ◌∷◌, ◌++◌, Option, Some, None, slice_set, refl, ap, ◌∙◌, subst, inl, inr}
 use Rattle.whole_calls.specs.Going.{CallIsRun}
 use Rattle.shared_world.proofs.Imports.{Call, SetGhosts, Ghosts, is_last, AnswersStep, has_call, slot_of, Answer, Ended, Op, Inserts, Scans, Bulks, Cleanups, OneCallRuns, StoreAndSlots, Moment}
-use Rattle.shared_world.proofs.Imports.{snapshot_of, HasStepped, IsGivenUpFor, IsMadeAsStep, OneStepAlways, OneStepIsRun, RunGhosts, inside, World, JobGhosts, StoreJobGhosts, Shared, Pending, KeepsFitting, record_of}
+use Rattle.shared_world.proofs.Imports.{snapshot_of, HasStepped, IsGivenUpFor, IsMadeAsStep, OneStepAlways, OneStepIsRun, LedgerGhosts, RunGhosts, inside, World, JobGhosts, StoreJobGhosts, Shared, Pending, KeepsFitting, record_of}
 use Rattle.shared_world.proofs.Noting.{clash, set_same, last_of, others_run_on, matches_goes, matches_ends}
 use Rattle.shared_world.proofs.Handing.{IsNext}
 use Rattle.shared_world.proofs.Sharing.{RunsAt, KeepsWith, CarriesOn}
@@ -22,7 +22,7 @@ steps_no_end before after answer h e = never before (subst (λ (a : Answer). Ans
     never (Some (Cleanups op)) k = k
 
 -- a step under the lock, and what it leaves there
-module _ {S T J : Type 0} {g : Ghosts S} {rows : SetGhosts T} {past : StoreJobGhosts J S} {j : JobGhosts J} {run : RunGhosts J} (self : Shared S T J g rows past j run) (world : World S T)
+module _ {S T J : Type 0} {g : Ghosts S} {rows : SetGhosts T} {past : StoreJobGhosts J S} {j : JobGhosts J} {run : RunGhosts J} {ledger : LedgerGhosts J} (self : Shared S T J g rows past j run ledger) (world : World S T)
     (one : OneCallRuns g) (next : IsNext g (inside rows self.world) (inside rows world)) (s : ℕ) {job : ℕ} {p : Pending} (here : RunsAt self s job p)
     (answer : Answer) (goes : CallIsRun g s (OneStepIsRun g s 5 answer) None (inside rows self.world) (inside rows world))
     (made : IsMadeAsStep g s 5 answer (inside rows self.world) (inside rows world)) (always : OneStepAlways g s answer (inside rows self.world) (inside rows world)) where

@@ -16,9 +16,8 @@ use crate::record::{Pending, Record};
 use crate::shared::Shared;
 use index_model::DeadRows;
 use page_action::PageStore;
-use std::sync::Wait;
 use std::sync::ledger::{Book, Share};
-use worker_seats::{QueuePass, Seat, SeatCell, SeatPass, tally_up};
+use worker_seats::{Desk, QueuePass, Seat, tally_up};
 use world::World;
 
 /// What lies under the lock as a run begins: no job is recorded, and none runs.
@@ -27,7 +26,7 @@ pub fn first<S: PageStore, T: DeadRows + Drop, J: JobsOn<S>>(
     history: Vec<Record>,
     pending: Vec<Option<Pending>>,
     book: Book<J>,
-    keeper: SeatPass,
+    desk: Desk<J>,
 ) -> Shared<S, T, J>
     requires stood { Stands S.PageStore J.stood J.kept_then J.followed (inside T.DeadRows world) }
     requires handed { IsAsHanded S.PageStore J.handed (inside T.DeadRows world) }
@@ -39,8 +38,7 @@ pub fn first<S: PageStore, T: DeadRows + Drop, J: JobsOn<S>>(
     requires seats { vec_len pending ≤ length world.calls.slots.items }
     requires workers { vec_len pending ≡ J.workers }
     requires book { book.total ≡ 0 }
-    requires room { keeper.table_id ≡ J.seats }
-    requires keeper { known_by keeper ≡ keeper_of [] (jobs_of pending.items) }
+    requires keeper { known_by desk.keeper ≡ keeper_of [] (jobs_of pending.items) }
     ensures world { result.world ≡ world }
     ensures start { result.start ≡ (S.state world.store).acts }
     ensures history { result.history ≡ history }
@@ -52,21 +50,18 @@ pub fn first<S: PageStore, T: DeadRows + Drop, J: JobsOn<S>>(
         history,
         pending,
         book,
-        keeper,
+        desk,
     }
 }
 
 /// What a run has left, told with all seats, and every part of the ledger and of the queue: the world, how many actions there were
 /// as it began, and the records of the jobs.
-pub fn ended<S: PageStore, T: DeadRows + Drop, J: JobsOn<S>, X, R: Wait>(
-    rt: &R,
-    cell: &SeatCell,
+pub fn ended<S: PageStore, T: DeadRows + Drop, J: JobsOn<S>, X>(
     shared: Shared<S, T, J>,
     seats: Vec<Seat<J>>,
     all: Share<J>,
     pass: &QueuePass<X>,
 ) -> (World<S, T>, u64, Vec<Record>)
-    requires cell { cell.now.table.shared.table_id ≡ J.seats }
     requires workers { vec_len seats ≡ J.workers }
     requires ranked { (k : ℕ) → IfSome (slice_get seats.items k) (λ s. s.worker ≡ k) }
     requires rests { (k : ℕ) → IfSome (slice_get seats.items k)
@@ -92,8 +87,8 @@ pub fn ended<S: PageStore, T: DeadRows + Drop, J: JobsOn<S>, X, R: Wait>(
         history,
         pending: _,
         mut book,
-        mut keeper,
+        mut desk,
     } = shared;
-    tally_up(rt, cell, &mut keeper, &mut book, seats, all, pass);
+    tally_up(&mut desk, &mut book, seats, all, pass);
     (world, start, history)
 }

@@ -22,9 +22,8 @@ use index_model::{DeadRows, Entry};
 use page_action::PageStore;
 use schedule::{Event, one_call_runs, ready_entries_may_come_next, refused_calls_fit};
 use session_calls::Answer;
-use std::sync::Wait;
 use std::sync::ledger::Book;
-use worker_seats::{Seat, SeatCell, SeatPass, check, end, start};
+use worker_seats::{Desk, Seat, check, end, start};
 use world::World;
 
 /// What lies under the lock. Its facts hold at each release.
@@ -36,7 +35,7 @@ pub struct Shared<S: PageStore, T: DeadRows + Drop, J: JobsOn<S>> {
     pub history: Vec<Record>,
     pub pending: Vec<Option<Pending>>,
     pub book: Book<J>,
-    pub keeper: SeatPass,
+    pub desk: Desk<J>,
     pub ghost kept: { ∥ KeepsAll S.PageStore J.stood J.kept_then J.jobs (inside T.DeadRows world) start pending.items history.items ∥₁ },
     pub ghost acted: { ∥ HasActed S.PageStore J.handed J.jobs (inside T.DeadRows world) pending.items history.items ∥₁ },
     pub ghost matches: { ∥ MatchesPending world.calls.slots.items pending.items ∥₁ },
@@ -46,8 +45,7 @@ pub struct Shared<S: PageStore, T: DeadRows + Drop, J: JobsOn<S>> {
     pub ghost enough: { length J.jobs ≤ vec_capacity history },
     pub ghost steps: { ∥ StillFollows S.PageStore J.followed world.store ∥₁ },
     pub ghost counted: { book.total ≡ vec_len history },
-    pub ghost room: { keeper.table_id ≡ J.seats },
-    pub ghost knows: { known_by keeper ≡ keeper_of (notes_of history.items) (jobs_of pending.items) },
+    pub ghost knows: { known_by desk.keeper ≡ keeper_of (notes_of history.items) (jobs_of pending.items) },
 }
 
 /// What an event under the lock leaves its worker: its seat, the answer, and the place of the record, if it made one.
@@ -170,16 +168,7 @@ fn beginning(session: u32, job: Job) -> Event
 impl<S: PageStore, T: DeadRows + Drop, J: JobsOn<S>> Shared<S, T, J> {
     /// Begins a job: a call of the worker's session, or a commit or a checkpoint, which is done whole. Where that is refused,
     /// and after a commit and a checkpoint, it is recorded, and has its place.
-    pub fn begin<R: Wait>(
-        &mut self,
-        rt: &R,
-        cell: &SeatCell,
-        seat: Seat<J>,
-        job: u32,
-        asked: Job,
-        given: Vec<Entry>,
-    ) -> Turn<J>
-        requires cell { cell.now.table.shared.table_id ≡ J.seats }
+    pub fn begin(&mut self, seat: Seat<J>, job: u32, asked: Job, given: Vec<Entry>) -> Turn<J>
         requires idle { (known_by seat.pass).job ≡ None }
         requires job { slice_get J.jobs job ≡ Some asked }
         requires given { given.items ≡ [] }
@@ -210,10 +199,10 @@ impl<S: PageStore, T: DeadRows + Drop, J: JobsOn<S>> Shared<S, T, J> {
             history,
             pending,
             book,
-            keeper,
+            desk,
         } = self;
         refused_calls_fit::<S>();
-        let seat = check(rt, cell, keeper, seat);
+        let seat = check(desk, seat);
         let answer = world.one(beginning(worker, asked));
         if is_begun(&answer) {
             pending[worker as usize] = Some(Pending {
@@ -222,7 +211,7 @@ impl<S: PageStore, T: DeadRows + Drop, J: JobsOn<S>> Shared<S, T, J> {
                 from,
                 seen,
             });
-            let seat = start(rt, cell, keeper, seat, job);
+            let seat = start(desk, seat, job);
             return told(seat, answer, None);
         }
         let done = Pending {
@@ -232,14 +221,13 @@ impl<S: PageStore, T: DeadRows + Drop, J: JobsOn<S>> Shared<S, T, J> {
             seen,
         };
         history.push_reserved(record(worker, done, &answer, from));
-        let seat = end(rt, cell, keeper, book, seat, job);
+        let seat = end(desk, book, seat, job);
         told(seat, answer, Some(seen))
     }
 
     /// A step of the session's call, with the checkpoint before it for which the log has too little room. Where its answer is the
     /// last, it is recorded, and has its place; where it is blocked, it goes on.
-    pub fn step<R: Wait>(&mut self, rt: &R, cell: &SeatCell, seat: Seat<J>, job: u32) -> Turn<J>
-        requires cell { cell.now.table.shared.table_id ≡ J.seats }
+    pub fn step(&mut self, seat: Seat<J>, job: u32) -> Turn<J>
         requires runs { (known_by seat.pass).job ≡ Some job }
         requires room { vec_len self.old.history < vec_capacity self.old.history }
         ensures worker { result.seat.worker ≡ seat.worker }
@@ -266,10 +254,10 @@ impl<S: PageStore, T: DeadRows + Drop, J: JobsOn<S>> Shared<S, T, J> {
             history,
             pending,
             book,
-            keeper,
+            desk,
         } = self;
         one_call_runs::<S>();
-        let seat = check(rt, cell, keeper, seat);
+        let seat = check(desk, seat);
         let answer = world.take_step(worker, 5);
         // It runs on exactly if the answer isn't the last.
         if world.is_running(worker) {
@@ -282,20 +270,13 @@ impl<S: PageStore, T: DeadRows + Drop, J: JobsOn<S>> Shared<S, T, J> {
         };
         let own = done.job;
         history.push_reserved(record(worker, done, &answer, to));
-        let seat = end(rt, cell, keeper, book, seat, own);
+        let seat = end(desk, book, seat, own);
         told(seat, answer, Some(place))
     }
 
     /// Asks the session's call for its next entry, which is put after those that it has given. Where their room is full, nothing
     /// is done, and there is no answer.
-    pub fn next<R: Wait>(
-        &mut self,
-        rt: &R,
-        cell: &SeatCell,
-        seat: Seat<J>,
-        job: u32,
-    ) -> (Seat<J>, Option<Answer>)
-        requires cell { cell.now.table.shared.table_id ≡ J.seats }
+    pub fn next(&mut self, seat: Seat<J>, job: u32) -> (Seat<J>, Option<Answer>)
         requires runs { (known_by seat.pass).job ≡ Some job }
         ensures worker { result.0.worker ≡ seat.worker }
         ensures start { self.new.start ≡ self.old.start }
@@ -313,10 +294,10 @@ impl<S: PageStore, T: DeadRows + Drop, J: JobsOn<S>> Shared<S, T, J> {
             history: _,
             pending,
             book: _,
-            keeper,
+            desk,
         } = self;
         one_call_runs::<S>();
-        let seat = check(rt, cell, keeper, seat);
+        let seat = check(desk, seat);
         let Some(mut running) = pending[worker as usize].take() else {
             unreachable!()
         };
@@ -327,15 +308,7 @@ impl<S: PageStore, T: DeadRows + Drop, J: JobsOn<S>> Shared<S, T, J> {
 
     /// Gives the call of the session's scan up, where its room is full and it has an entry more ready: it is recorded with what it
     /// gave, and has its place. Else nothing is done.
-    pub fn end<R: Wait>(
-        &mut self,
-        rt: &R,
-        cell: &SeatCell,
-        seat: Seat<J>,
-        job: u32,
-        asked: Job,
-    ) -> (Seat<J>, Option<u64>)
-        requires cell { cell.now.table.shared.table_id ≡ J.seats }
+    pub fn end(&mut self, seat: Seat<J>, job: u32, asked: Job) -> (Seat<J>, Option<u64>)
         requires runs { (known_by seat.pass).job ≡ Some job }
         requires job { slice_get J.jobs job ≡ Some asked }
         requires room { vec_len self.old.history < vec_capacity self.old.history }
@@ -358,11 +331,11 @@ impl<S: PageStore, T: DeadRows + Drop, J: JobsOn<S>> Shared<S, T, J> {
             history,
             pending,
             book,
-            keeper,
+            desk,
         } = self;
         one_call_runs::<S>();
         ready_entries_may_come_next::<S>();
-        let seat = check(rt, cell, keeper, seat);
+        let seat = check(desk, seat);
         let ready = world.ready(worker);
         if is_full(asked, &pending[worker as usize], ready) {
             let answer = world.one(Event::End(worker));
@@ -373,7 +346,7 @@ impl<S: PageStore, T: DeadRows + Drop, J: JobsOn<S>> Shared<S, T, J> {
             };
             let own = done.job;
             history.push_reserved(record(worker, done, &answer, until));
-            let seat = end(rt, cell, keeper, book, seat, own);
+            let seat = end(desk, book, seat, own);
             return (seat, Some(place));
         }
         (seat, None)

@@ -4,7 +4,7 @@ ghost use Rattle.std.specs.Prelude.{◌≡◌, ◌≤◌, ◌<◌, ◌+◌, ◌�
 ghost use Rattle.index_model.specs.Actions.{Action};
 ghost use Rattle.index_model.specs.Calls.{Call};
 ghost use Rattle.index_model.specs.declared.entry.Entry.{Entry as OneEntry};
-ghost use Rattle.worker_seats.specs.Seats.{keeper_of, known_by};
+ghost use Rattle.worker_seats.specs.Seats.{IsCellOf, keeper_of, known_by};
 ghost use Rattle.world.specs.Worlds.{WorldFits, WorldKeeps, inside};
 ghost use Rattle.shared_world.specs.Ended.{AreIdle};
 ghost use Rattle.shared_world.specs.Handed.{handed_of, IsAsHanded};
@@ -18,10 +18,9 @@ use shared_world::{Job, Jobs, JobsOn, Pending, Record, Shared, Turn, first};
 use std::alloc::Global;
 use std::marker::Brand;
 use std::process::Abort;
-use std::sync::Wait;
 use std::sync::ledger::Blank;
 use std::test::{Fail, *};
-use worker_seats::{Seat, SeatCell, SeatPass, make_cell, open};
+use worker_seats::{Desk, Seat, SeatCell, SeatPass, make_cell, open};
 use world::World;
 
 /// What a worker does.
@@ -132,16 +131,13 @@ fn runs<J: Jobs>(seat: Seat<J>, job: u32, told: Told) -> Done<J>
     }
 }
 
-fn begin<S: PageStore, T: DeadRows + Drop, J: JobsOn<S>, R: Wait>(
-    rt: &R,
+fn begin<S: PageStore, T: DeadRows + Drop, J: JobsOn<S>>(
     alloc: Global,
-    cell: &SeatCell,
     shared: &mut Shared<S, T, J>,
     jobs: &[Job],
     resting: Resting<J>,
     job: u32,
 ) -> Result<Done<J>, Fault>
-    requires cell { cell.now.table.shared.table_id ≡ J.seats }
     requires jobs { J.jobs ≡ jobs.now }
 {
     let Resting { seat } = resting;
@@ -158,21 +154,17 @@ fn begin<S: PageStore, T: DeadRows + Drop, J: JobsOn<S>, R: Wait>(
         seat,
         answer,
         place,
-    } = shared.begin(rt, cell, seat, job, *asked, given);
+    } = shared.begin(seat, job, *asked, given);
     match place {
         None => Ok(runs(seat, job, told_by(&answer))),
         Some(place) => Ok(rests(seat, told_by(&answer), place)),
     }
 }
 
-fn step<S: PageStore, T: DeadRows + Drop, J: JobsOn<S>, R: Wait>(
-    rt: &R,
-    cell: &SeatCell,
+fn step<S: PageStore, T: DeadRows + Drop, J: JobsOn<S>>(
     shared: &mut Shared<S, T, J>,
     running: Running<J>,
-) -> Result<Done<J>, Fault>
-    requires cell { cell.now.table.shared.table_id ≡ J.seats }
-{
+) -> Result<Done<J>, Fault> {
     let Running { seat, job } = running;
     if shared.history.len() >= shared.history.capacity() {
         return Err(Fault::NoMemory);
@@ -181,23 +173,19 @@ fn step<S: PageStore, T: DeadRows + Drop, J: JobsOn<S>, R: Wait>(
         seat,
         answer,
         place,
-    } = shared.step(rt, cell, seat, job);
+    } = shared.step(seat, job);
     match place {
         None => Ok(runs(seat, job, told_by(&answer))),
         Some(place) => Ok(rests(seat, told_by(&answer), place)),
     }
 }
 
-fn next<S: PageStore, T: DeadRows + Drop, J: JobsOn<S>, R: Wait>(
-    rt: &R,
-    cell: &SeatCell,
+fn next<S: PageStore, T: DeadRows + Drop, J: JobsOn<S>>(
     shared: &mut Shared<S, T, J>,
     running: Running<J>,
-) -> Done<J>
-    requires cell { cell.now.table.shared.table_id ≡ J.seats }
-{
+) -> Done<J> {
     let Running { seat, job } = running;
-    let (seat, answer) = shared.next(rt, cell, seat, job);
+    let (seat, answer) = shared.next(seat, job);
     let told = match answer {
         None => Told::Nothing,
         Some(answer) => told_by(&answer),
@@ -205,14 +193,11 @@ fn next<S: PageStore, T: DeadRows + Drop, J: JobsOn<S>, R: Wait>(
     runs(seat, job, told)
 }
 
-fn end<S: PageStore, T: DeadRows + Drop, J: JobsOn<S>, R: Wait>(
-    rt: &R,
-    cell: &SeatCell,
+fn end<S: PageStore, T: DeadRows + Drop, J: JobsOn<S>>(
     shared: &mut Shared<S, T, J>,
     jobs: &[Job],
     running: Running<J>,
 ) -> Result<Done<J>, Fault>
-    requires cell { cell.now.table.shared.table_id ≡ J.seats }
     requires jobs { J.jobs ≡ jobs.now }
 {
     let Running { seat, job } = running;
@@ -222,7 +207,7 @@ fn end<S: PageStore, T: DeadRows + Drop, J: JobsOn<S>, R: Wait>(
     let Some(asked) = jobs.get(job as usize) else {
         return Err(Fault::NoSession);
     };
-    let (seat, place) = shared.end(rt, cell, seat, job, *asked);
+    let (seat, place) = shared.end(seat, job, *asked);
     match place {
         None => Ok(runs(seat, job, Told::Nothing)),
         Some(place) => Ok(rests(seat, Told::Ended, place)),
@@ -230,27 +215,24 @@ fn end<S: PageStore, T: DeadRows + Drop, J: JobsOn<S>, R: Wait>(
 }
 
 // One event of a worker. Refused with `NoSession` for one that its session isn't ready for.
-fn act_one<S: PageStore, T: DeadRows + Drop, J: JobsOn<S>, R: Wait>(
-    rt: &R,
+fn act_one<S: PageStore, T: DeadRows + Drop, J: JobsOn<S>>(
     alloc: Global,
-    cell: &SeatCell,
     shared: &mut Shared<S, T, J>,
     jobs: &[Job],
     hand: Hand<J>,
     what: Act,
 ) -> Result<Done<J>, Fault>
-    requires cell { cell.now.table.shared.table_id ≡ J.seats }
     requires jobs { J.jobs ≡ jobs.now }
 {
     match hand {
         Hand::Rests(resting) => match what {
-            Act::Begin(job) => begin(rt, alloc, cell, shared, jobs, resting, job),
+            Act::Begin(job) => begin(alloc, shared, jobs, resting, job),
             _ => Err(Fault::NoSession),
         },
         Hand::Runs(running) => match what {
-            Act::Step => step(rt, cell, shared, running),
-            Act::Next => Ok(next(rt, cell, shared, running)),
-            Act::End => end(rt, cell, shared, jobs, running),
+            Act::Step => step(shared, running),
+            Act::Next => Ok(next(shared, running)),
+            Act::End => end(shared, jobs, running),
             Act::Begin(_) => Err(Fault::NoSession),
         },
     }
@@ -258,15 +240,13 @@ fn act_one<S: PageStore, T: DeadRows + Drop, J: JobsOn<S>, R: Wait>(
 
 // Does each event, and compares what the worker is told. No event without a place makes a record.
 fn act_all<S: PageStore, T: DeadRows + Drop, J: JobsOn<S>>(
-    rt: &(impl Abort + Print + Eprint + Wait),
+    rt: &(impl Abort + Print + Eprint),
     alloc: Global,
-    cell: &SeatCell,
     shared: &mut Shared<S, T, J>,
     jobs: &[Job],
     hands: &mut Vec<Option<Hand<J>>>,
     lines: &[Line],
 ) -> Result<(), Fail>
-    requires cell { cell.now.table.shared.table_id ≡ J.seats }
     requires jobs { J.jobs ≡ jobs.now }
 {
     let mut records = 0usize;
@@ -282,7 +262,7 @@ fn act_all<S: PageStore, T: DeadRows + Drop, J: JobsOn<S>>(
             hand,
             told,
             place: at,
-        } = act_one(rt, alloc, cell, shared, jobs, hand, what)?;
+        } = act_one(alloc, shared, jobs, hand, what)?;
         assert_eq!(rt; told, wanted, "line {number}");
         assert_eq!(rt; at, place, "line {number}");
         if at.is_some() {
@@ -308,8 +288,7 @@ fn is_idle<S: PageStore, T: DeadRows + Drop>(world: &World<S, T>) -> bool
 
 // What lies under the lock as so many workers begin, and the workers, whose sessions run nothing.
 fn seated<S: PageStore, T: DeadRows + Drop, J: JobsOn<S>>(
-    cell: &SeatCell,
-    mut keeper: SeatPass,
+    mut desk: Desk<J>,
     blank: Blank,
     world: World<S, T>,
     history: Vec<Record>,
@@ -320,12 +299,10 @@ fn seated<S: PageStore, T: DeadRows + Drop, J: JobsOn<S>>(
     requires name { blank.name ≡ J.name }
     requires parts { blank.parts ≡ J.parts }
     requires all { blank.parts ≡ 65 }
-    requires seats { cell.now.table.shared.table_id ≡ J.seats }
     requires workers { J.workers ≡ workers }
     requires handed { IsAsHanded S.PageStore J.handed (inside T.DeadRows world) }
     requires stood { Stands S.PageStore J.stood J.kept_then J.followed (inside T.DeadRows world) }
-    requires keeper { keeper.table_id ≡ cell.now.table.shared.table_id }
-    requires knows { known_by keeper ≡ keeper_of [] [] }
+    requires knows { known_by desk.keeper ≡ keeper_of [] [] }
     requires few { workers ≤ 64 }
     requires sessions { workers ≤ length world.calls.slots.items }
     requires rests { AreIdle world.calls.slots.items }
@@ -337,11 +314,11 @@ fn seated<S: PageStore, T: DeadRows + Drop, J: JobsOn<S>>(
     let (book, mut all) = blank.open::<J>();
     for w in 0..workers {
         let share = all.split_off(1, 0);
-        let seat = open(cell, &mut keeper, share, w);
+        let seat = open(&mut desk, share, w);
         pending.push_reserved(None);
         hands.push_reserved(Some(Hand::Rests(Resting { seat })));
     }
-    (first(world, history, pending, book, keeper), hands)
+    (first(world, history, pending, book, desk), hands)
 }
 
 // So many workers, and what they do, event by event.
@@ -356,10 +333,10 @@ fn act_named<
     S: PageStore + Drop,
     T: DeadRows + Drop,
     J: JobsOn<S>,
-    R: Abort + AllocGlobal + Print + Eprint + Wait,
+    R: Abort + AllocGlobal + Print + Eprint,
 >(
     rt: &R,
-    cell: &SeatCell,
+    cell: SeatCell,
     keeper: SeatPass,
     blank: Blank,
     world: World<S, T>,
@@ -369,7 +346,7 @@ fn act_named<
     requires name { blank.name ≡ J.name }
     requires parts { blank.parts ≡ J.parts }
     requires all { blank.parts ≡ 65 }
-    requires seats { cell.now.table.shared.table_id ≡ J.seats }
+    requires seats { IsCellOf J.seats cell.shared.table_id }
     requires jobs { J.jobs ≡ jobs.now }
     requires workers { J.workers ≡ by.workers }
     requires handed { J.handed ≡ handed_of S.PageStore T.DeadRows world }
@@ -380,7 +357,7 @@ fn act_named<
         → J.kept_then contents history calls
         ↔ WorldKeeps S.PageStore T.DeadRows world contents history calls }
     requires followed { (first : S) → J.followed first ↔ S.follows first world.store }
-    requires keeper { keeper.table_id ≡ cell.now.table.shared.table_id }
+    requires keeper { keeper.table_id ≡ cell.shared.table_id }
     requires knows { known_by keeper ≡ keeper_of [] [] }
     requires few { by.workers ≤ 64 }
     requires sessions { by.workers ≤ length world.calls.slots.items }
@@ -389,25 +366,18 @@ fn act_named<
     let history = Vec::with_capacity(rt.alloc(), jobs.len().max(by.lines.len()))?;
     let pending = Vec::with_capacity(rt.alloc(), by.workers as usize)?;
     let hands = Vec::with_capacity(rt.alloc(), by.workers as usize)?;
+    let desk = Desk::new(cell, keeper);
     let (mut shared, mut hands) = seated::<S, T, J>(
-        cell, keeper, blank, world, history, pending, hands, by.workers,
+        desk, blank, world, history, pending, hands, by.workers,
     );
-    act_all(
-        rt,
-        rt.alloc(),
-        cell,
-        &mut shared,
-        jobs,
-        &mut hands,
-        by.lines,
-    )?;
+    act_all(rt, rt.alloc(), &mut shared, jobs, &mut hands, by.lines)?;
     let Shared {
         world: _,
         start: _,
         history,
         pending: _,
         book: _,
-        keeper: _,
+        desk: _,
     } = shared;
     Ok(history)
 }
@@ -417,7 +387,7 @@ fn act_named<
 pub fn act_by_hand<
     S: PageStore + Drop,
     T: DeadRows + Drop,
-    R: Abort + AllocGlobal + Print + Eprint + Wait,
+    R: Abort + AllocGlobal + Print + Eprint,
 >(
     rt: &R,
     world: World<S, T>,
@@ -433,5 +403,5 @@ pub fn act_by_hand<
     };
     let blank = Blank::new(65);
     let by = ByHand { workers, lines };
-    act_named::<S, T, Brand, R>(rt, &cell, keeper, blank, world, jobs, by)
+    act_named::<S, T, Brand, R>(rt, cell, keeper, blank, world, jobs, by)
 }

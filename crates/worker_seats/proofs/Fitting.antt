@@ -1,10 +1,10 @@
 -- Each exchange of the seats' cell keeps its rule.
 use Rattle.std.proofs.Common.{◌≡◌, ◌≢◌, ◌⊎◌, ◌==◌, ℕ, zero, suc, ◌+◌, List, [], ◌∷◌, ◌++◌, length, set, Option, Some, None, true, false, true≢false, refl, sym, ap, ◌∙◌, subst, inl, inr, ⊎_elim, arith, if◌then◌else◌}
-use Rattle.std.specs.Prelude.{slice_get, slice_set, slice_index}
+use Rattle.std.specs.Prelude.{slice_get, slice_set}
 use Rattle.std.proofs.lemmas.Bool.Decides.{nat_tests}
 use mathlib.Core.Option.{some, some-ne-none, some-injective}
 use lib.ListN.{get_elem?}
-use Rattle.crossbeam_utils.specs.Register.{Turns, Forks, Merges}
+use Rattle.atomic_table.specs.Table.{State, keeps as still, Step, Allows, Splits, Joins}
 use Rattle.atomic_table.proofs.Lists.{at_set, at_snoc}
 use Rattle.worker_seats.specs.declared.seating.SeatView.{SeatView}
 use Rattle.worker_seats.specs.Seats.{notes_from, notes_by, keeper_of, nobody, beside, keeper_in, seat_in, keeper_of_one_more, seat_of_one_more, after_start, after_note, KeeperFits, SeatFits, ViewFits, SitApart, SeatsFit, SeatHasStarted, HasNoted, HasChecked}
@@ -92,8 +92,8 @@ other_note w x job log n = let h = notes_from_snoc 0 w log (x, job) in grind (ar
 own_note : (x job : ℕ) (log : List (ℕ × ℕ)) → notes_by x (log ++ (x, job) ∷ []) ≡ notes_by x log ++ (length log, job) ∷ []
 own_note x job log = let h = notes_from_snoc 0 x log (x, job) in grind (arith, h, nat_tests)
 
-pub begins : (words : List ℕ) → SeatsFit words (keeper_of [] [] ∷ [])
-begins words = record { desk = 0; log = []; running = []; each = one; apart = two }
+pub begins : SeatsFit (keeper_of [] [] ∷ [])
+begins = record { desk = 0; log = []; running = []; each = one; apart = two }
   where
     one : Each 0 [] [] (keeper_of [] [] ∷ [])
     one zero v e = subst (ViewFits 0 [] [] 0) (some-injective _ _ e) (record { keeper = λ _. record { desk_is = refl; log_is = refl; running_is = refl }; seat = λ c. absurd (off c) })
@@ -105,7 +105,7 @@ begins words = record { desk = 0; log = []; running = []; each = one; apart = tw
     two (suc i) j u v e f s t same = absurd (some-ne-none u (sym e))
 
 -- with another list of what each session runs, and another log, all views fit again
-module _ (words : List ℕ) (views : List SeatView) (h : SeatsFit words views) (pass : ℕ) (v : SeatView) (at : get_elem? views pass ≡ some v) (keeps : v.keeps ≡ true) where
+module _ (views : List SeatView) (h : SeatsFit views) (pass : ℕ) (v : SeatView) (at : get_elem? views pass ≡ some v) (keeps : v.keeps ≡ true) where
   keeper : KeeperFits h.desk h.log h.running pass v
   keeper = (h.each pass v at).keeper keeps
 
@@ -137,8 +137,8 @@ module _ (words : List ℕ) (views : List SeatView) (h : SeatsFit words views) (
           seat = λ _. record { job_is = set_here h.running v.worker v.job (Some job) seat.job_is; notes_is = seat.notes_is };
         })
 
-    pub starts : (words' : List ℕ) (job : ℕ) → SeatsFit words' (set views pass (after_start v job))
-    starts words' job = record {
+    pub starts : (job : ℕ) → SeatsFit (set views pass (after_start v job))
+    starts job = record {
       desk = h.desk;
       log = h.log;
       running = slice_set h.running v.worker (Some job);
@@ -161,8 +161,8 @@ module _ (words : List ℕ) (views : List SeatView) (h : SeatsFit words views) (
           };
         })
 
-    pub notes : (words' : List ℕ) (job : ℕ) → SeatsFit words' (set views pass (after_note v job))
-    notes words' job = record {
+    pub notes : (job : ℕ) → SeatsFit (set views pass (after_note v job))
+    notes job = record {
       desk = h.desk;
       log = h.log ++ (v.worker, job) ∷ [];
       running = slice_set h.running v.worker None;
@@ -170,43 +170,51 @@ module _ (words : List ℕ) (views : List SeatView) (h : SeatsFit words views) (
       apart = apart_set views pass (after_note v job) h.apart (λ j u apart e su sw. another j u apart e su);
     }
 
-pub starts_turns : (pass : ℕ) (v : SeatView) (new : List ℕ) → v.keeps ≡ true → v.sits ≡ true → Turns SeatsFit pass v (λ _. new) SeatHasStarted
-starts_turns pass v new keeps sits words views h at = (after_start v (slice_index new 0), starts words views h pass v at keeps sits new (slice_index new 0), refl)
+-- the rule of a cell of seats
+abbrev Rule : State (Unit {0}) SeatView → Type 0
+Rule s = SeatsFit s.views
 
-pub notes_turns : (pass : ℕ) (v : SeatView) (new : List ℕ) → v.keeps ≡ true → v.sits ≡ true → Turns SeatsFit pass v (λ _. new) HasNoted
-notes_turns pass v new keeps sits words views h at = (after_note v (slice_index new 0), notes words views h pass v at keeps sits new (slice_index new 0), refl)
+module _ (slots pass : ℕ) (v : SeatView) (c : List (ℕ × Unit {0})) (f : ℕ → ℕ) (i : ℕ) (st : Step (Unit {0})) (kept : v.keeps ≡ true) where
+  pub starts_allows : v.sits ≡ true → Allows Rule slots pass (v, c) i f (SeatHasStarted st (v, c))
+  starts_allows sits s h len at small = (after_start v st.first, still, tt, starts s.views h pass v at kept sits st.first, refl)
 
-pub checks : (pass : ℕ) (v : SeatView) → v.keeps ≡ true → Turns SeatsFit pass v (λ x. x) HasChecked
-checks pass v keeps words views h at =
-    let k = keeper words views h pass v at keeps in (
-      v,
-      record {
-        desk = h.desk;
-        log = h.log;
-        running = h.running;
-        each = refit words views h pass v at keeps h.log h.running v (λ j u apart e su f. f) (h.each pass v at);
-        apart = apart_set views pass v h.apart (λ j u apart e su sv same. apart (h.apart j pass u v e at su sv same));
-      },
-      record {
-        same = refl;
-        fits = λ c. (let s = (h.each pass v at).seat c in record {
-          job_is = ap (λ l. slice_get l v.worker) k.running_is ∙ s.job_is;
-          notes_is = s.notes_is ∙ ap (λ l. notes_by v.worker l) (sym k.log_is);
-        });
-      },
-    )
+  pub notes_allows : v.sits ≡ true → Allows Rule slots pass (v, c) i f (HasNoted st (v, c))
+  notes_allows sits s h len at small = (after_note v st.first, still, tt, notes s.views h pass v at kept sits st.first, refl)
+
+  pub checks_allows : Allows Rule slots pass (v, c) i f (HasChecked st (v, c))
+  checks_allows s h len at small =
+      let k = keeper s.views h pass v at kept in (
+        v,
+        still,
+        tt,
+        record {
+          desk = h.desk;
+          log = h.log;
+          running = h.running;
+          each = refit s.views h pass v at kept h.log h.running v (λ j u apart e su f. f) (h.each pass v at);
+          apart = apart_set s.views pass v h.apart (λ j u apart e su sv same. apart (h.apart j pass u v e at su sv same));
+        },
+        record {
+          same = refl;
+          fits = λ c. (let s = (h.each pass v at).seat c in record {
+            job_is = ap (λ l. slice_get l v.worker) k.running_is ∙ s.job_is;
+            notes_is = s.notes_is ∙ ap (λ l. notes_by v.worker l) (sym k.log_is);
+          });
+        },
+      )
 
 -- a view that sits for nobody is free
 idle_free : (views : List SeatView) (pass : ℕ) (w : SeatView) → w.sits ≡ false → Free views pass w
 idle_free views pass w idle j u apart e su sw same = off (sym idle ∙ sw)
 
 -- the seat leaves the keeper
-pub leaves : (pass : ℕ) (v : SeatView) → v.keeps ≡ true → Forks SeatsFit pass v (keeper_in v) (seat_in v)
-leaves pass v keeps words views h at =
+pub leaves : (pass : ℕ) (v : SeatView) → v.keeps ≡ true → Splits Rule pass v (keeper_in v) (seat_in v)
+leaves pass v keeps s h at =
+    let views = s.views in
     let a = keeper_in v in
     let f = h.each pass v at in
     let k = f.keeper keeps in
-    let rest = refit words views h pass v at keeps h.log h.running a (λ j u apart e su s. s)
+    let rest = refit views h pass v at keeps h.log h.running a (λ j u apart e su s. s)
     (record { keeper = λ _. record { desk_is = k.desk_is; log_is = k.log_is; running_is = k.running_is }; seat = λ c. absurd (off c) }) in
     record {
       desk = h.desk;
@@ -222,12 +230,13 @@ leaves pass v keeps words views h at =
     }
 
 -- a seat for one session more
-pub widens : (pass : ℕ) (v : SeatView) → v.keeps ≡ true → Forks SeatsFit pass v (keeper_of_one_more v) (seat_of_one_more v)
-widens pass v keeps words views h at =
-    let k = keeper words views h pass v at keeps in
+pub widens : (pass : ℕ) (v : SeatView) → v.keeps ≡ true → Splits Rule pass v (keeper_of_one_more v) (seat_of_one_more v)
+widens pass v keeps s h at =
+    let views = s.views in
+    let k = keeper views h pass v at keeps in
     let a = keeper_of_one_more v in
     let running : List (Option ℕ) = h.running ++ None ∷ [] in
-    let rest = refit words views h pass v at keeps h.log running a
+    let rest = refit views h pass v at keeps h.log running a
     (λ j u apart e su s. record { job_is = get_front h.running (None ∷ []) u.worker u.job s.job_is; notes_is = s.notes_is })
     (record { keeper = λ _. record { desk_is = k.desk_is; log_is = k.log_is; running_is = ap (λ l. l ++ None ∷ []) k.running_is }; seat = λ c. absurd (off c) }) in
     record {
@@ -252,8 +261,9 @@ widens pass v keeps words views h at =
     }
 
 -- a seat comes beside the keeper
-pub sits_down : (pass : ℕ) (v : SeatView) (other : ℕ) (u : SeatView) → v.keeps ≡ true → Merges SeatsFit pass v other u (beside v u) nobody
-sits_down pass v other u keeps words views h at apart there =
+pub sits_down : (pass : ℕ) (v : SeatView) (other : ℕ) (u : SeatView) → v.keeps ≡ true → Joins Rule pass v other u (beside v u) nobody
+sits_down pass v other u keeps s h at apart there =
+    let views = s.views in
     let w = beside v u in
     let f = h.each pass v at in
     let g = h.each other u was in
@@ -273,25 +283,25 @@ sits_down pass v other u keeps words views h at apart there =
       apart = two;
     }
   where
-    was : get_elem? views other ≡ some u
-    was = ⊎_elim (λ (t : (other ≡ pass) × (beside v u ≡ u)). absurd (apart t.0)) (λ (t : (other ≢ pass) × (get_elem? views other ≡ some u)). t.1) (at_set views pass other (beside v u) u there)
+    was : get_elem? s.views other ≡ some u
+    was = ⊎_elim (λ (t : (other ≡ pass) × (beside v u ≡ u)). absurd (apart t.0)) (λ (t : (other ≢ pass) × (get_elem? s.views other ≡ some u)). t.1) (at_set s.views pass other (beside v u) u there)
 
-    two : SitApart (set (set views pass (beside v u)) other nobody)
+    two : SitApart (set (set s.views pass (beside v u)) other nobody)
     two i j y z ei ej sy sz same =
         ⊎_elim
         (λ (p : (i ≡ other) × (nobody ≡ y)). absurd (off (ap (λ (t : SeatView). t.sits) p.1 ∙ sy)))
-        (λ (p : (i ≢ other) × (get_elem? (set views pass (beside v u)) i ≡ some y)). ⊎_elim
+        (λ (p : (i ≢ other) × (get_elem? (set s.views pass (beside v u)) i ≡ some y)). ⊎_elim
         (λ (q : (j ≡ other) × (nobody ≡ z)). absurd (off (ap (λ (t : SeatView). t.sits) q.1 ∙ sz)))
-        (λ (q : (j ≢ other) × (get_elem? (set views pass (beside v u)) j ≡ some z)). ⊎_elim
+        (λ (q : (j ≢ other) × (get_elem? (set s.views pass (beside v u)) j ≡ some z)). ⊎_elim
         (λ (r : (i ≡ pass) × (beside v u ≡ y)). ⊎_elim
         (λ (s : (j ≡ pass) × (beside v u ≡ z)). r.0 ∙ sym s.0)
-        (λ (s : (j ≢ pass) × (get_elem? views j ≡ some z)).
+        (λ (s : (j ≢ pass) × (get_elem? s.views j ≡ some z)).
         absurd (q.0 (h.apart j other z u s.1 was sz (ap (λ (t : SeatView). t.sits) r.1 ∙ sy) (sym same ∙ ap (λ (t : SeatView). t.worker) (sym r.1)))))
-        (at_set views pass j (beside v u) z q.1))
-        (λ (r : (i ≢ pass) × (get_elem? views i ≡ some y)). ⊎_elim
+        (at_set s.views pass j (beside v u) z q.1))
+        (λ (r : (i ≢ pass) × (get_elem? s.views i ≡ some y)). ⊎_elim
         (λ (s : (j ≡ pass) × (beside v u ≡ z)). absurd (p.0 (h.apart i other y u r.1 was sy (ap (λ (t : SeatView). t.sits) s.1 ∙ sz) (same ∙ ap (λ (t : SeatView). t.worker) (sym s.1)))))
-        (λ (s : (j ≢ pass) × (get_elem? views j ≡ some z)). h.apart i j y z r.1 s.1 sy sz same)
-        (at_set views pass j (beside v u) z q.1))
-        (at_set views pass i (beside v u) y p.1))
-        (at_set (set views pass (beside v u)) other j nobody z ej))
-        (at_set (set views pass (beside v u)) other i nobody y ei)
+        (λ (s : (j ≢ pass) × (get_elem? s.views j ≡ some z)). h.apart i j y z r.1 s.1 sy sz same)
+        (at_set s.views pass j (beside v u) z q.1))
+        (at_set s.views pass i (beside v u) y p.1))
+        (at_set (set s.views pass (beside v u)) other j nobody z ej))
+        (at_set (set s.views pass (beside v u)) other i nobody y ei)

@@ -1,12 +1,11 @@
 -- What passes outlive the lock with. The keeper's lies under the lock, and knows the log of all notes and what each session runs;
 -- a worker's seat knows what its own session runs, and its own notes. A note is of a call that is over: its worker and its job.
-use Rattle.std.specs.Prelude.{◌≡◌, ◌==◌, ℕ, suc, List, [], ◌∷◌, ◌++◌, length, Option, Some, None, slice_get, slice_set, slice_index, Bool, true, false, if◌then◌else◌}
+use Rattle.std.specs.Prelude.{◌≡◌, ◌==◌, ◌<◌, ℕ, suc, List, [], ◌∷◌, ◌++◌, length, Option, Some, None, slice_get, slice_set, Bool, true, false, if◌then◌else◌}
 use mathlib.Core.Option.{some}
 use lib.ListN.{get_elem?}
 use Rattle.atomic_table.specs.Seated.{TableId}
+use Rattle.atomic_table.specs.Table.{Step, Me}
 use Rattle.atomic_table.specs.declared.shared.Seat.{Seat as CellSeat}
-use Rattle.crossbeam_utils.specs.Seq.{cell_view}
-use Rattle.crossbeam_utils.specs.declared.atomic.seq_cell.Doing.{Doing}
 use Rattle.worker_seats.specs.declared.seating.SeatView.{SeatView}
 
 -- the name of no cell
@@ -26,8 +25,8 @@ abbrev pub notes_by : ℕ → List (ℕ × ℕ) → List (ℕ × ℕ)
 notes_by worker log = notes_from 0 worker log
 
 -- what a pass of the cell knows
-abbrev pub known_by : CellSeat (List ℕ) (Doing (List ℕ) SeatView) → SeatView
-known_by pass = cell_view pass
+abbrev pub known_by : CellSeat (Unit {0}) SeatView → SeatView
+known_by pass = pass.me.0
 
 -- the view of a keeper, which sits for no session
 abbrev pub keeper_of : List (ℕ × ℕ) → List (Option ℕ) → SeatView
@@ -94,24 +93,29 @@ SitApart views =
     (i j : ℕ) (u v : SeatView) → get_elem? views i ≡ some u → get_elem? views j ≡ some v
     → u.sits ≡ true → v.sits ≡ true → u.worker ≡ v.worker → i ≡ j
 
--- The rule of the seats, whatever the words of the cell are: there is one keeper at most, and one log and one list of what each
+-- The rule of the seats: there is one keeper at most, and one log and one list of what each
 -- session runs that all views fit.
-pub record SeatsFit (words : List ℕ) (views : List SeatView) : Type 0 where
+pub record SeatsFit (views : List SeatView) : Type 0 where
   pub desk : ℕ
   pub log : List (ℕ × ℕ)
   pub running : List (Option ℕ)
   pub each : (pass : ℕ) (v : SeatView) → get_elem? views pass ≡ some v → ViewFits desk log running pass v
   pub apart : SitApart views
 
--- an exchange of the cell's words begins the call of the job that is the first word now
-abbrev pub SeatHasStarted : SeatView → List ℕ → List ℕ → SeatView → Type 0
-SeatHasStarted v before after w = w ≡ after_start v (slice_index after 0)
+-- an exchange of the cell's word begins the call of the job that is the word now
+abbrev pub SeatHasStarted : Step (Unit {0}) → Me (Unit {0}) SeatView → ℕ → Me (Unit {0}) SeatView → Type 0
+SeatHasStarted s v found w = w ≡ (after_start v.0 s.first, v.1)
 
 -- ... ends it, with its note
-abbrev pub HasNoted : SeatView → List ℕ → List ℕ → SeatView → Type 0
-HasNoted v before after w = w ≡ after_note v (slice_index after 0)
+abbrev pub HasNoted : Step (Unit {0}) → Me (Unit {0}) SeatView → ℕ → Me (Unit {0}) SeatView → Type 0
+HasNoted s v found w = w ≡ (after_note v.0 s.first, v.1)
 
 -- a look at the cell tells a keeper that the seat beside it fits
-pub record HasChecked (v : SeatView) (before after : List ℕ) (w : SeatView) : Type 0 where
+pub record HasChecked (s : Step (Unit {0})) (v : Me (Unit {0}) SeatView) (found : ℕ) (w : Me (Unit {0}) SeatView) : Type 0 where
   pub same : w ≡ v
-  pub fits : v.sits ≡ true → SeatFits v.log v.running v
+  pub fits : (v.0).sits ≡ true → SeatFits (v.0).log (v.0).running v.0
+
+-- the cell of these seats, which has a word
+pub record IsCellOf (seats : TableId) (cell : TableId) : Type 0 where
+  pub of : cell ≡ seats
+  pub word : 0 < cell.words

@@ -6,6 +6,7 @@
 //! the log, says the whole. With the workers' shares of a ledger, these give that each job stands in the log once.
 #![tactic(auto)]
 
+mod desk;
 mod hand;
 mod job_queue;
 mod run;
@@ -14,6 +15,7 @@ mod seating;
 mod tally;
 mod worker;
 
+pub use desk::Desk;
 pub use hand::{Telling, Told};
 pub use job_queue::{
     JobQueue, Parts, Pops, Pushes, QueuePass, QueueRule, QueueView, Ticket, fill, make_queue,

@@ -1,12 +1,12 @@
 //! A worker's seat.
 
-ghost use Rattle.std.specs.Prelude.{◌≡◌, ◌+◌, ◌++◌, ◌∷◌, [], true, length, Some, None, slice_get, slice_set};
+ghost use Rattle.std.specs.Prelude.{◌≡◌, ◌<◌, ◌+◌, ◌++◌, ◌∷◌, [], true, length, Some, None, slice_get, slice_set};
 ghost use Rattle.worker_seats.specs.Seats.{SeatFits, after_note, after_start, beside, keeper_in, keeper_of, known_by, notes_by, seat_in, seat_view};
 
+use crate::desk::Desk;
 use crate::run::Run;
 use crate::seating::{Checks, Notes, Opening, SeatCell, SeatPass, Sitting, Starts};
 use std::marker::PhantomData;
-use std::sync::Wait;
 use std::sync::ledger::{Book, Share};
 
 /// What a worker knows of its session, with its share of the ledger, which counts its notes.
@@ -25,22 +25,12 @@ pub struct Seat<J: Run> {
 }
 
 /// Tells what the seat knows at the keeper's moment.
-pub fn check<J: Run, R: Wait>(
-    rt: &R,
-    cell: &SeatCell,
-    keeper: &mut SeatPass,
-    seat: Seat<J>,
-) -> Seat<J>
-    requires cell { cell.now.table.shared.table_id ≡ J.seats }
-    requires of { keeper.old.table_id ≡ J.seats }
-    requires keeper { known_by keeper.old
-        ≡ keeper_of (known_by keeper.old).log (known_by keeper.old).running }
-    ensures of { keeper.new.table_id ≡ J.seats }
-    ensures keeper { known_by keeper.new ≡ known_by keeper.old }
-    ensures job { slice_get (known_by keeper.old).running seat.worker
+pub fn check<J: Run>(desk: &mut Desk<J>, seat: Seat<J>) -> Seat<J>
+    ensures keeper { known_by desk.new.keeper ≡ known_by desk.old.keeper }
+    ensures job { slice_get (known_by desk.old.keeper).running seat.worker
         ≡ Some (known_by seat.pass).job }
     ensures notes { (known_by seat.pass).notes
-        ≡ notes_by seat.worker (known_by keeper.old).log }
+        ≡ notes_by seat.worker (known_by desk.old.keeper).log }
     ensures worker { result.worker ≡ seat.worker }
     ensures view { known_by result.pass ≡ known_by seat.pass }
 {
@@ -50,8 +40,13 @@ pub fn check<J: Run, R: Wait>(
         pass,
         of,
     } = seat;
+    let Desk {
+        cell,
+        keeper,
+        of: _,
+    } = desk;
     sit_down(cell, keeper, pass);
-    look(rt, cell, keeper);
+    look(cell, keeper);
     let pass = leave(cell, keeper);
     Seat {
         worker,
@@ -62,20 +57,9 @@ pub fn check<J: Run, R: Wait>(
 }
 
 /// The call of the seat's session begins, for this job.
-pub fn start<J: Run, R: Wait>(
-    rt: &R,
-    cell: &SeatCell,
-    keeper: &mut SeatPass,
-    seat: Seat<J>,
-    job: u32,
-) -> Seat<J>
-    requires cell { cell.now.table.shared.table_id ≡ J.seats }
-    requires of { keeper.old.table_id ≡ J.seats }
-    requires keeper { known_by keeper.old
-        ≡ keeper_of (known_by keeper.old).log (known_by keeper.old).running }
-    ensures of { keeper.new.table_id ≡ J.seats }
-    ensures keeper { known_by keeper.new ≡ keeper_of (known_by keeper.old).log
-        (slice_set (known_by keeper.old).running seat.worker (Some job)) }
+pub fn start<J: Run>(desk: &mut Desk<J>, seat: Seat<J>, job: u32) -> Seat<J>
+    ensures keeper { known_by desk.new.keeper ≡ keeper_of (known_by desk.old.keeper).log
+        (slice_set (known_by desk.old.keeper).running seat.worker (Some job)) }
     ensures worker { result.worker ≡ seat.worker }
     ensures job { (known_by result.pass).job ≡ Some job }
     ensures notes { (known_by result.pass).notes ≡ (known_by seat.pass).notes }
@@ -86,8 +70,13 @@ pub fn start<J: Run, R: Wait>(
         pass,
         of,
     } = seat;
+    let Desk {
+        cell,
+        keeper,
+        of: _,
+    } = desk;
     sit_down(cell, keeper, pass);
-    begin(rt, cell, keeper, job);
+    begin(cell, keeper, job);
     let pass = leave(cell, keeper);
     Seat {
         worker,
@@ -98,26 +87,14 @@ pub fn start<J: Run, R: Wait>(
 }
 
 /// The call of the seat's session ends, with its note, and its share counts one more.
-pub fn end<J: Run, R: Wait>(
-    rt: &R,
-    cell: &SeatCell,
-    keeper: &mut SeatPass,
-    book: &mut Book<J>,
-    seat: Seat<J>,
-    job: u32,
-) -> Seat<J>
-    requires cell { cell.now.table.shared.table_id ≡ J.seats }
-    requires of { keeper.old.table_id ≡ J.seats }
-    requires keeper { known_by keeper.old
-        ≡ keeper_of (known_by keeper.old).log (known_by keeper.old).running }
-    ensures of { keeper.new.table_id ≡ J.seats }
-    ensures keeper { known_by keeper.new
-        ≡ keeper_of ((known_by keeper.old).log ++ (seat.worker, job) ∷ [])
-        (slice_set (known_by keeper.old).running seat.worker None) }
+pub fn end<J: Run>(desk: &mut Desk<J>, book: &mut Book<J>, seat: Seat<J>, job: u32) -> Seat<J>
+    ensures keeper { known_by desk.new.keeper
+        ≡ keeper_of ((known_by desk.old.keeper).log ++ (seat.worker, job) ∷ [])
+        (slice_set (known_by desk.old.keeper).running seat.worker None) }
     ensures worker { result.worker ≡ seat.worker }
     ensures job { (known_by result.pass).job ≡ None }
     ensures notes { (known_by result.pass).notes
-        ≡ (known_by seat.pass).notes ++ (length (known_by keeper.old).log, job) ∷ [] }
+        ≡ (known_by seat.pass).notes ++ (length (known_by desk.old.keeper).log, job) ∷ [] }
     ensures book { book.new.total ≡ book.old.total + 1 }
 {
     let Seat {
@@ -126,8 +103,13 @@ pub fn end<J: Run, R: Wait>(
         pass,
         of,
     } = seat;
+    let Desk {
+        cell,
+        keeper,
+        of: _,
+    } = desk;
     sit_down(cell, keeper, pass);
-    note(rt, cell, keeper, job);
+    note(cell, keeper, job);
     let pass = leave(cell, keeper);
     book.add(&mut share, 1);
     Seat {
@@ -141,19 +123,21 @@ pub fn end<J: Run, R: Wait>(
 // Brings a seat beside the keeper. (Each call of the cell is in a function of its own: three in one cost the prover six times
 // as much.)
 fn sit_down(cell: &SeatCell, keeper: &mut SeatPass, seat: SeatPass)
-    requires of { keeper.old.table_id ≡ cell.now.table.shared.table_id }
+    requires word { 0 < cell.now.shared.table_id.words }
+    requires of { keeper.old.table_id ≡ cell.now.shared.table_id }
     requires seat { seat.table_id ≡ keeper.old.table_id }
     requires idle { seat.me.1 ≡ [] }
     requires keeps { (known_by keeper.old).keeps ≡ true }
     ensures of { keeper.new.table_id ≡ keeper.old.table_id }
     ensures both { known_by keeper.new ≡ beside (known_by keeper.old) (known_by seat) }
 {
-    cell.join_pass::<Sitting>(keeper, seat);
+    cell.shared.join_seat::<Sitting>(keeper, seat);
 }
 
 // Parts the keeper from the seat that is beside it.
 fn leave(cell: &SeatCell, keeper: &mut SeatPass) -> SeatPass
-    requires of { keeper.old.table_id ≡ cell.now.table.shared.table_id }
+    requires word { 0 < cell.now.shared.table_id.words }
+    requires of { keeper.old.table_id ≡ cell.now.shared.table_id }
     requires keeps { (known_by keeper.old).keeps ≡ true }
     ensures of { keeper.new.table_id ≡ keeper.old.table_id }
     ensures keeper { known_by keeper.new ≡ keeper_in (known_by keeper.old) }
@@ -161,66 +145,64 @@ fn leave(cell: &SeatCell, keeper: &mut SeatPass) -> SeatPass
     ensures seat { known_by result ≡ seat_in (known_by keeper.old) }
     ensures idle { result.me.1 ≡ [] }
 {
-    cell.split_pass::<Sitting>(keeper)
+    cell.shared.split_seat::<Sitting>(keeper)
 }
 
 // Looks at the cell: the seat beside the keeper fits.
-fn look<R: Wait>(rt: &R, cell: &SeatCell, keeper: &mut SeatPass)
-    requires of { keeper.old.table_id ≡ cell.now.table.shared.table_id }
+fn look(cell: &SeatCell, keeper: &mut SeatPass)
+    requires word { 0 < cell.now.shared.table_id.words }
+    requires of { keeper.old.table_id ≡ cell.now.shared.table_id }
     requires keeps { (known_by keeper.old).keeps ≡ true }
     ensures of { keeper.new.table_id ≡ keeper.old.table_id }
     ensures same { known_by keeper.new ≡ known_by keeper.old }
     ensures fits { (known_by keeper.old).sits ≡ true
         → SeatFits (known_by keeper.old).log (known_by keeper.old).running (known_by keeper.old) }
 {
-    cell.load_as::<Checks, R>(rt, keeper);
+    cell.shared.load::<Checks>(keeper, 0);
 }
 
 // Begins the call of the seat that is beside the keeper.
-fn begin<R: Wait>(rt: &R, cell: &SeatCell, keeper: &mut SeatPass, job: u32)
-    requires of { keeper.old.table_id ≡ cell.now.table.shared.table_id }
+fn begin(cell: &SeatCell, keeper: &mut SeatPass, job: u32)
+    requires word { 0 < cell.now.shared.table_id.words }
+    requires of { keeper.old.table_id ≡ cell.now.shared.table_id }
     requires keeps { (known_by keeper.old).keeps ≡ true }
     requires sits { (known_by keeper.old).sits ≡ true }
     ensures of { keeper.new.table_id ≡ keeper.old.table_id }
     ensures known { known_by keeper.new ≡ after_start (known_by keeper.old) job }
 {
-    cell.swap_as::<Starts, R>(rt, keeper, words(job));
+    cell.shared.swap::<Starts>(keeper, 0, u64::from(job));
 }
 
 // Ends the call of the seat that is beside the keeper, with its note.
-fn note<R: Wait>(rt: &R, cell: &SeatCell, keeper: &mut SeatPass, job: u32)
-    requires of { keeper.old.table_id ≡ cell.now.table.shared.table_id }
+fn note(cell: &SeatCell, keeper: &mut SeatPass, job: u32)
+    requires word { 0 < cell.now.shared.table_id.words }
+    requires of { keeper.old.table_id ≡ cell.now.shared.table_id }
     requires keeps { (known_by keeper.old).keeps ≡ true }
     requires sits { (known_by keeper.old).sits ≡ true }
     ensures of { keeper.new.table_id ≡ keeper.old.table_id }
     ensures known { known_by keeper.new ≡ after_note (known_by keeper.old) job }
 {
-    cell.swap_as::<Notes, R>(rt, keeper, words(job));
-}
-
-// The words of the cell after an exchange for this job.
-fn words(job: u32) -> [u64; 2]
-    ensures { result ≡ job ∷ 0 ∷ [] }
-{
-    [u64::from(job), 0]
+    cell.shared.swap::<Notes>(keeper, 0, u64::from(job));
 }
 
 /// A seat for one session more, with a share of its own.
-pub fn open<J: Run>(cell: &SeatCell, keeper: &mut SeatPass, share: Share<J>, worker: u32) -> Seat<J>
-    requires cell { cell.now.table.shared.table_id ≡ J.seats }
-    requires of { keeper.old.table_id ≡ J.seats }
-    requires keeper { known_by keeper.old ≡ keeper_of [] (known_by keeper.old).running }
-    requires worker { worker ≡ length (known_by keeper.old).running }
+pub fn open<J: Run>(desk: &mut Desk<J>, share: Share<J>, worker: u32) -> Seat<J>
+    requires keeper { known_by desk.old.keeper ≡ keeper_of [] (known_by desk.old.keeper).running }
+    requires worker { worker ≡ length (known_by desk.old.keeper).running }
     requires part { share.parts ≡ 1 }
     requires amount { share.amount ≡ 0 }
-    ensures of { keeper.new.table_id ≡ J.seats }
-    ensures keeper { known_by keeper.new
-        ≡ keeper_of [] ((known_by keeper.old).running ++ None ∷ []) }
+    ensures keeper { known_by desk.new.keeper
+        ≡ keeper_of [] ((known_by desk.old.keeper).running ++ None ∷ []) }
     ensures worker { result.worker ≡ worker }
     ensures job { (known_by result.pass).job ≡ None }
     ensures notes { (known_by result.pass).notes ≡ [] }
 {
-    let pass = cell.split_pass::<Opening>(keeper);
+    let Desk {
+        cell,
+        keeper,
+        of: _,
+    } = desk;
+    let pass = cell.shared.split_seat::<Opening>(keeper);
     Seat {
         worker,
         share,

@@ -3,9 +3,7 @@
 ghost use Rattle.std.specs.Prelude.{◌≡◌, [], IfSome};
 ghost use Rattle.worker_seats.specs.Seats.{keeper_of, known_by};
 
-use atomic_table::{Join, Split};
-use crossbeam_utils::atomic::seq_cell::{Pass, RuledSeqCell};
-use crossbeam_utils::rule::{Outcome, Protocol};
+use atomic_table::{Join, Play, Seat, Split, Table, TableRule};
 use std::alloc::Global;
 use std::collections::LinkedList;
 
@@ -21,22 +19,22 @@ pub struct SeatView {
     pub notes: LinkedList<(u64, u64)>,
 }
 
-/// The rule of the seats: all views fit one log. The first word of the cell is the job of the last exchange.
+/// The rule of the seats: all views fit one log. The word of the cell is the job of the last exchange.
 pub struct SeatRule;
 
-impl Protocol<[u64; 2], SeatView> for SeatRule {
+impl TableRule<(), SeatView, ()> for SeatRule {
     ghost use Rattle.std.specs.Prelude.{[]};
     ghost use Rattle.worker_seats.specs.Seats.{keeper_of, SeatsFit};
 
-    ghost holds = { SeatsFit };
+    ghost holds = { λ key s. SeatsFit s.views };
 
-    ghost first = { keeper_of [] [] };
+    ghost first = { λ key. keeper_of [] [] };
 }
 
 /// A call begins.
 pub struct Starts;
 
-impl Outcome<[u64; 2], SeatView> for Starts {
+impl Play<(), SeatView> for Starts {
     ghost use Rattle.worker_seats.specs.Seats.{SeatHasStarted};
 
     ghost then = { SeatHasStarted };
@@ -45,7 +43,7 @@ impl Outcome<[u64; 2], SeatView> for Starts {
 /// A call ends, with its note.
 pub struct Notes;
 
-impl Outcome<[u64; 2], SeatView> for Notes {
+impl Play<(), SeatView> for Notes {
     ghost use Rattle.worker_seats.specs.Seats.{HasNoted};
 
     ghost then = { HasNoted };
@@ -54,7 +52,7 @@ impl Outcome<[u64; 2], SeatView> for Notes {
 /// The cell is looked at.
 pub struct Checks;
 
-impl Outcome<[u64; 2], SeatView> for Checks {
+impl Play<(), SeatView> for Checks {
     ghost use Rattle.worker_seats.specs.Seats.{HasChecked};
 
     ghost then = { HasChecked };
@@ -91,15 +89,16 @@ impl Split<SeatView> for Opening {
 }
 
 /// The cell of the seats.
-pub type SeatCell = RuledSeqCell<[u64; 2], SeatView, SeatRule, 2>;
+pub type SeatCell = Table<(), SeatView, (), SeatRule, Global>;
 
 /// A pass of the cell: a worker's, or the keeper's.
-pub type SeatPass = Pass<[u64; 2], SeatView>;
+pub type SeatPass = Seat<(), SeatView>;
 
 /// A cell of seats, with the keeper's pass, which knows of no note and no session. None where there is no memory for it.
 pub fn make_cell(alloc: Global) -> Option<(SeatCell, SeatPass)>
-    ensures cell { IfSome result (λ c. c.1.table_id ≡ c.0.table.shared.table_id) }
+    ensures cell { IfSome result (λ c. c.1.table_id ≡ c.0.shared.table_id) }
+    ensures word { IfSome result (λ c. c.0.shared.table_id.words ≡ 1) }
     ensures keeper { IfSome result (λ c. known_by c.1 ≡ keeper_of [] []) }
 {
-    SeatCell::ruled(alloc, [0, 0]).ok()
+    SeatCell::of_words(alloc, &[0], &()).ok()
 }

@@ -3,31 +3,24 @@
 ghost use Rattle.std.specs.Prelude.{◌≡◌, ◌<◌, ◌+◌, ℕ, [], length, Some, None, IfSome, slice_get, vec_len};
 ghost use Rattle.crossbeam_queue.specs.Passes.{view};
 ghost use Rattle.worker_seats.specs.Queue.{below, jobs_in, sum_below, sum_over, times, weigh, KnowsAll};
-ghost use Rattle.worker_seats.specs.Seats.{keeper_of, known_by, notes_by};
+ghost use Rattle.worker_seats.specs.Seats.{known_by, notes_by};
 
+use crate::desk::Desk;
 use crate::job_queue::QueuePass;
 use crate::run::Run;
 use crate::seat::{Seat, check};
-use crate::seating::{SeatCell, SeatPass};
-use std::sync::Wait;
 use std::sync::ledger::{Book, Share};
 
 /// With all seats, and every part of the ledger and of the queue: the workers' notes are all that there are, no session runs a
 /// call, and the log has the jobs that were handed out, each once.
-pub fn tally_up<J: Run, T, R: Wait>(
-    rt: &R,
-    cell: &SeatCell,
-    keeper: &mut SeatPass,
+pub fn tally_up<J: Run, T>(
+    desk: &mut Desk<J>,
     book: &mut Book<J>,
     seats: Vec<Seat<J>>,
     mut all: Share<J>,
     pass: &QueuePass<T>,
 )
-    requires cell { cell.now.table.shared.table_id ≡ J.seats }
-    requires of { keeper.old.table_id ≡ J.seats }
-    requires keeper { known_by keeper.old
-        ≡ keeper_of (known_by keeper.old).log (known_by keeper.old).running }
-    requires counted { book.old.total ≡ length (known_by keeper.old).log }
+    requires counted { book.old.total ≡ length (known_by desk.old.keeper).log }
     requires ranked { (k : ℕ) → IfSome (slice_get seats.items k) (λ s. s.worker ≡ k) }
     requires rests { (k : ℕ) → IfSome (slice_get seats.items k)
         (λ s. (known_by s.pass).job ≡ None) }
@@ -37,21 +30,21 @@ pub fn tally_up<J: Run, T, R: Wait>(
     requires empty { KnowsAll (view pass.now) [] }
     requires popped { (h : ℕ → ℕ) → weigh h (view pass.now).popped
         ≡ sum_over (λ s. weigh h (jobs_in (known_by s.pass).notes)) seats.items }
-    ensures keeper { known_by keeper.new ≡ known_by keeper.old }
+    ensures keeper { known_by desk.new.keeper ≡ known_by desk.old.keeper }
     ensures notes { (k : ℕ) → IfSome (slice_get seats.items k)
-        (λ s. (known_by s.pass).notes ≡ notes_by k (known_by keeper.old).log) }
+        (λ s. (known_by s.pass).notes ≡ notes_by k (known_by desk.old.keeper).log) }
     ensures sum { sum_below (vec_len seats)
-        (λ w. length (notes_by w (known_by keeper.old).log))
-        ≡ length (known_by keeper.old).log }
+        (λ w. length (notes_by w (known_by desk.old.keeper).log))
+        ≡ length (known_by desk.old.keeper).log }
     ensures idle { (k : ℕ) → k < vec_len seats
-        → slice_get (known_by keeper.old).running k ≡ Some None }
+        → slice_get (known_by desk.old.keeper).running k ≡ Some None }
     ensures all { (h : ℕ → ℕ) → weigh h (below (view pass.now).pushed)
-        ≡ weigh h (jobs_in (known_by keeper.old).log) }
+        ≡ weigh h (jobs_in (known_by desk.old.keeper).log) }
     ensures once { (job : ℕ) → job < (view pass.now).pushed
-        → times job (jobs_in (known_by keeper.old).log) ≡ 1 }
+        → times job (jobs_in (known_by desk.old.keeper).log) ≡ 1 }
 {
     for seat in seats {
-        let seat = check(rt, cell, keeper, seat);
+        let seat = check(desk, seat);
         let Seat {
             worker: _,
             share,

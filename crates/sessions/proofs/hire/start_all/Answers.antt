@@ -15,10 +15,7 @@ loop-w-preserved g c =
     let q = c.another-mine.ensures.queue in
     let items = c.push_reserved.ensures.items in
     let handles = c.loop-w.handles in (
-      (
-        c.open-seat.ensures.of,
-        c.open-seat.ensures.keeper ∙ ap (λ (x : SeatView). keeper_of [] (x.running ++ None ∷ [])) i.0.1 ∙ ap (keeper_of []) (sym (ap jobs_of items ∙ jobs_of_snoc pending.items None)),
-      ),
+      c.open-seat.ensures.keeper ∙ ap (λ (x : SeatView). keeper_of [] (x.running ++ None ∷ [])) i.0 ∙ ap (keeper_of []) (sym (ap jobs_of items ∙ jobs_of_snoc pending.items None)),
       (
         (q.0.0 ∙ i.1.0.0, q.0.2 ∙ i.1.0.1),
         (let less = ap (λ (x : QueueView). x.parts) v in omega (arith, less, i.1.1, c.loop-w-test.true, c.requires.few)),

@@ -14,7 +14,7 @@ abbrev pub ghosts-run_named-J-JobsOn : goal.ghosts-run_named-J-JobsOn
 ghosts-run_named-J-JobsOn g a = record { followed = λ first. g.S.PageStore.follows first a.world.store }
 
 abbrev pub ghosts-run_named-J-Run : goal.ghosts-run_named-J-Run
-ghosts-run_named-J-Run g a = record { seats = a.cell.now.table.shared.table_id; queue = a.queue.now.table.shared.table_id }
+ghosts-run_named-J-Run g a = record { seats = a.cell.shared.table_id; queue = a.queue.now.table.shared.table_id }
 
 abbrev pub ghosts-run_named-J-Ledger : goal.ghosts-run_named-J-Ledger
 ghosts-run_named-J-Ledger g a = record { name = a.blank.name; parts = a.blank.parts }

@@ -15,7 +15,7 @@ returns-clause-done g c =
     let idle : (k : ℕ) → k < g.J.Jobs.workers → slice_get (jobs_of pending) k ≡ Some None =
     λ k l. ap (λ (v : SeatView). slice_get v.running k) (sym view) ∙ tally.idle k (omega (arith, l, c.requires.workers)) in
     let n = vec_len c.args.seats in
-    let log : (known_by shared.keeper).log ≡ notes_of records = ap (λ (v : SeatView). v.log) view in
+    let log : (known_by shared.desk.keeper).log ≡ notes_of records = ap (λ (v : SeatView). v.log) view in
     let sum : sum_below n (λ w. length (notes_by w (notes_of records))) ≡ length (notes_of records) =
     subst (λ (l : List (ℕ × ℕ)). sum_below n (λ w. length (notes_by w l)) ≡ length l) log tally.sum in
     let none = none_waits pending (λ k l. idle k (omega (arith, l, long))) in
@@ -31,5 +31,5 @@ returns-clause-done g c =
 
 pub returns-clause-notes : goal.returns-clause-notes
 returns-clause-notes g c k =
-    let log : (known_by c.args.shared.keeper).log ≡ notes_of c.args.shared.history.items = ap (λ (v : SeatView). v.log) c.args.shared.knows in
+    let log : (known_by c.args.shared.desk.keeper).log ≡ notes_of c.args.shared.history.items = ap (λ (v : SeatView). v.log) c.args.shared.knows in
     subst (λ (l : List (ℕ × ℕ)). IfSome (slice_get c.args.seats.items k) (λ s. (known_by s.pass).notes ≡ notes_by k l)) log (c.tally_up.ensures.notes k)

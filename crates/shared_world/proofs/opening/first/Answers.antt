@@ -26,6 +26,5 @@ invariant_of-result g c =
       enough = c.requires.enough;
       steps = merely c.requires.stood.follows;
       counted = c.requires.book ∙ sym (c.args.history.ok.0 ∙ ap length empty);
-      room = c.requires.room;
       knows = c.requires.keeper ∙ ap (λ h. keeper_of (notes_of h) (jobs_of c.args.pending.items)) (sym empty);
     }

@@ -16,7 +16,7 @@ abbrev pub ghosts-act_named-J-JobsOn : goal.ghosts-act_named-J-JobsOn
 ghosts-act_named-J-JobsOn g a = record { followed = λ first. g.S.PageStore.follows first a.world.store }
 
 abbrev pub ghosts-act_named-J-Run : goal.ghosts-act_named-J-Run
-ghosts-act_named-J-Run g a = record { seats = a.cell.now.table.shared.table_id; queue = no_table }
+ghosts-act_named-J-Run g a = record { seats = a.cell.shared.table_id; queue = no_table }
 
 abbrev pub ghosts-act_named-J-Ledger : goal.ghosts-act_named-J-Ledger
 ghosts-act_named-J-Ledger g a = record { name = a.blank.name; parts = a.blank.parts }

@@ -11,10 +11,7 @@ loop-w-preserved g c =
     let i = c.loop-w.invariant in
     let pending = c.loop-w.pending in
     let items = c.push_reserved.ensures.items in (
-      (
-        c.open-seat.ensures.of,
-        c.open-seat.ensures.keeper ∙ ap (λ (x : SeatView). keeper_of [] (x.running ++ None ∷ [])) i.0.1 ∙ ap (keeper_of []) (sym (ap jobs_of items ∙ jobs_of_snoc pending.items None)),
-      ),
+      c.open-seat.ensures.keeper ∙ ap (λ (x : SeatView). keeper_of [] (x.running ++ None ∷ [])) i.0 ∙ ap (keeper_of []) (sym (ap jobs_of items ∙ jobs_of_snoc pending.items None)),
       (omega (arith, c.split_off-share.ensures.parts_left, i.1.0), omega (arith, c.split_off-share.ensures.amount_left, i.1.1)),
       (
         c.push_reserved.ensures.len ∙ ap (λ n. n + 1) i.2.0,

@@ -6,7 +6,7 @@ use Rattle.tests_threads.proofs.hands.seated.Given as goal
 
 abbrev pub invariant-loop-w : goal.invariant-loop-w
 invariant-loop-w g l =
-    ((l.keeper.table_id ≡ g.J.Run.seats) × (known_by l.keeper ≡ keeper_of [] (jobs_of l.pending.items)))
+    (known_by l.desk.keeper ≡ keeper_of [] (jobs_of l.pending.items))
     × ((l.all.parts + l.w ≡ 65) × (l.all.amount ≡ 0))
     × ((vec_len l.pending ≡ l.w) × (vec_capacity l.pending ≡ vec_capacity l.initial.pending) × ((k : ℕ) (p : Pending) → slice_get l.pending.items k ≡ Some (Some p) → ⊥))
     × ((vec_len l.hands ≡ l.w) × (vec_capacity l.hands ≡ vec_capacity l.initial.hands))

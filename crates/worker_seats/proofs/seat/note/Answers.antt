@@ -1,7 +1,8 @@
-use Rattle.std.proofs.Common.{rules}
-use Rattle.worker_seats.proofs.Fitting.{notes_turns}
+use Rattle.atomic_table.specs.Table.{step}
+use mathlib.Core.Option.{none}
+use Rattle.worker_seats.proofs.Fitting.{notes_allows}
 use Rattle.worker_seats.proofs.seat.note.Goals as goal
 
-pub swap_as-requires : goal.swap_as-requires
-swap_as-requires g c =
-    (search rules, (search rules, (c.requires.of, notes_turns _ _ c.words.result c.requires.keeps c.requires.sits)))
+pub swap-requires : goal.swap-requires
+swap-requires c =
+    (c.requires.of, c.requires.word, notes_allows _ _ c.args.keeper.now.me.0 c.args.keeper.now.me.1 (λ n. c.from.result) 0 (step c.args.cell.now.shared.table_id.slots 0 c.from.result 0 none) c.requires.keeps c.requires.sits)

@@ -1,7 +1,7 @@
-use Rattle.std.proofs.Common.{rules}
+use Rattle.std.proofs.Common.{◌∙◌}
 use Rattle.worker_seats.proofs.Fitting.{sits_down}
 use Rattle.worker_seats.proofs.seat.sit_down.Goals as goal
 
-pub join_pass-requires : goal.join_pass-requires
-join_pass-requires g =
-    (search rules, (search rules, ((g.requires.of, g.requires.seat, g.requires.idle), sits_down _ _ _ _ g.requires.keeps)))
+pub join_seat-requires : goal.join_seat-requires
+join_seat-requires g =
+    (g.requires.of, g.requires.seat ∙ g.requires.of, g.requires.idle, g.requires.word, sits_down _ _ _ _ g.requires.keeps)

@@ -26,41 +26,40 @@ loop-seat-preserved g c =
     let after = c.next.new.self.rest.items in
     let rest = c.in-Some.ensures.steps.0 in
     let fewer = c.in-Some.ensures.steps.1 in
-    let ranked : (k : ℕ) → IfSome (slice_get (yielded ++ s ∷ after) k) (λ s. s.worker ≡ k) = λ k. subst (λ l. IfSome (slice_get (yielded ++ l) k) (λ s. s.worker ≡ k)) rest (i.2 k) in
+    let ranked : (k : ℕ) → IfSome (slice_get (yielded ++ s ∷ after) k) (λ s. s.worker ≡ k) = λ k. subst (λ l. IfSome (slice_get (yielded ++ l) k) (λ s. s.worker ≡ k)) rest (i.1 k) in
     let rests : (k : ℕ) → IfSome (slice_get (yielded ++ s ∷ after) k) (λ s. (known_by s.pass).job ≡ None) = λ k.
-    subst (λ l. IfSome (slice_get (yielded ++ l) k) (λ s. (known_by s.pass).job ≡ None)) rest (i.3 k) in
+    subst (λ l. IfSome (slice_get (yielded ++ l) k) (λ s. (known_by s.pass).job ≡ None)) rest (i.2 k) in
     let here : s.worker ≡ length yielded = some_middle (λ n s. s.worker ≡ n) yielded s after ranked in
     let none : (known_by s.pass).job ≡ None = some_middle (λ n s. (known_by s.pass).job ≡ None) yielded s after rests in
     let more : length (yielded ++ s ∷ []) ≡ length yielded + 1 = length-append yielded (s ∷ []) in
-    let log = (known_by c.args.keeper.now).log in
+    let log = (known_by c.args.desk.now.keeper).log in
     let f : ℕ → ℕ = λ w. length (notes_by w log) in
     let share = c.check-seat.result.share in
     let notes : (known_by s.pass).notes ≡ notes_by (length yielded) log = c.check-seat.ensures.notes
-    ∙ same_notes (known_by c.loop-seat.keeper) (known_by c.args.keeper.now) s.worker (length yielded) i.1 here in
+    ∙ same_notes (known_by c.loop-seat.desk.keeper) (known_by c.args.desk.now.keeper) s.worker (length yielded) i.0 here in
     let has : share.amount ≡ f (length yielded) = c.check-seat.result.counted ∙ ap (λ (v : SeatView). length v.notes) c.check-seat.ensures.view ∙ ap length notes in
     let one = c.check-seat.result.part in (
-      c.check-seat.ensures.of,
-      c.check-seat.ensures.keeper ∙ i.1,
+      c.check-seat.ensures.keeper ∙ i.0,
       (λ k. subst (λ l. IfSome (slice_get l k) (λ s. s.worker ≡ k)) (sym (append_assoc yielded (s ∷ []) after)) (ranked k)),
       (λ k. subst (λ l. IfSome (slice_get l k) (λ s. (known_by s.pass).job ≡ None)) (sym (append_assoc yielded (s ∷ []) after)) (rests k)),
-      omega (arith, c.merge.ensures.parts, one, i.4, fewer),
-      omega (arith, more, i.5, fewer),
-      (let o = sum_more (length yielded) (length (yielded ++ s ∷ [])) f more in c.merge.ensures.amount ∙ (λ j. i.6 j + has j) ∙ sym o),
+      omega (arith, c.merge.ensures.parts, one, i.3, fewer),
+      omega (arith, more, i.4, fewer),
+      (let o = sum_more (length yielded) (length (yielded ++ s ∷ [])) f more in c.merge.ensures.amount ∙ (λ j. i.5 j + has j) ∙ sym o),
       (λ k l. ⊎_elim
-          (λ (e : k ≡ length yielded). same_running (known_by c.loop-seat.keeper) (known_by c.args.keeper.now) s.worker k (known_by s.pass).job i.1 (here ∙ sym e) c.check-seat.ensures.job none)
-          (λ (m : k < length yielded). i.7 k m)
+          (λ (e : k ≡ length yielded). same_running (known_by c.loop-seat.desk.keeper) (known_by c.args.desk.now.keeper) s.worker k (known_by s.pass).job i.0 (here ∙ sym e) c.check-seat.ensures.job none)
+          (λ (m : k < length yielded). i.6 k m)
           (last_of k (length yielded) (length (yielded ++ s ∷ [])) more l)),
       (λ h.
           let own : weigh h (jobs_in (known_by s.pass).notes) ≡ weigh h (jobs_in (notes_by (length yielded) log)) = ap (λ (l : List (ℕ × ℕ)). weigh h (jobs_in l)) notes in
           omega (
             arith,
             own,
-            i.8 h,
+            i.7 h,
             sum_over_snoc (λ s. weigh h (jobs_in (known_by s.pass).notes)) yielded s,
             sum_more (length yielded) (length (yielded ++ s ∷ [])) (λ w. weigh h (jobs_in (notes_by w log))) more,
           )),
-      append_assoc yielded (s ∷ []) after ∙ ap (λ l. yielded ++ l) (sym rest) ∙ i.9,
-      (λ k. some_snoc (λ n s. (known_by s.pass).notes ≡ notes_by n log) yielded s i.10 notes k),
+      append_assoc yielded (s ∷ []) after ∙ ap (λ l. yielded ++ l) (sym rest) ∙ i.8,
+      (λ k. some_snoc (λ n s. (known_by s.pass).notes ≡ notes_by n log) yielded s i.9 notes k),
     )
 
 nothing : {A : Type 0} (l : List A) → length l ≡ 0 → l ≡ []
@@ -71,38 +70,38 @@ pub returns-clause-notes : goal.returns-clause-notes
 returns-clause-notes g c k =
     let i = c.loop-seat.invariant in
     let yielded = c.loop-seat.yielded in
-    let log = (known_by c.args.keeper.now).log in
+    let log = (known_by c.args.desk.now.keeper).log in
     let rest = c.loop-seat.seat-iterator.rest in
     let none : rest.items ≡ [] = nothing rest.items (sym rest.ok.0 ∙ c.in-None.ensures.steps.0) in
-    let all : yielded ≡ c.args.seats.items = sym (append-nil yielded) ∙ ap (λ l. yielded ++ l) (sym none) ∙ i.9 in
-    subst (λ l. IfSome (slice_get l k) (λ s. (known_by s.pass).notes ≡ notes_by k log)) all (i.10 k)
+    let all : yielded ≡ c.args.seats.items = sym (append-nil yielded) ∙ ap (λ l. yielded ++ l) (sym none) ∙ i.8 in
+    subst (λ l. IfSome (slice_get l k) (λ s. (known_by s.pass).notes ≡ notes_by k log)) all (i.9 k)
 
 pub returns-clause-all : goal.returns-clause-all
 returns-clause-all g c =
     let i = c.loop-seat.invariant in
     let yielded = c.loop-seat.yielded in
-    let log = (known_by c.args.keeper.now).log in
+    let log = (known_by c.args.desk.now.keeper).log in
     let rest = c.loop-seat.seat-iterator.rest in
     let ended : rest.len ≡ 0 = c.in-None.ensures.steps.0 in
     let none : rest.items ≡ [] = nothing rest.items (sym rest.ok.0 ∙ ended) in
-    let all : yielded ≡ c.args.seats.items = sym (append-nil yielded) ∙ ap (λ l. yielded ++ l) (sym none) ∙ i.9 in
+    let all : yielded ≡ c.args.seats.items = sym (append-nil yielded) ∙ ap (λ l. yielded ++ l) (sym none) ∙ i.8 in
     let popped = (view c.args.pass.now).popped in
     let own : (h : ℕ → ℕ) → weigh h popped ≡ sum_below (length yielded) (λ w. weigh h (jobs_in (notes_by w log))) =
-    λ h. c.requires.popped h ∙ ap (λ l. sum_over (λ s. weigh h (jobs_in (known_by s.pass).notes)) l) (sym all) ∙ i.8 h in
-    let whole : c.loop-seat.all.amount ≡ length log = c.audit.ensures.whole (omega (arith, i.4, ended)) ∙ c.requires.counted in
-    noted_all (view c.args.pass.now).pushed (length yielded) popped log (c.requires.empty c.requires.whole) own (sym i.6 ∙ whole)
+    λ h. c.requires.popped h ∙ ap (λ l. sum_over (λ s. weigh h (jobs_in (known_by s.pass).notes)) l) (sym all) ∙ i.7 h in
+    let whole : c.loop-seat.all.amount ≡ length log = c.audit.ensures.whole (omega (arith, i.3, ended)) ∙ c.requires.counted in
+    noted_all (view c.args.pass.now).pushed (length yielded) popped log (c.requires.empty c.requires.whole) own (sym i.5 ∙ whole)
 
 pub returns-clause-once : goal.returns-clause-once
 returns-clause-once g c =
     let i = c.loop-seat.invariant in
     let yielded = c.loop-seat.yielded in
-    let log = (known_by c.args.keeper.now).log in
+    let log = (known_by c.args.desk.now.keeper).log in
     let rest = c.loop-seat.seat-iterator.rest in
     let ended : rest.len ≡ 0 = c.in-None.ensures.steps.0 in
     let none : rest.items ≡ [] = nothing rest.items (sym rest.ok.0 ∙ ended) in
-    let all : yielded ≡ c.args.seats.items = sym (append-nil yielded) ∙ ap (λ l. yielded ++ l) (sym none) ∙ i.9 in
+    let all : yielded ≡ c.args.seats.items = sym (append-nil yielded) ∙ ap (λ l. yielded ++ l) (sym none) ∙ i.8 in
     let popped = (view c.args.pass.now).popped in
     let own : (h : ℕ → ℕ) → weigh h popped ≡ sum_below (length yielded) (λ w. weigh h (jobs_in (notes_by w log))) =
-    λ h. c.requires.popped h ∙ ap (λ l. sum_over (λ s. weigh h (jobs_in (known_by s.pass).notes)) l) (sym all) ∙ i.8 h in
-    let whole : c.loop-seat.all.amount ≡ length log = c.audit.ensures.whole (omega (arith, i.4, ended)) ∙ c.requires.counted in
-    noted_once (view c.args.pass.now).pushed (length yielded) popped log (c.requires.empty c.requires.whole) own (sym i.6 ∙ whole)
+    λ h. c.requires.popped h ∙ ap (λ l. sum_over (λ s. weigh h (jobs_in (known_by s.pass).notes)) l) (sym all) ∙ i.7 h in
+    let whole : c.loop-seat.all.amount ≡ length log = c.audit.ensures.whole (omega (arith, i.3, ended)) ∙ c.requires.counted in
+    noted_once (view c.args.pass.now).pushed (length yielded) popped log (c.requires.empty c.requires.whole) own (sym i.5 ∙ whole)

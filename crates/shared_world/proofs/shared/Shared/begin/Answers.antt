@@ -16,7 +16,7 @@ invariant_of-self g c =
     let leaves = begun_leaves self c.one-answer.new.self (is_next g.T.DeadRows g.met.S.PageStore.laws one.steps one.same) c.args.seat.worker p idle c.args.asked c.requires.job
     c.beginning.result c.beginning.ensures c.one-answer.result one.goes one.always c.actions-from.ensures c.len-seen.ensures c.requires.given c.requires.holds
     (begun_is c.one-answer.result (sym c.is_begun.ensures ∙ c.if-is_begun.true)) in
-    in_order self c.one-answer.new.self leaves refl self.counted c.start-seat.ensures.of
+    in_order self c.one-answer.new.self leaves refl self.counted
     (c.start-seat.ensures.keeper ∙ (λ i. keeper_of (v i).log (slice_set (v i).running (c.check-seat.ensures.worker i) (Some c.args.job)))
     ∙ ap (λ l. keeper_of (notes_of self.history.items) l) (sym (jobs_of_set self.pending.items c.args.seat.worker (Some p))))
 
@@ -32,7 +32,7 @@ invariant_of-self-2 g c =
     (not_begun c.one-answer.result (sym c.is_begun.ensures ∙ c.if-is_begun.false)) in
     in_order_recorded self c.one-answer.new.self w p c.one-answer.result c.actions-from.result self.pending.items leaves
     (sym (ap jobs_of (set_same self.pending.items w None idle)) ∙ jobs_of_set self.pending.items w None) refl c.push_reserved.ensures.items c.record.ensures c.push_reserved.ensures.len c.push_reserved.ensures.capacity
-    c.end-seat.ensures.book c.end-seat.ensures.of c.check-seat.ensures.keeper c.check-seat.ensures.worker c.end-seat.ensures.keeper
+    c.end-seat.ensures.book c.check-seat.ensures.keeper c.check-seat.ensures.worker c.end-seat.ensures.keeper
 
 pub returns-clause-told : goal.returns-clause-told
 returns-clause-told g c =

@@ -29,7 +29,7 @@ invariant_of-self g c =
     (end_leaves self c.one-answer.new.self c.one_call_runs.ensures (is_next g.T.DeadRows g.met.S.PageStore.laws one.steps one.same) w here c.ready_entries_may_come_next.ensures c.one-answer.result
     (record { goes = one.goes; always = one.always }) c.args.asked c.requires.job full c.actions-until.result c.actions-until.ensures)
     (jobs_of_set self.pending.items w None) (ap (slice_set self.pending.items w) c.take.ensures.after) c.push_reserved.ensures.items c.record.ensures c.push_reserved.ensures.len c.push_reserved.ensures.capacity
-    c.end-seat.ensures.book c.end-seat.ensures.of c.check-seat.ensures.keeper c.check-seat.ensures.worker c.end-seat.ensures.keeper
+    c.end-seat.ensures.book c.check-seat.ensures.keeper c.check-seat.ensures.worker c.end-seat.ensures.keeper
 
 pub returns-then-is_full-clause-event : goal.returns-then-is_full-clause-event
 returns-then-is_full-clause-event g c =

@@ -26,7 +26,7 @@ invariant_of-self g c =
     let twice = set_twice self.pending.items w c.take.new.self (Some q) in
     let leaves = subst (λ (l : List (Option Pending)). CarriesOn self c.take_next-answer.new.world l self.history.items) (sym twice)
     (next_leaves self c.take_next-answer.new.world c.one_call_runs.ensures (is_next g.T.DeadRows g.met.S.PageStore.laws did.steps did.same) w here q c.take_next-answer.result did.event did.taken) in
-    in_order self c.take_next-answer.new.world leaves refl self.counted c.check-seat.ensures.of (c.check-seat.ensures.keeper ∙ self.knows ∙ ap (λ l. keeper_of (notes_of self.history.items) l)
+    in_order self c.take_next-answer.new.world leaves refl self.counted (c.check-seat.ensures.keeper ∙ self.knows ∙ ap (λ l. keeper_of (notes_of self.history.items) l)
     (sym (ap jobs_of (set_same self.pending.items w (Some c.in-Some.running) here.found))
     ∙ jobs_of_set self.pending.items w (Some c.in-Some.running)
     ∙ ap (λ n. slice_set (jobs_of self.pending.items) w (Some n)) (sym did.taken.job) ∙ sym (jobs_of_set self.pending.items w (Some q)) ∙ ap jobs_of (sym twice)))

@@ -12,7 +12,7 @@ invariant_of-self g c =
     let at = running_at c.args.self.now c.args.seat.worker c.check-seat.ensures.job c.requires.runs in
     let leaves = step_leaves_on c.args.self.now c.take_step-answer.new.self c.one_call_runs.ensures (is_next g.T.DeadRows g.met.S.PageStore.laws did.steps did.same) c.args.seat.worker at.1
     c.take_step-answer.result did.goes did.events did.always (sym c.is_running.ensures.value ∙ c.if-is_running.true) in
-    in_order c.args.self.now c.take_step-answer.new.self leaves refl c.args.self.now.counted c.check-seat.ensures.of (c.check-seat.ensures.keeper ∙ c.args.self.now.knows)
+    in_order c.args.self.now c.take_step-answer.new.self leaves refl c.args.self.now.counted (c.check-seat.ensures.keeper ∙ c.args.self.now.knows)
 
 pub index_mut-requires : goal.index_mut-requires
 index_mut-requires g c = (running_at c.args.self.now c.args.seat.worker c.check-seat.ensures.job c.requires.runs).1.inside
@@ -31,7 +31,7 @@ invariant_of-self-2 g c =
     c.take_step-answer.result did.goes did.events did.always (sym c.is_running.ensures.value ∙ c.if-is_running.false) c.actions-to.result c.actions-to.ensures in
     in_order_recorded self c.take_step-answer.new.self w c.in-Some.done c.take_step-answer.result c.actions-to.result (slice_set self.pending.items w None) leaves
     (jobs_of_set self.pending.items w None) (ap (slice_set self.pending.items w) c.take.ensures.after) c.push_reserved.ensures.items c.record.ensures c.push_reserved.ensures.len c.push_reserved.ensures.capacity
-    c.end-seat.ensures.book c.end-seat.ensures.of c.check-seat.ensures.keeper c.check-seat.ensures.worker c.end-seat.ensures.keeper
+    c.end-seat.ensures.book c.check-seat.ensures.keeper c.check-seat.ensures.worker c.end-seat.ensures.keeper
 
 pub returns-then-is_running-clause-told : goal.returns-then-is_running-clause-told
 returns-then-is_running-clause-told g c =
