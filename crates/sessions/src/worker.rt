@@ -240,12 +240,17 @@ fn wait_for<S: PageStore, T: DeadRows + Drop, J: JobsOn<S>, K: JobList, G: Gate,
     stint: &mut Stint,
     asked: &Job,
 ) {
-    if let Job::Commit = asked {
-        stint.end(run.rt, &run.door.baton);
-        run.door.rounds.before(run.rt, asked);
-        return;
+    let rounds = &run.door.rounds;
+    match asked {
+        Job::Commit => {
+            let before = rounds.ask_commit(run.rt);
+            stint.end(run.rt, &run.door.baton);
+            rounds.begin_commit(run.rt, before);
+            return;
+        }
+        Job::Insert(_) => rounds.begin_insert(run.rt),
+        _ => rounds.end_work(run.rt),
     }
-    run.door.rounds.before(run.rt, asked);
     stint.begin(run.rt, &run.door.baton);
 }
 
