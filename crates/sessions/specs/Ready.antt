@@ -12,11 +12,11 @@ use Rattle.sessions.specs.declared.slot.Slot.TheVariants.{Waiting, Open, Closed}
 -- the lock was opened, and there is room for one record more
 abbrev pub may_record : {S T J : Type 0} {s : StoreGhosts S} {t : SetGhosts T} {past : StoreJobGhosts J S} {j : JobGhosts J} {r : RunGhosts J} {l : LedgerGhosts J} → Slot S T J s t past j r l → Bool
 may_record Waiting = false
-may_record (Open shared) = nat_lt (vec_len shared.history) (vec_capacity shared.history)
+may_record (Open shared started) = nat_lt (vec_len shared.history) (vec_capacity shared.history)
 may_record Closed = false
 
 -- the lock was opened
 abbrev pub is_open : {S T J : Type 0} {s : StoreGhosts S} {t : SetGhosts T} {past : StoreJobGhosts J S} {j : JobGhosts J} {r : RunGhosts J} {l : LedgerGhosts J} → Slot S T J s t past j r l → Bool
 is_open Waiting = false
-is_open (Open shared) = true
+is_open (Open shared started) = true
 is_open Closed = false

@@ -59,13 +59,7 @@ pub fn run_all<
 {
     let slot: Mutex<Slot<S, T, J>> = Mutex::new(Slot::Waiting);
     let shares = Door::new();
-    let context = RunContext {
-        rt,
-        queue,
-        slot: &slot,
-        door: &shares,
-        gate,
-    };
+    let context = RunContext::new(rt, queue, &slot, &shares, gate);
     let run = &context;
     thread::scope(
         thread::scope_env(),

@@ -6,7 +6,7 @@ ghost use Rattle.worker_seats.specs.Seats.{known_by};
 
 use crate::context::RunContext;
 use crate::gate::Gate;
-use crate::ready::{is_open, is_waiting};
+use crate::ready::{is_waiting, started_in};
 use crate::ticket::{JobList, JobTicket};
 use crate::worker::work;
 use index_model::DeadRows;
@@ -41,15 +41,15 @@ pub fn crew<S: PageStore, T: DeadRows + Drop, J: JobsOn<S>, K: JobList, G: Gate,
     requires told { G.Hand.told hand ≡ [] }
     ensures { result.seat.worker ≡ seat.worker }
 {
-    let open = {
+    let started = {
         let guard = run
             .door
             .opened
             .wait_while(run.rt, run.slot.lock(run.rt), |slot| is_waiting(slot));
-        is_open(&*guard)
+        started_in(&*guard)
     };
-    if open {
-        let (seat, pass) = work(run, seat, pass, &mut hand);
+    if let Some(started) = started {
+        let (seat, pass) = work(run, &started, seat, pass, &mut hand);
         return Worker { seat, pass, hand };
     }
     Worker { seat, pass, hand }

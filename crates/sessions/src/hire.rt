@@ -19,6 +19,7 @@ use crate::gate::Gate;
 use crate::ready::is_open;
 use crate::run_room::Room;
 use crate::slot::Slot;
+use crate::started::{Started, all_started};
 use crate::ticket::{JobList, JobTicket};
 use crate::worker::work;
 use index_model::DeadRows;
@@ -28,7 +29,7 @@ use std::mem;
 use std::sync::Wait;
 use std::sync::ledger::Share;
 use std::thread::{PromisedHandle, Scope, Threads};
-use worker_seats::{Desk, Parts, QueuePass, Seat, Telling, Worker, gather, open};
+use worker_seats::{Desk, QueuePass, Seat, Telling, Worker, gather, open};
 use world::World;
 
 // Puts a value under the lock, and wakes all.
@@ -48,7 +49,7 @@ fn take_out<S: PageStore + Drop, T: DeadRows + Drop, J: JobsOn<S>, K: JobList, G
         .door
         .opened
         .wait_while(run.rt, run.slot.lock(run.rt), |slot| !is_open(slot));
-    let Slot::Open(shared) = mem::replace(&mut *guard, Slot::Closed) else {
+    let Slot::Open(shared, _) = mem::replace(&mut *guard, Slot::Closed) else {
         unreachable!()
     };
     shared
@@ -100,7 +101,7 @@ fn start_all<
     for w in 0..last {
         let share = all.split_off(1, 0);
         let seat = open(desk, share, w);
-        let mine = run.queue.another::<Parts>(pass);
+        let mine = run.another(pass);
         let hand = run.gate.hand(w);
         pending.push_reserved(None);
         let job = move || -> Worker<J, JobTicket<K>, G::Hand>
@@ -140,6 +141,7 @@ fn joined<J: Jobs, K: JobList, H: Telling + Drop, R: Threads>(
 // Works as the last worker, joins the others, and works until no job is left: then the pass has every part.
 fn work_out<S: PageStore, T: DeadRows + Drop, J: JobsOn<S>, K: JobList, G: Gate, R: Threads + Wait>(
     run: &RunContext<S, T, J, K, G, R>,
+    started: Started<J>,
     own: Seat<J>,
     pass: QueuePass<JobTicket<K>>,
     mut hand: G::Hand,
@@ -174,10 +176,10 @@ fn work_out<S: PageStore, T: DeadRows + Drop, J: JobsOn<S>, K: JobList, G: Gate,
     ensures popped { (h : ℕ → ℕ) → weigh h (view result.1).popped
         ≡ sum_over (λ s. weigh h (jobs_in (known_by s.pass).notes)) result.0.items }
 {
-    let (own, mut pass) = work(run, own, pass, &mut hand);
+    let (own, mut pass) = work(run, &started, own, pass, &mut hand);
     let staff = joined(run.rt, handles, staff);
-    gather(run.queue, &mut pass, staff, &mut seats, &mut hands);
-    let (own, pass) = work(run, own, pass, &mut hand);
+    gather(run.jobs(&started), &mut pass, staff, &mut seats, &mut hands);
+    let (own, pass) = work(run, &started, own, pass, &mut hand);
     seats.push_reserved(own);
     hands.push_reserved(hand);
     (seats, pass, hands)
@@ -244,9 +246,12 @@ pub fn hire<
     let own = open(&mut desk, share, last);
     pending.push_reserved(None);
     let shared = first(world, history, pending, book, desk);
-    put(run, Slot::Open(shared));
+    let threads = all_started::<J, K, G::Hand>(&handles);
+    put(run, Slot::Open(shared, threads.again()));
     let hand = run.gate.hand(last);
-    let (seats, pass, hands) = work_out(run, own, pass, hand, handles, staff, seats, hands);
+    let (seats, pass, hands) = work_out(
+        run, threads, own, pass, hand, handles, staff, seats, hands,
+    );
     let shared = take_out(run);
     let (world, start, history) = ended(shared, seats, all, &pass);
     Ok((world, start, history, hands))

@@ -16,6 +16,7 @@ mod rounds;
 mod run;
 mod run_room;
 mod slot;
+mod started;
 mod ticket;
 mod worker;
 

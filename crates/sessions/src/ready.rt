@@ -4,6 +4,7 @@ ghost use Rattle.std.specs.Prelude.{◌≡◌};
 ghost use Rattle.sessions.specs.Ready.{is_open, may_record};
 
 use crate::slot::Slot;
+use crate::started::Started;
 use index_model::DeadRows;
 use page_action::PageStore;
 use shared_world::JobsOn;
@@ -13,7 +14,7 @@ pub fn is_ready<S: PageStore, T: DeadRows + Drop, J: JobsOn<S>>(slot: &Slot<S, T
     ensures { result ≡ may_record slot.now }
 {
     match slot {
-        Slot::Open(shared) => shared.history.len() < shared.history.capacity(),
+        Slot::Open(shared, _) => shared.history.len() < shared.history.capacity(),
         _ => false,
     }
 }
@@ -23,8 +24,18 @@ pub fn is_open<S: PageStore, T: DeadRows + Drop, J: JobsOn<S>>(slot: &Slot<S, T,
     ensures { result ≡ is_open slot.now }
 {
     match slot {
-        Slot::Open(_) => true,
+        Slot::Open(_, _) => true,
         _ => false,
+    }
+}
+
+/// That all workers have started. None where the lock wasn't opened.
+pub fn started_in<S: PageStore, T: DeadRows + Drop, J: JobsOn<S>>(
+    slot: &Slot<S, T, J>,
+) -> Option<Started<J>> {
+    match slot {
+        Slot::Open(_, started) => Some(started.again()),
+        _ => None,
     }
 }
 

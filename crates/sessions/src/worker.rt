@@ -12,6 +12,7 @@ use crate::context::RunContext;
 use crate::gate::Gate;
 use crate::ready::is_ready;
 use crate::slot::Slot;
+use crate::started::Started;
 use crate::ticket::{JobList, JobTicket};
 use index_model::{DeadRows, Entry};
 use page_action::PageStore;
@@ -42,7 +43,7 @@ fn begin_in<S: PageStore, T: DeadRows + Drop, J: JobsOn<S>, K: JobList, G: Gate,
         .door
         .opened
         .wait_while(run.rt, run.slot.lock(run.rt), |slot| !is_ready(slot));
-    let Slot::Open(shared) = &mut *guard else {
+    let Slot::Open(shared, _) = &mut *guard else {
         unreachable!()
     };
     shared.begin(seat, job, *asked, room)
@@ -62,7 +63,7 @@ fn step_in<S: PageStore, T: DeadRows + Drop, J: JobsOn<S>, K: JobList, G: Gate, 
         .door
         .opened
         .wait_while(run.rt, run.slot.lock(run.rt), |slot| !is_ready(slot));
-    let Slot::Open(shared) = &mut *guard else {
+    let Slot::Open(shared, _) = &mut *guard else {
         unreachable!()
     };
     shared.step(seat, job)
@@ -82,7 +83,7 @@ fn next_in<S: PageStore, T: DeadRows + Drop, J: JobsOn<S>, K: JobList, G: Gate, 
         .door
         .opened
         .wait_while(run.rt, run.slot.lock(run.rt), |slot| !is_ready(slot));
-    let Slot::Open(shared) = &mut *guard else {
+    let Slot::Open(shared, _) = &mut *guard else {
         unreachable!()
     };
     let (seat, _) = shared.next(seat, job);
@@ -105,7 +106,7 @@ fn end_in<S: PageStore, T: DeadRows + Drop, J: JobsOn<S>, K: JobList, G: Gate, R
         .door
         .opened
         .wait_while(run.rt, run.slot.lock(run.rt), |slot| !is_ready(slot));
-    let Slot::Open(shared) = &mut *guard else {
+    let Slot::Open(shared, _) = &mut *guard else {
         unreachable!()
     };
     shared.end(seat, job, *asked)
@@ -240,18 +241,25 @@ fn wait_for<S: PageStore, T: DeadRows + Drop, J: JobsOn<S>, K: JobList, G: Gate,
     stint: &mut Stint,
     asked: &Job,
 ) {
-    if let Job::Commit = asked {
-        stint.end(run.rt, &run.door.baton);
-        run.door.rounds.before(run.rt, asked);
-        return;
+    let rounds = &run.door.rounds;
+    match asked {
+        Job::Commit => {
+            let before = rounds.ask_commit(run.rt);
+            stint.end(run.rt, &run.door.baton);
+            rounds.begin_commit(run.rt, before);
+            return;
+        }
+        Job::Insert(_) => rounds.begin_insert(run.rt),
+        _ => rounds.end_work(run.rt),
     }
-    run.door.rounds.before(run.rt, asked);
     stint.begin(run.rt, &run.door.baton);
 }
 
-/// Does jobs until the queue was empty. The gate is told of each, once, after it is taken and before it begins.
+/// Does jobs until the queue was empty, once all workers have started. The gate is told of each, once, after it is taken and before
+/// it begins.
 pub fn work<S: PageStore, T: DeadRows + Drop, J: JobsOn<S>, K: JobList, G: Gate, R: Wait>(
     run: &RunContext<S, T, J, K, G, R>,
+    started: &Started<J>,
     seat: Seat<J>,
     pass: QueuePass<JobTicket<K>>,
     hand: &mut G::Hand,
@@ -276,7 +284,7 @@ pub fn work<S: PageStore, T: DeadRows + Drop, J: JobsOn<S>, K: JobList, G: Gate,
     let mut mine = seat;
     let mut own = pass;
     for _ in run.rt.forever() {
-        match run.queue.pop_as::<Pops, R>(run.rt, &mut own) {
+        match run.jobs(started).pop_as::<Pops, R>(run.rt, &mut own) {
             Some(ticket) => {
                 tell(run, &mut stint, hand, mine.worker, ticket.job);
                 let asked = ticket.asked;

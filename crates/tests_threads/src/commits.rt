@@ -2,7 +2,7 @@
 
 use crate::indexes::{fresh_calls, made};
 use crate::judged::{calls_in, gated, ran, records_of};
-use crate::lists::{entry, range};
+use crate::lists::{entry, range, shuffled};
 use index_model::Limits;
 use session_calls::Answer;
 use sessions::{Gate, Told};
@@ -136,5 +136,64 @@ fn commit_waits_for_no_gate(rt: HostRuntime) -> Result<(), Fail> {
     let records = gated(&rt, &LIMITS, &jobs, &gate)?;
     assert!(rt; gate.was_seen.load(Ordering::SeqCst));
     assert!(rt; tell_of_one(records.as_slice()));
+    Ok(())
+}
+
+/// Room for two thousand entries.
+const WIDE: Limits = Limits {
+    items: 50,
+    pages: 256,
+    log_bytes: 1_048_576,
+    unique: false,
+};
+
+/// Two thousand inserts in no order, with a commit behind the first so many, and then one behind each so many.
+fn sparse(alloc: Global, first: u16, each: u16) -> Result<Vec<Job>, AllocError> {
+    let mut jobs = Vec::new(alloc);
+    let mut left = first;
+    for number in shuffled(alloc, 2_000, 0)?.as_slice() {
+        jobs.push(Job::Insert(entry(*number, 0)))?;
+        left = left.saturating_sub(1);
+        if left == 0 {
+            jobs.push(Job::Commit)?;
+            left = each;
+        }
+    }
+    Ok(jobs)
+}
+
+/// How many commits were done, when the last of them was, and how many jobs ended before one though they were taken after it, at
+/// most. Jobs are taken in order.
+fn commits_in(records: &[Record]) -> (usize, u64, usize) {
+    let (mut count, mut last, mut most) = (0usize, 0u64, 0usize);
+    for (place, record) in records.iter().enumerate() {
+        if let Answer::Forced(_) = &record.answer {
+            count = count.saturating_add(1);
+            last = last.max(record.to);
+            most = most.max(place.saturating_sub(record.job as usize));
+        }
+    }
+    (count, last, most)
+}
+
+/// Eight workers have done a commit behind the first ten of two thousand inserts before 200 actions.
+#[test]
+fn lone_commit_comes_soon(rt: HostRuntime) -> Result<(), Fail> {
+    let jobs = sparse(rt.alloc(), 10, 4_000)?;
+    let records = records_of(&rt, &WIDE, jobs.as_slice(), 8)?;
+    let (count, last, _) = commits_in(records.as_slice());
+    assert_eq!(rt; count, 1);
+    assert!(rt; last < 200, "{last}");
+    Ok(())
+}
+
+/// Of twenty commits, one behind each hundred inserts, each waits for few other jobs.
+#[test]
+fn each_commit_comes_soon(rt: HostRuntime) -> Result<(), Fail> {
+    let jobs = sparse(rt.alloc(), 100, 100)?;
+    let records = records_of(&rt, &WIDE, jobs.as_slice(), 8)?;
+    let (count, _, most) = commits_in(records.as_slice());
+    assert_eq!(rt; count, 20);
+    assert!(rt; most < 256, "{most}");
     Ok(())
 }

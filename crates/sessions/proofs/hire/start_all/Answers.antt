@@ -1,23 +1,22 @@
 use Rattle.std.proofs.Common.{◌≡◌, ◌+◌, ◌++◌, ◌∷◌, [], List, Option, None, slice_get, IfSome, sym, ap, ◌∙◌, subst, arith}
 use Rattle.worker_seats.specs.declared.job_queue.QueueView.{QueueView}
-use Rattle.sessions.proofs.Imports.{SeatView, keeper_of, forks_of, some_snoc, Pending, jobs_of}
+use Rattle.sessions.proofs.Imports.{SeatView, keeper_of, some_snoc, Pending, jobs_of}
 use Rattle.sessions.proofs.Hiring.{jobs_of_snoc, none_snoc}
 use Rattle.sessions.proofs.hire.start_all.Goals as goal
 
-pub another-mine-requires-clause-rule : goal.another-mine-requires-clause-rule
-another-mine-requires-clause-rule g c = forks_of (λ t. t.job) _ _ (omega (arith, c.loop-w.invariant.1.1, c.loop-w-test.true, c.requires.few))
+pub another-mine-requires-clause-two : goal.another-mine-requires-clause-two
+another-mine-requires-clause-two g c = omega (arith, c.loop-w.invariant.1.1, c.loop-w-test.true, c.requires.few)
 
 pub loop-w-preserved : goal.loop-w-preserved
 loop-w-preserved g c =
     let i = c.loop-w.invariant in
     let pending = c.loop-w.pending in
-    let v = c.another-mine.ensures.rule.0 in
-    let q = c.another-mine.ensures.queue in
+    let v = c.another-mine.ensures.left in
     let items = c.push_reserved.ensures.items in
     let handles = c.loop-w.handles in (
       c.open-seat.ensures.keeper ∙ ap (λ (x : SeatView). keeper_of [] (x.running ++ None ∷ [])) i.0 ∙ ap (keeper_of []) (sym (ap jobs_of items ∙ jobs_of_snoc pending.items None)),
       (
-        (q.0.0 ∙ i.1.0.0, q.0.2 ∙ i.1.0.1),
+        c.another-mine.ensures.queue,
         (let less = ap (λ (x : QueueView). x.parts) v in omega (arith, less, i.1.1, c.loop-w-test.true, c.requires.few)),
         ap (λ (x : QueueView). x.pushed) v ∙ i.1.2,
         ap (λ (x : QueueView). x.popped) v ∙ i.1.3,
