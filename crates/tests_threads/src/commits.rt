@@ -2,7 +2,7 @@
 
 use crate::indexes::{fresh_calls, made};
 use crate::judged::{calls_in, gated, ran, records_of};
-use crate::lists::{entry, range, shuffled};
+use crate::lists::{entry, range, spread_commits};
 use index_model::Limits;
 use session_calls::Answer;
 use sessions::{Gate, Told};
@@ -147,21 +147,6 @@ const WIDE: Limits = Limits {
     unique: false,
 };
 
-/// Two thousand inserts in no order, with a commit behind the first so many, and then one behind each so many.
-fn sparse(alloc: Global, first: u16, each: u16) -> Result<Vec<Job>, AllocError> {
-    let mut jobs = Vec::new(alloc);
-    let mut left = first;
-    for number in shuffled(alloc, 2_000, 0)?.as_slice() {
-        jobs.push(Job::Insert(entry(*number, 0)))?;
-        left = left.saturating_sub(1);
-        if left == 0 {
-            jobs.push(Job::Commit)?;
-            left = each;
-        }
-    }
-    Ok(jobs)
-}
-
 /// How many commits were done, when the last of them was, and how many jobs ended before one though they were taken after it, at
 /// most. Jobs are taken in order.
 fn commits_in(records: &[Record]) -> (usize, u64, usize) {
@@ -179,7 +164,7 @@ fn commits_in(records: &[Record]) -> (usize, u64, usize) {
 /// Eight workers have done a commit behind the first ten of two thousand inserts before 200 actions.
 #[test]
 fn lone_commit_comes_soon(rt: HostRuntime) -> Result<(), Fail> {
-    let jobs = sparse(rt.alloc(), 10, 4_000)?;
+    let jobs = spread_commits(rt.alloc(), 9, 2_000)?;
     let records = records_of(&rt, &WIDE, jobs.as_slice(), 8)?;
     let (count, last, _) = commits_in(records.as_slice());
     assert_eq!(rt; count, 1);
@@ -190,7 +175,7 @@ fn lone_commit_comes_soon(rt: HostRuntime) -> Result<(), Fail> {
 /// Of twenty commits, one behind each hundred inserts, each waits for few other jobs.
 #[test]
 fn each_commit_comes_soon(rt: HostRuntime) -> Result<(), Fail> {
-    let jobs = sparse(rt.alloc(), 100, 100)?;
+    let jobs = spread_commits(rt.alloc(), 99, 100)?;
     let records = records_of(&rt, &WIDE, jobs.as_slice(), 8)?;
     let (count, _, most) = commits_in(records.as_slice());
     assert_eq!(rt; count, 20);

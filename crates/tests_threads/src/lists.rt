@@ -88,6 +88,24 @@ pub fn inserts_and_scans(
     Ok(jobs)
 }
 
+/// A scan, and two thousand inserts in no order, with a commit behind each whose place has this rest by so many.
+pub fn spread_commits(alloc: Global, rest: u32, each: u32) -> Result<Vec<Job>, AllocError> {
+    let mut jobs = Vec::new(alloc);
+    jobs.push(Job::Scan {
+        range: range(0, 100),
+        room: 100,
+    })?;
+    let each = each.max(1);
+    for place in 0..2_000_u32 {
+        let number = place.wrapping_mul(1_103) % 2_000;
+        jobs.push(Job::Insert(entry(number as u16, 0)))?;
+        if place % each == rest {
+            jobs.push(Job::Commit)?;
+        }
+    }
+    Ok(jobs)
+}
+
 /// Keys below this have rows that the two sets name; scans lie above.
 pub const DEAD_BELOW: u16 = 200;
 
