@@ -592,7 +592,8 @@ static uint64_t longest_wait(const char *path, uint64_t *took) {
 }
 
 static void waits_are_short(void) {
-    const char *path = access("/dev/shm", W_OK) ? PATH : "/dev/shm/nardsill-vacuum.idx";
+    char path[64];
+    snprintf(path, sizeof path, access("/dev/shm", W_OK) ? PATH : "/dev/shm/nardsill-vacuum-%d.idx", (int)getpid());
     uint64_t least = UINT64_MAX, took, of = 0;
     for (int round = 0; round < (IS_WATCHED ? 1 : 5); round++) {
         uint64_t longest = longest_wait(path, &took);

@@ -76,7 +76,8 @@ def create(path: Any, items: int = 50, pages: int = 4096, log_bytes: int = 1 << 
 def open(path: Any, frames: int = 64, patience: float = 0.0) -> Index:
     """Opens the index in a file, after any crash, with so many pages in memory (16 to 1,024); makes an empty one where no file is.
 
-    With `patience` a bulk delete waits so many seconds for an open scan. Raises what `Index` and `create` raise. Where two make it at once, one does, and both go on to the opening.
+    With a `patience` a bulk delete waits so many seconds for an open scan. Raises what `Index` and `create` raise. Where two make it at
+    once, one does, and both go on to the opening.
     """
     try:
         return Index(path, frames, patience)
