@@ -82,8 +82,9 @@ def open(path: Any, frames: int = 64, patience: float = 0.0) -> Index:
     try:
         return Index(path, frames, patience)
     except NoFile:
+        # Another has made it just now; or it is a link that leads nowhere, and nothing is made there.
         if os.path.lexists(path):
-            raise
+            return Index(path, frames, patience)
     try:
         create(path)
     except FileIsThere:
