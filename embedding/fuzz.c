@@ -22,8 +22,8 @@ static struct nardsill_ask random_ask(void) {
         int four = (int)random();
         memcpy(bytes + k, &four, 4);
     }
-    if (random() % 100 < 95) ask.what = 1 + (uint32_t)(random() % 9);
-    if (ask.what == NARDSILL_LET_GO) ask.what = 12;
+    if (random() % 100 < 95) ask.what = 1 + (uint32_t)(random() % NARDSILL_END_VACUUM);
+    if (ask.what == NARDSILL_LET_GO) ask.what = NARDSILL_GO_ON;
     if ((ask.what == NARDSILL_COMMIT || ask.what == NARDSILL_CHECKPOINT) && random() % 50) ask.what = NARDSILL_INSERT;
     if (random() % 2) ask.session %= 70;
     if (random() % 2) ask.number %= 100;

@@ -135,6 +135,7 @@ static int uses_all(nardsill *index, nardsill_scan *scan) {
     IS(NARDSILL_FORKED, nardsill_get(index, "a", 1, &row));
     IS(NARDSILL_FORKED, nardsill_delete_rows(index, &row, 1, 0));
     IS(NARDSILL_FORKED, nardsill_vacuum(index, 0));
+    IS(NARDSILL_FORKED, nardsill_set_patience(index, 1));
     IS(NARDSILL_FORKED, nardsill_commit(index, 0));
     IS(NARDSILL_FORKED, nardsill_checkpoint(index, 0));
     IS(NARDSILL_FORKED, nardsill_info(index, &details));

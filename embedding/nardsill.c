@@ -1,5 +1,5 @@
-/* The calls of nardsill.h, over the exports of the proved library: opens the file, checks pointers, takes the handle's lock, and makes
-   one call for commits that come together. */
+/* The calls of nardsill.h, over the exports of the proved library: opens the file, checks pointers, takes the handle's lock, makes one
+   call for commits that come together, and vacuums in parts. */
 #define _GNU_SOURCE
 #include "nardsill.h"
 #include "nardsill_proved.h"
@@ -40,12 +40,28 @@ struct gathering {
     uint64_t call;          /* the number of the last call, from 1 on */
     uint64_t seen[64];      /* the call of a thread's last commit; two threads may have one place */
     uint64_t took, last;    /* how long the last call took, and when the last commit came, in nanoseconds */
+    uint64_t until;         /* when the first commit waits no longer */
+};
+
+/* A vacuum is made in parts, and who waits for the handle's lock has it between two of them. */
+struct turns {
+    pthread_mutex_t one;    /* whoever vacuums has it, and has taken it before the handle's lock */
+    pthread_cond_t bell;    /* rung for the vacuum that rests */
+    pthread_cond_t through; /* rung for those that stand aside until it has made a part */
+    atomic_uint waiting;    /* threads that wait for the handle's lock */
+    uint64_t came;          /* how many that waited have had it, and one */
+    uint64_t awaited;       /* the vacuum rests until so many have come; 0 where it doesn't */
+    uint64_t parts;         /* how many parts were made, or refused */
+    uint64_t due;           /* from when on calls that come stand aside, in nanoseconds; 0 for never */
+    int is_blocked;         /* the vacuum rests until a scan has moved */
+    uint32_t patience;      /* how long, in milliseconds */
 };
 
 struct nardsill {
     pthread_mutex_t lock;
     struct nardsill_shell *shell; /* embedding/fuzz.c knows its place */
     struct gathering gathering;
+    struct turns turns;
     nardsill_scan *scans; /* those that are open */
     uint32_t frames, count;
     int descriptor;       /* the library's own, for a forked child to close */
@@ -317,22 +333,41 @@ int nardsill_create(const char *path, const nardsill_limits *limits) {
                                                                      .log_bytes = limits->log_bytes, .unique = limits->unique}));
 }
 
-/* Makes a handle's lock and its bell. 0, or 1 where the system has no room for them. */
-static int make_locks(nardsill *index) {
+static void free_bells(nardsill *index, int count) {
+    pthread_cond_t *const bells[] = {&index->gathering.bell, &index->turns.bell, &index->turns.through};
+    while (count--) pthread_cond_destroy(bells[count]);
+}
+
+/* Makes a handle's bells. 0, or 1 where the system has no room for them. */
+static int make_bells(nardsill *index) {
+    pthread_cond_t *const bells[] = {&index->gathering.bell, &index->turns.bell, &index->turns.through};
     pthread_condattr_t clock;
+    int count = 0;
     if (pthread_condattr_init(&clock)) return 1;
     /* The clock of the day may be set back, and a wait would last so much longer. */
-    int failed = pthread_condattr_setclock(&clock, CLOCK_MONOTONIC) || pthread_cond_init(&index->gathering.bell, &clock);
+    if (!pthread_condattr_setclock(&clock, CLOCK_MONOTONIC))
+        while (count < 3 && !pthread_cond_init(bells[count], &clock)) count++;
     pthread_condattr_destroy(&clock);
-    if (failed) return 1;
-    if (!pthread_mutex_init(&index->lock, 0)) return 0;
-    pthread_cond_destroy(&index->gathering.bell);
+    if (count == 3) return 0;
+    free_bells(index, count);
+    return 1;
+}
+
+/* Makes a handle's locks and its bells. 0, or 1 where the system has no room for them. */
+static int make_locks(nardsill *index) {
+    if (make_bells(index)) return 1;
+    if (!pthread_mutex_init(&index->turns.one, 0)) {
+        if (!pthread_mutex_init(&index->lock, 0)) return 0;
+        pthread_mutex_destroy(&index->turns.one);
+    }
+    free_bells(index, 3);
     return 1;
 }
 
 static void free_locks(nardsill *index) {
     pthread_mutex_destroy(&index->lock);
-    pthread_cond_destroy(&index->gathering.bell);
+    pthread_mutex_destroy(&index->turns.one);
+    free_bells(index, 3);
 }
 
 /* Opens the index in a file of this library's own, in a handle that has no index yet. */
@@ -354,6 +389,7 @@ static struct outcome start(int fd, uint32_t frames, nardsill **out) {
     if (!index) return only(NARDSILL_NO_MEMORY);
     index->frames = frames ? frames : 64;
     index->gathering.call = 1;
+    index->turns.came = 1;
     if (make_locks(index)) {
         free(index);
         return only(NARDSILL_NO_MEMORY);
@@ -451,18 +487,66 @@ int nardsill_open_fd(int fd, uint32_t frames, nardsill **out) {
 /* This thread's number behind 0, in the order of their first commits; 0 before that. */
 static _Thread_local unsigned committer;
 
-/* Takes the handle's lock. A committer is seen where it waits for that: commits may wait for it. */
+static uint64_t nanoseconds(void) {
+    struct timespec now;
+    clock_gettime(CLOCK_MONOTONIC, &now);
+    return (uint64_t)now.tv_sec * 1000000000u + (uint64_t)now.tv_nsec;
+}
+
+/* Waits at a bell until it is rung, or until this time. */
+static void wait_until(nardsill *index, pthread_cond_t *bell, uint64_t until) {
+    const struct timespec end = {(time_t)(until / 1000000000u), (long)(until % 1000000000u)};
+    pthread_cond_timedwait(bell, &index->lock, &end);
+}
+
+/* So long calls may go before a vacuum that waits for the lock. Then those that come stand aside until it has made a part. */
+enum { MOST_BEHIND = 1000000 };
+
+static int is_vacuums_turn(const struct turns *turns) { return turns->due && nanoseconds() >= turns->due; }
+
+/* Wakes the vacuum that rests, which calls go before for a while. */
+static void ring(struct turns *turns) {
+    if (!turns->due) turns->due = nanoseconds() + MOST_BEHIND;
+    pthread_cond_signal(&turns->bell);
+}
+
+/* Who has waited for the lock has it. */
+static void arrive(struct turns *turns) {
+    turns->came++;
+    if (--turns->waiting && turns->came != turns->awaited) return;
+    if (turns->awaited) ring(turns);
+}
+
+/* Takes the handle's lock. Who waits for it is seen: a vacuum rests for it, and commits may wait for a committer. */
 static void take_lock(nardsill *index) {
-    if (!pthread_mutex_trylock(&index->lock)) return;
+    struct turns *turns = &index->turns;
+    int has_it = !pthread_mutex_trylock(&index->lock);
+    if (has_it && !is_vacuums_turn(turns)) return;
     if (committer) index->gathering.at_lock++;
-    pthread_mutex_lock(&index->lock);
+    turns->waiting++;
+    if (!has_it) pthread_mutex_lock(&index->lock);
+    if (is_vacuums_turn(turns)) {
+        uint64_t parts = turns->parts;
+        while (turns->parts == parts) pthread_cond_wait(&turns->through, &index->lock);
+    }
+    arrive(turns);
     if (committer) index->gathering.at_lock--;
+}
+
+/* A scan may have left its leaf, or the index has stopped: a vacuum that waits for that goes before each call that comes. */
+static void tell_blocked(struct turns *turns) {
+    if (!turns->is_blocked) return;
+    turns->is_blocked = 0;
+    turns->due = 1;
+    pthread_cond_signal(&turns->bell);
 }
 
 /* A call of the library, by a thread that has the handle's lock. */
 static struct nardsill_answer ask_locked(nardsill *index, struct nardsill_ask ask) {
     errno = 0;
-    return nardsill_proved_call(index->shell, ask);
+    struct nardsill_answer answer = nardsill_proved_call(index->shell, ask);
+    if (answer.status == NARDSILL_IO || answer.status == NARDSILL_STOPPED) tell_blocked(&index->turns);
+    return answer;
 }
 
 /* A call of its own, with the lock; what it tells stands at `answer`, if that is wanted. */
@@ -663,7 +747,11 @@ int nardsill_scan_restart(nardsill_scan *scan, const void *from, size_t from_len
     status = spell_range(&ask, from, from_len, below, below_len);
     if (status) return refused(status);
     struct kept kept = enter();
-    return leave_with(kept, call(scan->index, ask, 0));
+    take_lock(scan->index);
+    struct outcome outcome = told_by(ask_locked(scan->index, ask));
+    tell_blocked(&scan->index->turns);
+    pthread_mutex_unlock(&scan->index->lock);
+    return leave_with(kept, outcome);
 }
 
 static struct outcome read_locked(nardsill_scan *scan, nardsill_entry *out, size_t room, size_t *count) {
@@ -686,6 +774,7 @@ int nardsill_scan_read(nardsill_scan *scan, nardsill_entry *out, size_t room, si
     struct kept kept = enter();
     take_lock(scan->index);
     struct outcome outcome = read_locked(scan, out, room, count);
+    tell_blocked(&scan->index->turns);
     pthread_mutex_unlock(&scan->index->lock);
     return leave_with(kept, outcome);
 }
@@ -703,6 +792,7 @@ void nardsill_scan_close(nardsill_scan *scan) {
         take_lock(index);
         ask_locked(index, (struct nardsill_ask){.what = NARDSILL_END, .session = scan->session, .number = scan->number});
         remove_scan(index, scan);
+        tell_blocked(&index->turns);
         pthread_mutex_unlock(&index->lock);
         leave(kept);
     }
@@ -717,35 +807,146 @@ static void tell(const struct nardsill_answer *answer, nardsill_stats *stats) {
 
 static int is_sized(const nardsill_stats *stats) { return !stats || stats->size == sizeof *stats; }
 
-/* Deletes the entries of rows that are named one by one. */
-static struct nardsill_answer delete_locked(nardsill *index, const nardsill_row *rows, size_t count) {
-    for (size_t i = 0; i < count; i++) {
-        struct nardsill_answer answer = ask_locked(index, (struct nardsill_ask){.what = NARDSILL_NAME_DEAD, .block = rows[i].block, .offset = rows[i].offset});
-        if (answer.status) return answer;
+/* A vacuum: the calls that begin it in parts and that make it whole; the rows of a bulk delete; and how far it is. */
+struct vacuum {
+    uint32_t begin, whole;
+    const nardsill_row *rows;
+    size_t count, named;
+    int is_begun, is_over;
+    uint64_t blocked; /* since when its next step is blocked; 0 where it isn't */
+};
+
+/* Steps of a part, and rows that are named in one. */
+enum { PART = 64, ROWS = 1024 };
+
+/* Names some rows more. Only a vacuum names any, and only one runs. Where one is refused, those before it are forgotten. */
+static struct nardsill_answer name_some(nardsill *index, struct vacuum *me) {
+    struct nardsill_answer answer = {.status = 0};
+    for (int left = ROWS; left && me->named < me->count && !answer.status; left--) {
+        const nardsill_row *row = me->rows + me->named++;
+        answer = ask_locked(index, (struct nardsill_ask){.what = NARDSILL_NAME_DEAD, .block = row->block, .offset = row->offset});
     }
-    return ask_locked(index, (struct nardsill_ask){.what = NARDSILL_DELETE});
+    return answer;
+}
+
+/* Begins it. It has the place of an open scan while it goes on: where there is none, it is made whole. The rows are forgotten. */
+static struct nardsill_answer begin_vacuum(nardsill *index, struct vacuum *me) {
+    int is_whole = index->count == 63;
+    struct nardsill_answer answer = ask_locked(index, (struct nardsill_ask){.what = is_whole ? me->whole : me->begin});
+    me->named = 0;
+    me->is_begun = !is_whole && !answer.status;
+    me->is_over = is_whole && !answer.status;
+    return answer;
+}
+
+/* A part of it. A step that was blocked is tried alone. */
+static struct nardsill_answer make_part(nardsill *index, struct vacuum *me) {
+    if (!me->is_begun) return me->named < me->count ? name_some(index, me) : begin_vacuum(index, me);
+    struct nardsill_answer answer = ask_locked(index, (struct nardsill_ask){.what = NARDSILL_GO_ON, .block = me->blocked ? 1 : PART});
+    me->is_over = (int)answer.session;
+    return answer;
+}
+
+/* Lets the lock go until the bell is rung, or until this time if it isn't 0; then it may be overtaken for a while. */
+static void rest(nardsill *index, uint64_t until) {
+    struct turns *turns = &index->turns;
+    turns->parts++;
+    turns->due = until ? until + MOST_BEHIND : 0;
+    pthread_cond_broadcast(&turns->through);
+    if (until) wait_until(index, &turns->bell, until);
+    else pthread_cond_wait(&turns->bell, &index->lock);
+}
+
+/* Whether somebody waits for the lock who is to have it before the next part: a commit whose wait has ended does too. */
+static int is_awaited(nardsill *index) {
+    const struct turns *turns = &index->turns;
+    const struct gathering *all = &index->gathering;
+    return (turns->waiting && turns->came < turns->awaited) || (all->commits && nanoseconds() >= all->until);
+}
+
+/* Lets those have the lock that wait for it now. */
+static void let_in(nardsill *index) {
+    struct turns *turns = &index->turns;
+    turns->awaited = turns->came + turns->waiting;
+    while (is_awaited(index)) rest(index, 0);
+    turns->awaited = 0;
+}
+
+/* Waits until a scan has moved: whether the step is to be tried again. */
+static int wait_for_scans(nardsill *index, struct vacuum *me) {
+    struct turns *turns = &index->turns;
+    if (!me->blocked) me->blocked = nanoseconds();
+    for (turns->is_blocked = 1; turns->is_blocked;) {
+        uint64_t until = me->blocked + turns->patience * (uint64_t)1000000;
+        if (nanoseconds() >= until) break;
+        rest(index, until);
+    }
+    int is_told = !turns->is_blocked;
+    turns->is_blocked = 0;
+    return is_told;
+}
+
+/* Many rows take a while to be freed: that is a part of its own. */
+static void end_vacuum(nardsill *index) {
+    let_in(index);
+    ask_locked(index, (struct nardsill_ask){.what = NARDSILL_END_VACUUM});
+}
+
+/* Makes it, part by part, and ends it, also where a part is refused. */
+static struct outcome vacuum_locked(nardsill *index, struct vacuum *me, nardsill_stats *stats) {
+    for (;;) {
+        struct nardsill_answer answer = make_part(index, me);
+        struct outcome outcome = told_by(answer);
+        if (outcome.status == NARDSILL_BLOCKED && wait_for_scans(index, me)) continue;
+        if (outcome.status || me->is_over) {
+            if (me->is_begun) end_vacuum(index);
+            if (!outcome.status) tell(&answer, stats);
+            return outcome;
+        }
+        if (me->is_begun) me->blocked = 0;
+        let_in(index);
+    }
+}
+
+/* One vacuum at a time: another waits for its end. */
+static struct outcome run_vacuum(nardsill *index, struct vacuum *me, nardsill_stats *stats) {
+    struct turns *turns = &index->turns;
+    pthread_mutex_lock(&turns->one);
+    take_lock(index);
+    struct outcome outcome = vacuum_locked(index, me, stats);
+    turns->parts++;
+    turns->due = 0;
+    pthread_cond_broadcast(&turns->through);
+    pthread_mutex_unlock(&index->lock);
+    pthread_mutex_unlock(&turns->one);
+    return outcome;
 }
 
 int nardsill_delete_rows(nardsill *index, const nardsill_row *rows, size_t count, nardsill_stats *stats) {
     int status = (!rows && count) || !is_sized(stats) ? NARDSILL_MISUSE : refusal_of(index);
     if (status) return refused(status);
     struct kept kept = enter();
-    take_lock(index);
-    struct nardsill_answer answer = delete_locked(index, rows, count);
-    struct outcome outcome = told_by(answer);
-    pthread_mutex_unlock(&index->lock);
-    if (!outcome.status) tell(&answer, stats);
-    return leave_with(kept, outcome);
+    struct vacuum me = {.begin = NARDSILL_BEGIN_DELETE, .whole = NARDSILL_DELETE, .rows = rows, .count = count};
+    return leave_with(kept, run_vacuum(index, &me, stats));
 }
 
 int nardsill_vacuum(nardsill *index, nardsill_stats *stats) {
     int status = !is_sized(stats) ? NARDSILL_MISUSE : refusal_of(index);
     if (status) return refused(status);
     struct kept kept = enter();
-    struct nardsill_answer answer;
-    struct outcome outcome = call(index, (struct nardsill_ask){.what = NARDSILL_VACUUM}, &answer);
-    if (!outcome.status) tell(&answer, stats);
-    return leave_with(kept, outcome);
+    struct vacuum me = {.begin = NARDSILL_BEGIN_VACUUM, .whole = NARDSILL_VACUUM};
+    return leave_with(kept, run_vacuum(index, &me, stats));
+}
+
+int nardsill_set_patience(nardsill *index, uint32_t milliseconds) {
+    int status = refusal_of(index);
+    if (status) return refused(status);
+    struct kept kept = enter();
+    take_lock(index);
+    index->turns.patience = milliseconds;
+    tell_blocked(&index->turns);
+    pthread_mutex_unlock(&index->lock);
+    return leave_with(kept, only(0));
 }
 
 /* A commit, on its thread's stack, and what the call told that covers it. Whoever makes that call has the handle's lock; all that is
@@ -758,12 +959,6 @@ struct commit {
 };
 
 enum { MOST_WAIT = 20000000 };
-
-static uint64_t nanoseconds(void) {
-    struct timespec now;
-    clock_gettime(CLOCK_MONOTONIC, &now);
-    return (uint64_t)now.tv_sec * 1000000000u + (uint64_t)now.tv_nsec;
-}
 
 static uint64_t lesser(uint64_t a, uint64_t b) { return a < b ? a : b; }
 
@@ -789,10 +984,10 @@ static void wait_first(nardsill *index, const struct commit *mine) {
     struct gathering *all = &index->gathering;
     uint64_t begun = all->last;
     while (!mine->is_over) {
-        uint64_t until = lesser(all->last + all->took, begun + MOST_WAIT);
-        if (nanoseconds() >= until) break;
-        const struct timespec end = {(time_t)(until / 1000000000u), (long)(until % 1000000000u)};
-        pthread_cond_timedwait(&all->bell, &index->lock, &end);
+        all->until = lesser(all->last + all->took, begun + MOST_WAIT);
+        if (nanoseconds() >= all->until) break;
+        wait_until(index, &all->bell, all->until);
+        if (index->turns.awaited) ring(&index->turns);
     }
     if (all->last > begun) return;
     /* Threads that commit in turn would wait each time. */
@@ -813,7 +1008,7 @@ static void gather(nardsill *index, const struct commit *mine) {
     }
 }
 
-/* Makes one call for all commits that are there, and tells each of them what it told. */
+/* Makes one call for all commits that are there, and tells each of them what it told. They wait for the lock from then on. */
 static void commit_all(nardsill *index) {
     struct gathering *all = &index->gathering;
     uint64_t begun = nanoseconds();
@@ -824,6 +1019,7 @@ static void commit_all(nardsill *index) {
         one->outcome = outcome;
         one->actions = answer.number;
         one->is_over = 1;
+        index->turns.waiting++;
     }
     all->commits = 0;
     all->expected = 0;
@@ -842,6 +1038,7 @@ int nardsill_commit(nardsill *index, uint64_t *actions) {
     join(&index->gathering, &mine);
     gather(index, &mine);
     if (!mine.is_over) commit_all(index);
+    arrive(&index->turns);
     pthread_mutex_unlock(&index->lock);
     if (!mine.outcome.status && actions) *actions = mine.actions;
     return leave_with(kept, mine.outcome);

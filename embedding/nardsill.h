@@ -9,9 +9,9 @@ extern "C" {
 
 /* The version of this header. A library of the same major number has at least what a header of a lower minor one names. */
 #define NARDSILL_VERSION_MAJOR 1
-#define NARDSILL_VERSION_MINOR 1
+#define NARDSILL_VERSION_MINOR 2
 #define NARDSILL_VERSION_PATCH 0
-#define NARDSILL_VERSION "1.1.0"
+#define NARDSILL_VERSION "1.2.0"
 
 /* What a call answers is to be looked at: a commit that was refused has made nothing durable. */
 #if defined(__GNUC__)
@@ -29,7 +29,7 @@ enum {
     NARDSILL_NO_MEMORY = 1,
     NARDSILL_IO = 2,               /* a call of the file failed: `error` of the fault, and errno, say why */
     NARDSILL_STOPPED = 3,          /* one failed before: close the index and open it again */
-    NARDSILL_BLOCKED = 4,          /* an open scan stands on a page that the call needs: `page` of the fault */
+    NARDSILL_BLOCKED = 4,          /* an open scan stands on a page that a vacuum needs, longer than its patience: `page` of the fault */
     NARDSILL_EXISTS = 5,           /* this very entry, its key and its row, is there */
     NARDSILL_KEY_TOO_LONG = 6,
     NARDSILL_BAD_ROW = 7,          /* block 4294967295, or offset 0 */
@@ -37,7 +37,7 @@ enum {
     NARDSILL_LOG_FULL = 9,         /* no call answers it */
     NARDSILL_NO_FRAME = 10,        /* open scans hold the pages in memory */
     NARDSILL_VACUUM_RUNNING = 11,  /* no call answers it */
-    NARDSILL_NO_SESSION = 12,      /* the scan is over since a fault, or its index is closed; or 63 scans are open */
+    NARDSILL_NO_SESSION = 12,      /* the scan is over since a fault, or its index is closed; or 63 scans are open, 62 beside a vacuum */
     NARDSILL_SESSION_BUSY = 13,    /* no call answers it */
     NARDSILL_BAD_SUPER = 14,       /* the file is no index */
     NARDSILL_BAD_VERSION = 15,
@@ -128,11 +128,17 @@ NARDSILL_LOOK int nardsill_insert_many(nardsill *index, const nardsill_entry *en
 NARDSILL_LOOK int nardsill_get(nardsill *index, const void *key, size_t key_len, nardsill_row *out);
 
 /* Deletes each entry with one of these rows. It reads every leaf: name many rows in one call. Where it is refused some may be gone, and
-   no other entry is. */
+   no other entry is.
+   It and the next one are vacuums. One runs at a time, in parts, and calls of other threads go on in between. It has the place of an open
+   scan then; where 63 are open it is made whole. An entry that is inserted meanwhile with one of the rows may be deleted, or not. */
 NARDSILL_LOOK int nardsill_delete_rows(nardsill *index, const nardsill_row *rows, size_t count, nardsill_stats *stats);
 
-/* Deletes empty pages, and counts what is there. */
+/* Deletes empty pages, and counts what is there: of entries that are inserted meanwhile, those that it meets. */
 NARDSILL_LOOK int nardsill_vacuum(nardsill *index, nardsill_stats *stats);
+
+/* How long a vacuum waits for open scans at most, at each page that it needs and on which one stands: 0 at first. Once it has moved on,
+   or was closed, the vacuum goes on. A thread whose own scan stands there waits in vain. */
+NARDSILL_LOOK int nardsill_set_patience(nardsill *index, uint32_t milliseconds);
 
 /* Makes all that was done durable; `actions` is how many were since the opening. A checkpoint writes the pages home too. Commits of
    threads share a sync: one may wait for those that it shared the last one with, 20 ms at most. */

@@ -6,16 +6,20 @@
 
 /* The calls of nardsill_proved_call, each with the fields that it reads and those that its answer tells. */
 enum nardsill_what {
-    NARDSILL_INSERT = 1,     /* key, len, block, offset; number: the action's, other: the fault that left it unfinished, or 0 */
-    NARDSILL_BEGIN = 2,      /* ends, key, len, below, below_len; number, session: the token */
-    NARDSILL_AGAIN = 3,      /* the same, and number, session: the token */
-    NARDSILL_END = 4,        /* number, session */
-    NARDSILL_NAME_DEAD = 5,  /* block, offset */
-    NARDSILL_DELETE = 6,     /* number: how many entries are removed; other: how many are left; the counts of pages */
-    NARDSILL_VACUUM = 7,     /* the same */
-    NARDSILL_COMMIT = 8,     /* number: how many actions are durable */
-    NARDSILL_CHECKPOINT = 9, /* the same */
-    NARDSILL_LET_GO = 10     /* the handle's block may be freed behind it */
+    NARDSILL_INSERT = 1,        /* key, len, block, offset; number: the action's, other: the fault that left it unfinished, or 0 */
+    NARDSILL_BEGIN = 2,         /* ends, key, len, below, below_len; number, session: the token */
+    NARDSILL_AGAIN = 3,         /* the same, and number, session: the token */
+    NARDSILL_END = 4,           /* number, session */
+    NARDSILL_NAME_DEAD = 5,     /* block, offset; where it is refused, no row is named */
+    NARDSILL_DELETE = 6,        /* number: how many entries are removed; other: how many are left; the counts of pages */
+    NARDSILL_VACUUM = 7,        /* the same */
+    NARDSILL_COMMIT = 8,        /* number: how many actions are durable */
+    NARDSILL_CHECKPOINT = 9,    /* the same */
+    NARDSILL_LET_GO = 10,       /* the handle's block may be freed behind it */
+    NARDSILL_BEGIN_DELETE = 11, /* begins, in parts, what DELETE does; the rows are forgotten, also where it is refused */
+    NARDSILL_BEGIN_VACUUM = 12, /* begins, in parts, what VACUUM does */
+    NARDSILL_GO_ON = 13,        /* block: how many steps more, at most; session: 1 where it has finished, with what DELETE tells, else 0 */
+    NARDSILL_END_VACUUM = 14    /* ends what was begun so, finished or not */
 };
 
 struct nardsill_ask {

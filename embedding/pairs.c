@@ -97,7 +97,11 @@ static void informs(struct work *work) {
     HOLDS(details.unique == 1 && details.pages == 1024 && details.scans >= 2 && !details.stopped);
 }
 
-static void (*const calls[])(struct work *) = {inserts, inserts_many, is_refused, gets, reads, restarts, opens, deletes, vacuums, commits, checkpoints, informs};
+/* Vacuums wait for scans, or don't. */
+static void sets_patience(struct work *work) { IS(0, nardsill_set_patience(work->index, work->round++ % 2)); }
+
+static void (*const calls[])(struct work *) = {inserts,  inserts_many, is_refused, gets,        reads,   restarts,     opens,
+                                               deletes, vacuums,      commits,    checkpoints, informs, sets_patience};
 enum { CALLS = sizeof calls / sizeof *calls };
 
 struct pair {

@@ -56,7 +56,7 @@ from ._index import Index, Scan, frames_in_range, path_bytes
 from ._library import version
 from ._values import AnyRow, Entry, Info, Key, Report, Row, Stats
 
-__version__ = "1.1.0"
+__version__ = "1.2.0"
 
 
 def create(path: Any, items: int = 50, pages: int = 4096, log_bytes: int = 1 << 20, unique: bool = False) -> None:
@@ -73,16 +73,18 @@ def create(path: Any, items: int = 50, pages: int = 4096, log_bytes: int = 1 << 
     Held(given).ask(_library.create, name, byref(limits))
 
 
-def open(path: Any, frames: int = 64) -> Index:
+def open(path: Any, frames: int = 64, patience: float = 0.0) -> Index:
     """Opens the index in a file, after any crash, with so many pages in memory (16 to 1,024); makes an empty one where no file is.
 
-    Raises what `Index` and `create` raise. Where two make it at once, one does, and both go on to the opening.
+    With a `patience` a bulk delete waits so many seconds for an open scan. Raises what `Index` and `create` raise. Where two make it at
+    once, one does, and both go on to the opening.
     """
     try:
-        return Index(path, frames)
+        return Index(path, frames, patience)
     except NoFile:
+        # Another has made it just now; or it is a link that leads nowhere, and nothing is made there.
         if os.path.lexists(path):
-            raise
+            return Index(path, frames, patience)
     try:
         create(path)
     except FileIsThere:
@@ -91,7 +93,7 @@ def open(path: Any, frames: int = 64) -> Index:
         # Its draft was placed by another, just now.
         if fault.errno != errno.EBUSY:
             raise
-    return Index(path, frames)
+    return Index(path, frames, patience)
 
 
 def check(path: Any, frames: int = 64) -> Report:

@@ -102,7 +102,7 @@ class Stopped(Error):
 
 
 class Blocked(Error):
-    """An open scan stands on a page that the call needs, `page`. Close the scan, and call again."""
+    """An open scan stands on a page that a vacuum needs, `page`, for longer than the index's `patience`. Close it, and call again."""
 
     number = 4
 
@@ -150,7 +150,7 @@ class VacuumRunning(Error):
 
 
 class NoSession(Error):
-    """63 scans are open. Close one."""
+    """63 scans are open, or 62 beside a vacuum. Close one."""
 
     number = 12
 

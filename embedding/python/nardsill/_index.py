@@ -1,6 +1,7 @@
 """An open index, and its scans."""
 import copy
 import ctypes
+import math
 import operator
 import os
 import struct
@@ -74,6 +75,13 @@ def frames_in_range(frames: int, path: Any) -> int:
     if frames and not 16 <= frames <= 1024:
         raise BadLimits(filename=path)
     return frames
+
+
+def _milliseconds(seconds: float) -> int:
+    """A patience for the library: no shorter than it was given."""
+    if not 0 <= seconds <= 0xFFFFFFFF / 1000:
+        raise ValueError(f"a patience is 0 to 4294967.295 seconds, not {seconds!r}")
+    return min(math.ceil(seconds * 1000), 0xFFFFFFFF)
 
 
 def path_bytes(path: Any) -> bytes:
@@ -266,13 +274,14 @@ class Index:
     TypeError is raised. A row is a pair of a block and an offset, else `BadRow` or TypeError.
     """
 
-    def __init__(self, path: Any, frames: int = 64) -> None:
-        """Opens the index in a file, after any crash, with so many pages in memory (16 to 1,024).
+    def __init__(self, path: Any, frames: int = 64, patience: float = 0.0) -> None:
+        """Opens the index in a file, after any crash, with so many pages in memory (16 to 1,024), and this patience.
 
         Raises `NoFile` and other `Io`, `Locked` where another has the file, `BadLimits` for the frames, and `BadSuper`, `BadVersion`,
         `LogDamaged`, `PageDamaged` or `DeviceTooSmall` where the file holds no sound index.
         """
         name, self.path = path_bytes(path), os.fspath(path)
+        milliseconds = _milliseconds(patience)
         self._held = Held(self.path)
         self._readings: Set[_Reading] = set()
         self._left: List[_Reading] = []
@@ -280,7 +289,21 @@ class Index:
         self._closers: Dict[str, Caller] = {}
         self._is_unique: Optional[bool] = None
         _OPEN.add(self)
+        self._patience = 0.0
         self._held.ask(_library.open, name, frames_in_range(frames, self.path), _byref(self._held.at))
+        if milliseconds:
+            self.patience = patience
+
+    @property
+    def patience(self) -> float:
+        """How many seconds `delete_rows` and `vacuum` wait for open scans at most, at each page on which one stands. At first it is 0, and
+        they raise `Blocked` at once. It may be set at any time, also for those that wait. Raises ValueError where it is below 0."""
+        return self._patience
+
+    @patience.setter
+    def patience(self, seconds: float) -> None:
+        self._ask(_library.set_patience, _milliseconds(seconds))
+        self._patience = seconds
 
     @property
     def closed(self) -> bool:
@@ -342,7 +365,7 @@ class Index:
         ...
 
     def get(self, key: Key, default: Any = None) -> Any:
-        """The row of the first entry with this key, else the default. Raises `NoSession` where 63 scans are open."""
+        """The row of the first entry with this key, else the default. Raises `NoSession` where 63 scans are open (62 beside a vacuum)."""
         name, row = _key(key), RowStruct()
         if self._ask(_library.get, name, len(name), _byref(row)) == NOT_FOUND:
             return default
@@ -391,13 +414,15 @@ class Index:
     def delete_rows(self, rows: Iterable[AnyRow]) -> Stats:
         """Deletes each entry with one of these rows. It reads the whole index: name many rows in one call.
 
-        Raises `Blocked` where an open scan stands on a page of entries. Where it is refused some may be gone, and no other entry is.
+        Calls of other threads go on meanwhile, but for another `delete_rows` or `vacuum`. Raises `Blocked` where an open scan stands on a
+        page of entries for longer than the index's `patience`. Where it is refused some may be gone, and no other entry is.
         """
         few = [ROW_BYTES.pack(*_numbers(row, self.path)) for row in rows]
         return self._counted(_library.delete_rows, b"".join(few), len(few))
 
     def vacuum(self) -> Stats:
-        """Deletes empty pages, and counts what is there. Raises `Blocked` where an open scan stands on a page that it needs."""
+        """Deletes empty pages, and counts what is there. Calls of other threads go on meanwhile. Raises `Blocked` where an open scan stands
+        on a page that it needs for longer than the index's `patience`."""
         return self._counted(_library.vacuum)
 
     def _actions(self, function: Callable[..., int]) -> int:

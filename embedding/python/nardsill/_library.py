@@ -94,6 +94,7 @@ insert_many = _call("insert_many", _at, _at, _len, _at)
 get = _call("get", _at, _at, _len, _at)
 delete_rows = _call("delete_rows", _at, _at, _len, _at)
 vacuum = _call("vacuum", _at, _at)
+set_patience = _call("set_patience", _at, _u32)
 commit = _call("commit", _at, _at)
 checkpoint = _call("checkpoint", _at, _at)
 info = _call("info", _at, _at)
@@ -114,7 +115,7 @@ def sentence(status: int) -> str:
 
 
 def version() -> str:
-    """The library's version, as "1.1.0"."""
+    """The library's version, as "1.2.0"."""
     text: bytes = _version()
     return text.decode()
 

@@ -7,6 +7,7 @@ import subprocess
 import sys
 import time
 import unittest
+from unittest import mock
 
 from room import HERE, Room, listed, nardsill
 
@@ -176,6 +177,11 @@ class Files(Room):
     def test_a_link_that_leads_nowhere(self):
         os.symlink(self.path + ".none", self.path)
         self.refused(nardsill.NoFile, nardsill.open, self.path)
+
+    def test_it_is_made_by_another_just_now(self):
+        with mock.patch.object(os.path, "lexists", lambda path: nardsill.create(path) is None):
+            with nardsill.open(self.path) as index:
+                self.assertEqual(list(index), [])
 
     def test_many_open_at_once(self):
         """Processes race to make it and to add to it. Each meets Locked at most."""

@@ -19,6 +19,7 @@ index.insert(b"key", 5)
 index.scan(b"a", prefix=b"a")
 row: nardsill.Row = index.get(b"key")
 len(index)
+index.patience = "long"
 '''
 
 
@@ -50,7 +51,7 @@ class Types(unittest.TestCase):
                 out.write(WRONG)
             status, told = self.checked("wrong.py", cwd=folder)
         self.assertEqual(status, 1, told)
-        for line in range(4, 9):
+        for line in range(4, 10):
             self.assertIn(f"wrong.py:{line}: error", told)
 
 

@@ -32,7 +32,9 @@ def told(path: str) -> Tuple[str, int]:
 def main(path: str) -> None:
     assert told(path)[1] == 2
     nardsill.create(path, pages=64, log_bytes=65536, unique=True)
-    with nardsill.open(path, frames=32) as index:
+    with nardsill.open(path, frames=32, patience=0.5) as index:
+        index.patience = 2
+        patience: float = index.patience
         assert add_all(index, [(b"a", (1, 1)), (b"a", Row(2, 2))]) == {b"a": (1, 1)}
         number: int = index.insert(bytearray(b"b"), Row(3, 1))
         many: int = index.insert_many([(b"c", (4, 1)), (memoryview(b"d"), Row(5, 1))])
@@ -54,7 +56,7 @@ def main(path: str) -> None:
         is_closed: bool = index.closed
     report: Report = nardsill.check(path)
     version: str = nardsill.version()
-    print(number, many, row, other, found, is_there, keys, entry, rows, stats, left, actions, info, is_closed, report, version)
+    print(patience, number, many, row, other, found, is_there, keys, entry, rows, stats, left, actions, info, is_closed, report, version)
 
 
 if __name__ == "__main__":
