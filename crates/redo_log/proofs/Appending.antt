@@ -1,21 +1,24 @@
 -- One action more waits.
-use Rattle.std.proofs.Common.{◌≡◌, ℕ, zero, suc, ◌+◌, ◌*◌, ◌/◌, ◌<◌, ◌≤◌, List, [], ◌∷◌, ◌++◌, length, drop, sym, ◌∙◌, ap, subst, arith, length-append}
-use Rattle.redo_log.proofs.Imports.{take-append-le, drop-append-le, DiskMoment, Page, SameImages, images_of, with_blocks, new_count, with_images, AreLaid, LogHolds, IsSettled, ImagesFit}
+use Rattle.std.proofs.Common.{◌≡◌, inl, inr, ⊎_elim, true, false, ℕ, zero, suc, ◌+◌, ◌*◌, ◌/◌, ◌<◌, ◌≤◌, List, [], ◌∷◌, ◌++◌, length, drop, sym, ◌∙◌, ap, subst, arith, length-append}
+use Rattle.redo_log.proofs.Imports.{take-append-le, drop-append-le, DiskMoment, Page, SameImages, images_of, with_blocks, new_count, with_images, AreLaid, LogHolds, IsAjar, IsSettled, MayBeLetIn, ImagesFit}
 use Rattle.redo_log.proofs.Imports.{waiting_blocks, waiting_count, Log}
 use Rattle.redo_log.proofs.ImageLists.{same_append, same_trans, same_eq, images_of-push}
 use Rattle.redo_log.proofs.BlockLists.{AreDistinct, distinct, length-with_blocks}
 use Rattle.redo_log.proofs.Laying.{with_images-same}
 
 -- what waits has the images of the action too, each in the place of its block's
-pub keeps_more : (old new : Log) (images : List Page) → new.limits ≡ old.limits → new.at ≡ old.at → new.stopped ≡ old.stopped
+pub keeps_more : (old new : Log) (images : List Page) → new.limits ≡ old.limits → new.at ≡ old.at → new.stopped ≡ old.stopped → new.ajar ≡ old.ajar → new.written ≡ false
     → ((laid : List Page) → AreLaid old.limits (waiting_blocks old) old.buffer.items laid → AreLaid old.limits (waiting_blocks new) new.buffer.items (with_images laid images))
     → (m : DiskMoment) (acts : List (List Page)) (forced : ℕ) → LogHolds old m acts forced → LogHolds new m (acts ++ images ∷ []) forced
-keeps_more old new images limits at stopped laid m acts forced k =
+keeps_more old new images limits at stopped ajar changed laid m acts forced k =
     record {
       alive = stopped ∙ k.alive;
       groups = k.groups;
-      settled = subst (λ l. IsSettled l 4096 new.at k.groups m) (sym limits) (subst (λ a. IsSettled old.limits 4096 a k.groups m) (sym at) k.settled);
       waiting = with_images k.waiting images;
+      gate = ⊎_elim
+          (λ shut. inl (ajar ∙ shut.0, subst (λ l. IsSettled l 4096 new.at k.groups m) (sym limits) (subst (λ a. IsSettled old.limits 4096 a k.groups m) (sym at) shut.1)))
+          (λ may. inr (ajar ∙ may.0, still_let_in may.1)) k.gate;
+      written = λ w. (let both : true ≡ false = sym w ∙ changed in absurd cc);
       waits = subst (λ l. AreLaid l (waiting_blocks new) new.buffer.items (with_images k.waiting images)) (sym limits) (laid k.waiting k.waits);
       few = omega (arith, length-append acts (images ∷ []), k.few);
       durable = subst (λ (l : List (List Page)). SameImages (images_of k.groups) (images_of l)) (sym (take-append-le forced acts (images ∷ []) k.few)) k.durable;
@@ -24,6 +27,17 @@ keeps_more old new images limits at stopped laid m acts forced k =
           (same_trans (k.waiting ++ images) (images_of (drop forced acts) ++ images) (images_of (drop forced (acts ++ images ∷ [])))
           (same_append k.waiting (images_of (drop forced acts)) images k.unforced)
           (same_eq _ _ (sym (ap images_of (drop-append-le forced acts (images ∷ []) k.few) ∙ images_of-push (drop forced acts) images))));
+    }
+  where
+    still_let_in : MayBeLetIn old m acts forced k.groups k.waiting → MayBeLetIn new m (acts ++ images ∷ []) forced k.groups (with_images k.waiting images)
+    still_let_in a = record {
+      group = a.group;
+      ajar = subst (λ l. IsAjar l 4096 new.at k.groups a.group m) (sym limits) (subst (λ n. IsAjar old.limits 4096 n k.groups a.group m) (sym at) a.ajar);
+      part = a.part;
+      from = a.from;
+      to = omega (arith, length-append acts (images ∷ []), a.to);
+      same = subst (λ (l : List (List Page)). SameImages (images_of (k.groups ++ a.group ∷ [])) (images_of l)) (sym (take-append-le a.part acts (images ∷ []) a.to)) a.same;
+      whole = λ w. (let both : true ≡ false = sym w ∙ changed in absurd cc);
     }
 
 -- what waits fits, and so do those that are new: then they fit together

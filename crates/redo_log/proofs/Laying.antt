@@ -1,10 +1,12 @@
 -- A list with one image for each block takes further ones, and so does its buffer.
-use Rattle.std.proofs.Common.{◌≡◌, ◌⊎◌, inl, inr, ℕ, zero, suc, ◌-◌, ◌+◌, ◌*◌, ◌<◌, ◌≤◌, ◌==◌, Bool, true, false, cond, List, [], ◌∷◌, ◌++◌, length, take, drop, get_or, Option, Some, None, refl, sym, ◌∙◌, ap, subst, arith, ⊎_elim, length-drop, append_assoc, length-take-le}
+use Rattle.std.proofs.Common.{◌≡◌, ◌⊎◌, inl, inr, ℕ, zero, suc, ◌-◌, ◌+◌, ◌*◌, ◌<◌, ◌≤◌, ◌==◌, Bool, true, false, cond, List, [], ◌∷◌, ◌++◌, length, take, drop, get_or, Vec, Option, Some, None, refl, sym, ◌∙◌, ap, subst, arith, ⊎_elim, length-drop, append_assoc, length-take-le}
 use Rattle.std.proofs.lemmas.Slice.{take-put_mid}
+use Rattle.std.specs.declared.alloc.Global.{Global}
+use Rattle.std.specs.Vec.{with_items}
 use borrow.Rule.Slice.PartMut.{put_mid}
 use Rattle.page_codec.specs.Spelling.{page_bytes}
 use Rattle.redo_log.proofs.Imports.{take-append-add, drop-append-add, cases_Bool, cases_lt, or_parts, eqb-true, eq-eqb, ne_eqb, both_ways, append-nil, drop_at, drop-append-le, drop-drop}
-use Rattle.redo_log.proofs.Imports.{drop-take, take-take, get_or_append_left, length_push, Format, Page, length-page, if_of, later_of, last_image, SameImages, images_bytes, IsImage, AreImages}
+use Rattle.redo_log.proofs.Imports.{drop-take, take-take, with_items_is, get_or_append_left, length_push, Format, Page, length-page, if_of, later_of, last_image, SameImages, images_bytes, IsImage, AreImages}
 use Rattle.redo_log.proofs.Imports.{image_blocks, is_among_blocks, with_block, with_image, with_images, AreLaid}
 use Rattle.redo_log.proofs.ImageLists.{images_bytes-append, last_image-append, same_eq, same_trans, same_append, same_after, after_head}
 use Rattle.redo_log.proofs.BlockLists.{AreDistinct, is_among-at, with_block-old, with_block-new, distinct-with_block}
@@ -191,3 +193,14 @@ laid_more limits order order' old new p k more lt is distinct fits put image lai
         (cases_lt k (length order)) in
         ap (λ (n : ℕ). take (4096 * n) (written old p k)) size
         ∙ (ap (λ (n : ℕ). take (4096 * (length order + 1)) (written old p n)) last ∙ laid_new limits order old p apart (omega (arith, fits, size)) image laid a)
+
+-- what was laid lies so still where its place wasn't written
+pub laid_still : (limits : Format) (order : List ℕ) (v : Vec ℕ Global) (sealed : List ℕ) (laid : List Page) {given : List ℕ} → given ≡ v.items → length sealed ≡ v.len
+    → take (4096 * length order) (drop 4 sealed) ≡ take (4096 * length order) (drop 4 given) → AreLaid limits order v.items laid → AreLaid limits order (with_items v sealed).items laid
+laid_still limits order v sealed laid was long same a = record {
+  counted = a.counted;
+  images = a.images;
+  blocks = a.blocks;
+  buffered = ap (λ (l : List ℕ). take (4096 * length order) (drop 4 l)) (with_items_is v sealed long)
+      ∙ same ∙ ap (λ (l : List ℕ). take (4096 * length order) (drop 4 l)) was ∙ a.buffered;
+}

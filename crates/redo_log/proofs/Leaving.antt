@@ -1,7 +1,7 @@
 -- What a crash leaves of a log, before and while a group is published, and while the log is closed.
 use Rattle.std.proofs.Common.{◌≡◌, ◌≢◌, ◌⊎◌, inl, inr, ℕ, zero, suc, ◌+◌, ◌-◌, ◌*◌, ◌<◌, ◌≤◌, List, [], ◌∷◌, ◌++◌, length, take, drop, get_or, refl, sym, ◌∙◌, ap, subst, arith, append_assoc, length-append}
-use Rattle.redo_log.proofs.Imports.{cases_eq, append-nil, w32, to_le_bytes, DiskMoment, MayCrashTo, Has, OnDisk, ChangesOnly, kept, on_image, on_front, on_back, on_both, has_both, has_drop}
-use Rattle.redo_log.proofs.Imports.{Format, Page, images_bytes, AreGroups, IsGroup, spelled_groups, body, SpellsGroups, IsShut, IsClosedOrWritten, IsSettled}
+use Rattle.redo_log.proofs.Imports.{cases_eq, append-nil, w32, to_le_bytes, DiskMoment, MayCrashTo, Has, OnDisk, ChangesOnly, kept, synced, synced_on, on_image, on_front, on_back, on_both, has_both, has_drop}
+use Rattle.redo_log.proofs.Imports.{Format, Page, images_bytes, AreGroups, IsGroup, spelled_groups, body, SpellsGroups, IsSettled}
 use Rattle.redo_log.proofs.ImageLists.{length-images_bytes, all-append}
 
 length_number : (n : ℕ) → length (to_le_bytes w32 n) ≡ 4
@@ -50,77 +50,100 @@ some_byte at c lt = record { within = omega arith; each = λ i below. one i belo
     one zero below = (let e : at + 0 ≡ at = omega arith in ap (λ (k : ℕ). get_or c k 0) e)
     one (suc i) below = absurd (omega arith)
 
+-- the groups stand on the disk, and behind them a gate that is closed
 module _ (limits : Format) (start size at : ℕ) (gs : List (List Page)) (m : DiskMoment) (s : IsSettled limits start at gs m) (fits : at + 1 ≤ size) where
-  pub shut_at : IsShut (start + at) m
-  shut_at = record {
-    gate = s.gate;
-    closed = s.closed;
-    on_disk = subst (λ (n : ℕ). OnDisk (start + n) (s.gate ∷ []) m) (sym s.end) (on_back start (spelled_groups gs) (s.gate ∷ []) m s.on_disk);
-  }
-
   pub settled_leaves : (c : List ℕ) → MayCrashTo m c → SpellsGroups limits (take size (drop start c)) gs
   settled_leaves c left = shut_stands limits start size gs s.gate c s.good s.closed (omega (arith, s.end)) (on_image start _ m c s.on_disk left)
 
-  module _ (g : List Page) (is : IsGroup limits g) (room : at + (6 + 4096 * length g) ≤ size) where
-    abbrev piece : List ℕ
-    piece = body g ++ 0 ∷ []
+  pub settled_front : OnDisk start (spelled_groups gs) m
+  settled_front = on_front start (spelled_groups gs) (s.gate ∷ []) m s.on_disk
 
-    pub length_piece : length piece ≡ 5 + 4096 * length g
-    length_piece = omega (arith, length-append (body g) (0 ∷ []), length_body limits g is)
+  -- whatever is written behind the gate
+  pub settled_behind : (n : ℕ) (m' : DiskMoment) → ChangesOnly (start + at + 1) n m m' → IsSettled limits start at gs m'
+  settled_behind n m' only = record {
+    good = s.good;
+    end = s.end;
+    gate = s.gate;
+    closed = s.closed;
+    on_disk = kept (start + at + 1) n start (spelled_groups gs ++ s.gate ∷ []) m m' only (inl (omega (arith, length-append (spelled_groups gs) (s.gate ∷ []), s.end))) s.on_disk;
+  }
 
-    end_is : start + at ≡ start + length (spelled_groups gs)
-    end_is = omega (arith, s.end)
+  -- and once it is synced
+  pub settled_synced : IsSettled limits start at gs (synced m)
+  settled_synced = record {
+    good = s.good;
+    end = s.end;
+    gate = s.gate;
+    closed = s.closed;
+    on_disk = synced_on start (spelled_groups gs ++ s.gate ∷ []) m s.on_disk.has;
+  }
 
-    -- the groups with this gate after them, whatever it is
-    with_gate : (x : ℕ) (c : List ℕ) → Has start (spelled_groups gs) c → Has (start + at) (x ∷ []) c → Has start (spelled_groups gs ++ x ∷ []) c
-    with_gate x c front gate = has_both start (spelled_groups gs) (x ∷ []) c front (subst (λ (n : ℕ). Has n (x ∷ []) c) end_is gate)
+-- the groups, and one more behind a gate
+module _ (limits : Format) (start size at : ℕ) (gs : List (List Page)) (good : AreGroups limits gs) (end : at ≡ length (spelled_groups gs))
+    (g : List Page) (is : IsGroup limits g) (room : at + (6 + 4096 * length g) ≤ size) where
+  abbrev piece : List ℕ
+  piece = body g ++ 0 ∷ []
 
-    with_piece : (x : ℕ) (c : List ℕ) → Has start (spelled_groups gs) c → Has (start + at) (x ∷ []) c → Has (start + at + 1) piece c → Has start (spelled_groups gs ++ (x ∷ piece)) c
-    with_piece x c front gate back =
-        has_both start (spelled_groups gs) (x ∷ piece) c front
-        (subst (λ (n : ℕ). Has n (x ∷ piece) c) end_is (has_both (start + at) (x ∷ []) piece c gate back))
+  pub length_piece : length piece ≡ 5 + 4096 * length g
+  length_piece = omega (arith, length-append (body g) (0 ∷ []), length_body limits g is)
 
-    pushed : spelled_groups gs ++ (1 ∷ piece) ≡ spelled_groups (gs ++ g ∷ []) ++ 0 ∷ []
-    pushed = sym (spelled-push gs g (0 ∷ []))
+  end_is : start + at ≡ start + length (spelled_groups gs)
+  end_is = omega (arith, end)
 
-    length_pushed : length (spelled_groups (gs ++ g ∷ [])) ≡ at + (5 + 4096 * length g)
-    length_pushed = omega (arith, ap length pushed, length-append (spelled_groups gs) (1 ∷ piece), length-append (spelled_groups (gs ++ g ∷ [])) (0 ∷ []), length_piece, s.end)
+  -- the groups with this gate behind them, whatever it is
+  with_gate : (x : ℕ) (c : List ℕ) → Has start (spelled_groups gs) c → Has (start + at) (x ∷ []) c → Has start (spelled_groups gs ++ x ∷ []) c
+  with_gate x c front gate = has_both start (spelled_groups gs) (x ∷ []) c front (subst (λ (n : ℕ). Has n (x ∷ []) c) end_is gate)
 
-    good_pushed : AreGroups limits (gs ++ g ∷ [])
-    good_pushed = all-append (IsGroup limits) gs (g ∷ []) s.good (is, tt)
+  with_piece : (x : ℕ) (c : List ℕ) → Has start (spelled_groups gs) c → Has (start + at) (x ∷ []) c → Has (start + at + 1) piece c → Has start (spelled_groups gs ++ (x ∷ piece)) c
+  with_piece x c front gate back =
+      has_both start (spelled_groups gs) (x ∷ piece) c front
+      (subst (λ (n : ℕ). Has n (x ∷ piece) c) end_is (has_both (start + at) (x ∷ []) piece c gate back))
 
-    -- where the piece stands, a crash leaves the group or not
-    whole : (c : List ℕ) → Has start (spelled_groups gs) c → Has (start + at + 1) piece c → SpellsGroups limits (take size (drop start c)) gs
-        ⊎ SpellsGroups limits (take size (drop start c)) (gs ++ g ∷ [])
-    whole c front back =
-        let x = get_or c (start + at) 0 in
-        let gate : Has (start + at) (x ∷ []) c = some_byte (start + at) c (omega (arith, back.within)) in
-        elim (cases_eq x 1) [
-          | inl is_open ↦ inr (
-              shut_stands limits start size (gs ++ g ∷ []) 0 c good_pushed (λ (e : 0 ≡ 1). absurd (omega arith)) (omega (arith, length_pushed, room))
-              (subst (λ (l : List ℕ). Has start l c) (ap (λ (y : ℕ). spelled_groups gs ++ (y ∷ piece)) is_open ∙ pushed) (with_piece x c front gate back)))
-          | inr shut ↦ inl (shut_stands limits start size gs x c s.good shut (omega (arith, s.end)) (with_gate x c front gate))
-        ]
+  pushed : spelled_groups gs ++ (1 ∷ piece) ≡ spelled_groups (gs ++ g ∷ []) ++ 0 ∷ []
+  pushed = sym (spelled-push gs g (0 ∷ []))
 
-    fronts : (n : DiskMoment) → IsClosedOrWritten (start + at) piece m n → OnDisk start (spelled_groups gs) n
-    fronts n p = kept (start + at) (length piece + 1) start (spelled_groups gs) m n p.only (inl (omega (arith, s.end))) (on_front start (spelled_groups gs) (s.gate ∷ []) m s.on_disk)
+  length_pushed : length (spelled_groups (gs ++ g ∷ [])) ≡ at + (5 + 4096 * length g)
+  length_pushed = omega (arith, ap length pushed, length-append (spelled_groups gs) (1 ∷ piece), length-append (spelled_groups (gs ++ g ∷ [])) (0 ∷ []), length_piece, end)
 
-    pub publishing : (n : DiskMoment) → IsClosedOrWritten (start + at) piece m n → (c : List ℕ) → MayCrashTo n c
-        → SpellsGroups limits (take size (drop start c)) gs ⊎ SpellsGroups limits (take size (drop start c)) (gs ++ g ∷ [])
-    publishing n p c left = elim (p.either shut_at) [
-      | inl shut ↦ inl (shut_stands limits start size gs shut.gate c s.good shut.closed (omega (arith, s.end))
-          (with_gate shut.gate c (on_image start (spelled_groups gs) n c (fronts n p) left) (on_image (start + at) (shut.gate ∷ []) n c shut.on_disk left)))
-      | inr on ↦ whole c (on_image start (spelled_groups gs) n c (fronts n p) left) (on_image (start + at + 1) piece n c on left)
-    ]
+  good_pushed : AreGroups limits (gs ++ g ∷ [])
+  good_pushed = all-append (IsGroup limits) gs (g ∷ []) good (is, tt)
 
-    pub published : (n : DiskMoment) → IsClosedOrWritten (start + at) piece m n → OnDisk (start + at) (1 ∷ piece) n → IsSettled limits start (at + (5 + 4096 * length g)) (gs ++ g ∷ []) n
-    published n p on = record {
-      good = good_pushed;
-      end = sym length_pushed;
-      gate = 0;
-      closed = λ (e : 0 ≡ 1). absurd (omega arith);
-      on_disk = subst (λ (l : List ℕ). OnDisk start l n) pushed (on_both start (spelled_groups gs) (1 ∷ piece) n (fronts n p) (subst (λ (k : ℕ). OnDisk k (1 ∷ piece) n) end_is on));
-    }
+  -- where the group stands, a crash lets it in or not
+  pub lets_in : (n : DiskMoment) → OnDisk start (spelled_groups gs) n → OnDisk (start + at + 1) piece n → (c : List ℕ) → MayCrashTo n c
+      → SpellsGroups limits (take size (drop start c)) gs ⊎ SpellsGroups limits (take size (drop start c)) (gs ++ g ∷ [])
+  lets_in n on_gs on_piece c left =
+      let front : Has start (spelled_groups gs) c = on_image start (spelled_groups gs) n c on_gs left in
+      let back : Has (start + at + 1) piece c = on_image (start + at + 1) piece n c on_piece left in
+      let x = get_or c (start + at) 0 in
+      let gate : Has (start + at) (x ∷ []) c = some_byte (start + at) c (omega (arith, back.within)) in
+      elim (cases_eq x 1) [
+        | inl is_open ↦ inr (
+            shut_stands limits start size (gs ++ g ∷ []) 0 c good_pushed (λ (e : 0 ≡ 1). absurd (omega arith)) (omega (arith, length_pushed, room))
+            (subst (λ (l : List ℕ). Has start l c) (ap (λ (y : ℕ). spelled_groups gs ++ (y ∷ piece)) is_open ∙ pushed) (with_piece x c front gate back)))
+        | inr shut ↦ inl (shut_stands limits start size gs x c good shut (omega (arith, end)) (with_gate x c front gate))
+      ]
+
+  -- and it is one of them once its gate stands open
+  pub let_in : (n : DiskMoment) → OnDisk start (spelled_groups gs) n → OnDisk (start + at) (1 ∷ []) n → OnDisk (start + at + 1) piece n
+      → IsSettled limits start (at + (5 + 4096 * length g)) (gs ++ g ∷ []) n
+  let_in n front gate back = record {
+    good = good_pushed;
+    end = sym length_pushed;
+    gate = 0;
+    closed = λ (e : 0 ≡ 1). absurd (omega arith);
+    on_disk = subst (λ (l : List ℕ). OnDisk start l n) pushed (on_both start (spelled_groups gs) (1 ∷ piece) n front
+        (subst (λ (k : ℕ). OnDisk k (1 ∷ piece) n) end_is (on_both (start + at) (1 ∷ []) piece n gate back)));
+  }
+
+  -- and not, once it stands closed
+  pub shut_out : (n : DiskMoment) → OnDisk start (spelled_groups gs) n → OnDisk (start + at) (0 ∷ []) n → IsSettled limits start at gs n
+  shut_out n front gate = record {
+    good = good;
+    end = end;
+    gate = 0;
+    closed = λ (e : 0 ≡ 1). absurd (omega arith);
+    on_disk = on_both start (spelled_groups gs) (0 ∷ []) n front (subst (λ (k : ℕ). OnDisk k (0 ∷ []) n) end_is gate);
+  }
 
 -- while the first gate is closed, a crash leaves what there was or nothing
 pub resetting : (limits : Format) (start size : ℕ) (gs : List (List Page)) (gate : ℕ) (m n : DiskMoment) → AreGroups limits gs → gate ≢ 1

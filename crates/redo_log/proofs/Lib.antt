@@ -10,4 +10,3 @@ mod Noting
 mod Parsing
 mod Replaying
 mod Resetting
-mod Stages

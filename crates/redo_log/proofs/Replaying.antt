@@ -1,5 +1,5 @@
 -- From what was read to a log that keeps it.
-use Rattle.std.proofs.Common.{◌≡◌, ℕ, ◌+◌, ◌-◌, ◌≤◌, List, [], ◌∷◌, ◌++◌, length, take, drop, get_or, Bool, IsTrue, false, sym, ◌∙◌, ap, subst, arith, append_assoc, length-append, length-drop, length-take-le}
+use Rattle.std.proofs.Common.{◌≡◌, inl, true, ℕ, ◌+◌, ◌-◌, ◌≤◌, List, [], ◌∷◌, ◌++◌, length, take, drop, get_or, Bool, IsTrue, false, sym, ◌∙◌, ap, subst, arith, append_assoc, length-append, length-drop, length-take-le}
 use Rattle.redo_log.proofs.Imports.{drop-length, get_or-drop, get_or-take, get_or_append_left, slice_range, DiskMoment, Has, Format, Page, images_of, IsImage, AreImages, AreGroups, spelled_groups}
 use Rattle.redo_log.proofs.Imports.{SpellsGroups, log_range, IsSettled, waiting_blocks, AreAllImages, AreAllNoted, Replays, IsReplay, bytes_at, Log}
 use Rattle.redo_log.specs.declared.log.Replayed.{Replayed}
@@ -28,8 +28,8 @@ has_range start size file q rest is fits =
 
 pub replayed : (limits : Format) (m : DiskMoment) (log : Log) (bytes : List ℕ) (images : List Page) (at : ℕ) → bytes ≡ log_range limits m.seen
     → 4096 + limits.log_bytes ≤ length m.seen → AreAllImages limits bytes images at
-    → log.limits ≡ limits → log.at ≡ at → waiting_blocks log ≡ [] → log.stopped ≡ false → Replays limits m log images
-replayed limits m log bytes images at are fits r limits_are at_is idle alive =
+    → log.limits ≡ limits → log.at ≡ at → waiting_blocks log ≡ [] → log.stopped ≡ false → log.ajar ≡ false → log.written ≡ false → Replays limits m log images
+replayed limits m log bytes images at are fits r limits_are at_is idle alive shut unwritten =
     let s = r.spells in
     let there : take limits.log_bytes (drop 4096 m.seen) ≡ (spelled_groups r.groups ++ s.gate ∷ []) ++ s.rest = sym are ∙ (s.is ∙ sym (append_assoc (spelled_groups r.groups) (s.gate ∷ []) s.rest)) in
     let has = has_range 4096 limits.log_bytes m.seen (spelled_groups r.groups ++ s.gate ∷ []) s.rest there fits in
@@ -49,14 +49,15 @@ replayed limits m log bytes images at are fits r limits_are at_is idle alive =
       keeps = λ firm. record {
         alive = alive;
         groups = r.groups;
-        settled = subst (λ (l : Format). IsSettled l 4096 log.at r.groups m) (sym limits_are) (record {
+        waiting = [];
+        gate = inl (shut, subst (λ (l : Format). IsSettled l 4096 log.at r.groups m) (sym limits_are) (record {
           good = s.good;
           end = at_is ∙ r.end_is;
           gate = s.gate;
           closed = s.closed;
           on_disk = record { has = has; firm = λ i lt. firm.firm i (omega (arith, lt, long)) };
-        });
-        waiting = [];
+        }));
+        written = λ w. (let both : true ≡ false = sym w ∙ unwritten in absurd cc);
         waits = none_laid log.limits (waiting_blocks log) log.buffer.items idle;
         few = omega arith;
         durable = same_eq _ _ (ap images_of (sym (whole_list r.groups)));
@@ -72,8 +73,8 @@ images_good limits (group ∷ groups) good = all-append (IsImage limits) group (
 -- what was noted of the bytes that were read is what a replay finds
 pub replay_found : (limits : Format) (honest : Bool) (m : DiskMoment) (found : Replayed) (log lasts : List ℕ) (end : ℕ)
     → AreAllNoted limits log lasts end → log ≡ found.log.buffer.items → lasts ≡ found.lasts.items → (IsTrue honest → log ≡ log_range limits m.seen) → 4096 + limits.log_bytes ≤ length m.seen
-    → found.log.limits ≡ limits → found.log.at ≡ end → waiting_blocks found.log ≡ [] → found.log.stopped ≡ false → IsReplay limits honest m found
-replay_found limits honest m found log lasts end n log_is lasts_are read fits limits_are at_is idle alive = record {
+    → found.log.limits ≡ limits → found.log.at ≡ end → waiting_blocks found.log ≡ [] → found.log.stopped ≡ false → found.log.ajar ≡ false → found.log.written ≡ false → IsReplay limits honest m found
+replay_found limits honest m found log lasts end n log_is lasts_are read fits limits_are at_is idle alive shut unwritten = record {
   images = n.images;
   good = subst (AreImages limits) (sym n.all.images_are) (images_good limits n.all.groups n.all.spells.good);
   lasts = record {
@@ -81,5 +82,5 @@ replay_found limits honest m found log lasts end n log_is lasts_are read fits li
         ap (λ (l : List ℕ). bytes_at l (get_or found.lasts.items block 0)) (sym log_is)
         ∙ (ap (λ (l : List ℕ). bytes_at log (get_or l block 0)) (sym lasts_are) ∙ n.noted.each block);
   };
-  replays = λ h. replayed limits m found.log log n.images end (read h) fits n.all limits_are at_is idle alive;
+  replays = λ h. replayed limits m found.log log n.images end (read h) fits n.all limits_are at_is idle alive shut unwritten;
 }

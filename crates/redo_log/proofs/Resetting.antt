@@ -1,8 +1,9 @@
 -- What the closing of a log leaves.
-use Rattle.std.proofs.Common.{◌≡◌, inl, inr, ⊎_elim, ℕ, ◌+◌, ◌<◌, ◌≤◌, List, [], ◌∷◌, length, take, drop, false, Result, Ok, Err, refl, sym, ap, subst, arith}
+use Rattle.std.proofs.Common.{◌≡◌, inl, inr, ⊎_elim, ℕ, ◌+◌, ◌<◌, ◌≤◌, List, [], ◌∷◌, length, take, drop, true, false, Result, Ok, Err, refl, sym, ◌∙◌, ap, subst, arith}
 use Rattle.redo_log.proofs.Imports.{OnOk, DiskMoment, Trace, Writes, Syncs, next, wrote, AtEachMoment, Has, OnDisk, ChangesOnly, steps, goes_on, writes_goes, syncs_goes, goes_weaker, only_wider}
-use Rattle.redo_log.proofs.Imports.{only_more, wrote_only, wrote_has, synced_only, synced_on, Page, images_of, spelled_groups, LogHolds, Waits, RestartsOrEmpty, Log}
+use Rattle.redo_log.proofs.Imports.{only_more, wrote_only, wrote_has, synced_only, synced_on, Page, images_of, spelled_groups, LogHolds, Waits, RestartsOrEmpty, is_ajar, is_written, Log}
 use Rattle.redo_log.proofs.Leaving.{resetting}
+use Rattle.redo_log.proofs.Keeping.{shut_gate}
 use Rattle.redo_log.proofs.ImageLists.{same_refl, same_eq}
 
 -- one byte is written at a place, and synced: at each moment only that byte changes
@@ -30,13 +31,15 @@ module _ (at : ℕ) (t : Trace) (inside : at + 1 ≤ length t.now.seen) where
     byte_on_disk (Err e) v is' = tt
 
 -- while the first gate is closed a crash leaves the actions that were there, or nothing
-pub reset_goes : (log : Log) (old new : Trace) (acts : List (List Page)) (forced : ℕ) → LogHolds log old.now acts forced → 0 < log.at → AtEachMoment (ChangesOnly 4096 1 old.now) old new
+pub reset_goes : (log : Log) (old new : Trace) (acts : List (List Page)) (forced : ℕ) → LogHolds log old.now acts forced → is_ajar log ≡ false → 0 < log.at → AtEachMoment (ChangesOnly 4096 1 old.now) old new
     → AtEachMoment (RestartsOrEmpty log.limits (take forced acts)) old new
-reset_goes log old new acts forced k some gone = goes_weaker _ _ old new (λ n only image left. ⊎_elim
-    (λ s. inl (record { groups = k.groups; spells = s; same = k.durable }))
-    (λ s. inr (record { groups = []; spells = s; same = same_refl [] }))
-    (resetting log.limits 4096 log.limits.log_bytes k.groups k.settled.gate old.now n k.settled.good k.settled.closed k.settled.on_disk
-    (omega (arith, some, k.settled.end)) (omega (arith, log.room, k.settled.end)) only image left)) gone
+reset_goes log old new acts forced k shut some gone =
+    let s = shut_gate log old.now acts forced k shut in
+    goes_weaker _ _ old new (λ n only image left. ⊎_elim
+    (λ s'. inl (record { groups = k.groups; spells = s'; same = k.durable }))
+    (λ s'. inr (record { groups = []; spells = s'; same = same_refl [] }))
+    (resetting log.limits 4096 log.limits.log_bytes k.groups s.gate old.now n s.good s.closed s.on_disk
+    (omega (arith, some, s.end)) (omega (arith, log.room, s.end)) only image left)) gone
 
 pub in_range : (log : Log) (old new : Trace) → AtEachMoment (ChangesOnly 4096 1 old.now) old new → AtEachMoment (ChangesOnly 4096 log.limits.log_bytes old.now) old new
 in_range log old new gone = goes_weaker _ _ old new (λ n only. only_wider 4096 1 4096 log.limits.log_bytes old.now n (omega arith) (omega (arith, log.least)) only) gone
@@ -46,14 +49,16 @@ no_groups : (gs : List (List Page)) → length (spelled_groups gs) ≡ 0 → gs 
 no_groups [] e = refl
 no_groups (g ∷ gs) e = absurd (omega arith)
 
-pub empty_keeps : (log : Log) (m : DiskMoment) (acts : List (List Page)) (forced : ℕ) → LogHolds log m acts forced → log.at ≡ 0 → LogHolds log m (drop forced acts) 0
-empty_keeps log m acts forced k start =
-    let nothing : k.groups ≡ [] = no_groups k.groups (omega (arith, k.settled.end, start)) in
+pub empty_keeps : (log : Log) (m : DiskMoment) (acts : List (List Page)) (forced : ℕ) → LogHolds log m acts forced → is_ajar log ≡ false → log.at ≡ 0 → LogHolds log m (drop forced acts) 0
+empty_keeps log m acts forced k shut start =
+    let settled = shut_gate log m acts forced k shut in
+    let nothing : k.groups ≡ [] = no_groups k.groups (omega (arith, settled.end, start)) in
     record {
       alive = k.alive;
       groups = k.groups;
-      settled = k.settled;
       waiting = k.waiting;
+      gate = inl (shut, settled);
+      written = k.written;
       waits = k.waits;
       few = omega arith;
       durable = same_eq _ _ (ap images_of nothing);
@@ -62,12 +67,13 @@ empty_keeps log m acts forced k start =
 
 -- and so it does once the first gate is closed
 pub reset_keeps : (old : Log) (before : DiskMoment) (acts : List (List Page)) (forced : ℕ) → (k : LogHolds old before acts forced)
-    → (log : Log) (m : DiskMoment) → log.at ≡ 0 → log.stopped ≡ false → Waits log k.waiting → OnDisk 4096 (0 ∷ []) m → LogHolds log m (drop forced acts) 0
-reset_keeps old before acts forced k log m start alive waits on = record {
+    → (log : Log) (m : DiskMoment) → log.at ≡ 0 → log.stopped ≡ false → is_ajar log ≡ false → is_written log ≡ false → Waits log k.waiting → OnDisk 4096 (0 ∷ []) m → LogHolds log m (drop forced acts) 0
+reset_keeps old before acts forced k log m start alive shut unwritten waits on = record {
   alive = alive;
   groups = [];
-  settled = record { good = tt; end = start; gate = 0; closed = λ (e : 0 ≡ 1). absurd (omega arith); on_disk = on };
   waiting = k.waiting;
+  gate = inl (shut, record { good = tt; end = start; gate = 0; closed = λ (e : 0 ≡ 1). absurd (omega arith); on_disk = on });
+  written = λ w. (let both : true ≡ false = sym w ∙ unwritten in absurd cc);
   waits = waits;
   few = omega arith;
   durable = same_refl [];

@@ -2,14 +2,14 @@
 use Rattle.std.specs.Prelude.{◌≡◌, ◌≢◌, ◌⊎◌, ℕ, suc, Result, MatchResult, ◌+◌, ◌-◌, ◌*◌, ◌^◌, ◌≤◌, Bool, false, true, List, [], ◌∷◌, ◌++◌, length, take, drop}
 use Rattle.device.specs.Disk.{DiskMoment, Trace, MayCrashTo}
 use Rattle.device.specs.Moments.{AtEachMoment}
-use Rattle.device.specs.Places.{OnDisk, ChangesOnly, IsUntouched}
+use Rattle.device.specs.Places.{Has, OnDisk, ChangesOnly, IsUntouched}
 use Rattle.page_codec.specs.Places.{log_start}
 use Rattle.index_model.specs.declared.fault.Fault.{Fault}
 use Rattle.index_model.specs.declared.fault.Fault.TheVariants.{Io, Stopped}
 use Rattle.index_model.specs.declared.format.Format.{Format}
 use Rattle.page_codec.specs.declared.page.Page.{Page}
 use Rattle.redo_log.specs.Images.{SameImages, images_of}
-use Rattle.redo_log.specs.Groups.{AreGroups, spelled_groups, SpellsGroups, log_range}
+use Rattle.redo_log.specs.Groups.{AreGroups, IsGroup, body, spelled_groups, SpellsGroups, log_range}
 use Rattle.redo_log.specs.Blocks.{AreLaid}
 use Rattle.redo_log.specs.declared.log.Log.{Log}
 
@@ -32,6 +32,14 @@ waiting_blocks log = log.waiting.blocks.items
 -- how many images wait for a force
 abbrev pub waiting_count : Log → ℕ
 waiting_count log = length (waiting_blocks log)
+
+-- the group that waits stands on the device behind its gate, and nothing was appended since
+abbrev pub is_written : Log → Bool
+is_written log = log.written
+
+-- the gate behind its groups may be open, and a group stands behind it that no sync has let in
+abbrev pub is_ajar : Log → Bool
+is_ajar log = log.ajar
 
 -- where its open groups end, in its range
 abbrev pub groups_end : Log → ℕ
@@ -69,17 +77,41 @@ pub record IsSettled (limits : Format) (start at : ℕ) (groups : List (List Pag
   pub closed : gate ≢ 1
   pub on_disk : OnDisk start (spelled_groups groups ++ gate ∷ []) m
 
+-- Its groups stand on the disk. A group stands behind them, and no crash changes that. The gate between may be open or not.
+pub record IsAjar (limits : Format) (start at : ℕ) (groups : List (List Page)) (group : List Page) (m : DiskMoment)
+    : Type 0 where
+  pub good : AreGroups limits groups
+  pub one : IsGroup limits group
+  pub room : at + (6 + 4096 * length group) ≤ limits.log_bytes
+  pub end : at ≡ length (spelled_groups groups)
+  pub front : OnDisk start (spelled_groups groups) m
+  pub behind : OnDisk (start + at + 1) (body group ++ 0 ∷ []) m
+
 -- these images wait in its buffer, one of each block that waits
 abbrev pub Waits : Log → List Page → Type 0
 Waits log waiting = AreLaid log.limits (waiting_blocks log) log.buffer.items waiting
+
+-- A group stands behind a gate that may be open. Its images and those of the groups are the last ones of a part of the actions, which
+-- has every one that was forced. Where nothing was appended since, it is all that waits, and a read finds its gate open.
+pub record MayBeLetIn (log : Log) (m : DiskMoment) (acts : List (List Page)) (forced : ℕ) (groups : List (List Page)) (waiting : List Page)
+    : Type 0 where
+  pub group : List Page
+  pub ajar : IsAjar log.limits log_start log.at groups group m
+  pub part : ℕ
+  pub from : forced ≤ part
+  pub to : part ≤ length acts
+  pub same : SameImages (images_of (groups ++ group ∷ [])) (images_of (take part acts))
+  pub whole : is_written log ≡ true → (group ≡ waiting) × Has (log_start + log.at) (1 ∷ []) m.seen
 
 -- the log keeps these actions, of which the first so many are forced: on the disk stand the last
 -- images of these, and the last images of the others wait
 pub record LogHolds (log : Log) (m : DiskMoment) (acts : List (List Page)) (forced : ℕ) : Type 0 where
   pub alive : log.stopped ≡ false
   pub groups : List (List Page)
-  pub settled : IsSettled log.limits log_start log.at groups m
   pub waiting : List Page
+  pub gate : ((is_ajar log ≡ false) × IsSettled log.limits log_start log.at groups m)
+      ⊎ ((is_ajar log ≡ true) × MayBeLetIn log m acts forced groups waiting)
+  pub written : is_written log ≡ true → Has (log_start + log.at + 1) (body waiting ++ 0 ∷ []) m.seen
   pub waits : Waits log waiting
   pub few : forced ≤ length acts
   pub durable : SameImages (images_of groups) (images_of (take forced acts))
@@ -114,6 +146,11 @@ RestartsOrEmpty limits acts m =
 abbrev pub AddsAction : List Page → Log → Log → Type 0
 AddsAction images old new = (m : DiskMoment) (acts : List (List Page)) (forced : ℕ)
     → LogHolds old m acts forced → LogHolds new m (acts ++ images ∷ []) forced
+
+-- whatever actions the log kept, it keeps them, and those are forced that were
+abbrev pub KeepsActions : Log → DiskMoment → Log → DiskMoment → Type 0
+KeepsActions old before new after = (acts : List (List Page)) (forced : ℕ)
+    → LogHolds old before acts forced → LogHolds new after acts forced
 
 -- whatever actions the log kept, all of them are forced now
 abbrev pub ForcesAll : Log → DiskMoment → Log → DiskMoment → Type 0

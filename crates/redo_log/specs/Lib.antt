@@ -1,6 +1,5 @@
 pub mod Images
 pub mod Groups
 pub mod Blocks
-pub mod Publish
 pub mod Kept
 pub mod Reading

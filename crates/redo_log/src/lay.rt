@@ -66,8 +66,9 @@ fn put_image(place: &mut [u8], image: &Page)
 /// Puts the number in front of the images, and a closed gate after them.
 pub(crate) fn seal(buffer: &mut [u8], count: u32)
     requires { 5 + 4096 * count ≤ length buffer.old }
-    ensures { take (5 + 4096 * count) buffer.new
+    ensures sealed { take (5 + 4096 * count) buffer.new
         ≡ to_le_bytes w32 count ++ take (4096 * count) (drop 4 buffer.old) ++ 0 ∷ [] }
+    ensures images { take (4096 * count) (drop 4 buffer.new) ≡ take (4096 * count) (drop 4 buffer.old) }
 {
     buffer[..4].copy_from_slice(&count.to_le_bytes());
     buffer[4 + 4096 * count as usize] = 0;

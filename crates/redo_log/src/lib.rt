@@ -2,10 +2,10 @@
 //! that was forced.
 #![tactic(auto)]
 
+mod gate;
 mod image;
 mod lay;
 mod log;
-mod publish;
 mod reading;
 mod waiting;
 

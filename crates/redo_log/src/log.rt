@@ -1,14 +1,14 @@
 //! The log.
 
-ghost use Rattle.std.specs.Prelude.{◌⊎◌, ◌≡◌, ◌≤◌, ◌<◌, ◌+◌, ◌*◌, ◌/◌, ◌^◌, ℕ, suc, true, Err, IsTrue, IsErrOf, OnOk, OnErr, IfOk, IfErr, is_err, length, slice_index, vec_capacity};
+ghost use Rattle.std.specs.Prelude.{◌⊎◌, ◌≡◌, ◌≤◌, ◌<◌, ◌+◌, ◌*◌, ◌/◌, ◌^◌, ℕ, suc, true, false, Err, IsTrue, IsErrOf, OnOk, OnErr, IfOk, IfErr, is_err, length, slice_index, vec_capacity};
 ghost use Rattle.std.specs.Bool.{OnTrue, OnFalse};
 ghost use Rattle.index_model.specs.Limits.{AreLimits};
 ghost use Rattle.page_codec.specs.Places.{log_end};
 ghost use Rattle.redo_log.specs.Groups.{AreImages};
 ghost use Rattle.redo_log.specs.Blocks.{with_blocks, new_count};
 
-use crate::lay::{lay_images, seal};
-use crate::publish::{publish, shut};
+use crate::gate::shut;
+use crate::lay::lay_images;
 use crate::reading::note_groups;
 use crate::waiting::Waiting;
 use device::Device;
@@ -20,28 +20,34 @@ use std::alloc::Global;
 /// was opened.
 #[derive(Drop)]
 pub struct Log {
-    limits: Format,
+    pub(crate) limits: Format,
     /// Where the next group goes.
-    at: usize,
-    actions: u64,
-    stopped: bool,
+    pub(crate) at: usize,
+    pub(crate) actions: u64,
+    pub(crate) stopped: bool,
+    /// The group that waits stands on the device behind its gate, and nothing was appended since.
+    pub(crate) written: bool,
+    /// That gate may be open, and behind it stands a group that no sync has let in.
+    pub(crate) ajar: bool,
     /// The blocks whose images wait, one image for each.
-    waiting: Waiting,
+    pub(crate) waiting: Waiting,
     /// The group that waits: room for the number, and its images.
-    buffer: Vec<u8>,
+    pub(crate) buffer: Vec<u8>,
     ghost least: { 65536 ≤ limits.log_bytes },
     ghost most: { limits.log_bytes ≤ 16777216 },
     ghost sized: { length buffer.items ≡ limits.log_bytes },
     ghost room: { at + 1 ≤ limits.log_bytes },
     ghost fits: { 0 < length waiting.blocks.items
         → at + (6 + 4096 * length waiting.blocks.items) ≤ limits.log_bytes },
+    ghost some_written: { written ≡ true → 0 < length waiting.blocks.items },
+    ghost some_ajar: { ajar ≡ true → 0 < length waiting.blocks.items },
     ghost tabled: { length waiting.places.items ≡ limits.pages },
     ghost listed: { limits.log_bytes / 4096 ≤ vec_capacity waiting.blocks },
 }
 
 impl Log {
-    ghost use Rattle.redo_log.specs.Kept.{limits_of, is_stopped, actions_of, waiting_count, waiting_blocks, groups_end, end_with, ImagesFit, TakesNoMore};
-    ghost use Rattle.redo_log.specs.Kept.{AddsAction, ForcesAll, ForgetsForced, RestartsThroughout, RestartsOrEmptyThroughout, SameLog, ChangesItsRange, KeepsWhileUntouched, WhatItKeepsRestarts, IoOrStopped};
+    ghost use Rattle.redo_log.specs.Kept.{limits_of, is_stopped, is_ajar, actions_of, waiting_count, waiting_blocks, groups_end, end_with, ImagesFit, TakesNoMore};
+    ghost use Rattle.redo_log.specs.Kept.{AddsAction, ForgetsForced, RestartsOrEmptyThroughout, SameLog, ChangesItsRange, KeepsWhileUntouched, WhatItKeepsRestarts, IoOrStopped};
     ghost use Rattle.redo_log.specs.Reading.{IsReplay, IsOpened, IsDamaged, ReplayFails};
 
     /// The sizes that it was opened with.
@@ -119,6 +125,7 @@ impl Log {
         if !self.fits(images) {
             return Err(Fault::LogFull);
         }
+        self.written = false;
         lay_images(&mut self.waiting, &mut self.buffer, images);
         self.actions += 1;
         Ok(self.actions)
@@ -131,59 +138,14 @@ impl Log {
         ensures restarts { WhatItKeepsRestarts self.now }
     {}
 
-    /// Makes every action durable that was appended, and answers how many were since the log was
-    /// opened. It writes one image of each block that waits; with none the device isn't called.
-    ///
-    /// At `Io` the log is stopped; a stopped log answers `Stopped`.
-    pub fn force<D: Device>(&mut self, device: &mut D) -> Result<u64, Fault>
-        requires range { log_end (limits_of self.old) ≤ length (D.trace device.old).now.seen }
-
-        ensures keeps { OnOk result
-            (ForcesAll self.old (D.trace device.old).now self.new (D.trace device.new).now) }
-        ensures moments { RestartsThroughout self.old (D.trace device.old) (D.trace device.new) }
-        ensures number { IfOk result (λ n. n ≡ actions_of self.old) }
-        ensures written { OnOk result (waiting_count self.new ≡ 0) }
-        ensures waiting { OnErr result (waiting_blocks self.new ≡ waiting_blocks self.old) }
-        // It costs at most one image of room.
-        ensures room { OnOk result ((n : ℕ) → end_with self.new n ≤ end_with self.old (suc n)) }
-        ensures refused { OnErr result ((n : ℕ) → end_with self.new n ≡ end_with self.old n) }
-        ensures same { SameLog self.old self.new }
-        ensures stopped { is_stopped self.new ≡ is_err result }
-
-        ensures outside { ChangesItsRange (limits_of self.old)
-            (D.trace device.old) (D.trace device.new) }
-        ensures len { length (D.trace device.new).now.seen ≡ length (D.trace device.old).now.seen }
-        ensures honest { D.is_honest device.new ≡ D.is_honest device.old }
-        ensures idle { IsTrue (is_stopped self.old) ⊎ (waiting_count self.old ≡ 0)
-            → device.new ≡ device.old }
-        ensures stopped_first { is_stopped self.old ≡ true → result ≡ Err Fault.Stopped }
-        ensures cause { IoOrStopped result (is_stopped self.old)
-            (D.failures device.old) (D.failures device.new) }
-    {
-        if self.stopped {
-            return Err(Fault::Stopped);
-        }
-        let count = self.waiting.count();
-        if count == 0 {
-            return Ok(self.actions);
-        }
-        let len = 5 + 4096 * count as usize;
-        seal(&mut self.buffer, count);
-        self.stopped = true;
-        publish(device, LOG_START + self.at as u64, &self.buffer[..len])?;
-        self.at += len;
-        self.waiting.clear();
-        self.stopped = false;
-        Ok(self.actions)
-    }
-
-    /// Closes the log: its groups no longer count, and what waits still waits. Where no group is open
+    /// Closes the log, in which no gate is ajar: its groups no longer count, and what waits still waits. Where no group is open
     /// the device isn't called, since a crash could leave a gate that is written as an open one, in
     /// front of old bytes.
     ///
     /// At `Io` the log is stopped; a stopped log answers `Stopped`.
     pub fn reset<D: Device>(&mut self, device: &mut D) -> Result<(), Fault>
         requires range { log_end (limits_of self.old) ≤ length (D.trace device.old).now.seen }
+        requires shut { is_ajar self.old ≡ false }
 
         ensures keeps { OnOk result
             (ForgetsForced self.old (D.trace device.old).now self.new (D.trace device.new).now) }
@@ -217,6 +179,7 @@ impl Log {
         self.stopped = true;
         shut(device, LOG_START)?;
         self.at = 0;
+        self.written = false;
         self.stopped = false;
         Ok(())
     }
@@ -265,6 +228,8 @@ impl Log {
                 at,
                 actions: 0,
                 stopped: false,
+                written: false,
+                ajar: false,
                 waiting,
                 buffer,
             },

@@ -35,12 +35,17 @@ invariant_of-self-clause-fits c =
     subst (λ (l : List ℕ). 0 < length l → s.at + (6 + 4096 * length l) ≤ s.limits.log_bytes) (sym c.lay_images.ensures.blocks)
     (fits_with s c.args.images.now (OnTrue_at c.if-not-fits.false c.fits.ensures.fit))
 
+pub invariant_of-self-clause-some_ajar : goal.invariant_of-self-clause-some_ajar
+invariant_of-self-clause-some_ajar c = λ ajar.
+    let s = c.args.self.now in
+    omega (arith, ap length c.lay_images.ensures.blocks, length-with_blocks (waiting_blocks s) c.args.images.now, s.some_ajar ajar)
+
 pub returns-clause-keeps : goal.returns-clause-keeps
 returns-clause-keeps c =
     let s = c.args.self.now in
     let images = c.args.images.now in
     let is = with_items_is s.buffer c.lay_images.new.buffer (c.lay_images.auto.buffer ∙ c.deref_mut.ensures.len) in
-    keeps_more s _ images refl refl refl (λ laid a.
+    keeps_more s _ images refl refl refl refl refl (λ laid a.
     subst (λ (l : List ℕ). AreLaid s.limits c.lay_images.new.waiting.blocks.items l (with_images laid images)) (sym is)
     (c.lay_images.ensures.laid s.limits laid c.requires.images (subst (λ (l : List ℕ). AreLaid s.limits (waiting_blocks s) l laid) (sym c.deref_mut.ensures.value) a)))
 

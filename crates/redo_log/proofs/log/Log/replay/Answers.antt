@@ -31,4 +31,4 @@ pub returns-clause-ok : goal.returns-clause-ok
 returns-clause-ok g c =
     let lasts = with_items_is c.in-Ok-vec.lasts c.note_groups.new.lasts (c.note_groups.auto.lasts ∙ c.deref_mut-2.ensures.len) in
     replay_found c.args.limits _ _ _ c.deref.result.now c.note_groups.new.lasts c.in-Some.at c.in-Some.ensures.noted c.deref.ensures.value (sym lasts)
-    (read g (goal.at.returns-clause-ok g c).After-note_groups) c.requires.range refl refl (search rules) refl
+    (read g (goal.at.returns-clause-ok g c).After-note_groups) c.requires.range refl refl (search rules) refl refl refl

@@ -1,5 +1,5 @@
 use Rattle.redo_log.proofs.Resetting.{byte_written, byte_synced, byte_on_disk}
-use Rattle.redo_log.proofs.publish.shut.Goals as goal
+use Rattle.redo_log.proofs.gate.shut.Goals as goal
 
 pub returns-in_err-write_at-clause-moments : goal.returns-in_err-write_at-clause-moments
 returns-in_err-write_at-clause-moments g c = byte_written c.args.gate _ c.requires.inside c.write_at.result _ c.write_at.ensures.trace

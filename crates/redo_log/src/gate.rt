@@ -1,0 +1,249 @@
+//! A group is written behind a closed gate and synced. Then its gate is opened, and that is synced.
+
+ghost use Rattle.std.specs.Prelude.{◌⊎◌, ◌≡◌, ◌+◌, ◌*◌, ◌<◌, ◌≤◌, ℕ, suc, [], ◌∷◌, true, false, Err, IsTrue, IfOk, OnOk, OnErr, is_err, length};
+ghost use Rattle.device.specs.Disk.{CountsFailures};
+ghost use Rattle.device.specs.Moments.{AtEachMoment};
+ghost use Rattle.device.specs.Places.{ChangesOnly, OnDisk};
+ghost use Rattle.page_codec.specs.Places.{log_end};
+
+use crate::lay::seal;
+use crate::log::Log;
+use device::Device;
+use index_model::Fault;
+use page_codec::LOG_START;
+
+/// Closes the gate and syncs that. At each moment only this byte changes.
+pub(crate) fn shut<D: Device>(device: &mut D, gate: u64) -> Result<(), Fault>
+    requires inside { gate + 1 ≤ length (D.trace device.old).now.seen }
+    ensures ok { OnOk result (OnDisk gate (0 ∷ []) (D.trace device.new).now) }
+    ensures moments { AtEachMoment (ChangesOnly gate 1 (D.trace device.old).now)
+        (D.trace device.old) (D.trace device.new) }
+    ensures len { length (D.trace device.new).now.seen ≡ length (D.trace device.old).now.seen }
+    ensures honest { D.is_honest device.new ≡ D.is_honest device.old }
+    ensures failures { CountsFailures result (D.failures device.old) (D.failures device.new) }
+{
+    device.write_at(gate, &[0])?;
+    device.sync()
+}
+
+impl Log {
+    ghost use Rattle.redo_log.specs.Kept.{limits_of, is_stopped, is_written, is_ajar, actions_of, waiting_count, waiting_blocks, groups_end, end_with};
+    ghost use Rattle.redo_log.specs.Kept.{KeepsActions, ForcesAll, RestartsThroughout, SameLog, ChangesItsRange, IoOrStopped};
+
+    // Closes the gate if it may be open: the group behind it is out of date.
+    fn shut_gate<D: Device>(&mut self, device: &mut D) -> Result<(), Fault>
+        requires range { log_end (limits_of self.old) ≤ length (D.trace device.old).now.seen }
+        requires alive { is_stopped self.old ≡ false }
+        requires changed { is_written self.old ≡ false }
+        ensures keeps { OnOk result
+            (KeepsActions self.old (D.trace device.old).now self.new (D.trace device.new).now) }
+        ensures moments { RestartsThroughout self.old (D.trace device.old) (D.trace device.new) }
+        ensures shut { OnOk result (is_ajar self.new ≡ false) }
+        ensures written { is_written self.new ≡ is_written self.old }
+        ensures blocks { waiting_blocks self.new ≡ waiting_blocks self.old }
+        ensures end { groups_end self.new ≡ groups_end self.old }
+        ensures same { SameLog self.old self.new }
+        ensures stopped { is_stopped self.new ≡ is_err result }
+        ensures outside { ChangesItsRange (limits_of self.old)
+            (D.trace device.old) (D.trace device.new) }
+        ensures len { length (D.trace device.new).now.seen ≡ length (D.trace device.old).now.seen }
+        ensures honest { D.is_honest device.new ≡ D.is_honest device.old }
+        ensures failures { CountsFailures result (D.failures device.old) (D.failures device.new) }
+    {
+        if !self.ajar {
+            return Ok(());
+        }
+        self.stopped = true;
+        shut(device, LOG_START + self.at as u64)?;
+        self.stopped = false;
+        self.ajar = false;
+        Ok(())
+    }
+
+    // Writes the group that waits behind its gate, which is closed.
+    fn write_body<D: Device>(&mut self, device: &mut D) -> Result<(), Fault>
+        requires range { log_end (limits_of self.old) ≤ length (D.trace device.old).now.seen }
+        requires alive { is_stopped self.old ≡ false }
+        requires shut { is_ajar self.old ≡ false }
+        requires some { 0 < waiting_count self.old }
+        ensures keeps { OnOk result
+            (KeepsActions self.old (D.trace device.old).now self.new (D.trace device.new).now) }
+        ensures moments { RestartsThroughout self.old (D.trace device.old) (D.trace device.new) }
+        ensures written { OnOk result (is_written self.new ≡ true) }
+        ensures shut { is_ajar self.new ≡ false }
+        ensures blocks { waiting_blocks self.new ≡ waiting_blocks self.old }
+        ensures end { groups_end self.new ≡ groups_end self.old }
+        ensures same { SameLog self.old self.new }
+        ensures stopped { is_stopped self.new ≡ is_err result }
+        ensures outside { ChangesItsRange (limits_of self.old)
+            (D.trace device.old) (D.trace device.new) }
+        ensures len { length (D.trace device.new).now.seen ≡ length (D.trace device.old).now.seen }
+        ensures honest { D.is_honest device.new ≡ D.is_honest device.old }
+        ensures failures { CountsFailures result (D.failures device.old) (D.failures device.new) }
+    {
+        let count = self.waiting.count();
+        let len = 5 + 4096 * count as usize;
+        seal(&mut self.buffer, count);
+        self.stopped = true;
+        device.write_at(LOG_START + self.at as u64 + 1, &self.buffer[..len])?;
+        self.stopped = false;
+        self.written = true;
+        Ok(())
+    }
+
+    /// Writes the group that waits behind its gate, which stays closed, if that isn't done. Answers whether it stands there: none
+    /// waits else. The device is synced next, by `open_gate` or before it.
+    ///
+    /// At `Io` the log is stopped; a stopped log answers `Stopped`.
+    pub fn write_group<D: Device>(&mut self, device: &mut D) -> Result<bool, Fault>
+        requires range { log_end (limits_of self.old) ≤ length (D.trace device.old).now.seen }
+        ensures keeps { OnOk result
+            (KeepsActions self.old (D.trace device.old).now self.new (D.trace device.new).now) }
+        ensures moments { RestartsThroughout self.old (D.trace device.old) (D.trace device.new) }
+        ensures answer { IfOk result (λ is_there. is_there ≡ is_written self.new) }
+        ensures written { OnOk result (0 < waiting_count self.old → is_written self.new ≡ true) }
+        ensures blocks { waiting_blocks self.new ≡ waiting_blocks self.old }
+        ensures end { groups_end self.new ≡ groups_end self.old }
+        ensures same { SameLog self.old self.new }
+        ensures stopped { is_stopped self.new ≡ is_err result }
+        ensures outside { ChangesItsRange (limits_of self.old)
+            (D.trace device.old) (D.trace device.new) }
+        ensures len { length (D.trace device.new).now.seen ≡ length (D.trace device.old).now.seen }
+        ensures honest { D.is_honest device.new ≡ D.is_honest device.old }
+        ensures idle { IsTrue (is_stopped self.old) ⊎ (waiting_count self.old ≡ 0)
+            → device.new ≡ device.old }
+        ensures stopped_first { is_stopped self.old ≡ true → result ≡ Err Fault.Stopped }
+        ensures cause { IoOrStopped result (is_stopped self.old)
+            (D.failures device.old) (D.failures device.new) }
+    {
+        if self.stopped {
+            return Err(Fault::Stopped);
+        }
+        if self.written {
+            return Ok(true);
+        }
+        if self.waiting.count() == 0 {
+            return Ok(false);
+        }
+        self.shut_gate(device)?;
+        self.write_body(device)?;
+        Ok(true)
+    }
+
+    /// Syncs the group that was written, and opens its gate, if that isn't done and nothing was appended since. Answers whether
+    /// that is so. The device is synced next, by `force` or before it.
+    ///
+    /// At `Io` the log is stopped; a stopped log answers `Stopped`.
+    pub fn open_gate<D: Device>(&mut self, device: &mut D) -> Result<bool, Fault>
+        requires range { log_end (limits_of self.old) ≤ length (D.trace device.old).now.seen }
+        ensures keeps { OnOk result
+            (KeepsActions self.old (D.trace device.old).now self.new (D.trace device.new).now) }
+        ensures moments { RestartsThroughout self.old (D.trace device.old) (D.trace device.new) }
+        ensures answer { IfOk result (λ is_open. is_open ≡ is_written self.old) }
+        ensures written { is_written self.new ≡ is_written self.old }
+        ensures ajar { OnOk result (is_written self.old ≡ true → is_ajar self.new ≡ true) }
+        ensures blocks { waiting_blocks self.new ≡ waiting_blocks self.old }
+        ensures end { groups_end self.new ≡ groups_end self.old }
+        ensures same { SameLog self.old self.new }
+        ensures stopped { is_stopped self.new ≡ is_err result }
+        ensures outside { ChangesItsRange (limits_of self.old)
+            (D.trace device.old) (D.trace device.new) }
+        ensures len { length (D.trace device.new).now.seen ≡ length (D.trace device.old).now.seen }
+        ensures honest { D.is_honest device.new ≡ D.is_honest device.old }
+        ensures stopped_first { is_stopped self.old ≡ true → result ≡ Err Fault.Stopped }
+        ensures cause { IoOrStopped result (is_stopped self.old)
+            (D.failures device.old) (D.failures device.new) }
+    {
+        if self.stopped {
+            return Err(Fault::Stopped);
+        }
+        if !self.written {
+            return Ok(false);
+        }
+        if self.ajar {
+            return Ok(true);
+        }
+        self.stopped = true;
+        device.sync()?;
+        device.write_at(LOG_START + self.at as u64, &[1])?;
+        self.stopped = false;
+        self.ajar = true;
+        Ok(true)
+    }
+
+    // Syncs the gate of the group that waits, which is open: all is durable then.
+    fn settle<D: Device>(&mut self, device: &mut D) -> Result<u64, Fault>
+        requires range { log_end (limits_of self.old) ≤ length (D.trace device.old).now.seen }
+        requires alive { is_stopped self.old ≡ false }
+        requires written { is_written self.old ≡ true }
+        requires ajar { is_ajar self.old ≡ true }
+        ensures keeps { OnOk result
+            (ForcesAll self.old (D.trace device.old).now self.new (D.trace device.new).now) }
+        ensures moments { RestartsThroughout self.old (D.trace device.old) (D.trace device.new) }
+        ensures number { IfOk result (λ n. n ≡ actions_of self.old) }
+        ensures written { OnOk result (waiting_count self.new ≡ 0) }
+        ensures shut { OnOk result (is_ajar self.new ≡ false) }
+        ensures waiting { OnErr result (waiting_blocks self.new ≡ waiting_blocks self.old) }
+        ensures room { OnOk result ((n : ℕ) → end_with self.new n ≤ end_with self.old (suc n)) }
+        ensures refused { OnErr result ((n : ℕ) → end_with self.new n ≡ end_with self.old n) }
+        ensures same { SameLog self.old self.new }
+        ensures stopped { is_stopped self.new ≡ is_err result }
+        ensures outside { ChangesItsRange (limits_of self.old)
+            (D.trace device.old) (D.trace device.new) }
+        ensures len { length (D.trace device.new).now.seen ≡ length (D.trace device.old).now.seen }
+        ensures honest { D.is_honest device.new ≡ D.is_honest device.old }
+        ensures failures { CountsFailures result (D.failures device.old) (D.failures device.new) }
+    {
+        let len = 5 + 4096 * self.waiting.count() as usize;
+        self.stopped = true;
+        device.sync()?;
+        self.at += len;
+        self.waiting.clear();
+        self.written = false;
+        self.ajar = false;
+        self.stopped = false;
+        Ok(self.actions)
+    }
+
+    /// Makes every action durable that was appended, and answers how many were since the log was
+    /// opened. It writes one image of each block that waits; with none the device isn't called. What `write_group` and
+    /// `open_gate` have done of it isn't done again.
+    ///
+    /// At `Io` the log is stopped; a stopped log answers `Stopped`.
+    pub fn force<D: Device>(&mut self, device: &mut D) -> Result<u64, Fault>
+        requires range { log_end (limits_of self.old) ≤ length (D.trace device.old).now.seen }
+
+        ensures keeps { OnOk result
+            (ForcesAll self.old (D.trace device.old).now self.new (D.trace device.new).now) }
+        ensures moments { RestartsThroughout self.old (D.trace device.old) (D.trace device.new) }
+        ensures number { IfOk result (λ n. n ≡ actions_of self.old) }
+        ensures written { OnOk result (waiting_count self.new ≡ 0) }
+        ensures shut { OnOk result (is_ajar self.new ≡ false) }
+        ensures waiting { OnErr result (waiting_blocks self.new ≡ waiting_blocks self.old) }
+        // It costs at most one image of room.
+        ensures room { OnOk result ((n : ℕ) → end_with self.new n ≤ end_with self.old (suc n)) }
+        ensures refused { OnErr result ((n : ℕ) → end_with self.new n ≡ end_with self.old n) }
+        ensures same { SameLog self.old self.new }
+        ensures stopped { is_stopped self.new ≡ is_err result }
+
+        ensures outside { ChangesItsRange (limits_of self.old)
+            (D.trace device.old) (D.trace device.new) }
+        ensures len { length (D.trace device.new).now.seen ≡ length (D.trace device.old).now.seen }
+        ensures honest { D.is_honest device.new ≡ D.is_honest device.old }
+        ensures idle { IsTrue (is_stopped self.old) ⊎ (waiting_count self.old ≡ 0)
+            → device.new ≡ device.old }
+        ensures stopped_first { is_stopped self.old ≡ true → result ≡ Err Fault.Stopped }
+        ensures cause { IoOrStopped result (is_stopped self.old)
+            (D.failures device.old) (D.failures device.new) }
+    {
+        if self.stopped {
+            return Err(Fault::Stopped);
+        }
+        if self.waiting.count() == 0 {
+            return Ok(self.actions);
+        }
+        self.write_group(device)?;
+        self.open_gate(device)?;
+        self.settle(device)
+    }
+}
