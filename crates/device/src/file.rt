@@ -1,5 +1,5 @@
 //! A device over a file. Each method makes one call of the file, and notes it with its answer: what the clauses say of a
-//! file rests on these notes.
+//! file rests on these notes. The first write behind a sync asks for the file's lock before.
 
 ghost use Rattle.std.specs.Prelude.{◌≡◌, ◌↔◌, ◌+◌, ◌<◌, ◌≤◌, ◌^◌, ◌∷◌, [], ℕ, List, true, false, IsTrue, Err, length, replicate, OnOk, OnErr, IfOk};
 ghost use Rattle.std.proofs.lemmas.List.{length-replicate};
@@ -61,6 +61,8 @@ impl Start for Unknown {
 struct Locked {
     file: File,
     is_owner: bool,
+    /// Whether the lock was asked for since the last sync.
+    is_asked: bool,
 }
 
 impl Locked {
@@ -68,17 +70,39 @@ impl Locked {
     /// another has the lock, or a call fails: the file is closed then.
     fn take(file: File, is_owner: bool) -> io::Result<Locked> {
         let file = apart(file)?;
-        match file.try_lock() {
-            Ok(()) => Ok(Locked { file, is_owner }),
-            Err(TryLockError::WouldBlock) => Err(Error::from_raw_os_error(WOULD_BLOCK)),
-            Err(TryLockError::Error(error)) => Err(error),
+        lock(&file)?;
+        Ok(Locked {
+            file,
+            is_owner,
+            is_asked: true,
+        })
+    }
+
+    /// Writes at a place. The first write behind a sync asks for the lock before: a file system that lost its servers for a
+    /// while may have lost the lock, and then another may have it. Refused with what the system says, and so if another has
+    /// the lock: nothing is written then.
+    fn write(&mut self, at: u64, bytes: &[u8]) -> io::Result<()> {
+        if !self.is_asked {
+            lock(&self.file)?;
+            self.is_asked = true;
         }
+        self.file.write_all_at(bytes, at)
+    }
+
+    /// Syncs what was written. Refused with what the system says.
+    fn sync(&mut self) -> io::Result<()> {
+        self.is_asked = false;
+        self.file.sync_data()
     }
 }
 
 impl Drop for Locked {
     fn drop(self) {
-        let Locked { file, is_owner } = self;
+        let Locked {
+            file,
+            is_owner,
+            is_asked: _,
+        } = self;
         if is_owner {
             // If it fails, the closing lets the lock go.
             let _ = file.unlock();
@@ -90,8 +114,8 @@ impl Drop for Locked {
 /// other one is opened at the same file, in this process or another. A duplicate of the descriptor shares the lock: see
 /// [`FileDevice::held`]. A device that opened its file itself lets go of the lock by a call before it closes the file.
 ///
-/// A write that fails leaves any bytes in its range. After a failed write or sync each call answers `Io`, as what the file holds
-/// then is not known: a later sync must not make it look firm.
+/// A write that fails leaves any bytes in its range. After a failed write or sync each call answers `Io`, as what the file
+/// holds then is not known: a later sync must not make it look firm. A write fails too if another has the lock by then.
 ///
 /// Its descriptor is none of the three of the standard streams, whatever of these is closed: what is printed there never goes
 /// into the file.
@@ -269,6 +293,15 @@ impl<S: Start> FileDevice<S> {
     }
 }
 
+/// Takes the file's lock, or asks for it again. Refused with what the system says where another has it, or the call fails.
+fn lock(file: &File) -> io::Result<()> {
+    match file.try_lock() {
+        Ok(()) => Ok(()),
+        Err(TryLockError::WouldBlock) => Err(Error::from_raw_os_error(WOULD_BLOCK)),
+        Err(TryLockError::Error(error)) => Err(error),
+    }
+}
+
 /// The file by a descriptor after those of the standard streams: where one of these is closed, a file that is opened takes its
 /// number, and what is printed would be written into it. Refused with what the system says.
 fn apart(file: File) -> io::Result<File> {
@@ -428,7 +461,7 @@ impl<S: Start> Device for FileDevice<S> {
         if self.stopped {
             return Err(self.refuse());
         }
-        match self.locked.file.write_all_at(bytes, at) {
+        match self.locked.write(at, bytes) {
             Ok(()) => {
                 self.events.note(1, at, bytes.len() as u64, true, bytes);
                 Ok(())
@@ -453,7 +486,7 @@ impl<S: Start> Device for FileDevice<S> {
         if self.stopped {
             return Err(self.refuse());
         }
-        match self.locked.file.sync_data() {
+        match self.locked.sync() {
             Ok(()) => {
                 self.events.note(2, 0, 0, true, &[]);
                 Ok(())
