@@ -1,5 +1,5 @@
 //! A device over a file. Each method makes one call of the file, and notes it with its answer: what the clauses say of a
-//! file rests on these notes.
+//! file rests on these notes. The first write behind a sync asks for the file's lock before.
 
 ghost use Rattle.std.specs.Prelude.{◌≡◌, ◌↔◌, ◌+◌, ◌<◌, ◌≤◌, ◌^◌, ◌∷◌, [], ℕ, List, true, false, IsTrue, Err, length, replicate, OnOk, OnErr, IfOk};
 ghost use Rattle.std.proofs.lemmas.List.{length-replicate};
@@ -55,16 +55,73 @@ impl Start for Unknown {
     ghost sized = { length-some_bytes };
 }
 
+/// An open file that is locked. One that owns its open file lets go of the lock by a call before it closes the file: a file
+/// system that learns of a closing late would keep the lock a while. Where others have duplicates of the descriptor, the
+/// lock is theirs too: the last of them lets it go.
+struct Locked {
+    file: File,
+    is_owner: bool,
+    /// Whether the lock was asked for since the last sync.
+    is_asked: bool,
+}
+
+impl Locked {
+    /// Takes the file's lock, by a descriptor after those of the standard streams. Refused with what the system says where
+    /// another has the lock, or a call fails: the file is closed then.
+    fn take(file: File, is_owner: bool) -> io::Result<Locked> {
+        let file = apart(file)?;
+        lock(&file)?;
+        Ok(Locked {
+            file,
+            is_owner,
+            is_asked: true,
+        })
+    }
+
+    /// Writes at a place. The first write behind a sync asks for the lock before: a file system that lost its servers for a
+    /// while may have lost the lock, and then another may have it. Refused with what the system says, and so if another has
+    /// the lock: nothing is written then.
+    fn write(&mut self, at: u64, bytes: &[u8]) -> io::Result<()> {
+        if !self.is_asked {
+            lock(&self.file)?;
+            self.is_asked = true;
+        }
+        self.file.write_all_at(bytes, at)
+    }
+
+    /// Syncs what was written. Refused with what the system says.
+    fn sync(&mut self) -> io::Result<()> {
+        self.is_asked = false;
+        self.file.sync_data()
+    }
+}
+
+impl Drop for Locked {
+    fn drop(self) {
+        let Locked {
+            file,
+            is_owner,
+            is_asked: _,
+        } = self;
+        if is_owner {
+            // If it fails, the closing lets the lock go.
+            let _ = file.unlock();
+        }
+    }
+}
+
 /// A file, which held what `S` says when it was opened. The file's lock is held as long as this value stands, so that no
 /// other one is opened at the same file, in this process or another. A duplicate of the descriptor shares the lock: see
-/// [`FileDevice::held`]. A write that fails leaves any bytes in its range. After a failed write or sync each call answers `Io`,
-/// as what the file holds then is not known: a later sync must not make it look firm.
+/// [`FileDevice::held`]. A device that opened its file itself lets go of the lock by a call before it closes the file.
+///
+/// A write that fails leaves any bytes in its range. After a failed write or sync each call answers `Io`, as what the file
+/// holds then is not known: a later sync must not make it look firm. A write fails too if another has the lock by then.
 ///
 /// Its descriptor is none of the three of the standard streams, whatever of these is closed: what is printed there never goes
 /// into the file.
 #[derive(Drop)]
 pub struct FileDevice<S: Start> {
-    file: File,
+    locked: Locked,
     len: u64,
     start: PhantomData<S>,
     events: Events,
@@ -76,7 +133,7 @@ pub struct FileDevice<S: Start> {
 
 impl<S: Start> FileDevice<S> {
     /// A file of so many bytes, before any call.
-    fn of_file(file: File, len: u64) -> FileDevice<S>
+    fn of_file(locked: Locked, len: u64) -> FileDevice<S>
         requires { len < 2 ^ 63 }
         ensures held { after_calls (S.Start.bytes result.len) result.events.list
             ≡ first (S.Start.bytes len) }
@@ -85,7 +142,7 @@ impl<S: Start> FileDevice<S> {
         ensures runs { result.stopped ≡ false }
     {
         FileDevice {
-            file,
+            locked,
             len,
             start: PhantomData,
             events: Events::new(),
@@ -113,12 +170,12 @@ impl FileDevice<Zeros> {
         ensures runs { IfOk result (λ d. d.stopped ≡ false) }
     {
         want_len(len)?;
-        let file = match apart(File::create_new(rt, path)?) {
-            Ok(file) => file,
+        let locked = match Locked::take(File::create_new(rt, path)?, true) {
+            Ok(locked) => locked,
             Err(error) => return Err(unmade(rt, path, error)),
         };
-        match place_zeros(rt, &file, path, len) {
-            Ok(()) => Ok(FileDevice::of_file(file, len)),
+        match place_zeros(rt, &locked.file, path, len) {
+            Ok(()) => Ok(FileDevice::of_file(locked, len)),
             Err(error) => Err(unmade(rt, path, error)),
         }
     }
@@ -140,9 +197,9 @@ impl FileDevice<Zeros> {
         ensures runs { IfOk result (λ d. d.stopped ≡ false) }
     {
         want_len(len)?;
-        let file = apart(file)?;
-        write_zeros(&file, len, filled)?;
-        Ok(FileDevice::of_file(file, len))
+        let locked = Locked::take(file, false)?;
+        write_zeros(&locked.file, len, filled)?;
+        Ok(FileDevice::of_file(locked, len))
     }
 }
 
@@ -159,7 +216,7 @@ impl<S: Start> FileDevice<S> {
         ensures runs { IfOk result (λ d. d.stopped ≡ false) }
     {
         let file = OpenOptions::new().read(true).write(true).open(rt, path)?;
-        FileDevice::held(file)
+        FileDevice::over(Locked::take(file, true)?)
     }
 
     /// A file that is open already, for reading and writing, with all its bytes; or a block device. It is synced first, so
@@ -168,7 +225,8 @@ impl<S: Start> FileDevice<S> {
     ///
     /// A lock is one open file's. Duplicates of a descriptor, also a forked child's, are of one open file and share its lock:
     /// each of them is taken here. So the caller hands in an open file of which nobody has a duplicate that is used, that
-    /// nobody unlocks, and that doesn't append.
+    /// nobody unlocks, and that doesn't append. The device closes it without a call that unlocks it, as the caller may keep the
+    /// lock by a duplicate: see [`FileDevice::into_owner`].
     pub fn held(file: File) -> io::Result<FileDevice<S>>
         ensures held { IfOk result (λ d. after_calls (S.Start.bytes d.len) d.events.list
             ≡ first (S.Start.bytes d.len)) }
@@ -177,12 +235,34 @@ impl<S: Start> FileDevice<S> {
         ensures failures { IfOk result (λ d. failed_in d.events.list ≡ 0) }
         ensures runs { IfOk result (λ d. d.stopped ≡ false) }
     {
-        let file = apart(file)?;
-        lock(&file)?;
-        file.sync_all()?;
-        let len = len_of(&file)?;
+        FileDevice::over(Locked::take(file, false)?)
+    }
+
+    /// A locked file, synced first, with all its bytes. Refused as [`FileDevice::held`] is.
+    fn over(locked: Locked) -> io::Result<FileDevice<S>>
+        ensures held { IfOk result (λ d. after_calls (S.Start.bytes d.len) d.events.list
+            ≡ first (S.Start.bytes d.len)) }
+        ensures honest { IfOk result
+            (λ d. are_right (S.Start.bytes d.len) d.events.list ≡ true) }
+        ensures failures { IfOk result (λ d. failed_in d.events.list ≡ 0) }
+        ensures runs { IfOk result (λ d. d.stopped ≡ false) }
+    {
+        locked.file.sync_all()?;
+        let len = len_of(&locked.file)?;
         want_len(len)?;
-        Ok(FileDevice::of_file(file, len))
+        Ok(FileDevice::of_file(locked, len))
+    }
+
+    /// This device, as the owner of its open file: it lets go of the lock by a call before it closes the file. For a caller
+    /// that handed an open file in, and uses no duplicate of its descriptor any more.
+    pub fn into_owner(self) -> FileDevice<S>
+        ensures len { result.len ≡ self.len }
+        ensures calls { result.events.list ≡ self.events.list }
+        ensures stopped { result.stopped ≡ self.stopped }
+    {
+        let mut device = self;
+        device.locked.is_owner = true;
+        device
     }
 
     /// Notes a call that is not made, since the file has stopped.
@@ -213,6 +293,15 @@ impl<S: Start> FileDevice<S> {
     }
 }
 
+/// Takes the file's lock, or asks for it again. Refused with what the system says where another has it, or the call fails.
+fn lock(file: &File) -> io::Result<()> {
+    match file.try_lock() {
+        Ok(()) => Ok(()),
+        Err(TryLockError::WouldBlock) => Err(Error::from_raw_os_error(WOULD_BLOCK)),
+        Err(TryLockError::Error(error)) => Err(error),
+    }
+}
+
 /// The file by a descriptor after those of the standard streams: where one of these is closed, a file that is opened takes its
 /// number, and what is printed would be written into it. Refused with what the system says.
 fn apart(file: File) -> io::Result<File> {
@@ -220,16 +309,6 @@ fn apart(file: File) -> io::Result<File> {
         return Ok(file);
     }
     file.try_clone()
-}
-
-/// Takes the file's lock, for as long as the file is open. Refused with what the system says where another has it, or the call
-/// fails.
-fn lock(file: &File) -> io::Result<()> {
-    match file.try_lock() {
-        Ok(()) => Ok(()),
-        Err(TryLockError::WouldBlock) => Err(Error::from_raw_os_error(WOULD_BLOCK)),
-        Err(TryLockError::Error(error)) => Err(error),
-    }
 }
 
 /// Refused for 2^63 bytes or more.
@@ -265,16 +344,14 @@ fn unmade<R: Files<File = File>>(rt: &R, path: &str, error: Error) -> Error {
     error
 }
 
-/// Makes a file this long, all of it written with zeros, and syncs it and its folder. Refused with what the system says.
+/// Makes a locked file this long, all of it written with zeros, and syncs it and its folder. Refused with what the system says.
 fn place_zeros<R: Files<File = File>>(rt: &R, file: &File, path: &str, len: u64) -> io::Result<()> {
     write_zeros(file, len, len)?;
     sync_folder(rt, path)
 }
 
-/// Takes the file's lock, makes it this long, all zero, with so many bytes written, and syncs it. Refused with what the system
-/// says.
+/// Makes a locked file this long, all zero, with so many bytes written, and syncs it. Refused with what the system says.
 fn write_zeros(file: &File, len: u64, filled: u64) -> io::Result<()> {
-    lock(file)?;
     // What it held goes with its old length.
     file.set_len(0)?;
     file.set_len(len)?;
@@ -344,7 +421,7 @@ impl<S: Start> Device for FileDevice<S> {
         if self.stopped {
             return Err(self.refuse());
         }
-        match self.file.read_exact_at(buf, at) {
+        match self.locked.file.read_exact_at(buf, at) {
             Ok(()) => {
                 self.events.note(0, at, buf.len() as u64, true, buf);
                 Ok(())
@@ -384,7 +461,7 @@ impl<S: Start> Device for FileDevice<S> {
         if self.stopped {
             return Err(self.refuse());
         }
-        match self.file.write_all_at(bytes, at) {
+        match self.locked.write(at, bytes) {
             Ok(()) => {
                 self.events.note(1, at, bytes.len() as u64, true, bytes);
                 Ok(())
@@ -409,7 +486,7 @@ impl<S: Start> Device for FileDevice<S> {
         if self.stopped {
             return Err(self.refuse());
         }
-        match self.file.sync_data() {
+        match self.locked.sync() {
             Ok(()) => {
                 self.events.note(2, 0, 0, true, &[]);
                 Ok(())
