@@ -82,6 +82,15 @@ pub record IndexIsKept {S : Type 0} (g : Ghosts S) (upkeep : Upkeep) (result : R
   pub handed_on : counted answer ≡ result
   pub made : EventEffect g (MaintainsStore upkeep) answer (slots_within old) (slots_within new)
 
+-- The pages and the calls are as they were. What fitted the index fits it, and a history that was kept is kept, over crashes in between too.
+pub record IndexStays {S : Type 0} (g : Ghosts S) (old new : Index S) : Type 0 where
+  pub state_is : g.state new.store ≡ g.state old.store
+  pub calls_is : new.calls ≡ old.calls
+  pub rows_is : new.rows ≡ old.rows
+  pub fits : (start : Entry → Bool) (history : List Action) (calls : List Call) → IndexFits g old start history calls → IndexFits g new start history calls
+  pub safe : (start : Entry → Bool) (history : List Action) (calls : List Call) → IndexFits g old start history calls → IndexKeeps g old start history calls
+      → IsCrashSafe g start (snapshot_of (slots_within old) history calls) (snapshot_of (slots_within new) history calls)
+
 -- where the device has kept its model up to now, this holds of whatever fitted the index before
 abbrev pub ForEachIndexHistory : {S : Type 0} → Ghosts S → Index S → Index S → ((Entry → Bool) → List Action → List Call → Type 0) → Type 0
 ForEachIndexHistory g old new goes = ForEachHistory g (slots_within old) (slots_within new) goes

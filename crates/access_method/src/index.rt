@@ -14,7 +14,8 @@ use index_model::{DeadRows, Entry, Fault, Range, RowAddr, Session, VacuumStats};
 use page_action::PageStore;
 use page_store::Store;
 use recovery::Refused;
-use schedule::{checkpoint, force};
+use redo_log::Advance;
+use schedule::{checkpoint, force, same_state_fits};
 use session_calls::{Answer, Calls};
 use std::alloc::Global;
 use std::io::Error;
@@ -564,7 +565,11 @@ impl<S: PageStore> Index<S> {
 }
 
 impl<D: Device> Index<Store<D>> {
-    ghost use Rattle.std.specs.Prelude.{◌≡◌, ℕ, Bool, List, length, IsTrue, IfOk, IfErr, OnOk, MatchResult};
+    ghost use Rattle.std.specs.Prelude.{◌≡◌, ℕ, Bool, List, length, true, IsTrue, IfOk, IfErr, OnOk, OnErr, MatchResult};
+    ghost use Rattle.index_model.specs.Faults.{HasCause};
+    ghost use Rattle.page_action.specs.Causes.{causes_of_forced};
+    ghost use Rattle.page_action.specs.States.{Continues};
+    ghost use Rattle.page_store.specs.Quiet.{IsAdvanced};
     ghost use Rattle.device.specs.Moments.{AtEachMoment, MayHaveCrashedTo};
     ghost use Rattle.index_model.specs.Actions.{Action};
     ghost use Rattle.index_model.specs.Calls.{Call};
@@ -581,7 +586,7 @@ impl<D: Device> Index<Store<D>> {
     ghost use Rattle.tree_acts.specs.TheoremKeys.{IsTreeFor};
     ghost use Rattle.world.specs.Reopening.{IsIndexAfterPrefix};
     ghost use Rattle.access_method.specs.Files.{IsOpenFault};
-    ghost use Rattle.access_method.specs.Indexes.{IndexFits, IndexKeeps, IndexBegins, index_device};
+    ghost use Rattle.access_method.specs.Indexes.{IndexFits, IndexKeeps, IndexBegins, IndexStays, SameTokens, index_device};
 
     /// Opens the index on the device, after any crash, for so many pages in memory at once (16 to 1,024). Refused as `open` of
     /// `recovery` is, with the device given back. It may be called again after any refusal, and after a crash at any moment.
@@ -634,6 +639,28 @@ impl<D: Device> Index<Store<D>> {
             → IsIndexAfterPrefix (state_of D.Device self.now.store).limits start history
             (backing_of (held_by D.Device first)).durable image }
     {}
+
+    /// Does the next part of a commit but for its last sync: writes what waits in the log, or syncs that and opens its gate. A
+    /// sync of the device between two parts makes the next one fast, and so the commit at their end, which alone tells what is
+    /// durable. So readers need not wait for the disk: see [`device::Syncer`]. If an insert or a vacuum logs an action between two
+    /// parts, what waits is written again.
+    ///
+    /// Contents, calls and open scans stay as they are, and so does what is durable. Refused with `Stopped` (3) and `Io` (2).
+    pub fn advance_commit(&mut self) -> Result<Advance, Fault>
+        ensures steps { Continues ⟦<Store<D> as PageStore>⟧.follows self.old.store self.new.store }
+        ensures stays { IndexStays ⟦<Store<D> as PageStore>⟧ self.old self.new }
+        ensures kept { IsAdvanced (backing_of (held_by D.Device self.old.store))
+            (backing_of (held_by D.Device self.new.store)) }
+        ensures failed { OnErr result
+            ((backing_of (held_by D.Device self.new.store)).stopped ≡ true) }
+        ensures cause { IfErr result (HasCause (causes_of_forced
+            (backing_of (held_by D.Device self.old.store))
+            (backing_of (held_by D.Device self.new.store)))) }
+        ensures tokens { SameTokens self.old self.new }
+    {
+        same_state_fits::<Store<D>>();
+        self.store.advance()
+    }
 
     /// What the system said of the last call of the device that failed, if the device is of a system. No clause tells of it.
     pub fn error(&self) -> Option<Error> {

@@ -9,7 +9,9 @@ ghost use Rattle.device.specs.Unknown.{some_bytes, length-some_bytes};
 
 use crate::device::Device;
 use crate::events::Events;
+use crate::shared::{Opened, Syncer};
 use index_model::Fault;
+use std::alloc::{AllocError, Global};
 use std::fs::{self, File, OpenFile, OpenOptions, TryLockError};
 use std::io::{self, Error, ErrorKind, Seek, SeekFrom};
 use std::marker::PhantomData;
@@ -59,7 +61,7 @@ impl Start for Unknown {
 /// system that learns of a closing late would keep the lock a while. Where others have duplicates of the descriptor, the
 /// lock is theirs too: the last of them lets it go.
 struct Locked {
-    file: File,
+    file: Opened,
     is_owner: bool,
     /// Whether the lock was asked for since the last sync.
     is_asked: bool,
@@ -72,7 +74,7 @@ impl Locked {
         let file = apart(file)?;
         lock(&file)?;
         Ok(Locked {
-            file,
+            file: Opened::Alone(file),
             is_owner,
             is_asked: true,
         })
@@ -83,16 +85,32 @@ impl Locked {
     /// the lock: nothing is written then.
     fn write(&mut self, at: u64, bytes: &[u8]) -> io::Result<()> {
         if !self.is_asked {
-            lock(&self.file)?;
+            lock(self.file.file())?;
             self.is_asked = true;
         }
-        self.file.write_all_at(bytes, at)
+        self.file.write(at, bytes)
+    }
+
+    /// This file with a syncer of it. Refused where memory is refused: the file is closed then.
+    fn with_syncer(self, alloc: Global) -> Result<(Locked, Syncer), AllocError> {
+        let Locked {
+            file,
+            is_owner,
+            is_asked,
+        } = self;
+        let (file, syncer) = file.with_syncer(alloc)?;
+        let locked = Locked {
+            file,
+            is_owner,
+            is_asked,
+        };
+        Ok((locked, syncer))
     }
 
     /// Syncs what was written. Refused with what the system says.
     fn sync(&mut self) -> io::Result<()> {
         self.is_asked = false;
-        self.file.sync_data()
+        self.file.sync()
     }
 }
 
@@ -105,7 +123,7 @@ impl Drop for Locked {
         } = self;
         if is_owner {
             // If it fails, the closing lets the lock go.
-            let _ = file.unlock();
+            let _ = file.file().unlock();
         }
     }
 }
@@ -174,7 +192,7 @@ impl FileDevice<Zeros> {
             Ok(locked) => locked,
             Err(error) => return Err(unmade(rt, path, error)),
         };
-        match place_zeros(rt, &locked.file, path, len) {
+        match place_zeros(rt, locked.file.file(), path, len) {
             Ok(()) => Ok(FileDevice::of_file(locked, len)),
             Err(error) => Err(unmade(rt, path, error)),
         }
@@ -198,7 +216,7 @@ impl FileDevice<Zeros> {
     {
         want_len(len)?;
         let locked = Locked::take(file, false)?;
-        write_zeros(&locked.file, len, filled)?;
+        write_zeros(locked.file.file(), len, filled)?;
         Ok(FileDevice::of_file(locked, len))
     }
 }
@@ -247,8 +265,8 @@ impl<S: Start> FileDevice<S> {
         ensures failures { IfOk result (λ d. failed_in d.events.list ≡ 0) }
         ensures runs { IfOk result (λ d. d.stopped ≡ false) }
     {
-        locked.file.sync_all()?;
-        let len = len_of(&locked.file)?;
+        locked.file.file().sync_all()?;
+        let len = len_of(locked.file.file())?;
         want_len(len)?;
         Ok(FileDevice::of_file(locked, len))
     }
@@ -263,6 +281,32 @@ impl<S: Start> FileDevice<S> {
         let mut device = self;
         device.locked.is_owner = true;
         device
+    }
+
+    /// This device, with a syncer of its file. Refused where memory is refused: the file is closed then.
+    pub fn with_syncer(self, alloc: Global) -> Result<(FileDevice<S>, Syncer), AllocError>
+        ensures len { IfOk result (λ both. both.0.len ≡ self.len) }
+        ensures calls { IfOk result (λ both. both.0.events.list ≡ self.events.list) }
+        ensures stopped { IfOk result (λ both. both.0.stopped ≡ self.stopped) }
+    {
+        let FileDevice {
+            locked,
+            len,
+            start,
+            events,
+            stopped,
+            error,
+        } = self;
+        let (locked, syncer) = locked.with_syncer(alloc)?;
+        let device = FileDevice {
+            locked,
+            len,
+            start,
+            events,
+            stopped,
+            error,
+        };
+        Ok((device, syncer))
     }
 
     /// Notes a call that is not made, since the file has stopped.
@@ -421,7 +465,7 @@ impl<S: Start> Device for FileDevice<S> {
         if self.stopped {
             return Err(self.refuse());
         }
-        match self.locked.file.read_exact_at(buf, at) {
+        match self.locked.file.file().read_exact_at(buf, at) {
             Ok(()) => {
                 self.events.note(0, at, buf.len() as u64, true, buf);
                 Ok(())

@@ -7,3 +7,4 @@ pub mod Taking
 pub mod Informing
 pub mod Checking
 pub mod Owning
+pub mod Sharing

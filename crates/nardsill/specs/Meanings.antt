@@ -8,6 +8,8 @@ use Rattle.index_model.specs.declared.stats.VacuumStats.{VacuumStats}
 use Rattle.access_method.specs.declared.token.ScanToken.{ScanToken}
 use Rattle.nardsill.specs.declared.answer.Answer.{Answer}
 use Rattle.nardsill.specs.declared.answer.Given.{Given}
+use Rattle.redo_log.specs.declared.gate.Advance.{Advance}
+use Rattle.redo_log.specs.declared.gate.Advance.TheVariants.{Nothing, Written, Opened}
 use Rattle.whole_calls.specs.declared.inserted.Inserted.{Inserted}
 
 -- the page that a fault names, or 0
@@ -56,6 +58,12 @@ pub record SpellsStats (stats : VacuumStats) (answer : Answer) : Type 0 where
 abbrev pub AnswersPart : Option VacuumStats → Answer → Type 0
 AnswersPart None answer = answer.session ≡ 0
 AnswersPart (Some stats) answer = (answer.session ≡ 1) × SpellsStats stats answer
+
+-- nothing waits for a commit; or its first sync is the next one, or its last one
+abbrev pub AnswersAdvance : Advance → Answer → Type 0
+AnswersAdvance Nothing answer = answer.number ≡ 0
+AnswersAdvance Written answer = answer.number ≡ 1
+AnswersAdvance Opened answer = answer.number ≡ 2
 
 -- so many actions are durable
 pub record AnswersDurable (actions : ℕ) (answer : Answer) : Type 0 where

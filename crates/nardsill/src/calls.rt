@@ -4,17 +4,18 @@ ghost use Rattle.std.specs.Prelude.{◌≡◌, ◌⊎◌, ◌≢◌, None, false
 ghost use Rattle.page_action.specs.States.{Continues};
 ghost use Rattle.schedule.specs.TheoremKinds.{Forces, Checkpoints};
 ghost use Rattle.nardsill.specs.Asking.{SpellsNoEntry, SpellsNoRange};
-ghost use Rattle.nardsill.specs.Serving.{BeginsCleanup, BeginsDelete, BeginsScan, BeginsAgain, CleansIndex, ClosesHandle, Deletes, EndsVacuum, GoesOn, Inserts, IsMisspelled, IsServed, IsUnknown, MakesDurable, Names, ServesCall, AnswersNothing};
-ghost use Rattle.nardsill.specs.Meanings.{AnswersFault, Tells, AnswersDurable, AnswersInserted, AnswersPart, SpellsStats, AnswersToken};
+ghost use Rattle.nardsill.specs.Serving.{Advances, IsSynced, BeginsCleanup, BeginsDelete, BeginsScan, BeginsAgain, CleansIndex, ClosesHandle, Deletes, EndsVacuum, GoesOn, Inserts, IsMisspelled, IsServed, IsUnknown, MakesDurable, Names, ServesCall, AnswersNothing};
+ghost use Rattle.nardsill.specs.Meanings.{AnswersFault, Tells, AnswersAdvance, AnswersDurable, AnswersInserted, AnswersPart, SpellsStats, AnswersToken};
 
 use crate::answer::{Answer, DONE, counted, refused, unfinished};
 use crate::ask::Ask;
-use crate::handle::Handle;
+use crate::handle::{Handle, InFile};
 use access_method::{Index, RowSet, ScanToken};
-use device::{FileDevice, Unknown};
+use device::{Device, FileDevice, Syncer, Unknown};
 use index_model::{Fault, VacuumStats};
 use page_action::PageStore;
 use page_store::Store;
+use redo_log::Advance;
 use std::alloc::Global;
 use std::mem;
 use whole_calls::Inserted;
@@ -28,6 +29,9 @@ pub fn serve(handle: &mut Handle, ask: Ask) -> Answer
         *handle = Handle::new(handle.alloc);
         return DONE;
     }
+    if ask.what == 16 {
+        return sync(&handle.syncer);
+    }
     let alloc = handle.alloc;
     match &mut handle.index {
         None => refused(Fault::NoSession),
@@ -35,9 +39,23 @@ pub fn serve(handle: &mut Handle, ask: Ask) -> Answer
     }
 }
 
+// Syncs the file that another handle's index writes.
+fn sync(syncer: &Option<Syncer>) -> Answer
+    ensures { IsSynced result }
+{
+    match syncer {
+        None => refused(Fault::NoSession),
+        Some(syncer) => match syncer.sync() {
+            Ok(()) => DONE,
+            Err(_) => refused(Fault::Io),
+        },
+    }
+}
+
 // A call of an index that is open.
-fn call<S: PageStore>(alloc: Global, index: &mut Index<S>, dead: &mut RowSet, ask: &Ask) -> Answer
-    ensures { ServesCall S.PageStore ask.now result index.old index.new dead.old dead.new }
+fn call(alloc: Global, index: &mut InFile, dead: &mut RowSet, ask: &Ask) -> Answer
+    ensures { ServesCall ⟦<Store<FileDevice<Unknown>> as PageStore>⟧ ask.now result
+        index.old index.new dead.old dead.new }
 {
     match ask.what {
         1 => insert(index, ask),
@@ -53,6 +71,7 @@ fn call<S: PageStore>(alloc: Global, index: &mut Index<S>, dead: &mut RowSet, as
         12 => begin_clean_up(index),
         13 => go_on(index, ask),
         14 => end_vacuum(index),
+        15 => advance(index),
         _ => refused(Fault::NoSession),
     }
 }
@@ -122,6 +141,28 @@ fn again<S: PageStore>(index: &mut Index<S>, ask: &Ask) -> Answer
         Ok(range) => done(index.amrescan(ask.token(), range)),
         Err(fault) => refused(fault),
     }
+}
+
+// The next part of a commit.
+fn advance<D: Device>(index: &mut Index<Store<D>>) -> Answer
+    ensures steps { Continues ⟦<Store<D> as PageStore>⟧.follows index.old.store index.new.store }
+    ensures means { Advances ⟦<Store<D> as PageStore>⟧ result index.old index.new }
+    ensures quiet { result.is_durable ≡ false }
+{
+    advanced(index.advance_commit())
+}
+
+fn advanced(outcome: Result<Advance, Fault>) -> Answer
+    ensures told { Tells AnswersAdvance outcome result }
+    ensures quiet { result.is_durable ≡ false }
+{
+    let number = match outcome {
+        Ok(Advance::Nothing) => 0,
+        Ok(Advance::Written) => 1,
+        Ok(Advance::Opened) => 2,
+        Err(fault) => return refused(fault),
+    };
+    Answer { number, ..DONE }
 }
 
 fn done(outcome: Result<(), Fault>) -> Answer

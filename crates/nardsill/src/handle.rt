@@ -4,19 +4,21 @@ ghost use Rattle.std.specs.Prelude.{◌≡◌, IfSome, None};
 
 use crate::loose::Loose;
 use access_method::{Index, RowSet};
-use device::{FileDevice, Unknown};
+use device::{FileDevice, Syncer, Unknown};
 use page_store::Store;
 use std::alloc::Global;
 
 /// An index in a file.
 pub type InFile = Index<Store<FileDevice<Unknown>>>;
 
-/// An open index, or none, and the rows that a bulk delete is to take.
+/// An open index, or none, and the rows that a bulk delete is to take; and what syncs the file of that index, or of one that
+/// another handle has.
 #[derive(Drop)]
 pub struct Handle {
     pub alloc: Global,
     pub index: Option<InFile>,
     pub dead: RowSet,
+    pub syncer: Option<Syncer>,
 }
 
 impl Handle {
@@ -29,6 +31,7 @@ impl Handle {
             alloc,
             index: None,
             dead: RowSet::new(),
+            syncer: None,
         }
     }
 }

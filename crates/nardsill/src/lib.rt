@@ -1,6 +1,6 @@
 //! An index in a file that C has open, by calls of C.
 //!
-//! Seven functions are called from C, and from nowhere else. C gives a handle that `nardsill_proved_new` has made, to one call at
+//! Eight functions are called from C, and from nowhere else. C gives a handle that `nardsill_proved_new` has made, to one call at
 //! a time. For a making, an opening and a check it gives a pointer to the number of a file that it has open for reading and
 //! writing. `embedding/` has the header and the wrapper that programs use.
 #![tactic(auto)]
@@ -17,6 +17,7 @@ ghost use Rattle.nardsill.specs.Informing.{IsInformed};
 ghost use Rattle.nardsill.specs.Making.{IsMade};
 ghost use Rattle.nardsill.specs.Owning.{owned_if};
 ghost use Rattle.nardsill.specs.Serving.{IsServed};
+ghost use Rattle.nardsill.specs.Sharing.{IsShared};
 ghost use Rattle.nardsill.specs.Taking.{IsTaken};
 ghost use Rattle.nardsill.specs.contracts.handle.Handle.{the_row};
 ghost use Rattle.std.specs.contracts.fs.File.{the_row as file_row};
@@ -32,6 +33,7 @@ mod layout;
 mod loose;
 mod making;
 mod opening;
+mod sharing;
 
 use crate::answer::{Answer, Given};
 use crate::ask::{Ask, MakeAsk, OpenAsk, Token};
@@ -43,6 +45,7 @@ use crate::handle::{Handle, made};
 use crate::loose::Loose;
 use crate::making::make;
 use crate::opening::take;
+use crate::sharing::share;
 use device::{Device, FileDevice, Start, Unknown, Zeros};
 use page_action::PageStore;
 use page_store::Store;
@@ -112,6 +115,27 @@ pub unsafe extern "C" fn nardsill_proved_take(
     take(
         unsafe { &mut *(at as *mut Handle) },
         unsafe { &mut *file },
+        ask,
+    )
+}
+
+/// Gives a handle what syncs the file of another's index: then the one may sync it, by a call 16, while the other answers calls.
+#[unsafe(no_mangle)]
+pub unsafe extern "C" fn nardsill_proved_share(
+    at: *mut Shell,
+    from: *mut Shell,
+    ask: OpenAsk,
+) -> Answer
+    ghost both: { Handle × Handle }
+    requires* handle { sem 𝓛 (lies_at the_row full_share at both.0) }
+    requires* from { sem 𝓛 (lies_at the_row full_share from both.1) }
+    ensures* handle { ∃ₛ (λ (v : Handle). sem 𝓛 (lies_at the_row full_share at v)
+        ∗ ⌜ IsShared result both.0.index v.index both.0.dead v.dead ⌝) }
+    ensures* from { sem 𝓛 (lies_at the_row full_share from both.1) }
+{
+    share(
+        unsafe { &mut *(at as *mut Handle) },
+        unsafe { &mut *(from as *mut Handle) },
         ask,
     )
 }

@@ -8,7 +8,7 @@ use crate::answer::{Answer, DONE, refused};
 use crate::ask::OpenAsk;
 use crate::handle::Handle;
 use access_method::Index;
-use device::{Device, FileDevice, Start, Unknown};
+use device::{Device, FileDevice, Start, Syncer, Unknown};
 use index_model::Fault;
 use page_action::PageStore;
 use page_store::Store;
@@ -34,29 +34,33 @@ pub fn take(handle: &mut Handle, file: &mut File, ask: OpenAsk) -> Answer
     };
     let descriptor = own.as_raw_fd();
     match opened::<Unknown>(handle.alloc, own, ask.frames) {
-        Ok(index) => {
+        Ok((index, syncer)) => {
             handle.index = Some(index);
+            handle.syncer = Some(syncer);
             Answer { descriptor, ..DONE }
         }
         Err(fault) => refused(fault),
     }
 }
 
-// Opens the index in a file, whatever it held.
+// Opens the index in a file, whatever it held, with what syncs the file.
 fn opened<S: Start>(
     alloc: Global,
     file: File,
     frames: u32,
-) -> Result<Index<Store<FileDevice<S>>>, Fault>
-    ensures begins { IfOk result (BeginsWithFile ⟦<FileDevice<S> as Device>⟧
-        ⟦<Store<FileDevice<S>> as PageStore>⟧ S.Start.bytes) }
+) -> Result<(Index<Store<FileDevice<S>>>, Syncer), Fault>
+    ensures begins { IfOk result (λ both. BeginsWithFile ⟦<FileDevice<S> as Device>⟧
+        ⟦<Store<FileDevice<S>> as PageStore>⟧ S.Start.bytes both.0) }
     ensures fault { IfErr result IsOpenFault }
 {
     let Ok(device) = FileDevice::held(file) else {
         return Err(Fault::Io);
     };
+    let Ok((device, syncer)) = device.with_syncer(alloc) else {
+        return Err(Fault::NoMemory);
+    };
     match Index::open(alloc, device, frames) {
-        Ok(index) => Ok(index),
+        Ok(index) => Ok((index, syncer)),
         Err(refused) => Err(refused.fault),
     }
 }

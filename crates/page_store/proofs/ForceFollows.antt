@@ -1,10 +1,10 @@
 -- Pages after a force follow those before it, whether it succeeded or failed.
-use Rattle.std.proofs.Common.{◌≡◌, inr, ℕ, ◌<◌, ◌≤◌, Bool, true, false, List, [], length, take, drop, refl, sym, subst, ◌∙◌, arith, length-drop}
+use Rattle.std.proofs.Common.{◌≡◌, inr, Result, Ok, Err, ℕ, ◌<◌, ◌≤◌, Bool, true, false, List, [], length, take, drop, refl, sym, subst, ◌∙◌, arith, length-drop}
 use Rattle.page_codec.specs.Spelling.{page_bytes}
 use Rattle.page_codec.specs.Places.{superblock, place}
 use Rattle.page_store.proofs.Imports.{append-nil, DiskMoment, Trace, AtEachMoment, Has, OnDisk, ChangesOnly, goes_weaker, goes_both, goes_now, same_only, has_kept, Format, Page, AreStored}
 use Rattle.page_store.proofs.Imports.{images_of, LogHolds, Restarts, limits_of, is_stopped, Log, keeps_restarts, pages_after, AreActs, CrashesToPart, Held, AreHome, IsKept, IsOwn, GrowsTo}
-use Rattle.page_store.proofs.Imports.{Follows, History}
+use Rattle.page_store.proofs.Imports.{Follows, History, KeepsActions, OnOk, is_err}
 use Rattle.page_store.proofs.Images.{none_among_fewer}
 use Rattle.page_store.proofs.Restarting.{home_kept, superblock_kept, leaves_part}
 
@@ -83,6 +83,46 @@ module _ (old : Held) (log : Log) (trace : Trace) (honest : Bool) (failures : �
         (goes_now _ old.trace trace (leaves_between own) own.leaves)
         (λ still. (let both : true ≡ false = sym stopped ∙ still in absurd cc));
   }
+
+  -- a part of it succeeded
+  module _ (keeps : (acts : List (List Page)) (forced : ℕ) → LogHolds old.log old.trace.now acts forced → LogHolds log trace.now acts forced) where
+    kept_so_far : (own : IsOwn old) → IsKept log trace.now old.unwritten h old.durable
+    kept_so_far own =
+        let k = own.kept alive in
+        let since = drop k.base h.acts in
+        record {
+          base = k.base;
+          forced = k.forced;
+          base_few = k.base_few;
+          durable_is = k.durable_is;
+          log_keeps = keeps since k.forced k.log_keeps;
+          home = subst (λ (x : Format). AreHome x (images_of (take k.forced since)) (pages_after h k.base) trace.now) (sym limits)
+              (home_kept l _ _ old.trace.now trace.now only_now k.home);
+          superblock_on = subst (λ (x : Format). OnDisk 0 (superblock x) trace.now) (sym limits) (superblock_kept l 4096 l.log_bytes old.trace.now trace.now (omega arith) only_now k.superblock_on);
+          named = k.named;
+          last = k.last;
+          written = λ block page found clean image.
+              subst (λ (x : Format). Has (place x block) (page_bytes page) trace.now.seen) (sym limits)
+              (has_kept 4096 l.log_bytes (place l block) (page_bytes page) old.trace.now trace.now only_now (inr (omega arith)) (k.written block page found clean image));
+        }
+
+    pub follows_part : is_stopped log ≡ false → Follows old (record old { log = log; trace = trace; honest = honest; failures = failures })
+    follows_part living = record {
+      later = record {
+        failures = more_failures;
+        durable = omega arith;
+        stopped = λ s. (let both : true ≡ false = sym s ∙ alive in absurd cc);
+        stop_has_cause = λ s. (let both : true ≡ false = sym s ∙ living in absurd cc);
+        honest = λ s. sym same_honest ∙ s;
+      };
+      grows = λ own. extends_to own old.durable old.room (goes_now _ old.trace trace (leaves_between own) own.leaves) (λ still. kept_so_far own);
+    }
+
+  -- a part of it succeeded or failed
+  pub follows_advanced : {T E : Type 0} (r : Result T E) → is_stopped log ≡ is_err r → OnOk r (KeepsActions old.log old.trace.now log trace.now)
+      → (is_err r ≡ true → old.failures < failures) → Follows old (record old { log = log; trace = trace; honest = honest; failures = failures })
+  follows_advanced (Ok x) stopped keeps failed = follows_part keeps stopped
+  follows_advanced (Err e) stopped keeps failed = follows_failed_force stopped (failed refl)
 
   -- it succeeded
   module _ (keeps : (acts : List (List Page)) (forced : ℕ) → LogHolds old.log old.trace.now acts forced → LogHolds log trace.now acts (length acts)) (behind : old.durable ≤ old.acts) (room : ℕ) where

@@ -4,6 +4,7 @@ use Rattle.buffer_pool.specs.Pools.{changed_of}
 use Rattle.device.specs.declared.device.Device.{Ghosts}
 use Rattle.page_action.specs.Order.{IsPartOf}
 use Rattle.page_action.specs.Room.{WaitsOn}
+use Rattle.page_action.specs.States.{Backing}
 use Rattle.page_store.specs.Following.{Follows}
 use Rattle.page_store.specs.Logged.{held_of, backing_of, SamePages}
 use Rattle.page_store.specs.declared.logged_pages.LoggedPages.{LoggedPages}
@@ -23,3 +24,11 @@ pub record IsUnforced {D : Type 0} (g : Ghosts D) (old new : LoggedPages D g) : 
   pub log : new.log ≡ old.log
   pub durable : new.durable ≡ old.durable
   pub room : new.room ≡ old.room
+
+-- no act is durable that wasn't; the room, what is promised of it, the changed pages and what waits in the log are as they were
+pub record IsAdvanced (old new : Backing) : Type 0 where
+  pub durable : new.durable ≡ old.durable
+  pub room : new.room ≡ old.room
+  pub promised : new.promised ≡ old.promised
+  pub changed : new.changed ≡ old.changed
+  pub waiting : new.waiting ≡ old.waiting

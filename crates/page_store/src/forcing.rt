@@ -19,6 +19,7 @@ use crate::logged_pages::LoggedPages;
 use crate::writing::write_page;
 use device::Device;
 use index_model::Fault;
+use redo_log::Advance;
 
 impl<D: Device> LoggedPages<D> {
     /// Makes all acts durable. Refused with `Io` and `Stopped`.
@@ -50,6 +51,26 @@ impl<D: Device> LoggedPages<D> {
             self.room = self.room.min(self.log.room());
         }
         Ok(self.acts)
+    }
+
+    /// Does the next part of a force but for its last sync, as the log does. Refused with `Io` and `Stopped`.
+    pub fn advance(&mut self) -> Result<Advance, Fault>
+        ensures steps { Follows (held_of D.Device self.old) (held_of D.Device self.new) }
+        ensures pages { SamePages D.Device self.old self.new }
+        ensures pool { self.new.pool ≡ self.old.pool }
+        ensures durable { self.new.durable ≡ self.old.durable }
+        ensures room { SameRoom D.Device self.old self.new }
+        ensures waiting { waiting_blocks self.new.log ≡ waiting_blocks self.old.log }
+        ensures stopped { is_stopped self.old.log ≡ true → result ≡ Err Fault.Stopped }
+        ensures failed { is_stopped self.new.log ≡ is_err result }
+        ensures honest { D.is_honest self.new.device ≡ D.is_honest self.old.device }
+        ensures cause { IoOrStopped result (is_stopped self.old.log)
+            (D.failures self.old.device) (D.failures self.new.device) }
+    {
+        if self.log.is_stopped() {
+            return Err(Fault::Stopped);
+        }
+        self.log.advance(&mut self.device)
     }
 
     // Writes the page of a block whose last act is durable to its place. Refused with `Io`.

@@ -12,7 +12,7 @@ use index_model::{Fault, Format, Limits, Session};
 use latch_table::Mode;
 use page_action::{CallTable, PageStore};
 use page_codec::Page;
-use redo_log::Log;
+use redo_log::{Advance, Log};
 use std::io::Error;
 
 /// The pages of an index over a device: a log makes acts durable, and a crash leaves the pages after some prefix
@@ -28,7 +28,11 @@ pub struct Store<D: Device> {
 }
 
 impl<D: Device> Store<D> {
-    ghost use Rattle.std.specs.Prelude.{ℕ, suc, ◌<◌, ◌++◌, List, [], true, All, IsSome, OnOk, IfErr, map};
+    ghost use Rattle.std.specs.Prelude.{ℕ, suc, ◌<◌, ◌++◌, List, [], true, Err, All, IsSome, OnOk, OnErr, IfErr, map};
+    ghost use Rattle.index_model.specs.Faults.{HasCause};
+    ghost use Rattle.page_action.specs.Causes.{causes_of_forced};
+    ghost use Rattle.page_action.specs.States.{Continues};
+    ghost use Rattle.page_store.specs.StoreLaws.{follows_by};
     ghost use Rattle.buffer_pool.specs.Pools.{most_of, frame_of};
     ghost use Rattle.latch_table.specs.Holdings.{pinned_blocks};
     ghost use Rattle.page_action.specs.Stored.{AreActable};
@@ -41,7 +45,7 @@ impl<D: Device> Store<D> {
     ghost use Rattle.page_store.specs.Following.{Follows};
     ghost use Rattle.page_codec.specs.Places.{place};
     ghost use Rattle.page_store.specs.Restart.{RestartsToPart};
-    ghost use Rattle.page_store.specs.Quiet.{IsSameButWritten};
+    ghost use Rattle.page_store.specs.Quiet.{IsAdvanced, IsSameButWritten};
     ghost use Rattle.page_store.specs.Rooms.{limits_of_room, frames_of_room, pages_of_room, counts_of_room};
     ghost use Rattle.page_store.specs.Stores.{state_of, held_by, device_of, store_history, opened_state, IsOwnStore};
     ghost use Rattle.page_store.specs.Taking.{GetFrames, TakingFails};
@@ -81,6 +85,22 @@ impl<D: Device> Store<D> {
             ),
             calls: CallTable::new(room.numbers, room.calls, last_cycle),
         }
+    }
+
+    /// Does the next part of a force but for its last sync: writes what waits in the log, or syncs that and opens its gate. A
+    /// sync of the device between two parts makes the next one's fast, and that of the force at their end. Where an act comes
+    /// between, what waits is written again. Refused with `Io` and `Stopped`: the log is stopped then.
+    pub fn advance(&mut self) -> Result<Advance, Fault>
+        ensures steps { Continues (follows_by D.Device) self.old self.new }
+        ensures state { state_of D.Device self.new ≡ state_of D.Device self.old }
+        ensures kept { IsAdvanced (backing_of (held_by D.Device self.old))
+            (backing_of (held_by D.Device self.new)) }
+        ensures stopped { is_stopped self.old.held.log ≡ true → result ≡ Err Fault.Stopped }
+        ensures failed { OnErr result (is_stopped self.new.held.log ≡ true) }
+        ensures cause { IfErr result (HasCause (causes_of_forced
+            (backing_of (held_by D.Device self.old)) (backing_of (held_by D.Device self.new)))) }
+    {
+        self.held.advance()
     }
 
     /// What the system said of the last call of the device that failed, if the device is of a system. No clause tells of it.

@@ -160,15 +160,18 @@ module _ (log : Log) (acts : List (List Page)) (forced : ℕ) where
             alive = alive;
             groups = k.groups;
             waiting = k.waiting;
-            gate = inr (ajar, record {
-              group = k.waiting;
-              ajar = subst (λ (l : Format). IsAjar l 4096 log'.at k.groups k.waiting v.now) (sym limits) (subst (λ (n : ℕ). IsAjar log.limits 4096 n k.groups k.waiting v.now) (sym at) stands);
-              part = length acts;
-              from = k.few;
-              to = omega arith;
-              same = all_there;
-              whole = λ w. (refl, subst (λ (n : ℕ). Has (4096 + n) (1 ∷ []) v.now.seen) (sym at) opened);
-            });
+            gate = inr (
+              ajar,
+              record {
+                group = k.waiting;
+                ajar = subst (λ (l : Format). IsAjar l 4096 log'.at k.groups k.waiting v.now) (sym limits) (subst (λ (n : ℕ). IsAjar log.limits 4096 n k.groups k.waiting v.now) (sym at) stands);
+                part = length acts;
+                from = k.few;
+                to = omega arith;
+                same = all_there;
+                whole = λ w. (refl, subst (λ (n : ℕ). Has (4096 + n) (1 ∷ []) v.now.seen) (sym at) opened);
+              },
+            );
             written = λ w. subst (λ (n : ℕ). Has (4096 + n + 1) (body k.waiting ++ 0 ∷ []) v.now.seen) (sym at) stands.behind.has;
             waits = waits;
             few = k.few;
@@ -203,9 +206,12 @@ module _ (log : Log) (acts : List (List Page)) (forced : ℕ) where
           alive = alive;
           groups = k.groups ++ may.group ∷ [];
           waiting = [];
-          gate = inl (shut, subst (λ (l : Format). IsSettled l 4096 log'.at (k.groups ++ may.group ∷ []) u.now) (sym limits)
-              (subst (λ (n : ℕ). IsSettled log.limits 4096 n (k.groups ++ may.group ∷ []) u.now) end
-              (subst (IsSettled log.limits 4096 (log.at + (5 + 4096 * length may.group)) (k.groups ++ may.group ∷ [])) (sym there) is_let_in)));
+          gate = inl (
+            shut,
+            subst (λ (l : Format). IsSettled l 4096 log'.at (k.groups ++ may.group ∷ []) u.now) (sym limits)
+                (subst (λ (n : ℕ). IsSettled log.limits 4096 n (k.groups ++ may.group ∷ []) u.now) end
+                (subst (IsSettled log.limits 4096 (log.at + (5 + 4096 * length may.group)) (k.groups ++ may.group ∷ [])) (sym there) is_let_in)),
+          );
           written = λ w. (let both : true ≡ false = sym w ∙ unwritten in absurd cc);
           waits = none_laid log'.limits (waiting_blocks log') log'.buffer.items none_waits;
           few = omega arith;

@@ -50,13 +50,16 @@ replayed limits m log bytes images at are fits r limits_are at_is idle alive shu
         alive = alive;
         groups = r.groups;
         waiting = [];
-        gate = inl (shut, subst (λ (l : Format). IsSettled l 4096 log.at r.groups m) (sym limits_are) (record {
-          good = s.good;
-          end = at_is ∙ r.end_is;
-          gate = s.gate;
-          closed = s.closed;
-          on_disk = record { has = has; firm = λ i lt. firm.firm i (omega (arith, lt, long)) };
-        }));
+        gate = inl (
+          shut,
+          subst (λ (l : Format). IsSettled l 4096 log.at r.groups m) (sym limits_are) (record {
+            good = s.good;
+            end = at_is ∙ r.end_is;
+            gate = s.gate;
+            closed = s.closed;
+            on_disk = record { has = has; firm = λ i lt. firm.firm i (omega (arith, lt, long)) };
+          }),
+        );
         written = λ w. (let both : true ≡ false = sym w ∙ unwritten in absurd cc);
         waits = none_laid log.limits (waiting_blocks log) log.buffer.items idle;
         few = omega arith;

@@ -26,6 +26,17 @@ pub(crate) fn shut<D: Device>(device: &mut D, gate: u64) -> Result<(), Fault>
     device.sync()
 }
 
+/// What a part of a force did.
+#[derive(Drop, Clone, Copy)]
+pub enum Advance {
+    /// Nothing waits.
+    Nothing,
+    /// The group that waits was written. A sync makes it firm.
+    Written,
+    /// Its gate was opened. A sync makes all that waits durable, and `force` tells that.
+    Opened,
+}
+
 impl Log {
     ghost use Rattle.redo_log.specs.Kept.{limits_of, is_stopped, is_written, is_ajar, actions_of, waiting_count, waiting_blocks, groups_end, end_with};
     ghost use Rattle.redo_log.specs.Kept.{KeepsActions, ForcesAll, RestartsThroughout, SameLog, ChangesItsRange, IoOrStopped};
@@ -91,11 +102,9 @@ impl Log {
         Ok(())
     }
 
-    /// Writes the group that waits behind its gate, which stays closed, if that isn't done. Answers whether it stands there: none
-    /// waits else. The device is synced next, by `open_gate` or before it.
-    ///
-    /// At `Io` the log is stopped; a stopped log answers `Stopped`.
-    pub fn write_group<D: Device>(&mut self, device: &mut D) -> Result<bool, Fault>
+    // Writes the group that waits behind its gate, which stays closed, if that isn't done. Answers whether it stands there: none
+    // waits else.
+    fn write_group<D: Device>(&mut self, device: &mut D) -> Result<bool, Fault>
         requires range { log_end (limits_of self.old) ≤ length (D.trace device.old).now.seen }
         ensures keeps { OnOk result
             (KeepsActions self.old (D.trace device.old).now self.new (D.trace device.new).now) }
@@ -130,11 +139,9 @@ impl Log {
         Ok(true)
     }
 
-    /// Syncs the group that was written, and opens its gate, if that isn't done and nothing was appended since. Answers whether
-    /// that is so. The device is synced next, by `force` or before it.
-    ///
-    /// At `Io` the log is stopped; a stopped log answers `Stopped`.
-    pub fn open_gate<D: Device>(&mut self, device: &mut D) -> Result<bool, Fault>
+    // Syncs the group that was written, and opens its gate, if that isn't done and nothing was appended since. Answers whether
+    // that is so.
+    fn open_gate<D: Device>(&mut self, device: &mut D) -> Result<bool, Fault>
         requires range { log_end (limits_of self.old) ≤ length (D.trace device.old).now.seen }
         ensures keeps { OnOk result
             (KeepsActions self.old (D.trace device.old).now self.new (D.trace device.new).now) }
@@ -169,6 +176,43 @@ impl Log {
         self.stopped = false;
         self.ajar = true;
         Ok(true)
+    }
+
+    /// Does the next part of a force but for its last sync, which is `force`'s: it writes the group that waits, or syncs that and
+    /// opens its gate. A sync of the device between two parts makes the next one's fast. What is appended between two parts makes
+    /// the next one write the group again.
+    ///
+    /// At `Io` the log is stopped; a stopped log answers `Stopped`.
+    pub fn advance<D: Device>(&mut self, device: &mut D) -> Result<Advance, Fault>
+        requires range { log_end (limits_of self.old) ≤ length (D.trace device.old).now.seen }
+        ensures keeps { OnOk result
+            (KeepsActions self.old (D.trace device.old).now self.new (D.trace device.new).now) }
+        ensures moments { RestartsThroughout self.old (D.trace device.old) (D.trace device.new) }
+        ensures nothing { IfOk result (λ advance. advance ≡ Advance.Nothing → waiting_count self.old ≡ 0) }
+        ensures written { IfOk result (λ advance. advance ≡ Advance.Written → is_written self.new ≡ true) }
+        ensures opened { IfOk result (λ advance. advance ≡ Advance.Opened
+            → (is_written self.new ≡ true) × (is_ajar self.new ≡ true)) }
+        ensures blocks { waiting_blocks self.new ≡ waiting_blocks self.old }
+        ensures end { groups_end self.new ≡ groups_end self.old }
+        ensures same { SameLog self.old self.new }
+        ensures stopped { is_stopped self.new ≡ is_err result }
+        ensures outside { ChangesItsRange (limits_of self.old)
+            (D.trace device.old) (D.trace device.new) }
+        ensures len { length (D.trace device.new).now.seen ≡ length (D.trace device.old).now.seen }
+        ensures honest { D.is_honest device.new ≡ D.is_honest device.old }
+        ensures stopped_first { is_stopped self.old ≡ true → result ≡ Err Fault.Stopped }
+        ensures cause { IoOrStopped result (is_stopped self.old)
+            (D.failures device.old) (D.failures device.new) }
+    {
+        if self.written {
+            self.open_gate(device)?;
+            return Ok(Advance::Opened);
+        }
+        if self.write_group(device)? {
+            Ok(Advance::Written)
+        } else {
+            Ok(Advance::Nothing)
+        }
     }
 
     // Syncs the gate of the group that waits, which is open: all is durable then.
@@ -206,8 +250,8 @@ impl Log {
     }
 
     /// Makes every action durable that was appended, and answers how many were since the log was
-    /// opened. It writes one image of each block that waits; with none the device isn't called. What `write_group` and
-    /// `open_gate` have done of it isn't done again.
+    /// opened. It writes one image of each block that waits; with none the device isn't called. What `advance` has done of it
+    /// isn't done again.
     ///
     /// At `Io` the log is stopped; a stopped log answers `Stopped`.
     pub fn force<D: Device>(&mut self, device: &mut D) -> Result<u64, Fault>

@@ -9,5 +9,6 @@ mod log;
 mod reading;
 mod waiting;
 
+pub use gate::Advance;
 pub use image::are_images;
 pub use log::{Log, Replayed};

@@ -25,3 +25,4 @@ pub mod Spans
 pub mod Flags
 pub mod Spent
 pub mod Numbers
+pub mod Staying

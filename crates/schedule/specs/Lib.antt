@@ -15,3 +15,4 @@ pub mod Ready
 pub mod Spans
 pub mod Numbers
 pub mod Keys
+pub mod Staying

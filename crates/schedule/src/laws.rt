@@ -6,6 +6,7 @@ ghost use Rattle.schedule.specs.Keys.{AddedKeysAreNew};
 ghost use Rattle.schedule.specs.Numbers.{NumbersLeadOn};
 ghost use Rattle.schedule.specs.Ready.{ReadyMayComeNext};
 ghost use Rattle.schedule.specs.Spans.{LowsStay, CallsComeInTime, SplitsAreFinished, WorkIsSpent};
+ghost use Rattle.schedule.specs.Staying.{SameStateFits};
 ghost use Rattle.schedule.specs.Stands.{ScansStandOnLeaves, BulkDeletesWait, BegunBulkDeletesWait};
 
 use page_action::PageStore;
@@ -78,4 +79,10 @@ pub fn work_is_spent<S: PageStore>()
 /// before. That two entries never share a key is said of each moment that fits.
 pub fn added_keys_are_new<S: PageStore>()
     ensures { AddedKeysAreNew S.PageStore }
+{}
+
+/// Does nothing: its clause says that what fits a moment fits it with a store that follows, with the same pages and calls. A
+/// history that was kept is kept then, over crashes in between too.
+pub fn same_state_fits<S: PageStore>()
+    ensures { SameStateFits S.PageStore }
 {}

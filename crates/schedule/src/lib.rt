@@ -9,6 +9,6 @@ pub use event::Event;
 pub use laws::{
     added_keys_are_new, bulk_deletes_wait_for_scans, calls_come_in_time, lows_stay,
     numbers_lead_on, one_call_runs, ready_entries_may_come_next, refused_calls_fit,
-    scans_stand_on_leaves, splits_are_finished, work_is_bounded, work_is_spent,
+    same_state_fits, scans_stand_on_leaves, splits_are_finished, work_is_bounded, work_is_spent,
 };
 pub use one_event::{begin, checkpoint, force, next, one, run, step};

@@ -4,7 +4,11 @@ use Rattle.recovery.proofs.opening.restore_log.Given.{Over}
 use Rattle.recovery.proofs.opening.restore_log.Goals.{After-bring_home, After-reset}
 use Rattle.recovery.proofs.Imports.{Trace, AtEachMoment, goes_on, goes_weaker, Format, Page, RestartsTo, CrashesToPages, ChangesNamed, AreHomed, IsSynced, ChangesItsRange, ChangesAfterFront}
 use Rattle.recovery.proofs.Outside.{named_inside, log_inside, after_on, same_inside}
+use Rattle.redo_log.proofs.Keeping.{none_ajar}
 use Rattle.recovery.proofs.opening.restore_log.Goals as goal
+
+pub reset-requires-clause-shut : goal.reset-requires-clause-shut
+reset-requires-clause-shut g c = none_ajar c.in-Ok.found.log c.in-Ok.ensures.opened.waiting
 
 pub returns-in-Err-clause-same : goal.returns-in-Err-clause-same
 returns-in-Err-clause-same g c = λ honest firm pages restarts.

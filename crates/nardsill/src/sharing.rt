@@ -1,0 +1,28 @@
+//! Giving another handle what syncs the file of an index.
+
+ghost use Rattle.std.specs.Prelude.{◌≡◌};
+ghost use Rattle.nardsill.specs.Sharing.{IsShared};
+
+use crate::answer::{Answer, DONE, refused};
+use crate::ask::OpenAsk;
+use crate::handle::Handle;
+use index_model::Fault;
+
+/// Gives `handle` what syncs the file of the index that `from` has, so that a thread may sync it while another makes calls of
+/// `from`. Nothing of what is asked is read. Refused with `NoSession` (12) where `from` has no index, and with `NoMemory` (1):
+/// nothing is changed then.
+pub fn share(handle: &mut Handle, from: &mut Handle, _ask: OpenAsk) -> Answer
+    ensures { (from.new ≡ from.old)
+        × IsShared result handle.old.index handle.new.index handle.old.dead handle.new.dead }
+{
+    let Some(syncer) = &from.syncer else {
+        return refused(Fault::NoSession);
+    };
+    match syncer.try_clone() {
+        Ok(syncer) => {
+            handle.syncer = Some(syncer);
+            DONE
+        }
+        Err(_) => refused(Fault::NoMemory),
+    }
+}
