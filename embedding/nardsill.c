@@ -1,5 +1,5 @@
 /* The calls of nardsill.h, over the exports of the proved library: opens the file, checks pointers, takes the handle's lock, makes one
-   call for commits that come together, and vacuums in parts. */
+   call for commits that come together, syncs with the lock let go, and vacuums in parts. */
 #define _GNU_SOURCE
 #include "nardsill.h"
 #include "nardsill_proved.h"
@@ -33,6 +33,8 @@ struct commit;
 /* Commits share a call of the library. Those that have come wait for the committers of the last call, who may come again. */
 struct gathering {
     pthread_cond_t bell;    /* rung when a call has told its commits */
+    pthread_cond_t forced;  /* rung then too, for calls that may log an action */
+    int is_forcing;         /* a commit syncs the file, with the lock let go between its parts */
     struct commit *commits; /* those that wait for the next call, the last that came first */
     unsigned expected;      /* committers of the last call that haven't come again */
     atomic_uint at_lock;    /* threads that have committed before, and wait for the handle's lock */
@@ -60,6 +62,7 @@ struct turns {
 struct nardsill {
     pthread_mutex_t lock;
     struct nardsill_shell *shell; /* embedding/fuzz.c knows its place */
+    struct nardsill_shell *syncer; /* syncs the file without the lock; whoever commits has it */
     struct gathering gathering;
     struct turns turns;
     nardsill_scan *scans; /* those that are open */
@@ -333,22 +336,24 @@ int nardsill_create(const char *path, const nardsill_limits *limits) {
                                                                      .log_bytes = limits->log_bytes, .unique = limits->unique}));
 }
 
+enum { BELLS = 4 };
+
 static void free_bells(nardsill *index, int count) {
-    pthread_cond_t *const bells[] = {&index->gathering.bell, &index->turns.bell, &index->turns.through};
+    pthread_cond_t *const bells[] = {&index->gathering.bell, &index->gathering.forced, &index->turns.bell, &index->turns.through};
     while (count--) pthread_cond_destroy(bells[count]);
 }
 
 /* Makes a handle's bells. 0, or 1 where the system has no room for them. */
 static int make_bells(nardsill *index) {
-    pthread_cond_t *const bells[] = {&index->gathering.bell, &index->turns.bell, &index->turns.through};
+    pthread_cond_t *const bells[] = {&index->gathering.bell, &index->gathering.forced, &index->turns.bell, &index->turns.through};
     pthread_condattr_t clock;
     int count = 0;
     if (pthread_condattr_init(&clock)) return 1;
     /* The clock of the day may be set back, and a wait would last so much longer. */
     if (!pthread_condattr_setclock(&clock, CLOCK_MONOTONIC))
-        while (count < 3 && !pthread_cond_init(bells[count], &clock)) count++;
+        while (count < BELLS && !pthread_cond_init(bells[count], &clock)) count++;
     pthread_condattr_destroy(&clock);
-    if (count == 3) return 0;
+    if (count == BELLS) return 0;
     free_bells(index, count);
     return 1;
 }
@@ -360,14 +365,22 @@ static int make_locks(nardsill *index) {
         if (!pthread_mutex_init(&index->lock, 0)) return 0;
         pthread_mutex_destroy(&index->turns.one);
     }
-    free_bells(index, 3);
+    free_bells(index, BELLS);
     return 1;
 }
 
 static void free_locks(nardsill *index) {
     pthread_mutex_destroy(&index->lock);
     pthread_mutex_destroy(&index->turns.one);
-    free_bells(index, 3);
+    free_bells(index, BELLS);
+}
+
+/* Makes what syncs the index's file while the index answers calls. */
+static struct outcome share(nardsill *index) {
+    if (nardsill_proved_new(&index->syncer)) return only(NARDSILL_NO_MEMORY);
+    struct outcome outcome = told_by(nardsill_proved_share(index->syncer, index->shell, (struct nardsill_open_ask){0, 0}));
+    if (outcome.status) let_go(index->syncer);
+    return outcome;
 }
 
 /* Opens the index in a file of this library's own, in a handle that has no index yet. */
@@ -380,6 +393,7 @@ static struct outcome take(nardsill *index, int fd) {
     struct nardsill_answer answer = nardsill_proved_take(index->shell, &file, (struct nardsill_open_ask){fd, index->frames});
     outcome = told_by(answer);
     index->descriptor = answer.descriptor;
+    if (!outcome.status) outcome = share(index);
     if (outcome.status) let_go(index->shell);
     return outcome;
 }
@@ -451,6 +465,7 @@ static void free_index(nardsill *index) {
     pthread_mutex_lock(&all_lock);
     forget_locked(index);
     flock(index->descriptor, LOCK_UN);
+    let_go(index->syncer);
     let_go(index->shell);
     pthread_mutex_unlock(&all_lock);
     free_locks(index);
@@ -533,6 +548,13 @@ static void take_lock(nardsill *index) {
     if (committer) index->gathering.at_lock--;
 }
 
+/* Takes the handle's lock for a call that may log an action. While a commit syncs it waits: the parts of the commit would have to be
+   done again, under the lock. */
+static void take_lock_to_log(nardsill *index) {
+    take_lock(index);
+    while (index->gathering.is_forcing) pthread_cond_wait(&index->gathering.forced, &index->lock);
+}
+
 /* A scan may have left its leaf, or the index has stopped: a vacuum that waits for that goes before each call that comes. */
 static void tell_blocked(struct turns *turns) {
     if (!turns->is_blocked) return;
@@ -549,13 +571,13 @@ static struct nardsill_answer ask_locked(nardsill *index, struct nardsill_ask as
     return answer;
 }
 
-/* A call of its own, with the lock; what it tells stands at `answer`, if that is wanted. */
-static struct outcome call(nardsill *index, struct nardsill_ask ask, struct nardsill_answer *answer) {
-    take_lock(index);
-    struct nardsill_answer got = ask_locked(index, ask);
-    struct outcome outcome = told_by(got);
+/* Makes a checkpoint, and tells how many actions are durable, if that is wanted. */
+static struct outcome checkpoint(nardsill *index, uint64_t *actions) {
+    take_lock_to_log(index);
+    struct nardsill_answer answer = ask_locked(index, (struct nardsill_ask){.what = NARDSILL_CHECKPOINT});
+    struct outcome outcome = told_by(answer);
     pthread_mutex_unlock(&index->lock);
-    if (answer) *answer = got;
+    if (!outcome.status && actions) *actions = answer.number;
     return outcome;
 }
 
@@ -575,7 +597,7 @@ int nardsill_close(nardsill *index) {
     if (index->is_parents) return refused(NARDSILL_FORKED);
     struct kept kept = enter();
     orphan(index);
-    struct outcome outcome = call(index, (struct nardsill_ask){.what = NARDSILL_CHECKPOINT}, 0);
+    struct outcome outcome = checkpoint(index, 0);
     free_index(index);
     return leave_with(kept, outcome);
 }
@@ -591,7 +613,7 @@ int nardsill_insert(nardsill *index, const void *key, size_t key_len, nardsill_r
     int status = !key && key_len ? NARDSILL_MISUSE : refusal_of(index);
     if (status) return refused(status);
     struct kept kept = enter();
-    take_lock(index);
+    take_lock_to_log(index);
     struct nardsill_answer answer = insert_locked(index, key, key_len, row);
     struct outcome outcome = told_by(answer);
     pthread_mutex_unlock(&index->lock);
@@ -606,7 +628,7 @@ int nardsill_insert_many(nardsill *index, const nardsill_entry *entries, size_t 
     struct kept kept = enter();
     size_t i = 0;
     struct outcome outcome = only(0);
-    take_lock(index);
+    take_lock_to_log(index);
     for (; i < count; i++) {
         outcome = told_by(insert_locked(index, entries[i].key, entries[i].key_len, entries[i].row));
         if (outcome.status) break;
@@ -892,9 +914,19 @@ static void end_vacuum(nardsill *index) {
     ask_locked(index, (struct nardsill_ask){.what = NARDSILL_END_VACUUM});
 }
 
+/* Waits for a commit that syncs. Calls that come needn't stand aside meanwhile. */
+static void wait_for_force(nardsill *index) {
+    while (index->gathering.is_forcing) {
+        index->turns.due = 0;
+        pthread_cond_broadcast(&index->turns.through);
+        pthread_cond_wait(&index->gathering.forced, &index->lock);
+    }
+}
+
 /* Makes it, part by part, and ends it, also where a part is refused. */
 static struct outcome vacuum_locked(nardsill *index, struct vacuum *me, nardsill_stats *stats) {
     for (;;) {
+        wait_for_force(index);
         struct nardsill_answer answer = make_part(index, me);
         struct outcome outcome = told_by(answer);
         if (outcome.status == NARDSILL_BLOCKED && wait_for_scans(index, me)) continue;
@@ -1008,12 +1040,43 @@ static void gather(nardsill *index, const struct commit *mine) {
     }
 }
 
-/* Makes one call for all commits that are there, and tells each of them what it told. They wait for the lock from then on. */
+/* Keeps the number of the system's answer, if this call of the library failed by it. */
+static void keep_error(struct nardsill_answer answer, int *error) {
+    if (answer.status == NARDSILL_IO) *error = errno ? errno : EIO;
+}
+
+/* Syncs the file with the lock let go: calls that read go on. */
+static void sync_unlocked(nardsill *index, int *error) {
+    pthread_mutex_unlock(&index->lock);
+    errno = 0;
+    keep_error(nardsill_proved_call(index->syncer, (struct nardsill_ask){.what = NARDSILL_SYNC}), error);
+    pthread_mutex_lock(&index->lock);
+}
+
+/* Does the parts of a commit, each behind a sync with the lock let go. Whatever of it isn't done, the commit at its end does. */
+static void advance(nardsill *index, int *error) {
+    for (uint64_t part = 1; part < 3; part++) {
+        struct nardsill_answer answer = ask_locked(index, (struct nardsill_ask){.what = NARDSILL_ADVANCE});
+        keep_error(answer, error);
+        if (answer.status || answer.number != part) return;
+        sync_unlocked(index, error);
+    }
+}
+
+/* Makes one commit for all that are there at its end, and tells each of them what it told. They wait for the lock from then on. What
+   they cover was done before: while the commit syncs no call logs an action. */
 static void commit_all(nardsill *index) {
     struct gathering *all = &index->gathering;
     uint64_t begun = nanoseconds();
+    int error = 0;
+    all->is_forcing = 1;
+    advance(index, &error);
     struct nardsill_answer answer = ask_locked(index, (struct nardsill_ask){.what = NARDSILL_COMMIT});
     struct outcome outcome = told_by(answer);
+    /* A sync or a part that failed stops the index, and the commit is told that alone. */
+    if (outcome.status && error) outcome = (struct outcome){.status = NARDSILL_IO, .error = error};
+    all->is_forcing = 0;
+    pthread_cond_broadcast(&all->forced);
     all->took = nanoseconds() - begun;
     for (struct commit *one = all->commits; one; one = one->next) {
         one->outcome = outcome;
@@ -1037,6 +1100,7 @@ int nardsill_commit(nardsill *index, uint64_t *actions) {
     take_lock(index);
     join(&index->gathering, &mine);
     gather(index, &mine);
+    while (index->gathering.is_forcing && !mine.is_over) pthread_cond_wait(&index->gathering.bell, &index->lock);
     if (!mine.is_over) commit_all(index);
     arrive(&index->turns);
     pthread_mutex_unlock(&index->lock);
@@ -1048,10 +1112,7 @@ int nardsill_checkpoint(nardsill *index, uint64_t *actions) {
     int status = refusal_of(index);
     if (status) return refused(status);
     struct kept kept = enter();
-    struct nardsill_answer answer;
-    struct outcome outcome = call(index, (struct nardsill_ask){.what = NARDSILL_CHECKPOINT}, &answer);
-    if (!outcome.status && actions) *actions = answer.number;
-    return leave_with(kept, outcome);
+    return leave_with(kept, checkpoint(index, actions));
 }
 
 int nardsill_info(nardsill *index, nardsill_details *out) {

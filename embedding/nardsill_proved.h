@@ -19,7 +19,9 @@ enum nardsill_what {
     NARDSILL_BEGIN_DELETE = 11, /* begins, in parts, what DELETE does; the rows are forgotten, also where it is refused */
     NARDSILL_BEGIN_VACUUM = 12, /* begins, in parts, what VACUUM does */
     NARDSILL_GO_ON = 13,        /* block: how many steps more, at most; session: 1 where it has finished, with what DELETE tells, else 0 */
-    NARDSILL_END_VACUUM = 14    /* ends what was begun so, finished or not */
+    NARDSILL_END_VACUUM = 14,   /* ends what was begun so, finished or not */
+    NARDSILL_ADVANCE = 15,      /* the next part of a commit but for its last sync; number: 0 nothing waits, 1 its first sync is next, 2 its last */
+    NARDSILL_SYNC = 16          /* of a handle that was given it by nardsill_proved_share: syncs the file */
 };
 
 struct nardsill_ask {
@@ -92,6 +94,10 @@ uint32_t nardsill_proved_new(struct nardsill_shell **out);
 struct nardsill_answer nardsill_proved_make(struct nardsill_shell *at, int *file, struct nardsill_make_ask ask);
 struct nardsill_answer nardsill_proved_take(struct nardsill_shell *at, int *file, struct nardsill_open_ask ask);
 struct nardsill_checked nardsill_proved_check(struct nardsill_shell *at, int *file, struct nardsill_check_ask ask);
+
+/* Gives a handle, which has no index, what syncs the file of another's index. Then NARDSILL_SYNC may be called of the one while a call
+   of the other goes on. Nothing of what is asked is read. */
+struct nardsill_answer nardsill_proved_share(struct nardsill_shell *at, struct nardsill_shell *from, struct nardsill_open_ask ask);
 
 /* One call at a time, on a handle that was not let go. */
 struct nardsill_answer nardsill_proved_call(struct nardsill_shell *at, struct nardsill_ask ask);
