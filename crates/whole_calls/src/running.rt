@@ -17,9 +17,9 @@ ghost use Rattle.schedule.specs.Events.{IsSameStore, causes_of_begun_at};
 ghost use Rattle.schedule.specs.Making.{EventEffect};
 ghost use Rattle.schedule.specs.TheoremKinds.{BeginsCall, GivesUp, MovesCall, kind_of};
 ghost use Rattle.schedule.specs.TheoremRuns.{ForEachHistory};
-ghost use Rattle.whole_calls.specs.Going.{IsAmong, IsOutcomeOf, CallIsRun, CallIsRunFrom};
+ghost use Rattle.whole_calls.specs.Going.{IsOutcomeOf, CallIsRun, CallIsRunFrom};
 ghost use Rattle.whole_calls.specs.Inserting.{InsertIsRun};
-ghost use Rattle.whole_calls.specs.Made.{IsMadeOf, Answered, ComesTo, InsertComesTo};
+ghost use Rattle.whole_calls.specs.Made.{IsMadeOf, Answered, ComesTo, InsertComesTo, StepComesTo};
 ghost use Rattle.whole_calls.specs.OneStep.{MakesRoom};
 ghost use Rattle.whole_calls.specs.Refusing.{InsertCallIsCaused};
 ghost use Rattle.whole_calls.specs.Stepping.{RoomMeans, BeginIsRun, StepIsRun, FinishIsRun, RequestIsRun};
@@ -77,7 +77,7 @@ pub(crate) fn step<S: PageStore, T: DeadRows>(
     ensures goes { CallIsRun S.PageStore session (StepIsRun S.PageStore session least_room result)
         (Some result) (here T.DeadRows store.old calls.old sets.now)
         (here T.DeadRows store.new calls.new sets.now) }
-    ensures made { IsMadeOf S.PageStore session least_room (λ answers. IsAmong answers result)
+    ensures made { IsMadeOf S.PageStore session least_room (StepComesTo result)
         (here T.DeadRows store.old calls.old sets.now)
         (here T.DeadRows store.new calls.new sets.now) }
     ensures limits { (S.state store.new).limits ≡ (S.state store.old).limits }
