@@ -14,7 +14,7 @@ use Rattle.whole_calls.proofs.Lasting.{busier_of, later_of}
 use Rattle.whole_calls.proofs.Refusing.{asked_wider, cause_wider}
 use Rattle.whole_calls.proofs.Tellings.{one_runs, runs_in_slot}
 use Rattle.whole_calls.specs.Meanings.{HasBegun, HasContinued, MayComeTo, StepMeans, noted_after}
-use Rattle.whole_calls.specs.Parts.{PartComesTo, PartEnds, PartIsRun, PartMeans, part_outcome}
+use Rattle.whole_calls.specs.Parts.{PartComesTo, PartEnds, PartIsRun, PartMeans, RunsUnlessLast, part_outcome}
 use Rattle.whole_calls.specs.Refusing.{causes_of_asked, is_full_vacuum}
 use Rattle.schedule.specs.TheoremRuns.{ForEachHistory}
 use Rattle.session_calls.specs.Slots.{has_call, slot_has_call}
@@ -31,7 +31,7 @@ use Rattle.whole_calls.specs.Stepping.{BeginIsRun}
 use Rattle.access_method.proofs.BulkDeletions.{says_none, says_nothing}
 use Rattle.access_method.proofs.Cleanups.{cleans_nothing}
 use Rattle.access_method.specs.Indexes.{LosesDeadRows}
-use Rattle.access_method.specs.Parts.{CountsOn, IsPartAnswer, PartCounts, PartIsCaused, VacuumIsEnded, causes_of_part, part_answer}
+use Rattle.access_method.specs.Parts.{PartCountsOn, IsPartAnswer, PartCounts, PartIsCaused, VacuumIsEnded, causes_of_part, part_answer}
 
 -- where no vacuum is open none vacuums
 pub calm_open : (slots : List (Option Op)) (seats : List (Option Sitter)) → SeatsAgree slots seats → NoVacuumIsOpen seats → one_vacuums slots ≡ false
@@ -85,10 +85,16 @@ part_made {g = g} count session at there {answer} {a} {b} result same made =
 pub counts_on : {S : Type 0} (g : Ghosts S) (what : Followed) (session at : ℕ) → session ≡ at → (result : Result (Option VacuumStats) Fault) (answer : Answer) (old new : Index S)
     → part_answer result ≡ answer
     → CountsThrough what (is_row_in old.rows ∷ []) (g.state old.store) (g.state new.store) (slot_of old.calls.slots.items at) (slot_of new.calls.slots.items at) answer
-    → CountsOn g what session result old new
+    → PartCountsOn g what session result old new
 counts_on g what session at there result answer old new same counts =
-    subst (λ (n : ℕ). CountsOn g what n result old new) (sym there)
+    subst (λ (n : ℕ). PartCountsOn g what n result old new) (sym there)
     (subst (λ (a : Answer). CountsThrough what (is_row_in old.rows ∷ []) (g.state old.store) (g.state new.store) (slot_of old.calls.slots.items at) (slot_of new.calls.slots.items at) a) (sym same) counts)
+
+-- ... and its call lasts
+pub lasts_at : (session at : ℕ) → session ≡ at → (before after : ℕ → Option Op) (result : Result (Option VacuumStats) Fault) (answer : Answer) → part_answer result ≡ answer
+    → RunsUnlessLast (before at) (after at) answer → RunsUnlessLast (before session) (after session) (part_answer result)
+lasts_at session at there before after result answer same lasts =
+    subst (λ (n : ℕ). RunsUnlessLast (before n) (after n) (part_answer result)) (sym there) (subst (λ (a : Answer). RunsUnlessLast (before at) (after at) a) (sym same) lasts)
 
 -- a session that has a call runs something
 pub runs_some : (slots : List (Option Op)) (session : ℕ) → has_call slots session ≡ true → slot_of slots session ≢ None

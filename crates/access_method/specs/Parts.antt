@@ -123,8 +123,8 @@ PartCounts g session result new calls =
     (number : ℕ) (call : Call) → IsRunningCall calls session number call → (stats : VacuumStats) → result ≡ Ok (Some stats) → StatsCountFor call.ask (g.state new) stats
 
 -- while nobody else changes pages, a part counts on: what was right before it is so after it, and at its end it is told
-abbrev pub CountsOn : {S : Type 0} → Ghosts S → Followed → ℕ → Result (Option VacuumStats) Fault → Index S → Index S → Type 0
-CountsOn g what session result old new =
+abbrev pub PartCountsOn : {S : Type 0} → Ghosts S → Followed → ℕ → Result (Option VacuumStats) Fault → Index S → Index S → Type 0
+PartCountsOn g what session result old new =
     CountsThrough what (is_row_in old.rows ∷ []) (g.state old.store) (g.state new.store) (slot_of old.calls.slots.items session) (slot_of new.calls.slots.items session)
     (part_answer result)
 

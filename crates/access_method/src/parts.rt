@@ -27,11 +27,11 @@ impl<S: PageStore> Index<S> {
     ghost use Rattle.std.specs.Prelude.{◌≡◌, ◌≢◌, ◌<◌, ℕ, false, None, Some, Ok, IfErr, IfOk, OnOk, OnErr, length};
     ghost use Rattle.page_action.specs.States.{Continues};
     ghost use Rattle.schedule.specs.Sessions.{op_of};
-    ghost use Rattle.whole_calls.specs.Parts.{PartComesTo, PartMeans, part_outcome};
+    ghost use Rattle.whole_calls.specs.Parts.{PartComesTo, PartMeans, RunsUnlessLast, part_outcome};
     ghost use Rattle.whole_calls.specs.Vacuuming.{Followed};
     ghost use Rattle.access_method.specs.Indexes.{ForEachIndexHistory, IndexIsRun, IndexMakes, SameTokens, cannot_begin};
     ghost use Rattle.access_method.specs.Tokens.{NoVacuumIsOpen, IsFreeSeat, IsVacuumSeat};
-    ghost use Rattle.access_method.specs.Parts.{BulkDeleteIsOpened, CleanupIsOpened, CountsOn, FindsNoVacuum, NotBegunFor, PartCounts, PartIsCaused, PartKeeps, VacuumIsEnded, part_answer};
+    ghost use Rattle.access_method.specs.Parts.{BulkDeleteIsOpened, CleanupIsOpened, PartCountsOn, FindsNoVacuum, NotBegunFor, PartCounts, PartIsCaused, PartKeeps, VacuumIsEnded, part_answer};
 
     // A session for a bulk delete or a cleanup that goes on in parts. Refused with `Stopped` (3), `NoSession` (12) and `VacuumRunning`
     // (11), in this order.
@@ -126,11 +126,15 @@ impl<S: PageStore> Index<S> {
         // So one beside which nobody changes pages tells how many entries are left.
         ensures entries { (session : ℕ) → IsVacuumSeat self.old.seats session
             → (what : Followed) → ForEachIndexHistory S.PageStore self.old self.new
-            (λ start history calls. CountsOn S.PageStore what session result self.old self.new) }
+            (λ start history calls. PartCountsOn S.PageStore what session result self.old self.new) }
         // It never answers `LogFull`, `SessionBusy` nor `VacuumRunning`.
         ensures cause { (session : ℕ) → IsVacuumSeat self.old.seats session
             → ForEachIndexHistory S.PageStore self.old self.new (λ start history calls.
             PartIsCaused S.PageStore session result self.old self.new.store calls) }
+        // So where it is blocked the next part tries again.
+        ensures lasts { (session : ℕ) → IsVacuumSeat self.old.seats session
+            → RunsUnlessLast (op_of self.old.calls session) (op_of self.new.calls session)
+            (part_answer result) }
         ensures tokens { SameTokens self.old self.new }
         ensures rows { self.new.rows ≡ self.old.rows }
     {

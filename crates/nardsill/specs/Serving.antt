@@ -2,7 +2,7 @@
 use Rattle.std.specs.Prelude.{◌≡◌, ◌≢◌, ◌⊎◌, ◌||◌, ℕ, true, false, Option, Some, None, IsSome, Result, Ok, Err, IfOk, IfErr, OnOk, OnErr, ⊤}
 use Rattle.access_method.specs.Counted.{upkeep_outcome}
 use Rattle.access_method.specs.Indexes.{ForEachIndexHistory, IndexIsRun, IndexInserts, IndexMakes, InsertsOrKeeps, IsCleanedUp, IsNewToken, IsBulkDeletedOrLess, SameTokens, NotOpenedFor, NotRescannedFor, RescanMeans, SeatBecomes, BulkDeleteRuns, seat_with, slots_with}
-use Rattle.access_method.specs.Parts.{BulkDeleteIsOpened, CleanupIsOpened, CountsOn, FindsNoVacuum, NotBegunFor, PartCounts, PartIsCaused, PartKeeps, VacuumIsEnded, part_answer}
+use Rattle.access_method.specs.Parts.{BulkDeleteIsOpened, CleanupIsOpened, PartCountsOn, FindsNoVacuum, NotBegunFor, PartCounts, PartIsCaused, PartKeeps, VacuumIsEnded, part_answer}
 use Rattle.access_method.specs.Refusals.{InsertHasCause, causes_of_vacuum}
 use Rattle.access_method.specs.Tokens.{IsVacuumSeat, NoVacuumIsOpen, seat_of}
 use Rattle.access_method.specs.declared.index.Index.{Index}
@@ -23,7 +23,7 @@ use Rattle.session_calls.specs.Ops.{op_before}
 use Rattle.session_calls.specs.declared.answer.Answer.TheVariants.{Begun}
 use Rattle.session_calls.specs.declared.request.Request.TheVariants.{Scan as ToScan, Cleanup as ToCleanup}
 use Rattle.whole_calls.specs.Made.{ComesTo, InsertComesTo, IsMadeOf}
-use Rattle.whole_calls.specs.Parts.{PartComesTo, PartMeans, part_outcome}
+use Rattle.whole_calls.specs.Parts.{PartComesTo, PartMeans, RunsUnlessLast, part_outcome}
 use Rattle.whole_calls.specs.Vacuuming.{Followed, VacuumMeans, vacuum_outcome}
 use Rattle.whole_calls.specs.Meanings.{HasBegun, IsSameHistory, EndMeans}
 use Rattle.whole_calls.specs.declared.inserted.Inserted.{Inserted}
@@ -140,7 +140,8 @@ pub record PartOf {S : Type 0} (g : Ghosts S) (steps : ℕ) (outcome : Result (O
   pub made : op_of old.calls session ≢ None → IndexMakes g session (PartComesTo steps (part_answer outcome)) old new
   pub keeps : ForEachIndexHistory g old new (λ start history calls. PartKeeps g session old new.store calls)
   pub counts : ForEachIndexHistory g old new (λ start history calls. PartCounts g session outcome new.store calls)
-  pub entries : (what : Followed) → ForEachIndexHistory g old new (λ start history calls. CountsOn g what session outcome old new)
+  pub lasts : RunsUnlessLast (op_of old.calls session) (op_of new.calls session) (part_answer outcome)
+  pub entries : (what : Followed) → ForEachIndexHistory g old new (λ start history calls. PartCountsOn g what session outcome old new)
   pub cause : ForEachIndexHistory g old new (λ start history calls. PartIsCaused g session outcome old new.store calls)
 
 pub record GoesOn {S : Type 0} (g : Ghosts S) (steps : ℕ) (answer : Answer) (old new : Index S) : Type 0 where

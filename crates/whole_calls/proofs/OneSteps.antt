@@ -12,6 +12,7 @@ use Rattle.whole_calls.proofs.Lasting.{step_goes, room_then}
 use Rattle.whole_calls.proofs.Refusing.{cause_wider, forced_cause, asked_after}
 use Rattle.whole_calls.proofs.Tellings.{moves_tells, one_runs, runs_has_call, runs_in_slot, true_false}
 use Rattle.whole_calls.proofs.Blocks.{LeavesAll, leaves_state}
+use Rattle.whole_calls.specs.Parts.{RunsUnlessLast}
 
 -- what a step tells, by its event
 pub record StepsOnce {S : Type 0} (g : Ghosts S) (session least_room : ℕ) (answer : Answer) (old new : Moment S) : Type 0 where
@@ -173,6 +174,12 @@ step_made {session = session} {answer = answer} (inr tried) step =
 pub step_short : {S : Type 0} {g : Ghosts S} {session least_room : ℕ} {fault : Fault} {old new : StoreAndSlots S} → IsRoomTried g least_room (Refused fault) old new
     → IsMadeOf g session least_room (StepComesTo (Refused fault)) old new
 step_short tried = made_told (made_alone Checkpoint (MaintainsStore Checkpoints) refl tt tried.short tried.makes) (λ xs is. inl is)
+
+-- a call goes on after an answer that isn't its last
+pub runs_unless : (before after : Option Op) (answer : Answer) → RunsUntilLast before after answer → RunsUnlessLast before after answer
+runs_unless None after answer until last runs = absurd (runs refl)
+runs_unless (Some op) None answer until last runs = absurd (true_false (sym (until ∙ ap not last)))
+runs_unless (Some op) (Some then_op) answer until last runs = λ e. cc
 
 -- a fault of a checkpoint ends a call
 forced_ends : (old new : Backing) (fault : Fault) → HasCause (causes_of_forced old new) fault → ends_call fault ≡ true

@@ -1,11 +1,12 @@
 -- A call of one session that is run in parts, between calls of others.
-use Rattle.std.specs.Prelude.{◌≡◌, ◌≢◌, ◌<◌, ℕ, zero, suc, Bool, Option, Some, None, List, [], ◌++◌}
+use Rattle.std.specs.Prelude.{◌≡◌, ◌≢◌, ◌<◌, ℕ, zero, suc, Bool, false, Option, Some, None, List, [], ◌++◌}
 use Rattle.index_model.specs.declared.entry.Entry.{Entry}
 use Rattle.page_action.specs.declared.page_store.PageStore.{Ghosts}
-use Rattle.session_calls.specs.Ops.{RunsOn}
+use Rattle.session_calls.specs.Ops.{RunsOn, is_last}
 use Rattle.session_calls.specs.Slots.{slot_of}
 use Rattle.session_calls.specs.declared.answer.Answer.{Answer}
 use Rattle.session_calls.specs.declared.answer.Answer.TheVariants.{Going}
+use Rattle.session_calls.specs.declared.op.Op.{Op}
 use Rattle.schedule.specs.TheoremMoments.{Moment}
 use Rattle.whole_calls.specs.Made.{StepComesTo}
 use Rattle.whole_calls.specs.Meanings.{HasRunSoFar, SessionStepMeans}
@@ -35,6 +36,10 @@ StepsGoOn (suc count) answers = OneStepMore (StepsGoOn count) Going answers
 abbrev pub PartComesTo : ℕ → Answer → List Answer → Type 0
 PartComesTo count Going answers = StepsGoOn count answers
 PartComesTo count answer answers = (gone : ℕ) × (gone < count) × OneStepMore (StepsGoOn gone) answer answers
+
+-- an answer that isn't the last of a call, as `Going` and a refusal with `Blocked`, leaves it running
+abbrev pub RunsUnlessLast : Option Op → Option Op → Answer → Type 0
+RunsUnlessLast before after answer = is_last answer ≡ false → before ≢ None → after ≢ None
 
 -- what a part of the session's running call tells: that it has gone on; or that its last step answered so
 abbrev pub PartMeans : {S : Type 0} → ℕ → Answer → Moment S → Moment S → Type 0

@@ -7,7 +7,7 @@ ghost use Rattle.schedule.specs.Sessions.{here, op_of, SameOthers};
 ghost use Rattle.whole_calls.specs.Going.{CallIsRunFrom};
 ghost use Rattle.whole_calls.specs.Made.{IsMadeOf};
 ghost use Rattle.whole_calls.specs.Meanings.{MayComeTo};
-ghost use Rattle.whole_calls.specs.Parts.{PartComesTo, PartIsRun, part_outcome};
+ghost use Rattle.whole_calls.specs.Parts.{PartComesTo, PartIsRun, RunsUnlessLast, part_outcome};
 
 use crate::running::step;
 use index_model::DeadRows;
@@ -39,6 +39,7 @@ pub fn take_steps<S: PageStore, T: DeadRows>(
     ensures idle { count ≡ 0 → (store.new ≡ store.old) × (calls.new ≡ calls.old) }
     // What the session runs then, if anything, is of the kind that it ran before.
     ensures runs_on { RunsOn (op_of calls.old session) (op_of calls.new session) }
+    ensures lasts { RunsUnlessLast (op_of calls.old session) (op_of calls.new session) result }
 {
     let _limits = store.limits();
     let mut left = count;

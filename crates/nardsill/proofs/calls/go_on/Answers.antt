@@ -14,6 +14,7 @@ returns-clause-means g c =
         keeps = e.keeps session seat;
         counts = e.counts session seat;
         entries = e.entries session seat;
+        lasts = e.lasts session seat;
         cause = e.cause session seat;
       };
       idle = e.idle;

@@ -1,5 +1,5 @@
-use Rattle.std.proofs.Common.{map, ◌≡◌, ◌≢◌, ℕ, suc, arith, refl, subst, ◌∙◌, rules}
-use Rattle.whole_calls.proofs.Imports.{runs_on_same, runs_on_then, Going, snapshot_of, slot_of}
+use Rattle.std.proofs.Common.{map, ◌≡◌, ◌≢◌, ℕ, suc, arith, refl, ap, subst, ◌∙◌, rules}
+use Rattle.whole_calls.proofs.Imports.{is_last, runs_on_same, runs_on_then, Going, snapshot_of, slot_of}
 use Rattle.whole_calls.specs.Parts.{PartIsRun, StepsGoOn}
 use Rattle.whole_calls.proofs.Composing.{joined, joined_second, goes_nowhere, goes_told}
 use Rattle.whole_calls.proofs.Counting.{counts_from}
@@ -17,6 +17,7 @@ loop-left-init g c = record {
   others = λ o ne. refl;
   goes = goes_nowhere g.met.S.PageStore.laws reached_here;
   runs_on = runs_on_same (slot_of c.args.calls.now.slots.items c.args.session);
+  lasts = λ runs. runs;
   made = made_nowhere (0, refl, refl);
   fewer = omega arith;
   idle = λ is. (refl, refl);
@@ -36,6 +37,7 @@ loop-left-preserved g c =
       goes = joined laws _ so_far.steps went.steps so_far.goes went.goes (λ xs ys none so. tt)
           (λ start h hc k kc l lc fx fy fz one two. moved_beyond going one (record { steps = went.steps; others = went.others.others }) refl went.limits two);
       runs_on = runs_on_then (slot_of c.args.calls.now.slots.items session) (slot_of c.loop-left.calls.slots.items session) (slot_of c.step.new.calls.slots.items session) so_far.runs_on went.runs_on;
+      lasts = λ runs. went.lasts (ap is_last going) (so_far.lasts runs);
       made = made_then so_far.made went.made (λ xs ys one two. (suc one.0, (let long = one.1 in omega (arith, long, c.loop-left-test.true)), steps_more one.0 c.step.result xs ys going one.2 two));
       fewer = omega (arith, so_far.fewer);
       idle = λ is. absurd (omega (arith, is, so_far.fewer, c.loop-left-test.true));
@@ -77,6 +79,12 @@ returns-in_default-clause-idle g c none = absurd (omega (arith, none, c.loop-lef
 
 pub returns-clause-idle : goal.returns-clause-idle
 returns-clause-idle g c none = c.loop-left.invariant.idle (omega (arith, none, c.loop-left.invariant.fewer))
+
+pub returns-in_default-clause-lasts : goal.returns-in_default-clause-lasts
+returns-in_default-clause-lasts g c last runs = c.step.ensures.lasts last (c.loop-left.invariant.lasts runs)
+
+pub returns-clause-lasts : goal.returns-clause-lasts
+returns-clause-lasts g c last runs = c.loop-left.invariant.lasts runs
 
 pub returns-in_default-clause-kind : goal.returns-in_default-clause-kind
 returns-in_default-clause-kind g c over =

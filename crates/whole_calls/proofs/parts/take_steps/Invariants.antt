@@ -1,4 +1,4 @@
-use Rattle.std.proofs.Common.{◌≡◌, ◌+◌, ◌≤◌, ℕ, None, length}
+use Rattle.std.proofs.Common.{◌≡◌, ◌≢◌, ◌+◌, ◌≤◌, ℕ, None, length}
 use Rattle.whole_calls.proofs.Imports.{Continues, RunsOn, slot_of, OthersStay, here, CallIsRun, IsMadeOf, HasReached}
 use Rattle.whole_calls.specs.Parts.{StepsGoOn}
 use Rattle.whole_calls.proofs.parts.take_steps.Given as goal
@@ -10,6 +10,7 @@ invariant-loop-left g l = record {
   others : OthersStay l.session l.fn.calls.slots.items l.calls.slots.items;
   goes : CallIsRun g.S.PageStore l.session (HasReached g.S.PageStore l.session) None (here g.T.DeadRows l.fn.store l.fn.calls l.sets) (here g.T.DeadRows l.store l.calls l.sets);
   runs_on : RunsOn (slot_of l.fn.calls.slots.items l.session) (slot_of l.calls.slots.items l.session);
+  lasts : slot_of l.fn.calls.slots.items l.session ≢ None → slot_of l.calls.slots.items l.session ≢ None;
   made : IsMadeOf g.S.PageStore l.session l.least_room (λ answers. (gone : ℕ) × (gone + l.left ≡ l.count) × StepsGoOn gone answers)
       (here g.T.DeadRows l.fn.store l.fn.calls l.sets) (here g.T.DeadRows l.store l.calls l.sets);
   fewer : l.left ≤ l.count;
