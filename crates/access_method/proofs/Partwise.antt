@@ -103,7 +103,7 @@ runs_some slots session has over = of (slice_get slots session) has over
     of : (slot : Option (Option Op)) → slot_has_call slot ≡ true → unwrap_or slot None ≡ None → ⊥
     of None has over = true_false (sym has)
     of (Some None) has over = true_false (sym has)
-    of (Some (Some op)) has over = absurd cc
+    of (Some (Some op)) has over = (let same : Some op ≡ None = over in cc)
 
 pub cause_at : {S : Type 0} (g : Ghosts S) (session at : ℕ) → session ≡ at → (result : Result (Option VacuumStats) Fault) (old : Index S) (new : S) (calls : List Call)
     → PartIsCaused g at result old new calls → PartIsCaused g session result old new calls

@@ -111,7 +111,7 @@ module _ {S : Type 0} (g : Ghosts S) (start : Entry → Bool) (session : ℕ) (x
     where
       of : (ends : Bool) → now ≡ (if ends then op_after_call op old else old) → slot_of y.slots session ≡ (if ends then None else Some op) → IsCountedAs what x.sets now (slot_of y.slots session)
       of true state slot = absurd (runs slot)
-      of false state slot = rw (sym state, sym slot) counted
+      of false state slot = rw (state, slot) counted
 
   -- what is counted is what the session runs
   with_op : (what : Followed) (Then : Type 0) → ((op : Op) → slot_of x.slots session ≡ Some op → IsCountedAs what x.sets old (Some op) → Then)
@@ -132,12 +132,12 @@ module _ {S : Type 0} (g : Ghosts S) (start : Entry → Bool) (session : ℕ) (x
   step_counts what answer does = tt
 
 -- what was counted up to the step is counted on by it
-pub counts_from : (what : Followed) (sets : DeadSets) (old mid new : State) (before between after : Option Op) (answer : Answer) → (IsCountedAs what sets old before → IsCountedAs what sets mid between)
-    → CountsThrough what sets mid new between after answer → CountsThrough what sets old new before after answer
-counts_from what sets old mid new before between after Going first then = λ so. then (first so)
-counts_from what sets old mid new before between after (Finished stats) first then = λ so. then (first so)
-counts_from what sets old mid new before between after (Refused fault) first then = λ runs so. then runs (first so)
-counts_from what sets old mid new before between after answer first then = tt
+pub counts_from : (what : Followed) (sets : DeadSets) (one two three : State) (before between after : Option Op) (answer : Answer)
+    → (IsCountedAs what sets one before → IsCountedAs what sets two between) → CountsThrough what sets two three between after answer → CountsThrough what sets one three before after answer
+counts_from what sets one two three before between after Going first last = λ so. last (first so)
+counts_from what sets one two three before between after (Finished stats) first last = λ so. last (first so)
+counts_from what sets one two three before between after (Refused fault) first last = λ runs so. last runs (first so)
+counts_from what sets one two three before between after answer first last = tt
 
 -- what is clean is of the pages alone
 cleaned_on : (new last : State) (count : ℕ) → last.pages ≡ new.pages → AllIsCleaned new count → AllIsCleaned last count

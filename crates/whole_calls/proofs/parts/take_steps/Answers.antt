@@ -18,7 +18,7 @@ loop-left-init g c = record {
   goes = goes_nowhere g.met.S.PageStore.laws reached_here;
   runs_on = runs_on_same (slot_of c.args.calls.now.slots.items c.args.session);
   lasts = λ runs. runs;
-  made = made_nowhere (0, refl, refl);
+  made = made_nowhere (0, omega arith, refl);
   fewer = omega arith;
   idle = λ is. (refl, refl);
 }

@@ -1,4 +1,4 @@
-use Rattle.std.proofs.Common.{◌∷◌, [], map, ◌≡◌, ◌≢◌, ℕ, None, sym, subst, ◌∙◌, rules}
+use Rattle.std.proofs.Common.{◌∷◌, [], map, ◌≡◌, ◌≢◌, ℕ, None, refl, sym, subst, ◌∙◌, rules}
 use Rattle.access_method.proofs.Imports.{Call, Action, Entry, Bool, List, snapshot_of, slots_within, here_with, slot_of, runs_has_call, true_false}
 use Rattle.access_method.proofs.Partwise.{busy_of, cause_at, counts_on, lasts_at, part_caused, part_counts, part_effects, part_loses, part_made, part_may, part_runs, part_stays, runs_some}
 use Rattle.access_method.specs.Parts.{part_answer}
@@ -51,6 +51,9 @@ returns-clause-counts g c session seat honest start history calls fits number ca
     part_counts g.S.PageStore g.met.S.PageStore.laws c.in-Some.at start self (here_with c.take_steps.new.store c.take_steps.new.calls.slots.items (is_row_in self.rows ∷ [])) history r.then_history
     calls r.then_calls fits c.take_steps.result r.tells c.told.result
     (c.told.ensures (part_may (is_row_in self.rows ∷ []) (slot_of self.calls.slots.items c.in-Some.at) vacuums c.take_steps.result c.take_steps.ensures.kind)) number call here stats finished
+
+pub returns-clause-idle : goal.returns-clause-idle
+returns-clause-idle g c none = (let same = c.take_steps.ensures.idle none in rw (same.0, same.1) refl)
 
 pub returns-clause-lasts : goal.returns-clause-lasts
 returns-clause-lasts g c session seat last runs =
