@@ -18,7 +18,7 @@ enum nardsill_what {
     NARDSILL_LET_GO = 10,       /* the handle's block may be freed behind it */
     NARDSILL_BEGIN_DELETE = 11, /* begins, in parts, what DELETE does; the rows are forgotten, also where it is refused */
     NARDSILL_BEGIN_VACUUM = 12, /* begins, in parts, what VACUUM does */
-    NARDSILL_GO_ON = 13,        /* block: how many steps more, at most; session: 1 where it has finished, with what DELETE tells, else 0 */
+    NARDSILL_GO_ON = 13,        /* block: how many steps more; session: 1 where it has finished, with what DELETE tells; 0 where all were made */
     NARDSILL_END_VACUUM = 14,   /* ends what was begun so, finished or not */
     NARDSILL_ADVANCE = 15,      /* the next part of a commit but for its last sync; number: 0 nothing waits, 1 its first sync is next, 2 its last */
     NARDSILL_SYNC = 16          /* of a handle that was given it by nardsill_proved_share: syncs the file */

@@ -14,21 +14,24 @@ use Rattle.whole_calls.proofs.Lasting.{busier_of, later_of}
 use Rattle.whole_calls.proofs.Refusing.{asked_wider, cause_wider}
 use Rattle.whole_calls.proofs.Tellings.{one_runs, runs_in_slot}
 use Rattle.whole_calls.specs.Meanings.{HasBegun, HasContinued, MayComeTo, StepMeans, noted_after}
-use Rattle.whole_calls.specs.Parts.{PartEnds, PartIsRun, PartMeans, part_outcome}
+use Rattle.whole_calls.specs.Parts.{PartComesTo, PartEnds, PartIsRun, PartMeans, RunsUnlessLast, part_outcome}
 use Rattle.whole_calls.specs.Refusing.{causes_of_asked, is_full_vacuum}
-use Rattle.whole_calls.specs.Vacuuming.{StatsCountFor}
+use Rattle.schedule.specs.TheoremRuns.{ForEachHistory}
+use Rattle.session_calls.specs.Slots.{has_call, slot_has_call}
+use Rattle.whole_calls.specs.Vacuuming.{CountsThrough, Followed, FollowsFrom, IsCountedAs, StatsCountFor}
+use Rattle.access_method.specs.Rows.{is_row_in}
 use Rattle.access_method.proofs.Refusals.{calm_slots}
 use Rattle.access_method.specs.Tokens.{NoVacuumIsOpen, SeatsAgree}
 use Rattle.access_method.specs.declared.token.Sitter.{Sitter}
 use Rattle.session_calls.specs.declared.request.Request.{Request}
 use Rattle.whole_calls.proofs.Composing.{goes_told}
 use Rattle.whole_calls.specs.Going.{CallIsRun, CallIsRunFrom}
-use Rattle.whole_calls.specs.Made.{ComesTo, IsMadeOf}
+use Rattle.whole_calls.specs.Made.{IsMadeOf}
 use Rattle.whole_calls.specs.Stepping.{BeginIsRun}
 use Rattle.access_method.proofs.BulkDeletions.{says_none, says_nothing}
 use Rattle.access_method.proofs.Cleanups.{cleans_nothing}
 use Rattle.access_method.specs.Indexes.{LosesDeadRows}
-use Rattle.access_method.specs.Parts.{IsPartAnswer, PartCounts, PartIsCaused, VacuumIsEnded, causes_of_part, part_answer}
+use Rattle.access_method.specs.Parts.{PartCountsOn, IsPartAnswer, PartCounts, PartIsCaused, VacuumIsEnded, causes_of_part, part_answer}
 
 -- where no vacuum is open none vacuums
 pub calm_open : (slots : List (Option Op)) (seats : List (Option Sitter)) → SeatsAgree slots seats → NoVacuumIsOpen seats → one_vacuums slots ≡ false
@@ -42,6 +45,11 @@ calm_open slots seats agree none = calm_slots slots (λ session. of session (slo
 pub begins_told : {S : Type 0} {g : Ghosts S} {session : ℕ} {request : Request} {a b : StoreAndSlots S} → CallIsRun g session (BeginIsRun g session request (Ok tt)) (Some Begun) a b
     → CallIsRun g session (HasBegun session request) (Some Begun) a b
 begins_told goes = goes_told _ goes (λ start h hc k kc answers fits by t. (by, t.told))
+
+-- ... and what it counts
+pub follows_begun : {S : Type 0} {g : Ghosts S} {session : ℕ} {request : Request} {a b : StoreAndSlots S} → CallIsRun g session (BeginIsRun g session request (Ok tt)) (Some Begun) a b
+    → ForEachHistory g a b (λ start history calls. (what : Followed) → FollowsFrom what request (g.state a.store) session → IsCountedAs what b.sets (g.state b.store) (slot_of b.slots session))
+follows_begun goes honest start history calls fits what may = (goes honest start history calls fits).tells.counts what may
 
 -- what a bulk delete or a cleanup may come to
 pub part_may : (sets : DeadSets) (slot : Option Op) → slot_vacuums slot ≡ true → (answer : Answer) → (answer ≢ Going → MayComeTo sets slot answer) → IsPartAnswer answer
@@ -69,10 +77,33 @@ part_runs {g = g} session at there {answer} {a} {b} result same goes =
     subst (λ (n : ℕ). CallIsRun g n (PartMeans n (part_answer result)) (part_outcome (part_answer result)) a b) (sym there)
     (subst (λ (x : Answer). CallIsRun g at (PartMeans at x) (part_outcome x) a b) (sym same) (goes_told _ goes (λ start h hc k kc answers fits by t. (by, t.told))))
 
-pub part_made : {S : Type 0} {g : Ghosts S} (session at : ℕ) → session ≡ at → {answer : Answer} {a b : StoreAndSlots S} (result : Result (Option VacuumStats) Fault) → part_answer result ≡ answer
-    → IsMadeOf g at 5 (ComesTo (part_outcome answer)) a b → IsMadeOf g session 5 (ComesTo (part_outcome (part_answer result))) a b
-part_made {g = g} session at there {answer} {a} {b} result same made =
-    subst (λ (n : ℕ). IsMadeOf g n 5 (ComesTo (part_outcome (part_answer result))) a b) (sym there) (subst (λ (x : Answer). IsMadeOf g at 5 (ComesTo (part_outcome x)) a b) (sym same) made)
+pub part_made : {S : Type 0} {g : Ghosts S} (count session at : ℕ) → session ≡ at → {answer : Answer} {a b : StoreAndSlots S} (result : Result (Option VacuumStats) Fault) → part_answer result ≡ answer
+    → IsMadeOf g at 5 (PartComesTo count answer) a b → IsMadeOf g session 5 (PartComesTo count (part_answer result)) a b
+part_made {g = g} count session at there {answer} {a} {b} result same made =
+    subst (λ (n : ℕ). IsMadeOf g n 5 (PartComesTo count (part_answer result)) a b) (sym there) (subst (λ (x : Answer). IsMadeOf g at 5 (PartComesTo count x) a b) (sym same) made)
+
+pub counts_on : {S : Type 0} (g : Ghosts S) (what : Followed) (session at : ℕ) → session ≡ at → (result : Result (Option VacuumStats) Fault) (answer : Answer) (old new : Index S)
+    → part_answer result ≡ answer
+    → CountsThrough what (is_row_in old.rows ∷ []) (g.state old.store) (g.state new.store) (slot_of old.calls.slots.items at) (slot_of new.calls.slots.items at) answer
+    → PartCountsOn g what session result old new
+counts_on g what session at there result answer old new same counts =
+    subst (λ (n : ℕ). PartCountsOn g what n result old new) (sym there)
+    (subst (λ (a : Answer). CountsThrough what (is_row_in old.rows ∷ []) (g.state old.store) (g.state new.store) (slot_of old.calls.slots.items at) (slot_of new.calls.slots.items at) a) (sym same) counts)
+
+-- ... and its call lasts
+pub lasts_at : (session at : ℕ) → session ≡ at → (before after : ℕ → Option Op) (result : Result (Option VacuumStats) Fault) (answer : Answer) → part_answer result ≡ answer
+    → RunsUnlessLast (before at) (after at) answer → RunsUnlessLast (before session) (after session) (part_answer result)
+lasts_at session at there before after result answer same lasts =
+    subst (λ (n : ℕ). RunsUnlessLast (before n) (after n) (part_answer result)) (sym there) (subst (λ (a : Answer). RunsUnlessLast (before at) (after at) a) (sym same) lasts)
+
+-- a session that has a call runs something
+pub runs_some : (slots : List (Option Op)) (session : ℕ) → has_call slots session ≡ true → slot_of slots session ≢ None
+runs_some slots session has over = of (slice_get slots session) has over
+  where
+    of : (slot : Option (Option Op)) → slot_has_call slot ≡ true → unwrap_or slot None ≡ None → ⊥
+    of None has over = true_false (sym has)
+    of (Some None) has over = true_false (sym has)
+    of (Some (Some op)) has over = (let same : Some op ≡ None = over in cc)
 
 pub cause_at : {S : Type 0} (g : Ghosts S) (session at : ℕ) → session ≡ at → (result : Result (Option VacuumStats) Fault) (old : Index S) (new : S) (calls : List Call)
     → PartIsCaused g at result old new calls → PartIsCaused g session result old new calls

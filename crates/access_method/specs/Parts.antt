@@ -1,5 +1,5 @@
 -- A bulk delete or a cleanup that goes on in parts, between other calls.
-use Rattle.std.specs.Prelude.{◌≡◌, ◌≢◌, ◌||◌, ℕ, Bool, true, false, Option, Some, None, Result, Ok, Err, List, IfErr, slice_get, slice_set}
+use Rattle.std.specs.Prelude.{◌≡◌, ◌≢◌, ◌||◌, ℕ, Bool, true, false, Option, Some, None, Result, Ok, Err, List, [], ◌∷◌, IfErr, slice_get, slice_set}
 use Rattle.index_model.specs.Actions.{Action}
 use Rattle.index_model.specs.Calls.{AskBulkDelete, AskCleanup, Call}
 use Rattle.index_model.specs.Faults.{Circumstances, HasCause}
@@ -16,12 +16,13 @@ use Rattle.session_calls.specs.Slots.{slot_of}
 use Rattle.session_calls.specs.declared.answer.Answer.{Answer}
 use Rattle.session_calls.specs.declared.answer.Answer.TheVariants.{Begun, Going, Finished, Refused}
 use Rattle.session_calls.specs.declared.op.Op.{Op}
+use Rattle.session_calls.specs.declared.request.Request.{Request}
 use Rattle.session_calls.specs.declared.request.Request.TheVariants.{Bulk as ToBulk, Cleanup as ToCleanup}
 use Rattle.whole_calls.specs.Going.{CallRuns}
 use Rattle.whole_calls.specs.Made.{ComesTo, IsMadeOf}
 use Rattle.whole_calls.specs.Meanings.{EndMeans, HasBegun}
 use Rattle.whole_calls.specs.Refusing.{is_full_vacuum}
-use Rattle.whole_calls.specs.Vacuuming.{StatsCountFor}
+use Rattle.whole_calls.specs.Vacuuming.{CountsThrough, Followed, FollowsFrom, IsCountedAs, StatsCountFor}
 use Rattle.access_method.specs.Indexes.{ForEachIndexHistory, IndexFits, IndexIsRun, IndexKeeps, IndexMakes, LosesDeadRows, cannot_begin, has_entry, slots_naming, slots_within}
 use Rattle.access_method.specs.Refusals.{causes_of_run}
 use Rattle.access_method.specs.Rows.{is_row_in}
@@ -36,6 +37,15 @@ pub record SitsToVacuum {S : Type 0} (session : ℕ) (old new : Index S) : Type 
   pub seats_is : new.seats ≡ slice_set old.seats session (Some Vacuum)
   pub given_is : new.given ≡ old.given
 
+-- what the vacuum of this session has counted so far is right
+abbrev pub HasCounted : {S : Type 0} → Ghosts S → Followed → ℕ → Index S → Type 0
+HasCounted g what session index = IsCountedAs what (is_row_in index.rows ∷ []) (g.state index.store) (slot_of index.calls.slots.items session)
+
+-- ... of all that may be followed from its beginning
+abbrev pub BeginsToFollow : {S : Type 0} → Ghosts S → ℕ → Request → Index S → Index S → Type 0
+BeginsToFollow g session request old new =
+    (what : Followed) → FollowsFrom what request (g.state old.store) session → ForEachIndexHistory g old new (λ start history calls. HasCounted g what session new)
+
 -- A bulk delete of this set is begun, in place of the index's own, which no call names: for whatever fitted the index before, the event
 -- that begins it fits; where the history was kept, it is so still.
 pub record BulkDeleteBegins {S : Type 0} (g : Ghosts S) (session : ℕ) (dead : Row → Bool) (old new : Index S) (start : Entry → Bool) (history : List Action) (calls : List Call) : Type 0 where
@@ -49,6 +59,7 @@ pub record BulkDeleteIsOpened {S : Type 0} (g : Ghosts S) (dead : RowSet) (old n
   pub rows_are : new.rows ≡ dead
   pub begins : ForEachIndexHistory g old new (BulkDeleteBegins g session (is_row_in dead) old new)
   pub made : IsMadeOf g session 5 (ComesTo (Some Begun)) (slots_naming (is_row_in dead) old) (slots_within new)
+  pub follows : BeginsToFollow g session (ToBulk 0) old new
 
 -- a cleanup is begun in a session of its own
 pub record CleanupIsOpened {S : Type 0} (g : Ghosts S) (old new : Index S) : Type 0 where
@@ -57,6 +68,7 @@ pub record CleanupIsOpened {S : Type 0} (g : Ghosts S) (old new : Index S) : Typ
   pub rows_are : new.rows ≡ old.rows
   pub begins : IndexIsRun g session (HasBegun session ToCleanup) (Some Begun) old new
   pub made : IndexMakes g session (ComesTo (Some Begun)) old new
+  pub follows : BeginsToFollow g session ToCleanup old new
 
 -- why no bulk delete or cleanup is begun that goes on in parts: no call can begin; no session is left; or one goes on
 abbrev pub NotBegunFor : {S : Type 0} → Ghosts S → Index S → Fault → Type 0
@@ -64,6 +76,10 @@ NotBegunFor g index Stopped = cannot_begin g index ≡ true
 NotBegunFor g index NoSession = AreTaken index.seats
 NotBegunFor g index VacuumRunning = (session : ℕ) × IsVacuumSeat index.seats session
 NotBegunFor g index fault = ⊥
+
+-- the call finds no vacuum that it could go on with or end: it is refused with `NoSession`, and changes nothing
+abbrev pub FindsNoVacuum : {S A : Type 0} → Result A Fault → Index S → Index S → Type 0
+FindsNoVacuum result old new = (result ≡ Err NoSession) × (new ≡ old)
 
 -- what a part answered
 abbrev pub part_answer : Result (Option VacuumStats) Fault → Answer
@@ -105,6 +121,12 @@ PartKeeps g session old new calls =
 abbrev pub PartCounts : {S : Type 0} → Ghosts S → ℕ → Result (Option VacuumStats) Fault → S → List Call → Type 0
 PartCounts g session result new calls =
     (number : ℕ) (call : Call) → IsRunningCall calls session number call → (stats : VacuumStats) → result ≡ Ok (Some stats) → StatsCountFor call.ask (g.state new) stats
+
+-- while nobody else changes pages, a part counts on: what was right before it is so after it, and at its end it is told
+abbrev pub PartCountsOn : {S : Type 0} → Ghosts S → Followed → ℕ → Result (Option VacuumStats) Fault → Index S → Index S → Type 0
+PartCountsOn g what session result old new =
+    CountsThrough what (is_row_in old.rows ∷ []) (g.state old.store) (g.state new.store) (slot_of old.calls.slots.items session) (slot_of new.calls.slots.items session)
+    (part_answer result)
 
 -- The vacuum is over: its call is given up, if it still ran, its session is free, and its rows are no one's. The index is fitted by what
 -- comes after that; where the history was kept, it is so still.

@@ -24,14 +24,14 @@ fn told(answer: Answer) -> Result<Option<VacuumStats>, Fault>
 }
 
 impl<S: PageStore> Index<S> {
-    ghost use Rattle.std.specs.Prelude.{◌≡◌, ◌≢◌, ◌<◌, ℕ, false, None, Some, Ok, Err, IfErr, IfOk, OnOk, OnErr, length};
+    ghost use Rattle.std.specs.Prelude.{◌≡◌, ◌≢◌, ◌<◌, ℕ, false, None, Some, Ok, IfErr, IfOk, OnOk, OnErr, length};
     ghost use Rattle.page_action.specs.States.{Continues};
     ghost use Rattle.schedule.specs.Sessions.{op_of};
-    ghost use Rattle.whole_calls.specs.Made.{ComesTo};
-    ghost use Rattle.whole_calls.specs.Parts.{PartMeans, part_outcome};
+    ghost use Rattle.whole_calls.specs.Parts.{PartComesTo, PartMeans, RunsUnlessLast, part_outcome};
+    ghost use Rattle.whole_calls.specs.Vacuuming.{Followed};
     ghost use Rattle.access_method.specs.Indexes.{ForEachIndexHistory, IndexIsRun, IndexMakes, SameTokens, cannot_begin};
     ghost use Rattle.access_method.specs.Tokens.{NoVacuumIsOpen, IsFreeSeat, IsVacuumSeat};
-    ghost use Rattle.access_method.specs.Parts.{BulkDeleteIsOpened, CleanupIsOpened, NotBegunFor, PartCounts, PartIsCaused, PartKeeps, VacuumIsEnded, part_answer};
+    ghost use Rattle.access_method.specs.Parts.{BulkDeleteIsOpened, CleanupIsOpened, PartCountsOn, FindsNoVacuum, NotBegunFor, PartCounts, PartIsCaused, PartKeeps, VacuumIsEnded, part_answer};
 
     // A session for a bulk delete or a cleanup that goes on in parts. Refused with `Stopped` (3), `NoSession` (12) and `VacuumRunning`
     // (11), in this order.
@@ -98,32 +98,43 @@ impl<S: PageStore> Index<S> {
         Ok(())
     }
 
-    /// So many steps more of the bulk delete or cleanup that goes on in parts, at most: each does one act at most, so a few pages. Answers
-    /// None where it goes on, and its statistics once it has finished. Refused with `NoSession` (12) where none is open, or it has
-    /// finished. Refused with `Blocked` (4) where an open scan stands on a leaf that it needs, with `Io` (2), `Stopped` (3), `NoFrame`
-    /// (10), and with `PageDamaged` (17) on pages that are no tree: it stays open then, with what it has done, and its next part tries
-    /// the same step again.
+    /// So many steps more of the bulk delete or cleanup that goes on in parts: each does one act at most, so a few pages. Answers
+    /// None where it goes on after all of them, and its statistics once it has finished. Refused with `NoSession` (12) where none is
+    /// open, or its call is over. Refused with `Blocked` (4) where an open scan stands on a leaf that it needs: its next part tries
+    /// that step again, and so where a checkpoint before a step is refused. A step that is refused with `Io` (2), `Stopped` (3),
+    /// `NoFrame` (10), or with `PageDamaged` (17) on pages that are no tree, ends its call. It stays open, with what it has done.
     pub fn vacuum(&mut self, steps: u32) -> Result<Option<VacuumStats>, Fault>
         ensures steps { Continues S.follows self.old.store self.new.store }
-        ensures none { NoVacuumIsOpen self.old.seats → (result ≡ Err Fault.NoSession) × (self.new ≡ self.old) }
-        ensures over { (session : ℕ) → IsVacuumSeat self.old.seats session → op_of self.old.calls session ≡ None
-            → (result ≡ Err Fault.NoSession) × (self.new ≡ self.old) }
-        ensures runs { (session : ℕ) → IsVacuumSeat self.old.seats session → op_of self.old.calls session ≢ None
+        ensures none { NoVacuumIsOpen self.old.seats → FindsNoVacuum result self.old self.new }
+        ensures over { (session : ℕ) → IsVacuumSeat self.old.seats session
+            → op_of self.old.calls session ≡ None → FindsNoVacuum result self.old self.new }
+        ensures idle { steps ≡ 0 → self.new ≡ self.old }
+        ensures runs { (session : ℕ) → IsVacuumSeat self.old.seats session
+            → op_of self.old.calls session ≢ None
             → IndexIsRun S.PageStore session (PartMeans session (part_answer result))
             (part_outcome (part_answer result)) self.old self.new }
-        // Whatever the pages are.
-        ensures made { (session : ℕ) → IsVacuumSeat self.old.seats session → op_of self.old.calls session ≢ None
-            → IndexMakes S.PageStore session (ComesTo (part_outcome (part_answer result))) self.old self.new }
+        // Whatever the pages are; and where it goes on, exactly so many steps were made.
+        ensures made { (session : ℕ) → IsVacuumSeat self.old.seats session
+            → op_of self.old.calls session ≢ None
+            → IndexMakes S.PageStore session (PartComesTo steps (part_answer result)) self.old self.new }
         ensures keeps { (session : ℕ) → IsVacuumSeat self.old.seats session
             → ForEachIndexHistory S.PageStore self.old self.new (λ start history calls.
             PartKeeps S.PageStore session self.old self.new.store calls) }
         ensures counts { (session : ℕ) → IsVacuumSeat self.old.seats session
             → ForEachIndexHistory S.PageStore self.old self.new (λ start history calls.
             PartCounts S.PageStore session result self.new.store calls) }
+        // So one beside which nobody changes pages tells how many entries are left.
+        ensures entries { (session : ℕ) → IsVacuumSeat self.old.seats session
+            → (what : Followed) → ForEachIndexHistory S.PageStore self.old self.new
+            (λ start history calls. PartCountsOn S.PageStore what session result self.old self.new) }
         // It never answers `LogFull`, `SessionBusy` nor `VacuumRunning`.
         ensures cause { (session : ℕ) → IsVacuumSeat self.old.seats session
             → ForEachIndexHistory S.PageStore self.old self.new (λ start history calls.
             PartIsCaused S.PageStore session result self.old self.new.store calls) }
+        // So where it is blocked the next part tries again.
+        ensures lasts { (session : ℕ) → IsVacuumSeat self.old.seats session
+            → RunsUnlessLast (op_of self.old.calls session) (op_of self.new.calls session)
+            (part_answer result) }
         ensures tokens { SameTokens self.old self.new }
         ensures rows { self.new.rows ≡ self.old.rows }
     {
@@ -147,7 +158,7 @@ impl<S: PageStore> Index<S> {
     /// removed. Its session is free then, and its rows are dropped. Refused with `NoSession` (12) where none is open.
     pub fn end_vacuum(&mut self) -> Result<(), Fault>
         ensures steps { Continues S.follows self.old.store self.new.store }
-        ensures none { NoVacuumIsOpen self.old.seats → (result ≡ Err Fault.NoSession) × (self.new ≡ self.old) }
+        ensures none { NoVacuumIsOpen self.old.seats → FindsNoVacuum result self.old self.new }
         ensures ended { (session : ℕ) → IsVacuumSeat self.old.seats session
             → (result ≡ Ok tt) × VacuumIsEnded S.PageStore session self.old self.new }
     {

@@ -2,7 +2,7 @@
 use Rattle.std.specs.Prelude.{◌≡◌, ◌≢◌, ◌⊎◌, ◌||◌, ℕ, true, false, Option, Some, None, IsSome, Result, Ok, Err, IfOk, IfErr, OnOk, OnErr, ⊤}
 use Rattle.access_method.specs.Counted.{upkeep_outcome}
 use Rattle.access_method.specs.Indexes.{ForEachIndexHistory, IndexIsRun, IndexInserts, IndexMakes, InsertsOrKeeps, IsCleanedUp, IsNewToken, IsBulkDeletedOrLess, IndexStays, SameTokens, NotOpenedFor, NotRescannedFor, RescanMeans, SeatBecomes, BulkDeleteRuns, seat_with, slots_with}
-use Rattle.access_method.specs.Parts.{BulkDeleteIsOpened, CleanupIsOpened, NotBegunFor, PartCounts, PartIsCaused, PartKeeps, VacuumIsEnded, part_answer}
+use Rattle.access_method.specs.Parts.{BulkDeleteIsOpened, CleanupIsOpened, PartCountsOn, FindsNoVacuum, NotBegunFor, PartCounts, PartIsCaused, PartKeeps, VacuumIsEnded, part_answer}
 use Rattle.access_method.specs.Refusals.{InsertHasCause, causes_of_vacuum}
 use Rattle.access_method.specs.Tokens.{IsVacuumSeat, NoVacuumIsOpen, seat_of}
 use Rattle.access_method.specs.declared.index.Index.{Index}
@@ -25,8 +25,8 @@ use Rattle.session_calls.specs.Ops.{op_before}
 use Rattle.session_calls.specs.declared.answer.Answer.TheVariants.{Begun}
 use Rattle.session_calls.specs.declared.request.Request.TheVariants.{Scan as ToScan, Cleanup as ToCleanup}
 use Rattle.whole_calls.specs.Made.{ComesTo, InsertComesTo, IsMadeOf}
-use Rattle.whole_calls.specs.Parts.{PartMeans, part_outcome}
-use Rattle.whole_calls.specs.Vacuuming.{VacuumMeans, vacuum_outcome}
+use Rattle.whole_calls.specs.Parts.{PartComesTo, PartMeans, RunsUnlessLast, part_outcome}
+use Rattle.whole_calls.specs.Vacuuming.{Followed, VacuumMeans, vacuum_outcome}
 use Rattle.whole_calls.specs.Meanings.{HasBegun, IsSameHistory, EndMeans}
 use Rattle.whole_calls.specs.declared.inserted.Inserted.{Inserted}
 use Rattle.nardsill.specs.Asking.{SpellsNoEntry, SpellsNoRange, SpellsEntry, SpellsRange, row_asked, token_asked}
@@ -90,7 +90,7 @@ pub record ClosesHandle {S : Type 0} (g : Ghosts S) (ask : Ask) (answer : Answer
   pub runs : OnOk outcome (IndexIsRun g ask.session (EndMeans ask.session) None old new)
   pub tokens : OnOk outcome (SeatBecomes (token_asked ask) None old new)
   pub refused : OnErr outcome (seat_of old.seats (token_asked ask) ≡ None)
-  pub closed : seat_of old.seats (token_asked ask) ≡ None → (outcome ≡ Err NoSession) × (new ≡ old)
+  pub closed : seat_of old.seats (token_asked ask) ≡ None → FindsNoVacuum outcome old new
 
 -- a row was named beside those that were; or none is named any more, as it is no row, or there is no memory
 abbrev pub Names : Ask → Answer → RowSet → RowSet → Type 0
@@ -135,20 +135,23 @@ pub record BeginsCleanup {S : Type 0} (g : Ghosts S) (answer : Answer) (old new 
   pub same : OnErr outcome (new ≡ old)
   pub cause : IfErr outcome (NotBegunFor g old)
 
--- the one that goes on was to go on; `PartOf` has what is told of its session
-pub record PartOf {S : Type 0} (g : Ghosts S) (outcome : Result (Option VacuumStats) Fault) (session : ℕ) (old new : Index S) : Type 0 where
-  pub over : op_of old.calls session ≡ None → (outcome ≡ Err NoSession) × (new ≡ old)
+-- the one that goes on was to go on, by so many steps; `PartOf` has what is told of its session
+pub record PartOf {S : Type 0} (g : Ghosts S) (steps : ℕ) (outcome : Result (Option VacuumStats) Fault) (session : ℕ) (old new : Index S) : Type 0 where
+  pub over : op_of old.calls session ≡ None → FindsNoVacuum outcome old new
   pub runs : op_of old.calls session ≢ None → IndexIsRun g session (PartMeans session (part_answer outcome)) (part_outcome (part_answer outcome)) old new
-  pub made : op_of old.calls session ≢ None → IndexMakes g session (ComesTo (part_outcome (part_answer outcome))) old new
+  pub made : op_of old.calls session ≢ None → IndexMakes g session (PartComesTo steps (part_answer outcome)) old new
   pub keeps : ForEachIndexHistory g old new (λ start history calls. PartKeeps g session old new.store calls)
   pub counts : ForEachIndexHistory g old new (λ start history calls. PartCounts g session outcome new.store calls)
+  pub lasts : RunsUnlessLast (op_of old.calls session) (op_of new.calls session) (part_answer outcome)
+  pub entries : (what : Followed) → ForEachIndexHistory g old new (λ start history calls. PartCountsOn g what session outcome old new)
   pub cause : ForEachIndexHistory g old new (λ start history calls. PartIsCaused g session outcome old new.store calls)
 
-pub record GoesOn {S : Type 0} (g : Ghosts S) (answer : Answer) (old new : Index S) : Type 0 where
+pub record GoesOn {S : Type 0} (g : Ghosts S) (steps : ℕ) (answer : Answer) (old new : Index S) : Type 0 where
   pub outcome : Result (Option VacuumStats) Fault
   pub told : Tells AnswersPart outcome answer
-  pub none : NoVacuumIsOpen old.seats → (outcome ≡ Err NoSession) × (new ≡ old)
-  pub part : (session : ℕ) → IsVacuumSeat old.seats session → PartOf g outcome session old new
+  pub none : NoVacuumIsOpen old.seats → FindsNoVacuum outcome old new
+  pub part : (session : ℕ) → IsVacuumSeat old.seats session → PartOf g steps outcome session old new
+  pub idle : steps ≡ 0 → new ≡ old
   pub tokens : SameTokens old new
   pub rows : new.rows ≡ old.rows
 
@@ -156,7 +159,7 @@ pub record GoesOn {S : Type 0} (g : Ghosts S) (answer : Answer) (old new : Index
 pub record EndsVacuum {S : Type 0} (g : Ghosts S) (answer : Answer) (old new : Index S) : Type 0 where
   pub outcome : Result (Unit {0}) Fault
   pub told : Tells AnswersNothing outcome answer
-  pub none : NoVacuumIsOpen old.seats → (outcome ≡ Err NoSession) × (new ≡ old)
+  pub none : NoVacuumIsOpen old.seats → FindsNoVacuum outcome old new
   pub ended : (session : ℕ) → IsVacuumSeat old.seats session → (outcome ≡ Ok tt) × VacuumIsEnded g session old new
 
 -- The next part of a commit was to be done. It leaves contents, calls and open scans as they are, and what is durable.
@@ -199,7 +202,7 @@ pub record ServesCall {S : Type 0} (g : Ghosts S) (ask : Ask) (answer : Answer) 
   pub written : ask.what ≡ 9 → MakesDurable g Checkpoints answer old new
   pub began_delete : ask.what ≡ 11 → BeginsDelete g dead answer old new × (left.rows ≡ None)
   pub began_cleanup : ask.what ≡ 12 → BeginsCleanup g answer old new
-  pub went_on : ask.what ≡ 13 → GoesOn g answer old new
+  pub went_on : ask.what ≡ 13 → GoesOn g ask.block answer old new
   pub ended : ask.what ≡ 14 → EndsVacuum g answer old new
   pub advanced : ask.what ≡ 15 → Advances g answer old new
   pub unknown : IsUnknown ask.what → AnswersFault NoSession answer × (new ≡ old)

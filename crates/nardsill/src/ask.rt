@@ -16,7 +16,7 @@ pub struct Ask {
     /// A token: its number and its session.
     pub session: u32,
     pub number: u64,
-    /// A row; of a part, how many steps it makes at most.
+    /// A row; of a part, how many steps it makes, unless it finishes or is refused before.
     pub block: u32,
     pub offset: u16,
     /// How many bytes of `key` are a key, or where a range begins; and of `below`, where it ends.

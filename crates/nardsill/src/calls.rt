@@ -253,7 +253,7 @@ fn begin_clean_up<S: PageStore>(index: &mut Index<S>) -> Answer
 // So many steps more of what goes on in parts.
 fn go_on<S: PageStore>(index: &mut Index<S>, ask: &Ask) -> Answer
     ensures steps { Continues S.follows index.old.store index.new.store }
-    ensures means { GoesOn S.PageStore result index.old index.new }
+    ensures means { GoesOn S.PageStore ask.now.block result index.old index.new }
     ensures quiet { result.is_durable ≡ false }
 {
     part_answer(index.vacuum(ask.block))

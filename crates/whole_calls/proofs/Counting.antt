@@ -1,5 +1,5 @@
 -- What a bulk delete or a cleanup counts, step by step.
-use Rattle.std.proofs.Common.{◌≡◌, ℕ, ◌+◌, ◌<◌, Bool, true, false, Option, Some, None, Ok, List, [], length, slice_get, refl, sym, ap, subst, ◌∙◌, arith, unwrap_or}
+use Rattle.std.proofs.Common.{◌≡◌, ◌≢◌, if◌then◌else◌, ℕ, ◌+◌, ◌<◌, Bool, true, false, Option, Some, None, Ok, List, [], length, slice_get, refl, sym, ap, subst, ◌∙◌, arith, unwrap_or}
 use Rattle.tree_shape.specs.Staying.{MustStay}
 use Rattle.tree_acts.specs.Deletions.{StartsAreBelow}
 use Rattle.whole_calls.proofs.Tellings.{runs_in_slot, one_runs}
@@ -7,6 +7,8 @@ use Rattle.whole_calls.proofs.Imports.{VacuumStats, entries_below, Live, HalfDea
 use Rattle.whole_calls.proofs.Imports.{get_within, slot_found, Call, Entry, State, Ghosts, Page, DeadSets, asked_of, session_of, OpInvariant, CountsEntries, CountsPages, SparesLeaves, Answer}
 use Rattle.whole_calls.proofs.Imports.{Going, Finished, Op, Moment, IsRunningCall, EventDoes, Fits, slot_of, SlotRuns, has_call, MovesCall, Steps, CallMoves, MovesOn, Followed, of_bulk_delete}
 use Rattle.whole_calls.proofs.Imports.{of_cleanup, of_deleted, of_leaves, IsCountedAs, StatsCountAs, CountsThrough, IsInOrder, OthersRely, fits_after, running_of}
+use Rattle.whole_calls.proofs.Imports.{Fault, Refused, RefusalChangesNothing, ends_call, op_after_call}
+use Rattle.session_calls.specs.Sessions.{StepIsRefused}
 
 -- nobody else holds a page, after a step of the session's call
 pub alone_on : (session : ℕ) (old now : State) (one other : ℕ) → OthersRely session old now → one ≡ session → other ≡ session → IsAlone old one → IsAlone now other
@@ -102,6 +104,15 @@ module _ {S : Type 0} (g : Ghosts S) (start : Entry → Bool) (session : ℕ) (x
       of true c = on c
       of false s = absurd (let e = s.refused in cc)
 
+  -- ... that is refused, and hasn't ended it
+  stays : (what : Followed) (op : Op) (fault : Fault) → StepIsRefused old now op (slot_of y.slots session) fault → slot_of y.slots session ≢ None
+      → IsCountedAs what x.sets old (Some op) → IsCountedAs what x.sets now (slot_of y.slots session)
+  stays what op fault refused runs counted = of (ends_call fault) refused.state refused.slot_is
+    where
+      of : (ends : Bool) → now ≡ (if ends then op_after_call op old else old) → slot_of y.slots session ≡ (if ends then None else Some op) → IsCountedAs what x.sets now (slot_of y.slots session)
+      of true state slot = absurd (runs slot)
+      of false state slot = rw (state, slot) counted
+
   -- what is counted is what the session runs
   with_op : (what : Followed) (Then : Type 0) → ((op : Op) → slot_of x.slots session ≡ Some op → IsCountedAs what x.sets old (Some op) → Then)
       → (o : Option Op) → slot_of x.slots session ≡ o → IsCountedAs what x.sets old o → Then
@@ -114,7 +125,19 @@ module _ {S : Type 0} (g : Ghosts S) (start : Entry → Bool) (session : ℕ) (x
   step_counts what (Finished stats) does = λ counted.
       with_op what (StatsCountAs what now (Ok stats))
       (λ op is so. counted_last what x.sets old now op (slot_of y.slots session) stats so (stands op (Finished stats) does is)) (slot_of x.slots session) refl counted
+  step_counts what (Refused fault) does = λ runs counted.
+      with_op what (IsCountedAs what x.sets now (slot_of y.slots session))
+      (λ op is so. stays what op fault (subst (λ (o : Option Op). RefusalChangesNothing old now o (slot_of y.slots session) (Refused fault)) is does.also.always.refused) runs so)
+      (slot_of x.slots session) refl counted
   step_counts what answer does = tt
+
+-- what was counted up to the step is counted on by it
+pub counts_from : (what : Followed) (sets : DeadSets) (one two three : State) (before between after : Option Op) (answer : Answer)
+    → (IsCountedAs what sets one before → IsCountedAs what sets two between) → CountsThrough what sets two three between after answer → CountsThrough what sets one three before after answer
+counts_from what sets one two three before between after Going first last = λ so. last (first so)
+counts_from what sets one two three before between after (Finished stats) first last = λ so. last (first so)
+counts_from what sets one two three before between after (Refused fault) first last = λ runs so. last runs (first so)
+counts_from what sets one two three before between after answer first last = tt
 
 -- what is clean is of the pages alone
 cleaned_on : (new last : State) (count : ℕ) → last.pages ≡ new.pages → AllIsCleaned new count → AllIsCleaned last count

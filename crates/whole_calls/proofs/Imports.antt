@@ -64,7 +64,7 @@ pub use Rattle.schedule.specs.declared.event.Event.{Event}
 pub use Rattle.schedule.specs.declared.event.Event.TheVariants.{Bulk as BulkEvent, Checkpoint, Cleanup as CleanupEvent, End, Insert as InsertEvent, Next, Scan as ScanEvent, Step}
 pub use Rattle.whole_calls.specs.Giving.{AnswersSeek, Becomes, GivenMeans, LessIsLeft, ScanIsUnanswered, SessionGivenMeans, SessionScanMeans, given_of, given_outcome}
 pub use Rattle.whole_calls.specs.Going.{CallIsRun, CallIsRunFrom, CallRuns, IsAmong, IsOutcomeOf}
-pub use Rattle.whole_calls.specs.Made.{Answered, AreMade, ComesTo, HasItsRoom, InsertComesTo, IsMadeOf}
+pub use Rattle.whole_calls.specs.Made.{Answered, AreMade, ComesTo, HasItsRoom, InsertComesTo, IsMadeOf, StepComesTo}
 pub use Rattle.whole_calls.specs.Meanings.{AreOwnEffects, BeginMeans, CallAnswers, EndMeans, HasBegun, HasContinued, HasNone, HasRunSoFar, InsertMeans, IsAddedNow, IsNotAdded, IsOwnEffect}
 pub use Rattle.whole_calls.specs.Meanings.{IsSameHistory, MayAnswer, MayComeTo, NextMeans, NothingIsDone, RoomIsMade, SessionStepMeans, StepMeans, acts_by, begin_outcome, begun_of, first_call}
 pub use Rattle.whole_calls.specs.Meanings.{inserted_call, left_behind, noted_after, outcome_of, shapes, with_one_call}

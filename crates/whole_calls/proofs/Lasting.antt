@@ -95,7 +95,7 @@ module _ {S : Type 0} {g : Ghosts S} {session : ℕ} where
       not_key_exists = (kept_not_exists (g.backing x.store) (g.backing y.store) fault cause).1;
     });
     caused = λ number call is. forced_cause g session least_room (start_number (g.state x.store) session) (is_full_vacuum (slot_of x.slots session)) call.ask (here_at x) y.store fault cause;
-    counts = λ what. tt;
+    counts = λ what runs so. rw (room.state_is, room.slots_are) so;
     fewer = λ low going. absurd cc;
     numbers = λ going. absurd cc;
     stats = λ number call is stats finished. absurd cc;

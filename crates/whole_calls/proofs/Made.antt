@@ -1,7 +1,7 @@
 -- Calls as events, one after the other.
 use Rattle.std.proofs.Common.{◌≡◌, ℕ, ◌+◌, ◌-◌, ◌≤◌, arith, Option, Some, None, List, [], ◌∷◌, ◌++◌, length, refl, sym, subst, inl, inr, length-append}
 use Rattle.whole_calls.proofs.Imports.{Event, are_of_both, Ghosts, Answer, StoreAndSlots, Kind, kind_of, IsOfSession, EventEffect, IsAmong, IsOutcomeOf, HasItsRoom, AreMade, IsMadeOf, Answered}
-use Rattle.whole_calls.proofs.Imports.{ComesTo}
+use Rattle.whole_calls.proofs.Imports.{ComesTo, StepComesTo}
 use Rattle.whole_calls.proofs.Composing.{among_left, among_right}
 
 -- an answer that is among these is one of them
@@ -21,6 +21,11 @@ answered_right xs ys answer (inr h) = (let a = length-append xs ys in let b = h.
 pub comes_by : (xs : List Answer) (came : Option Answer) → IsOutcomeOf xs came → ComesTo came xs
 comes_by xs None h = tt
 comes_by xs (Some answer) h = inl h
+
+-- what a step came to is among its answers
+step_among : (answer : Answer) (xs : List Answer) → StepComesTo answer xs → IsAmong xs answer
+step_among answer xs (inl is) = subst (λ (l : List Answer). IsAmong l answer) (sym is) (inl refl)
+step_among answer xs (inr is) = subst (λ (l : List Answer). IsAmong l answer) (sym is.1) (inr (inl refl))
 
 made_both : {S : Type 0} (g : Ghosts S) (least_room : ℕ) (xs ys : List Event) (ps qs : List Answer) (a b c : StoreAndSlots S)
     → AreMade g least_room xs ps a b → AreMade g least_room ys qs b c → AreMade g least_room (xs ++ ys) (ps ++ qs) a c
@@ -70,9 +75,9 @@ module _ {S : Type 0} {g : Ghosts S} {session least_room : ℕ} where
   made_nowhere came = record { events = []; answers = []; own = tt; made = refl; outcome_by = came }
 
   -- one event, of this kind
-  pub made_once : (event : Event) (kind : Kind) {answer : Answer} {a b : StoreAndSlots S} → kind_of event ≡ kind → IsOfSession session kind
-      → HasItsRoom least_room kind (g.state a.store).limits (g.backing a.store) → EventEffect g kind answer a b → IsMadeOf g session least_room (λ answers. IsAmong answers answer) a b
-  made_once event kind {answer} {a} {b} is of room makes = record {
+  pub made_alone : (event : Event) (kind : Kind) {answer : Answer} {a b : StoreAndSlots S} → kind_of event ≡ kind → IsOfSession session kind
+      → HasItsRoom least_room kind (g.state a.store).limits (g.backing a.store) → EventEffect g kind answer a b → IsMadeOf g session least_room (λ answers. answers ≡ answer ∷ []) a b
+  made_alone event kind {answer} {a} {b} is of room makes = record {
     events = event ∷ [];
     answers = answer ∷ [];
     own = (subst (λ (k : Kind). IsOfSession session k) (sym is) of, tt);
@@ -80,5 +85,14 @@ module _ {S : Type 0} {g : Ghosts S} {session least_room : ℕ} where
       subst (λ (k : Kind). HasItsRoom least_room k (g.state a.store).limits (g.backing a.store)) (sym is) room,
       (b, subst (λ (k : Kind). EventEffect g k answer a b) (sym is) makes, refl),
     );
-    outcome_by = inl refl;
+    outcome_by = refl;
   }
+
+  -- ... which answered this
+  pub made_once : (event : Event) (kind : Kind) {answer : Answer} {a b : StoreAndSlots S} → kind_of event ≡ kind → IsOfSession session kind
+      → HasItsRoom least_room kind (g.state a.store).limits (g.backing a.store) → EventEffect g kind answer a b → IsMadeOf g session least_room (λ answers. IsAmong answers answer) a b
+  made_once event kind {answer} is of room makes = made_told (made_alone event kind is of room makes) (λ xs alone. step_among answer xs (inl alone))
+
+  -- one step, which answered this
+  pub made_among : {answer : Answer} {a b : StoreAndSlots S} → IsMadeOf g session least_room (StepComesTo answer) a b → IsMadeOf g session least_room (λ answers. IsAmong answers answer) a b
+  made_among {answer} one = made_told one (step_among answer)

@@ -1,17 +1,18 @@
 -- One step of a session's call after the making of room for it, and a call that is given up since the room can't be made.
 use Rattle.std.proofs.Common.{◌≡◌, ◌⊎◌, ℕ, ◌≤◌, zero, suc, Bool, true, false, not, Option, Some, None, List, [], ◌∷◌, ◌++◌, length, slice_get, slice_set, refl, sym, ap, subst, arith, inl, inr, ◌∙◌, unwrap_or}
 use Rattle.whole_calls.proofs.Composing.{is_later, joined_second, goes_once}
-use Rattle.whole_calls.proofs.Made.{made_last, made_once}
+use Rattle.whole_calls.proofs.Made.{made_alone, made_last, made_once, made_then, made_told}
 use Rattle.whole_calls.proofs.Imports.{Blocked, NoSession, VacuumStats, causes_of_forced, ends_call, is_last, start_number, after_slot, RefusalChangesNothing, RunsUntilLast, Inserts, Scans, Bulks}
 use Rattle.whole_calls.proofs.Imports.{Cleanups, runs_over, DoesOneAct, same_some, Step, IsMadeOf, snapshot_of, Continues, Laws, Effect, contents_after, Ask, Call, Entry, Fault, HasCause, State}
 use Rattle.whole_calls.proofs.Imports.{Backing, IsLater, Ghosts, DeadSets, acts_of, IsCaused, IsAsked, AnswerMeans, slot_add, AnswersStep, Answer, Going, Finished, Checkpointed, Refused, Op}
 use Rattle.whole_calls.proofs.Imports.{StoreAndSlots, Moment, IsRunningCall, Fits, EventDoes, EventEffect, here_at, here_with, slot_of, has_call, MovesCall, Steps, CallMoves, MovesOn, OthersStay}
 use Rattle.whole_calls.proofs.Imports.{IsAmong, CallIsRun, cut_short, HasStepped, IsGivenUpFor, OneStepIsRun, OneStepAlways, OneStepComesTo, IsStepMade, IsRoomTried, IsMadeAsStep, is_full_vacuum}
-use Rattle.whole_calls.proofs.Imports.{causes_of_asked, RoomMeans, StepIsRun, RoomIsMade, IsOwnEffect, IsSameHistory, HasNone, EndMeans}
+use Rattle.whole_calls.proofs.Imports.{Checkpoint, Checkpoints, MaintainsStore, StepComesTo, causes_of_asked, RoomMeans, StepIsRun, RoomIsMade, IsOwnEffect, IsSameHistory, HasNone, EndMeans}
 use Rattle.whole_calls.proofs.Lasting.{step_goes, room_then}
 use Rattle.whole_calls.proofs.Refusing.{cause_wider, forced_cause, asked_after}
 use Rattle.whole_calls.proofs.Tellings.{moves_tells, one_runs, runs_has_call, runs_in_slot, true_false}
 use Rattle.whole_calls.proofs.Blocks.{LeavesAll, leaves_state}
+use Rattle.whole_calls.specs.Parts.{RunsUnlessLast}
 
 -- what a step tells, by its event
 pub record StepsOnce {S : Type 0} (g : Ghosts S) (session least_room : ℕ) (answer : Answer) (old new : Moment S) : Type 0 where
@@ -156,6 +157,29 @@ is_step_made {g = g} {least_room = least_room} {mid = mid} is room makes =
 pub room_made : {S : Type 0} {g : Ghosts S} {session least_room : ℕ} {answer : Answer} {One : List Answer → Type 0} {a b c : StoreAndSlots S} → IsMadeOf g session least_room One a b
     → IsStepMade g session least_room answer b c → IsMadeOf g session least_room (λ answers. IsAmong answers answer) a c
 room_made {session = session} one step = made_last one (made_once (Step session) (MovesCall session Steps) refl refl step.room step.makes)
+
+-- ... as the events that they are
+pub step_made : {S : Type 0} {g : Ghosts S} {session least_room : ℕ} {answer : Answer} {old here there : StoreAndSlots S}
+    → (here ≡ old) ⊎ ((count : ℕ) × IsRoomTried g least_room (Checkpointed count) old here)
+    → IsStepMade g session least_room answer here there → IsMadeOf g session least_room (StepComesTo answer) old there
+step_made {S} {g} {session} {least_room} {answer} {there = there} (inl same) step =
+    subst (λ (x : StoreAndSlots S). IsMadeOf g session least_room (StepComesTo answer) x there) same
+    (made_told (made_alone (Step session) (MovesCall session Steps) refl refl step.room step.makes) (λ xs is. inl is))
+step_made {session = session} {answer = answer} (inr tried) step =
+    made_then (made_alone Checkpoint (MaintainsStore Checkpoints) refl tt tried.1.short tried.1.makes)
+    (made_alone (Step session) (MovesCall session Steps) refl refl step.room step.makes)
+    (λ xs ys one two. inr (tried.0, ap (λ (l : List Answer). l ++ ys) one ∙ ap (λ (l : List Answer). (Checkpointed tried.0 ∷ []) ++ l) two))
+
+-- ... or the refusal of the room alone
+pub step_short : {S : Type 0} {g : Ghosts S} {session least_room : ℕ} {fault : Fault} {old new : StoreAndSlots S} → IsRoomTried g least_room (Refused fault) old new
+    → IsMadeOf g session least_room (StepComesTo (Refused fault)) old new
+step_short tried = made_told (made_alone Checkpoint (MaintainsStore Checkpoints) refl tt tried.short tried.makes) (λ xs is. inl is)
+
+-- a call goes on after an answer that isn't its last
+pub runs_unless : (before after : Option Op) (answer : Answer) → RunsUntilLast before after answer → RunsUnlessLast before after answer
+runs_unless None after answer until last runs = absurd (runs refl)
+runs_unless (Some op) None answer until last runs = absurd (true_false (sym (until ∙ ap not last)))
+runs_unless (Some op) (Some then_op) answer until last runs = λ e. cc
 
 -- a fault of a checkpoint ends a call
 forced_ends : (old new : Backing) (fault : Fault) → HasCause (causes_of_forced old new) fault → ends_call fault ≡ true

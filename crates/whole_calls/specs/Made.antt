@@ -6,7 +6,7 @@ use Rattle.index_model.specs.declared.format.Format.{Format}
 use Rattle.page_action.specs.States.{Backing}
 use Rattle.page_action.specs.declared.page_store.PageStore.{Ghosts}
 use Rattle.session_calls.specs.declared.answer.Answer.{Answer}
-use Rattle.session_calls.specs.declared.answer.Answer.TheVariants.{Added, Refused}
+use Rattle.session_calls.specs.declared.answer.Answer.TheVariants.{Added, Checkpointed, Refused}
 use Rattle.schedule.specs.TheoremMoments.{StoreAndSlots}
 use Rattle.schedule.specs.TheoremKinds.{Steps, Checkpoints, Kind, MovesCall, MaintainsStore, kind_of}
 use Rattle.schedule.specs.Events.{AreOf}
@@ -41,6 +41,10 @@ pub record IsMadeOf {S : Type 0} (g : Ghosts S) (session least_room : ℕ) (Call
   pub own : AreOf session events
   pub made : AreMade g least_room events answers old new
   pub outcome_by : CallOutcome answers
+
+-- a step answered this, or the checkpoint before it, which was refused so; else a checkpoint was made before it, or none
+abbrev pub StepComesTo : Answer → List Answer → Type 0
+StepComesTo answer answers = (answers ≡ answer ∷ []) ⊎ ((count : ℕ) × (answers ≡ Checkpointed count ∷ answer ∷ []))
 
 -- one of these answers was this; or a call that was stepped 2^64 - 1 times was refused for that
 abbrev pub Answered : Answer → List Answer → Type 0

@@ -130,10 +130,12 @@ StatsCountAs of_cleanup st result = StatsCountCleaned st result
 StatsCountAs (of_deleted was) st result = StatsCountDeleted was st result
 StatsCountAs of_leaves st result = ResultLeavesNeeded st result
 
--- where nobody else acts: a bulk delete or a cleanup that goes on counts on, and at its end it tells how many entries there are
+-- where nobody else acts: a bulk delete or a cleanup that goes on counts on, also after a refusal that hasn't ended it; and at its end it tells
+-- how many entries there are
 abbrev pub CountsThrough : Followed → DeadSets → State → State → Option Op → Option Op → Answer → Type 0
 CountsThrough what sets old new before after Going = IsCountedAs what sets old before → IsCountedAs what sets new after
 CountsThrough what sets old new before after (Finished stats) = IsCountedAs what sets old before → StatsCountAs what new (Ok stats)
+CountsThrough what sets old new before after (Refused fault) = after ≢ None → IsCountedAs what sets old before → IsCountedAs what sets new after
 CountsThrough what sets old new before after answer = Unit {0}
 
 -- a bulk delete or a cleanup that has begun has counted what it has left

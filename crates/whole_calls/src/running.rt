@@ -17,10 +17,11 @@ ghost use Rattle.schedule.specs.Events.{IsSameStore, causes_of_begun_at};
 ghost use Rattle.schedule.specs.Making.{EventEffect};
 ghost use Rattle.schedule.specs.TheoremKinds.{BeginsCall, GivesUp, MovesCall, kind_of};
 ghost use Rattle.schedule.specs.TheoremRuns.{ForEachHistory};
-ghost use Rattle.whole_calls.specs.Going.{IsAmong, IsOutcomeOf, CallIsRun, CallIsRunFrom};
+ghost use Rattle.whole_calls.specs.Going.{IsOutcomeOf, CallIsRun, CallIsRunFrom};
 ghost use Rattle.whole_calls.specs.Inserting.{InsertIsRun};
-ghost use Rattle.whole_calls.specs.Made.{IsMadeOf, Answered, ComesTo, InsertComesTo};
+ghost use Rattle.whole_calls.specs.Made.{IsMadeOf, Answered, ComesTo, InsertComesTo, StepComesTo};
 ghost use Rattle.whole_calls.specs.OneStep.{MakesRoom};
+ghost use Rattle.whole_calls.specs.Parts.{RunsUnlessLast};
 ghost use Rattle.whole_calls.specs.Refusing.{InsertCallIsCaused};
 ghost use Rattle.whole_calls.specs.Stepping.{RoomMeans, BeginIsRun, StepIsRun, FinishIsRun, RequestIsRun};
 ghost use Rattle.whole_calls.specs.Meanings.{RoomIsMade, MayAnswer, MayComeTo, EndMeans, left_behind, outcome_of, begun_of, begin_outcome, room_outcome};
@@ -77,7 +78,7 @@ pub(crate) fn step<S: PageStore, T: DeadRows>(
     ensures goes { CallIsRun S.PageStore session (StepIsRun S.PageStore session least_room result)
         (Some result) (here T.DeadRows store.old calls.old sets.now)
         (here T.DeadRows store.new calls.new sets.now) }
-    ensures made { IsMadeOf S.PageStore session least_room (λ answers. IsAmong answers result)
+    ensures made { IsMadeOf S.PageStore session least_room (StepComesTo result)
         (here T.DeadRows store.old calls.old sets.now)
         (here T.DeadRows store.new calls.new sets.now) }
     ensures limits { (S.state store.new).limits ≡ (S.state store.old).limits }
@@ -89,6 +90,7 @@ pub(crate) fn step<S: PageStore, T: DeadRows>(
     ensures kind { AnswersStep (op_of calls.old session) (op_of calls.new session) result }
     // What the session runs then, if anything, is of the kind that it ran before.
     ensures runs_on { RunsOn (op_of calls.old session) (op_of calls.new session) }
+    ensures lasts { RunsUnlessLast (op_of calls.old session) (op_of calls.new session) result }
 {
     match make_room(store, least_room) {
         Ok(()) => schedule::step(store, calls, sets, session),

@@ -13,8 +13,11 @@ returns-clause-means g c =
         made = e.made session seat;
         keeps = e.keeps session seat;
         counts = e.counts session seat;
+        entries = e.entries session seat;
+        lasts = e.lasts session seat;
         cause = e.cause session seat;
       };
+      idle = e.idle;
       tokens = e.tokens;
       rows = e.rows;
     }

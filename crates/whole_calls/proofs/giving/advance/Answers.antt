@@ -1,7 +1,7 @@
 use Rattle.std.proofs.Common.{rules, ◌≡◌, None, refl}
 use Rattle.whole_calls.proofs.Imports.{Next, Gave, MovesCall, Takes}
 use Rattle.whole_calls.proofs.Composing.{joined_second}
-use Rattle.whole_calls.proofs.Made.{made_last, made_once}
+use Rattle.whole_calls.proofs.Made.{made_among, made_last, made_once}
 use Rattle.whole_calls.proofs.Lasting.{scan_steps, scan_nexts, waits_after, waits_none}
 use Rattle.whole_calls.proofs.giving.advance.Goals as goal
 
@@ -28,4 +28,4 @@ returns-2-clause-made g c = made_once (Next c.args.session) (MovesCall c.args.se
 
 pub returns-in-Gave-None-clause-made : goal.returns-in-Gave-None-clause-made
 returns-in-Gave-None-clause-made g c =
-    made_last (made_once (Next c.args.session) (MovesCall c.args.session Takes) refl refl tt c.next-answer.ensures.makes) c.step.ensures.made
+    made_last (made_once (Next c.args.session) (MovesCall c.args.session Takes) refl refl tt c.next-answer.ensures.makes) (made_among c.step.ensures.made)

@@ -1,10 +1,11 @@
-use Rattle.std.proofs.Common.{map, ◌≡◌, ◌≢◌, refl, ◌∙◌, rules}
-use Rattle.whole_calls.proofs.Imports.{runs_on_same, runs_on_then, Going, snapshot_of, slot_of}
-use Rattle.whole_calls.specs.Parts.{PartIsRun}
+use Rattle.std.proofs.Common.{map, ◌≡◌, ◌≢◌, ℕ, suc, arith, refl, ap, subst, ◌∙◌, rules}
+use Rattle.whole_calls.proofs.Imports.{is_last, runs_on_same, runs_on_then, Going, snapshot_of, slot_of}
+use Rattle.whole_calls.specs.Parts.{PartIsRun, StepsGoOn}
 use Rattle.whole_calls.proofs.Composing.{joined, joined_second, goes_nowhere, goes_told}
+use Rattle.whole_calls.proofs.Counting.{counts_from}
 use Rattle.whole_calls.proofs.Lasting.{reached_here, moved_beyond}
-use Rattle.whole_calls.proofs.Made.{made_nowhere, made_last, made_then, made_told}
-use Rattle.whole_calls.proofs.Parting.{part_came, part_comes, part_told, part_goes_on}
+use Rattle.whole_calls.proofs.Made.{made_nowhere, made_then, made_told}
+use Rattle.whole_calls.proofs.Parting.{part_came, part_comes, part_told, part_goes_on, steps_more}
 use Rattle.whole_calls.proofs.Gone.{far_last}
 use Rattle.whole_calls.proofs.Tellings.{step_comes, comes_on}
 use Rattle.whole_calls.proofs.parts.take_steps.Goals as goal
@@ -16,7 +17,10 @@ loop-left-init g c = record {
   others = λ o ne. refl;
   goes = goes_nowhere g.met.S.PageStore.laws reached_here;
   runs_on = runs_on_same (slot_of c.args.calls.now.slots.items c.args.session);
-  made = made_nowhere tt;
+  lasts = λ runs. runs;
+  made = made_nowhere (0, omega arith, refl);
+  fewer = omega arith;
+  idle = λ is. (refl, refl);
 }
 
 pub loop-left-preserved : goal.loop-left-preserved
@@ -33,7 +37,10 @@ loop-left-preserved g c =
       goes = joined laws _ so_far.steps went.steps so_far.goes went.goes (λ xs ys none so. tt)
           (λ start h hc k kc l lc fx fy fz one two. moved_beyond going one (record { steps = went.steps; others = went.others.others }) refl went.limits two);
       runs_on = runs_on_then (slot_of c.args.calls.now.slots.items session) (slot_of c.loop-left.calls.slots.items session) (slot_of c.step.new.calls.slots.items session) so_far.runs_on went.runs_on;
-      made = made_then so_far.made went.made (λ xs ys one two. tt);
+      lasts = λ runs. went.lasts (ap is_last going) (so_far.lasts runs);
+      made = made_then so_far.made went.made (λ xs ys one two. (suc one.0, (let long = one.1 in omega (arith, long, c.loop-left-test.true)), steps_more one.0 c.step.result xs ys going one.2 two));
+      fewer = omega (arith, so_far.fewer);
+      idle = λ is. absurd (omega (arith, is, so_far.fewer, c.loop-left-test.true));
     }
 
 pub returns-in_default-clause-goes : goal.returns-in_default-clause-goes
@@ -50,6 +57,7 @@ returns-in_default-clause-goes g c =
         finish = record { last = snapshot_of _ k kc; fits = fy; gone = one; lasts = record { steps = c.step.ensures.steps; others = c.step.ensures.others.others }; step = two };
         on = so_far.runs_on;
       };
+      counts = λ what. counts_from what (map g.T.DeadRows.is_in c.args.sets.now) _ _ _ _ _ _ c.step.result (one.counted what) (two.counts what);
     }))
 
 pub returns-clause-goes : goal.returns-clause-goes
@@ -59,10 +67,24 @@ returns-clause-goes g c =
 pub returns-in_default-clause-made : goal.returns-in_default-clause-made
 returns-in_default-clause-made g c =
     let over : c.step.result ≢ Going = search rules in
-    made_told (made_last c.loop-left.invariant.made c.step.ensures.made) (λ xs so. part_comes c.step.result xs over so)
+    made_then c.loop-left.invariant.made c.step.ensures.made
+    (λ xs ys one two. part_comes c.args.count one.0 c.step.result xs ys over (let long = one.1 in omega (arith, long, c.loop-left-test.true)) one.2 two)
 
 pub returns-clause-made : goal.returns-clause-made
-returns-clause-made g c = c.loop-left.invariant.made
+returns-clause-made g c =
+    made_told c.loop-left.invariant.made (λ xs so. (let long = so.1 in subst (λ (n : ℕ). StepsGoOn n xs) (omega (arith, long, c.loop-left-test.false)) so.2))
+
+pub returns-in_default-clause-idle : goal.returns-in_default-clause-idle
+returns-in_default-clause-idle g c none = absurd (omega (arith, none, c.loop-left.invariant.fewer, c.loop-left-test.true))
+
+pub returns-clause-idle : goal.returns-clause-idle
+returns-clause-idle g c none = c.loop-left.invariant.idle (omega (arith, none, c.loop-left.invariant.fewer))
+
+pub returns-in_default-clause-lasts : goal.returns-in_default-clause-lasts
+returns-in_default-clause-lasts g c last runs = c.step.ensures.lasts last (c.loop-left.invariant.lasts runs)
+
+pub returns-clause-lasts : goal.returns-clause-lasts
+returns-clause-lasts g c last runs = c.loop-left.invariant.lasts runs
 
 pub returns-in_default-clause-kind : goal.returns-in_default-clause-kind
 returns-in_default-clause-kind g c over =

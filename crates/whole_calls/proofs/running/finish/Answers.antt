@@ -2,7 +2,7 @@ use Rattle.std.proofs.Common.{map, ◌≡◌, ◌≤◌, refl, sym, subst, arith
 use Rattle.whole_calls.proofs.Imports.{runs_on_same, runs_on_then, PageDamaged, Format, Going, snapshot_of, slot_of}
 use Rattle.whole_calls.proofs.Composing.{is_later, joined, joined_second, goes_nowhere}
 use Rattle.whole_calls.proofs.Lasting.{reached_here, moved_beyond}
-use Rattle.whole_calls.proofs.Made.{made_nowhere, made_last, made_more, made_told}
+use Rattle.whole_calls.proofs.Made.{made_among, made_nowhere, made_last, made_more, made_told}
 use Rattle.whole_calls.proofs.Tellings.{step_comes, comes_on, refused_comes}
 use Rattle.whole_calls.proofs.Spending.{steps_few}
 use Rattle.whole_calls.proofs.running.finish.Goals as goal
@@ -40,7 +40,7 @@ loop-left-preserved g c =
       goes = joined laws _ so_far.steps went.steps so_far.goes went.goes (λ xs ys none so. tt)
           (λ start h hc k kc l lc fx fy fz one two. moved_beyond going one (record { steps = went.steps; others = went.others.others }) refl went.limits two);
       runs_on = runs_on_then (slot_of c.args.calls.now.slots.items session) (slot_of c.loop-left.calls.slots.items session) (slot_of c.step.new.calls.slots.items session) so_far.runs_on went.runs_on;
-      made = made_more _ _ so_far.made went.made;
+      made = made_more _ _ so_far.made (made_among went.made);
       budget = λ low honest start history calls fits. (
           let then_honest = (is_later g.S.PageStore laws went.steps).honest honest in
           let most = so_far.budget low then_honest start history calls fits in
@@ -58,7 +58,7 @@ returns-clause-goes g c honest start history calls fits =
     absurd (omega (arith, few, most, c.loop-left-test.false))
 
 pub returns-in_default-clause-made : goal.returns-in_default-clause-made
-returns-in_default-clause-made g c = made_told (made_last c.loop-left.invariant.made c.step.ensures.made) (λ xs so. inl so)
+returns-in_default-clause-made g c = made_told (made_last c.loop-left.invariant.made (made_among c.step.ensures.made)) (λ xs so. inl so)
 
 pub returns-clause-made : goal.returns-clause-made
 returns-clause-made g c = made_told c.loop-left.invariant.made (λ xs many. inr (refl, omega (arith, many, c.loop-left-test.false)))

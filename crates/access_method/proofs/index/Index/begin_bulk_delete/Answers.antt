@@ -1,7 +1,7 @@
 use Rattle.std.proofs.Common.{◌∷◌, [], ◌≡◌, true, Some, Ok, refl, ap, inl, ◌∙◌, arith, rules}
 use Rattle.access_method.proofs.Imports.{Begun, ToBulk, snapshot_of, slots_within, here_with, slot_vacuums, fits_with, is_at_end, lt-ltb, one_vacuums}
 use Rattle.access_method.proofs.BulkDeletions.{safe_within}
-use Rattle.access_method.proofs.Partwise.{begins_told, calm_open}
+use Rattle.access_method.proofs.Partwise.{begins_told, calm_open, follows_begun}
 use Rattle.access_method.proofs.Seats.{agree_begun, may_begin, none_runs}
 use Rattle.access_method.specs.Rows.{is_row_in}
 use Rattle.whole_calls.proofs.Made.{made_told}
@@ -38,4 +38,8 @@ returns-clause-opened g c =
           let behind = snapshot_of (here_with c.begin.new.store c.begin.new.calls.slots.items (dead ∷ [])) r.then_history r.then_calls in
           record { begun = r; safe = λ keeps. safe_within g.S.PageStore start now behind (dead ∷ []) (dead ∷ []) r.ran.crash keeps });
       made = made_told (rw c.in_ok-begin.was at (c.begin.ensures.made 5)) (λ xs came. inl came);
+      follows = λ what may honest start history calls fits. (
+          let now = snapshot_of (slots_within self) history calls in
+          follows_begun (rw c.in_ok-begin.was at c.begin.ensures.goes) honest start history calls
+          (fits_with g.S.PageStore start now (dead ∷ []) (none_runs self.calls.slots.items self.seats self.agree c.in_ok-at.ensures.none) fits) what may);
     }

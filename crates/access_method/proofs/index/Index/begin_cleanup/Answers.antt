@@ -1,6 +1,6 @@
 use Rattle.std.proofs.Common.{◌∷◌, [], true, Some, Ok, refl, ap, inl, ◌∙◌, rules}
 use Rattle.access_method.proofs.Imports.{Begun, ToCleanup, slot_vacuums, is_at_end, one_vacuums}
-use Rattle.access_method.proofs.Partwise.{begins_told, calm_open}
+use Rattle.access_method.proofs.Partwise.{begins_told, calm_open, follows_begun}
 use Rattle.access_method.proofs.Seats.{agree_begun, may_begin}
 use Rattle.access_method.specs.Rows.{is_row_in}
 use Rattle.whole_calls.proofs.Made.{made_told}
@@ -29,4 +29,5 @@ returns-clause-opened g c = record {
   rows_are = refl;
   begins = begins_told (rw c.in_ok-begin.was at c.begin.ensures.goes);
   made = made_told (rw c.in_ok-begin.was at (c.begin.ensures.made 5)) (λ xs came. inl came);
+  follows = λ what may honest start history calls fits. follows_begun (rw c.in_ok-begin.was at c.begin.ensures.goes) honest start history calls fits what may;
 }

@@ -1,6 +1,6 @@
-use Rattle.std.proofs.Common.{◌∷◌, [], map, ◌≡◌, ◌≢◌, ℕ, None, sym, subst, ◌∙◌, rules}
+use Rattle.std.proofs.Common.{◌∷◌, [], map, ◌≡◌, ◌≢◌, ℕ, None, refl, sym, subst, ◌∙◌, rules}
 use Rattle.access_method.proofs.Imports.{Call, Action, Entry, Bool, List, snapshot_of, slots_within, here_with, slot_of, runs_has_call, true_false}
-use Rattle.access_method.proofs.Partwise.{busy_of, cause_at, part_caused, part_counts, part_effects, part_loses, part_made, part_may, part_runs, part_stays}
+use Rattle.access_method.proofs.Partwise.{busy_of, cause_at, counts_on, lasts_at, part_caused, part_counts, part_effects, part_loses, part_made, part_may, part_runs, part_stays, runs_some}
 use Rattle.access_method.specs.Parts.{part_answer}
 use Rattle.access_method.specs.Rows.{is_row_in}
 use Rattle.schedule.specs.TheoremMoments.{IsRunningCall}
@@ -27,7 +27,7 @@ returns-clause-made g c session seat busy =
     let self = c.args.self.now in
     let same : session ≡ c.in-Some.at = self.agree.one c.in-Some.at session c.in-Some.ensures.seat seat in
     let vacuums = self.agree.sits c.in-Some.at c.in-Some.ensures.seat (λ over. busy (subst (λ (n : ℕ). slot_of self.calls.slots.items n ≡ None) (sym same) over)) in
-    (part_made session c.in-Some.at same c.told.result (c.told.ensures (part_may (is_row_in self.rows ∷ []) (slot_of self.calls.slots.items c.in-Some.at) vacuums c.take_steps.result c.take_steps.ensures.kind)) c.take_steps.ensures.made)
+    (part_made c.args.steps session c.in-Some.at same c.told.result (c.told.ensures (part_may (is_row_in self.rows ∷ []) (slot_of self.calls.slots.items c.in-Some.at) vacuums c.take_steps.result c.take_steps.ensures.kind)) c.take_steps.ensures.made)
 
 pub returns-clause-keeps : goal.returns-clause-keeps
 returns-clause-keeps g c session seat honest start history calls fits number call is =
@@ -51,6 +51,28 @@ returns-clause-counts g c session seat honest start history calls fits number ca
     part_counts g.S.PageStore g.met.S.PageStore.laws c.in-Some.at start self (here_with c.take_steps.new.store c.take_steps.new.calls.slots.items (is_row_in self.rows ∷ [])) history r.then_history
     calls r.then_calls fits c.take_steps.result r.tells c.told.result
     (c.told.ensures (part_may (is_row_in self.rows ∷ []) (slot_of self.calls.slots.items c.in-Some.at) vacuums c.take_steps.result c.take_steps.ensures.kind)) number call here stats finished
+
+pub returns-clause-idle : goal.returns-clause-idle
+returns-clause-idle g c none = (let same = c.take_steps.ensures.idle none in rw (same.0, same.1) refl)
+
+pub returns-clause-lasts : goal.returns-clause-lasts
+returns-clause-lasts g c session seat last runs =
+    let self = c.args.self.now in
+    let same : session ≡ c.in-Some.at = self.agree.one c.in-Some.at session c.in-Some.ensures.seat seat in
+    let vacuums = self.agree.sits c.in-Some.at c.in-Some.ensures.seat (λ over. runs (subst (λ (n : ℕ). slot_of self.calls.slots.items n ≡ None) (sym same) over)) in
+    lasts_at session c.in-Some.at same (slot_of self.calls.slots.items) (slot_of c.take_steps.new.calls.slots.items) c.told.result c.take_steps.result
+    (c.told.ensures (part_may (is_row_in self.rows ∷ []) (slot_of self.calls.slots.items c.in-Some.at) vacuums c.take_steps.result c.take_steps.ensures.kind))
+    c.take_steps.ensures.lasts last runs
+
+pub returns-clause-entries : goal.returns-clause-entries
+returns-clause-entries g c session seat what honest start history calls fits =
+    let self = c.args.self.now in
+    let same : session ≡ c.in-Some.at = self.agree.one c.in-Some.at session c.in-Some.ensures.seat seat in
+    let busy = runs_some self.calls.slots.items c.in-Some.at (sym c.is_running.ensures.value ∙ c.if-not-is_running.false) in
+    let vacuums = self.agree.sits c.in-Some.at c.in-Some.ensures.seat busy in
+    let r = c.take_steps.ensures.goes honest start history calls fits in
+    counts_on g.S.PageStore what session c.in-Some.at same c.told.result c.take_steps.result self _
+    (c.told.ensures (part_may (is_row_in self.rows ∷ []) (slot_of self.calls.slots.items c.in-Some.at) vacuums c.take_steps.result c.take_steps.ensures.kind)) (r.tells.counts what)
 
 pub returns-clause-cause : goal.returns-clause-cause
 returns-clause-cause g c session seat honest start history calls fits number call is =
