@@ -64,6 +64,13 @@ impl Log {
         self.stopped
     }
 
+    /// Whether the gate of the group that waits may be open: a part of a force has opened it.
+    pub fn is_ajar(&self) -> bool
+        ensures { result ≡ is_ajar self.now }
+    {
+        self.ajar
+    }
+
     /// How many images one more action could hold now, of blocks of which none waits.
     pub fn room(&self) -> u32
         ensures fit { (n : ℕ) → 0 < n → n ≤ result → ImagesFit self.now n }

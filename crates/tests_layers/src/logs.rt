@@ -36,6 +36,9 @@ fn force(log: &mut Log, device: &mut MemDevice) -> Result<u64, Fault> {
 }
 
 fn reset(log: &mut Log, device: &mut MemDevice) -> Result<(), Fault> {
+    if log.is_ajar() {
+        return Err(Fault::LogDamaged);
+    }
     if device.len() < LOG_START + u64::from(log.limits().log_bytes) {
         return Err(Fault::DeviceTooSmall);
     }
