@@ -4,7 +4,7 @@ use crate::trees::{limits, marked};
 use device::{CrashImage, Device, MemDevice};
 use index_model::{Fault, Format};
 use page_codec::{LOG_START, Page, decode};
-use redo_log::{Log, Replayed, are_images};
+use redo_log::{Advance, Log, Replayed, are_images};
 use std::alloc::Global;
 use std::test::{Fail, *};
 
@@ -33,6 +33,18 @@ fn force(log: &mut Log, device: &mut MemDevice) -> Result<u64, Fault> {
         return Err(Fault::DeviceTooSmall);
     }
     log.force(device)
+}
+
+// The next part of a force: 0 where nothing waits, 1 where the group was written, 2 where its gate was opened.
+fn advance(log: &mut Log, device: &mut MemDevice) -> Result<u32, Fault> {
+    if device.len() < LOG_START + u64::from(log.limits().log_bytes) {
+        return Err(Fault::DeviceTooSmall);
+    }
+    match log.advance(device)? {
+        Advance::Nothing => Ok(0),
+        Advance::Written => Ok(1),
+        Advance::Opened => Ok(2),
+    }
 }
 
 fn reset(log: &mut Log, device: &mut MemDevice) -> Result<(), Fault> {
@@ -145,6 +157,22 @@ fn closed_then_one(log: &mut Log, device: &mut MemDevice, run: &mut Run) -> Resu
     Ok(())
 }
 
+// A group is written, and again with one action more, its gate is opened, and it is written once more.
+fn parts_then_one(log: &mut Log, device: &mut MemDevice, run: &mut Run) -> Result<(), Fault> {
+    advance(log, device)?;
+    act(log, 6)?;
+    run.appended = 7;
+    advance(log, device)?;
+    advance(log, device)?;
+    act(log, 7)?;
+    run.appended = 8;
+    advance(log, device)?;
+    advance(log, device)?;
+    force(log, device)?;
+    run.forced = 8;
+    Ok(())
+}
+
 fn drive(log: &mut Log, device: &mut MemDevice) -> Run {
     let mut run = Run {
         first: 1,
@@ -155,6 +183,7 @@ fn drive(log: &mut Log, device: &mut MemDevice) -> Run {
     };
     if two_then_one(log, device, &mut run).is_err()
         || closed_then_one(log, device, &mut run).is_err()
+        || parts_then_one(log, device, &mut run).is_err()
     {
         run.failed = true;
     }
@@ -247,22 +276,22 @@ fn planned(alloc: Global, n: u64, stops: bool) -> Result<(bool, bool), Fault> {
     let is_left = is_left(alloc, &device, CrashImage::Drop, run)
         && is_left(alloc, &device, CrashImage::Keep, run)
         && is_left(alloc, &device, CrashImage::Tear, run);
-    let answers = !run.failed || act(&mut log, 6) == Err(Fault::Stopped);
+    let answers = !run.failed || act(&mut log, 8) == Err(Fault::Stopped);
     Ok((run.failed, is_left && answers))
 }
 
 #[test]
 fn a_crash_leaves_a_first_part(rt: HostRuntime) -> Result<(), Fail> {
     let mut failed = 0u64;
-    for n in 1..20 {
+    for n in 1..30 {
         for stops in [false, true] {
             let (fails, is_right) = planned(rt.alloc(), n, stops)?;
             assert!(rt; is_right, "call {n}");
             failed = failed.saturating_add(u64::from(fails));
         }
     }
-    // Three forces and a reset make fourteen calls.
-    assert!(rt; failed == 28);
+    // Three forces and a reset make fourteen calls, and the force in parts makes ten.
+    assert!(rt; failed == 48);
     Ok(())
 }
 
@@ -448,4 +477,50 @@ fn an_open_group_of_no_image_is_damage(rt: HostRuntime) {
     assert!(rt; count_with(rt.alloc(), 0) == Ok(0));
     assert!(rt; count_with(rt.alloc(), 1) == Err(Fault::LogDamaged));
     assert!(rt; count_with(rt.alloc(), 2) == Ok(0));
+}
+
+// What a restart finds after such a crash.
+fn left_by(alloc: Global, device: &MemDevice, image: CrashImage) -> Result<[u32; 8], Fault> {
+    let replayed = left(alloc, device, image)?;
+    Ok(found(&replayed))
+}
+
+fn goes_in_parts(alloc: Global, log: &mut Log, device: &mut MemDevice) -> bool {
+    advance(log, device) == Ok(0)
+        && act(log, 1) == Ok(1)
+        && advance(log, device) == Ok(1)
+        && left_by(alloc, device, CrashImage::Keep) == Ok(after(0, 0))
+        && advance(log, device) == Ok(2)
+        && left_by(alloc, device, CrashImage::Drop) == Ok(after(0, 0))
+        && left_by(alloc, device, CrashImage::Keep) == Ok(after(1, 2))
+        && advance(log, device) == Ok(2)
+        && force(log, device) == Ok(1)
+        && left_by(alloc, device, CrashImage::Drop) == Ok(after(1, 2))
+        && advance(log, device) == Ok(0)
+}
+
+#[test]
+fn a_force_goes_in_parts(rt: HostRuntime) {
+    assert!(rt; over(rt.alloc(), goes_in_parts) == Ok(true));
+}
+
+// A group that was written, and one whose gate was opened, are out of date once more is appended.
+fn is_written_again(alloc: Global, log: &mut Log, device: &mut MemDevice) -> bool {
+    act(log, 1) == Ok(1)
+        && advance(log, device) == Ok(1)
+        && act(log, 2) == Ok(2)
+        && advance(log, device) == Ok(1)
+        && advance(log, device) == Ok(2)
+        && act(log, 3) == Ok(3)
+        && left_by(alloc, device, CrashImage::Keep) == Ok(after(1, 3))
+        && advance(log, device) == Ok(1)
+        && left_by(alloc, device, CrashImage::Keep) == Ok(after(0, 0))
+        && advance(log, device) == Ok(2)
+        && force(log, device) == Ok(3)
+        && left_by(alloc, device, CrashImage::Drop) == Ok(after(1, 4))
+}
+
+#[test]
+fn what_is_appended_between_parts_is_written_too(rt: HostRuntime) {
+    assert!(rt; over(rt.alloc(), is_written_again) == Ok(true));
 }

@@ -1,10 +1,10 @@
 //! Files that are cut, removed, linked, or aren't to be written. Each test has a file of its own.
 
 use crate::file_calls::{
-    clear, close_file, create, created, four_at, has_sevens, held, is_gone, len, len_at, made,
-    open, opened, put_at, put_sevens, remove, sync,
+    clear, close_file, create, created, does_sync, four_at, has_sevens, held, is_gone, len, len_at,
+    made, open, opened, put_at, put_sevens, remove, sync, with_syncer,
 };
-use device::{FileDevice, Start, Unknown, Zeros};
+use device::{FileDevice, Start, Syncer, Unknown, Zeros};
 use index_model::Fault;
 use std::fs::{self, File, OpenFile, OpenOptions};
 use std::process::Abort;
@@ -299,4 +299,35 @@ fn linked(rt: HostRuntime) -> Result<(), Fail> {
     assert!(rt; opened_beside(&rt, other, path) == Ok(Err(Fault::Io)));
     remove(&rt, path)?;
     remove(&rt, other)
+}
+
+/// What a device and its syncer do in turn: writes are synced by either, and reads give them.
+fn syncs_in_turn<R: Abort>(
+    rt: &R,
+    device: &mut FileDevice<impl Start>,
+    syncer: &Syncer,
+) -> Result<(), Fail> {
+    assert!(rt; put_at(device, 0, [1, 2, 3, 4]) == Ok(()));
+    assert!(rt; does_sync(syncer));
+    assert!(rt; sync(device) == Ok(()));
+    assert!(rt; put_at(device, 4, [5, 6, 7, 8]) == Ok(()));
+    assert!(rt; sync(device) == Ok(()));
+    assert!(rt; does_sync(syncer) && does_sync(syncer));
+    assert!(rt; four_at(device, 0) == Ok([1, 2, 3, 4]));
+    assert!(rt; four_at(device, 4) == Ok([5, 6, 7, 8]));
+    Ok(())
+}
+
+/// A syncer syncs beside its device, and when that is gone; it keeps no lock.
+#[test]
+fn syncer(rt: HostRuntime) -> Result<(), Fail> {
+    let path = "files_syncer.bin";
+    put_sevens(&rt, path)?;
+    let (mut device, syncer) = with_syncer(rt.alloc(), open(&rt, path)?)?;
+    let in_turn = syncs_in_turn(&rt, &mut device, &syncer);
+    close_file(device);
+    in_turn?;
+    assert!(rt; does_sync(&syncer));
+    assert!(rt; opened(&rt, path) == Ok(8_192));
+    remove(&rt, path)
 }

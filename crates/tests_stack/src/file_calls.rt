@@ -4,7 +4,7 @@
 use crate::plain::parents;
 use access_method::{Index, in_file};
 use amcheck::{CheckFault, Report};
-use device::{Device, FileDevice, Start, Unknown, Zeros};
+use device::{Device, FileDevice, Start, Syncer, Unknown, Zeros};
 use index_model::{Entry, Fault, Key, Limits, NoProgress, Range, RowAddr};
 use page_action::PageStore;
 use page_store::Store;
@@ -62,6 +62,22 @@ pub fn held(file: File) -> Result<FileDevice<Unknown>, Fault> {
 /// A device over a file that is open, made anew.
 pub fn made(file: File, len: u64, filled: u64) -> Result<FileDevice<Zeros>, Fault> {
     or_io(FileDevice::made(file, len, filled))
+}
+
+/// A device with a syncer of its file.
+pub fn with_syncer<S: Start>(
+    alloc: Global,
+    device: FileDevice<S>,
+) -> Result<(FileDevice<S>, Syncer), Fault> {
+    match device.with_syncer(alloc) {
+        Ok(both) => Ok(both),
+        Err(_) => Err(Fault::NoMemory),
+    }
+}
+
+/// Whether a syncer syncs.
+pub fn does_sync(syncer: &Syncer) -> bool {
+    syncer.sync().is_ok()
 }
 
 /// Writes 8,192 bytes to the file at the path, each of them 7.

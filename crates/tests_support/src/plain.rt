@@ -8,6 +8,7 @@ use page_action::{PageStore, find_misplaced};
 use page_codec::Page;
 use page_store::Store;
 use recovery::Refused;
+use redo_log::Advance;
 use schedule::Event;
 use session_calls::Answer;
 use std::alloc::Global;
@@ -284,6 +285,11 @@ pub fn insert<S: PageStore>(index: &mut Index<S>, entry: Entry) -> Result<Insert
 
 pub fn commit<S: PageStore>(index: &mut Index<S>) -> Result<u64, Fault> {
     index.commit()
+}
+
+/// The next part of a commit of an index.
+pub fn advance_commit<D: Device>(index: &mut Index<Store<D>>) -> Result<Advance, Fault> {
+    index.advance_commit()
 }
 
 /// A checkpoint of an index.
