@@ -52,7 +52,7 @@ world_not_opened d bytes sized frames sessions n before after fault held none le
           sound honest allowed some few limits pages (subst (HasIndex limits pages) (sym (ap (λ (t : Trace). t.now.seen) is)) index) tree;
     }
 
--- where the opening was refused, so was the run
+-- if the opening was refused, so was the run
 pub opening_refused : {D T : Type 0} (d : DeviceGhosts D) (g : Ghosts (Store D d)) (rows : SetGhosts T) (bytes : ℕ → List ℕ) (frames workers : ℕ) (jobs : List Job) (sets : List T)
     (fault : Fault) (device : Option D) → IsWorldOpeningRefused d bytes frames workers fault device → IsRunOnFileRefused d g rows bytes frames workers jobs sets fault device
 opening_refused d g rows bytes frames workers jobs sets fault None is = is

@@ -32,7 +32,7 @@ use Rattle.command_line.specs.declared.left.Left.TheVariants as left
 use Rattle.command_line.specs.declared.play.RanScript.{RanScript}
 use Rattle.command_line.specs.declared.running.RanFile.{RanFile}
 
--- A creation with these limits is done with a file made that holds an empty index, and nothing else, and with `created` printed; where it
+-- A creation with these limits is done with a file made that holds an empty index, and nothing else, and with `created` printed; if it
 -- is refused nothing is printed.
 pub record PrintsCreation {D : Type 0} (d : DeviceGhosts D) (limits : Limits) (old new : Option (List ℕ)) (creation : Created D) : Type 0 where
   pub ends : IfOk creation.end IsDoneOrRefused
@@ -47,7 +47,7 @@ pub record PrintsCreation {D : Type 0} (d : DeviceGhosts D) (limits : Limits) (o
   pub silent : (fault : Fault) → creation.end ≡ Ok (Refused fault) → Keeps old new
 
 -- A check, with parents and children or without, is done with the report printed of the pages of the index that was opened, and finds
--- damage with the first of it printed; where it is refused nothing is printed.
+-- damage with the first of it printed; if it is refused nothing is printed.
 pub record PrintsCheck {D : Type 0} (d : DeviceGhosts D) (g : Ghosts (Store D d)) (bytes : ℕ → List ℕ) (parents : Bool)
     (old new : Option (List ℕ)) (looked : Looked D (Store D d)) : Type 0 where
   pub ends : IfOk looked.end IsCheckEnd
@@ -62,7 +62,7 @@ pub record PrintsCheck {D : Type 0} (d : DeviceGhosts D) (g : Ghosts (Store D d)
       → MatchOption looked.store (IsOpeningRefused d IsAnyIndex bytes 64 fault looked.device) (IsCheckRefused d g bytes fault)
   pub silent : (fault : Fault) → looked.end ≡ Ok (Refused fault) → Keeps old new
 
--- A dump is done with the lines printed of all pages of the index that was opened, and refused with those of the first so many; where
+-- A dump is done with the lines printed of all pages of the index that was opened, and refused with those of the first so many; if
 -- there was no index nothing is printed.
 pub record PrintsDump {D : Type 0} (d : DeviceGhosts D) (g : Ghosts (Store D d)) (bytes : ℕ → List ℕ)
     (old new : Option (List ℕ)) (looked : Looked D (Store D d)) : Type 0 where
@@ -76,7 +76,7 @@ pub record PrintsDump {D : Type 0} (d : DeviceGhosts D) (g : Ghosts (Store D d))
   pub cause : (fault : Fault) → looked.end ≡ Ok (Refused fault) → IfSome looked.store (IsDumpRefused d g bytes fault)
   pub silent : IfNone looked.store (Keeps old new)
 
--- The jobs of a file are run by so many workers, with so many pages in memory, and the run is printed; where there was none nothing is
+-- The jobs of a file are run by so many workers, with so many pages in memory, and the run is printed; if there was none nothing is
 -- printed, and it was refused for its cause.
 pub record PrintsRunning {D T : Type 0} (d : DeviceGhosts D) (g : Ghosts (Store D d)) (rows : SetGhosts T) (bytes : ℕ → List ℕ)
     (frames workers : ℕ) (old new : Option (List ℕ)) (ran : RanFile D (Store D d) T) : Type 0 where
@@ -87,7 +87,7 @@ pub record PrintsRunning {D T : Type 0} (d : DeviceGhosts D) (g : Ghosts (Store 
   pub refused : (fault : Fault) → ran.end ≡ Ok (Refused fault)
       → IfNone ran.world (IsRunOfJobFileRefused d g rows bytes frames workers fault ran.device)
 
--- A script is run over an index of this setting; where there was no index nothing is printed, and it was refused for its cause.
+-- A script is run over an index of this setting; if there was no index nothing is printed, and it was refused for its cause.
 pub record PrintsPlay (setting : Setting) (old new : Option (List ℕ)) (script : RanScript) : Type 0 where
   pub run : script.end ≡ Ok Done → IsSome script.engine
   pub asked : IfSome script.engine (λ engine. engine.setting ≡ setting)

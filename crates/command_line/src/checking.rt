@@ -15,7 +15,7 @@ use std::alloc::Global;
 use std::io::{self, Write};
 use std::thread::Threads;
 
-/// Judges the levels and links of a store's pages, and their parents and children where that is asked for, and prints the
+/// Judges the levels and links of a store's pages, and their parents and children if that is asked for, and prints the
 /// report, or the first damage. Refused as `amcheck::check` is: nothing is printed then.
 ///
 /// A printed report is that of the pages, and with parents it means that they are a B-link tree; pages that are one have no

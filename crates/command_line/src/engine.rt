@@ -79,7 +79,7 @@ pub struct Engine {
 
 impl Engine {
     /// An empty index, made on a device in memory and opened, and the sets of dead rows that its events name by their places.
-    /// Refused with `BadLimits` (18) for a size out of its range, with `NoMemory` (1), and with `Io` (2) where the device had no memory
+    /// Refused with `BadLimits` (18) for a size out of its range, with `NoMemory` (1), and with `Io` (2) if the device had no memory
     /// for a write.
     pub fn new(alloc: Global, setting: &Setting, sets: Vec<DeadList>) -> Result<Engine, Fault>
         ensures setting { IfOk result (λ engine. engine.setting ≡ setting.now) }

@@ -93,8 +93,8 @@ fn say_created<W: Write>(out: &mut W) -> io::Result<End>
     Ok(End::Done)
 }
 
-/// What a check or a dump leaves: the index in the file, if it was opened, else the device as the opening left it, if the file was
-/// taken; what the system said of the last call that failed; and how the command ends.
+/// What a check or a dump leaves: the index in the file, if it was opened. Else the device as the opening left it, if the file was
+/// taken. What the system said of the last call that failed. And how the command ends.
 #[derive(Drop)]
 pub struct Looked<'a, D, S> {
     pub store: Option<S>,
@@ -103,7 +103,7 @@ pub struct Looked<'a, D, S> {
     pub end: io::Result<End>,
 }
 
-/// Prints what a check of the index in a file answers, as `check_pages` does: with parents and children where that is asked
+/// Prints what a check of the index in a file answers, as `check_pages` does: with parents and children if that is asked
 /// for. Refused as `open_store` and `check_pages` are: nothing is printed then.
 pub fn check<'a, R: Files<File = File> + Threads + Sync, S: Start, P: Progress, W: Write>(
     rt: &R,

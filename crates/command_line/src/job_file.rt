@@ -27,7 +27,7 @@ pub enum JobFileError {
     NoMemory,
 }
 
-/// Reads the lines of a job file, each of which is a job. Refused with `NotAJob` at the first that isn't, with `NoMemory` where
+/// Reads the lines of a job file, each of which is a job. Refused with `NotAJob` at the first that isn't, with `NoMemory` if
 /// memory is refused.
 pub fn read_jobs(alloc: Global, text: &[u8]) -> Result<JobFile, JobFileError>
     ensures jobs { IfOk result (λ file. SpellJobs 0 (lines_of text.now) file.jobs.items) }
@@ -56,8 +56,7 @@ pub fn read_jobs(alloc: Global, text: &[u8]) -> Result<JobFile, JobFileError>
     Ok(JobFile { jobs, sets })
 }
 
-// Puts the set of a bulk delete after the others, of which there are so many, and answers how many there are now. Other lines
-// have none.
+// Puts the set of a bulk delete after the others, `count` of them, and answers how many there are now. Other lines have none.
 fn add_set(
     alloc: Global,
     sets: &mut Vec<DeadList>,

@@ -47,8 +47,8 @@ pub struct RunSetting<'a> {
     pub progress: bool,
 }
 
-/// What a run of the jobs of a file leaves: the world after it, if it was made, else the device, if the file of the index was taken;
-/// what the system said of the last call that failed, if one did; and how the command ends.
+/// What a run of the jobs of a file leaves: the world after it, if it was made. Else the device, if the file of the index was taken.
+/// What the system said of the last call that failed, if one did. And how the command ends.
 #[derive(Drop)]
 pub struct RanFile<'a, D, S, T> {
     pub world: Option<World<S, T>>,
@@ -60,9 +60,9 @@ pub struct RanFile<'a, D, S, T> {
 /// Runs the jobs of a file: reads them, opens the index with a session for each worker, runs them, makes a checkpoint, and prints
 /// the record of each job, what each worker did, and the checkpoint's answer.
 ///
-/// A line that is no job is said on `err`, and nothing is run. Refused with `Io` (2) where a file isn't there or a call of it
-/// fails; as `World::open` is; with `BadLimits` (18) for more than 65,536 jobs, or for more than 1,048,576 entries that scans may
-/// give in all; with `NoMemory` (1). A refusal of the checkpoint comes after what is printed of the jobs.
+/// A line that is no job is said on `err`, and nothing is run. Refused with `Io` (2) if a file isn't there or a call of it fails,
+/// with `NoMemory` (1), and as `World::open` is. Refused with `BadLimits` (18) for more than 65,536 jobs, or for more than 1,048,576
+/// entries that scans may give in all. A refusal of the checkpoint comes after what is printed of the jobs.
 pub fn run<
     'a,
     R: Files<File = File> + Threads + Wait + Sync,
@@ -229,7 +229,7 @@ fn run_file<
     }
 }
 
-// Opens the index in a file with a session for each worker, after any crash. Refused with `Io` (2) where the file isn't there or
+// Opens the index in a file with a session for each worker, after any crash. Refused with `Io` (2) if the file isn't there or
 // can't be opened for writing, and else as `World::open` is, with the device.
 fn open_world<'a, R: Files<File = File>, S: Start>(
     rt: &R,

@@ -2,7 +2,7 @@
 
 use std::io::{self, Error, ErrorKind, Write};
 
-/// What the system said of a path, where a call of it failed.
+/// What the system said of a path, if a call of it failed.
 #[derive(Clone, Copy)]
 pub struct Said<'a> {
     pub path: &'a str,

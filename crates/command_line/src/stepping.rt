@@ -52,7 +52,7 @@ pub fn run_insert<S: PageStore, T: DeadRows + Drop>(
     }
 }
 
-/// The next entry that a session's scan has ready; where none is, one step of it.
+/// The next entry that a session's scan has ready; if none is, one step of it.
 pub fn next_or_step<S: PageStore, T: DeadRows + Drop>(
     world: &mut World<S, T>,
     session: u32,

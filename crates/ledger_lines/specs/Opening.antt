@@ -27,7 +27,7 @@ use Rattle.tree_acts.specs.TheoremKeys.{IsTreeFor}
 abbrev pub new_limits : Limits
 new_limits = record { items = 50; pages = 4096; log_bytes = 1048576; unique = false }
 
--- an index as it is opened from a file that held these bytes: where they were an index whose pages are a B-link tree, with them
+-- an index as it is opened from a file that held these bytes: if they were an index whose pages are a B-link tree, with them
 abbrev pub BeginsFrom : {D : Type 0} (d : DeviceGhosts D) → Ghosts (Store D d) → (ℕ → List ℕ) → Index (Store D d) → Type 0
 BeginsFrom d g bytes index =
     IsTrue (d.is_honest (device_of d index.store)) → (format : Format) (pages : List Page)
@@ -44,7 +44,7 @@ pub record BeginsEmptyIndex {D : Type 0} (d : DeviceGhosts D) (g : Ghosts (Store
 abbrev pub BeginsNew : {D : Type 0} (d : DeviceGhosts D) → Ghosts (Store D d) → Index (Store D d) → Type 0
 BeginsNew d g index = IsTrue (d.is_honest (device_of d index.store)) → BeginsEmptyIndex d g (made new_limits) index
 
--- what was opened begins so where it was there, and so where it was made
+-- what was opened begins so if it was there, and so if it was made
 abbrev pub OpensAs : {I N : Type 0} → (I → Type 0) → (N → Type 0) → Opened I N → Type 0
 OpensAs Is New (Found index) = Is index
 OpensAs Is New (Made index) = New index

@@ -43,7 +43,7 @@ pub struct Room<J: Jobs, K: JobList, H: Telling> {
     pub ghost for_seats: { J.workers ≤ vec_capacity seats },
 }
 
-/// The room of a run of so many jobs by so many workers. None where there is no memory for it.
+/// The room of a run of these numbers of jobs and workers. None if there is no memory for it.
 pub fn make_room<J: Jobs, K: JobList, H: Telling + Drop>(
     alloc: Global,
     desk: Desk<J>,

@@ -30,7 +30,7 @@ module _ {S T J : Type 0} {g : Ghosts S} {rows : SetGhosts T} {past : StoreJobGh
         let p = some_there self.pending.items w job known in
         (p.0, record { found = p.1; job_is = p.2; inside = omega (arith, inside, self.pending.ok.0); has = runs_there self.world.calls.slots.items self.pending.items w p.0 self.matches p.1 })
 
-    -- it runs nothing, where its seat tells so
+    -- it runs nothing, if its seat tells so
     pub idle_at : {o : Option ℕ} → slice_get (known_by self.desk.keeper).running w ≡ Some o → o ≡ None → slice_get self.pending.items w ≡ Some None
     idle_at {o} at is = none_there self.pending.items w (seat_runs (known_by self.desk.keeper) w (notes_of self.history.items) self.pending.items o None self.knows at is)
 

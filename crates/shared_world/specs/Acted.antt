@@ -32,7 +32,7 @@ pub record MakesRecord {S : Type 0} (g : Ghosts S) (place to : ℕ) (t : Transit
   pub next_is : t.behind.recorded ≡ suc place
   pub to_is : (g.state t.behind.here.store).acts ≡ to
 
--- the event that begins the job, or does it whole, where its session runs nothing; so many records and actions there were before
+-- the event that begins the job, or does it whole, if its session runs nothing; so many records and actions there were before
 pub record IsBeginning {S : Type 0} (g : Ghosts S) (session : ℕ) (job : Job) (seen from : ℕ) (answer : Answer) (t : Transition S) : Type 0 where
   pub event_is : t.event ≡ event_of session job
   pub answer_is : t.answer ≡ answer
@@ -40,7 +40,7 @@ pub record IsBeginning {S : Type 0} (g : Ghosts S) (session : ℕ) (job : Job) (
   pub from_is : (g.state t.before.here.store).acts ≡ from
   pub free : has_call t.before.here.slots session ≡ false
 
--- before a step the log has room for five images, or its whole room; a checkpoint is made only where it hasn't
+-- before a step the log has room for five images, or its whole room; a checkpoint is made only if it hasn't
 abbrev pub HasRoomForStep : {S : Type 0} → Ghosts S → Transition S → Type 0
 HasRoomForStep g t = HasItsRoom 5 (kind_of t.event) (g.state t.before.here.store).limits (g.backing t.before.here.store)
 
@@ -138,8 +138,8 @@ abbrev pub IsKnown : List (Option Pending) → List Record → Owner → Type 0
 IsKnown pending records (OfRecord place) = place < length records
 IsKnown pending records (OfSession session) = (p : Pending) × (slice_get pending session ≡ Some (Some p))
 
--- Transitions lead from the world as it was handed in to what it is now. Each belongs to a record or to a job that runs; those of a record are
--- its job done, with its answer, its given entries and its interval, and those of a job that runs are its call so far.
+-- Transitions lead from the world as it was handed in to what it is now. Each belongs to a record or to a job that runs. Those of a record are
+-- its job done, with its answer, its given entries and its interval. Those of a job that runs are its call so far.
 pub record HasActed {S : Type 0} (g : Ghosts S) (handed : Handed) (jobs : List Job) (now : StoreAndSlots S) (pending : List (Option Pending)) (records : List Record) : Type 0 where
   pub first : LockMoment S
   pub transitions : List (Transition S)

@@ -17,7 +17,7 @@ pub record Handed : Type 0 where
   pub slots : List (Option Op)
   pub sets : DeadSets
 
--- where none is
+-- if none is
 abbrev pub nothing_handed : Handed
 nothing_handed = record {
   state = record {

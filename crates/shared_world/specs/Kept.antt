@@ -1,5 +1,5 @@
--- What is kept under the lock: whatever history and calls fitted the world as it was handed in, there are more actions and more calls that
--- fit it now, and the records list those of the calls that have ended since.
+-- What is kept under the lock. Whatever history and calls fitted the world as it was handed in, there are more actions and more calls that
+-- fit it now. The records list those of the calls that have ended since.
 use Rattle.std.specs.Prelude.{◌≡◌, ◌⊎◌, ℕ, ◌<◌, ◌≤◌, Bool, true, false, Option, Some, None, List, ◌++◌, length, slice_get, vec_capacity}
 use Rattle.index_model.specs.Actions.{Action}
 use Rattle.index_model.specs.Calls.{Ask, Ending, Running, Added as EndsAdded, Finished as EndsFinished, Vacuumed, GivenUp, Failed, Call}
@@ -71,8 +71,8 @@ abbrev pub IsCut : (Entry → Bool) → List Action → Job → Record → Type 
 IsCut start history (Scan range room) r = (length r.given.items ≡ room) × MayComeNext start history range r.from r.to r.given.items
 IsCut start history job r = ⊥
 
--- the record at a place lists a call, which was asked the record's job; a scan gave no more than its room holds, and was ended by its
--- worker only where that was full and one match more was there
+-- The record at a place lists a call, which was asked the record's job. A scan gave no more than its room holds. Its worker ended it only if
+-- that was full and one match more was there.
 pub record ListsCall (start : Entry → Bool) (history : List Action) (sets : DeadSets) (jobs : List Job) (calls : List Call) (at : List (Option ℕ)) (place : ℕ) (r : Record) : Type 0 where
   pub number : ℕ
   pub job : Job
@@ -87,7 +87,7 @@ pub record ListsCall (start : Entry → Bool) (history : List Action) (sets : De
   pub cut : r.answer ≡ Ended → IsCut start history job r
 
 -- it stands beside the calls: a commit or a checkpoint, which gives nothing, takes no action's time, answers what its kind may, and tells a
--- number of actions only where so many were there and are durable
+-- number of actions only if so many were there and are durable
 pub record ListsUpkeep (durable : ℕ) (jobs : List Job) (at : List (Option ℕ)) (place : ℕ) (r : Record) : Type 0 where
   pub job : Job
   pub upkeep : Upkeep
@@ -155,7 +155,7 @@ pub record KeepsFitting {S : Type 0} (g : Ghosts S) (jobs : List Job) (contents 
   pub start_is : start ≡ length old_history
   pub grows : (more : List Action) × (history ≡ old_history ++ more)
   pub fit : Fits g contents (snapshot_of now history calls)
-  -- where the history was kept over crashes, it is
+  -- if the history was kept over crashes, it is
   pub safe : KeptThen → KeepsHistory g contents (snapshot_of now history calls)
   -- the calls that were there are as they were; each other one is listed, or runs for a job
   pub same : (number : ℕ) (call : Call) → slice_get old_calls number ≡ Some call → slice_get calls number ≡ Some call

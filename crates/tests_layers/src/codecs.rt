@@ -362,7 +362,7 @@ fn downlinks_before_all_rows(rt: HostRuntime) {
     assert!(rt; !is_page(&page));
 }
 
-/// Puts an entry onto a leaf; false where it can't be.
+/// Puts an entry onto a leaf; false if it can't be.
 fn is_added(page: &mut Page, at: usize, entry: Entry) -> bool {
     match &page.items {
         Items::Entries(entries) if at <= entries.len() && entries.len() < 50 => {
@@ -373,7 +373,7 @@ fn is_added(page: &mut Page, at: usize, entry: Entry) -> bool {
     }
 }
 
-/// Cuts the entries from this place on from a leaf, and answers how many they are; 99 where it has no such place.
+/// Cuts the entries from this place on from a leaf, and answers how many they are; 99 if it has no such place.
 fn cut(page: &mut Page, at: usize) -> usize {
     match &page.items {
         Items::Entries(entries) if at <= entries.len() => cut_entries(page, at).len(),

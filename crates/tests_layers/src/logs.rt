@@ -433,7 +433,7 @@ fn an_open_gate_in_front_of_old_bytes_would_be_replayed(rt: HostRuntime) {
     assert!(rt; over(rt.alloc(), is_taken_again) == Ok(true));
 }
 
-// How many blocks have an image for a restart where a fresh log has this gate before a group of none.
+// How many blocks have an image for a restart if a fresh log has this gate before a group of none.
 fn count_with(alloc: Global, gate: u8) -> Result<u32, Fault> {
     let (_log, mut device) = fresh(alloc)?;
     put(&mut device, &[gate, 0, 0, 0, 0])?;

@@ -47,7 +47,7 @@ fn changed_at(pool: &Pool, place: usize) -> Option<(u32, u64)> {
     pool.changed_at(place)
 }
 
-/// Puts a page of the block where one can be put; false where none can.
+/// Puts a page of the block if one can be put; false if none can.
 fn bring(pool: &mut Pool, pinned: &[u32], block: u32) -> bool {
     let page = marked(block, 0);
     match pool.choose(pinned) {
@@ -82,7 +82,7 @@ fn write_first(pool: &mut Pool, count: usize) {
     }
 }
 
-/// The cycle of the held page, 99 where none is held.
+/// The cycle of the held page, 99 if none is held.
 fn cycle_of(pool: &Pool, block: u32) -> u32 {
     match pool.find(block) {
         Some(at) => pool.page(at).cycle,
@@ -261,7 +261,7 @@ fn passes_one(pool: &mut Pool) -> bool {
         && choose(pool, &[]) == Choice::Free(0)
 }
 
-// Where all were looked at, the first from the hand on is taken.
+// If all were looked at, the first from the hand on is taken.
 fn takes_the_first(pool: &mut Pool) -> bool {
     note_use(pool, 1)
         && note_use(pool, 2)

@@ -55,7 +55,7 @@ fn step(op: &mut FinishOp, store: &mut MapStore) -> Result<FinishStep, Fault> {
     op.step(store, &mut [Page::blank(), Page::blank(), Page::blank()])
 }
 
-// All steps for this target, and the number of those that went on; 20 where more do.
+// All steps for this target, and the number of those that went on; 20 if more do.
 fn steps(store: &mut MapStore, session: Session, target: Target) -> Result<u32, Fault> {
     let mut op = FinishOp::new(session, target);
     for steps in 0..20 {

@@ -202,7 +202,7 @@ pub fn over_calls<F: FnOnce(&mut MapStore, &mut Calls) -> bool>(
     Ok(is_right(&mut store, &mut calls))
 }
 
-/// Changes pages as another session does; NoMemory where a store would not take them.
+/// Changes pages as another session does; NoMemory if a store would not take them.
 pub fn change(store: &mut MapStore, pages: &[Page]) -> Result<u64, Fault> {
     if pages.is_empty()
         || pages.len() > 4

@@ -29,7 +29,7 @@ pub fn columns(line: &str) -> Option<(&str, &str)> {
     }
 }
 
-/// An example of a word of a line's form, of which there are three where the form names three.
+/// An example of a word of a line's form, of which there are three if the form names three.
 fn example(word: &str, choice: usize) -> &str {
     match word {
         "S" => "1",

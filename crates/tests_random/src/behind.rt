@@ -163,7 +163,7 @@ fn is_right_behind(
     goes_on(run, store, next, counted)
 }
 
-/// The device that an opening gives back of which this call and each later one fails; None where it makes fewer calls.
+/// The device that an opening gives back of which this call and each later one fails; None if it makes fewer calls.
 pub fn stopped_at(run: Run, found: MemDevice, call: u64) -> Result<Option<MemDevice>, Fail> {
     match opening(run, FOR_ALL, (found, call))? {
         Ok(_) => Ok(None),

@@ -99,7 +99,7 @@ fn left_by_opening(
     }
 }
 
-/// An opening of which this device call and all later ones fail, or none for 0; the device where it is refused with `Io`.
+/// An opening of which this device call and all later ones fail, or none for 0; the device if it is refused with `Io`.
 pub fn opening(
     run: Run,
     frames: u32,

@@ -15,7 +15,7 @@ use tests_support::dead::Blocks;
 use tests_support::plain::{fail_at, one as did, stop_at};
 use world::World;
 
-/// A script whose lines are made once each, each with its answer where no call fails.
+/// A script whose lines are made once each, each with its answer if no call fails.
 #[derive(Drop)]
 pub struct Played {
     pub lines: Vec<Line>,

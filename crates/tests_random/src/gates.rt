@@ -98,8 +98,8 @@ fn are_right(run: Run, device: &MemDevice, counted: &mut Counted) -> Result<bool
     Ok(true)
 }
 
-/// Whether all is right where the opening is stopped at this call: it is refused, and each image of the device that it gives
-/// back is right. None where it makes fewer calls.
+/// Whether all is right if the opening is stopped at this call: it is refused, and each image of the device that it gives
+/// back is right. None if it makes fewer calls.
 pub fn stops_right(run: Run, call: u64, counted: &mut Counted) -> Result<Option<bool>, Fail> {
     let Some(device) = stopped_at(run, left_open(run)?, call)? else {
         return Ok(None);

@@ -44,7 +44,7 @@ pub struct Judge {
     is_failing: bool,
     /// Whether one has failed, as an answer said.
     has_failed: bool,
-    /// How many pages are in memory at once; None where all are.
+    /// How many pages are in memory at once; None if all are.
     frames: Option<u32>,
     /// Whether the log is known to have failed.
     is_stopped: bool,
@@ -240,7 +240,7 @@ impl Judge {
         !self.unique || entries.iter().all(|entry| has_key_once(entries, entry))
     }
 
-    /// Counts the last action, of the call of this number, by what it has done; false where there is no such call.
+    /// Counts the last action, of the call of this number, by what it has done; false if there is no such call.
     fn counts(&mut self, by: usize, adds: bool, removes: bool, cleans: bool) -> bool {
         let Some(call) = self.calls.get_mut(by) else {
             return false;

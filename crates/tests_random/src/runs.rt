@@ -92,7 +92,7 @@ fn agree<S: PageStore>(run: Run, world: &World<S, Blocks>, judge: &Judge, answer
         && is_full(world, run.limits, answer)
 }
 
-/// Does one event: its answer, or None where that is wrong, or what it has done.
+/// Does one event: its answer, or None if that is wrong, or what it has done.
 pub fn one<S: PageStore>(
     run: Run,
     world: &mut World<S, Blocks>,
@@ -192,8 +192,8 @@ fn gives_all_up<S: PageStore>(
     Ok(true)
 }
 
-/// Gives each call up, and then inserts some entries, deletes those of one row and scans all, alone: whether that is right,
-/// nothing blocks it, the delete tells how many entries are left, and the scan gives exactly the contents.
+/// Gives each call up, and then inserts some entries, deletes those of one row and scans all, alone. Whether that is right: nothing
+/// blocks it, the delete tells how many entries are left, and the scan gives exactly the contents.
 pub fn ends_right<S: PageStore>(
     run: Run,
     world: &mut World<S, Blocks>,

@@ -68,7 +68,7 @@ fn open_already(rt: HostRuntime) -> Result<(), Fail> {
     remove(&rt, path)
 }
 
-/// Whether a device has so many bytes, zeros where they are read.
+/// Whether a device has this length, and a read of it gives zeros.
 fn is_empty(device: &mut FileDevice<impl Start>) -> bool {
     for at in [0, 4_094, 8_188, 99_996] {
         if four_at(device, at) != Ok([0; 4]) {
@@ -155,7 +155,7 @@ fn make_read_only(rt: &impl Files<File = File>, path: &str) -> Result<(), Fail> 
 }
 
 /// A file that nobody may write is refused; its bytes stay. The gate runs tests as a user who may not write it, and there the
-/// refusal is asked for. The system's owner may write it all the same: where the tests run as that user it's opened.
+/// refusal is asked for. The system's owner may write it all the same: if the tests run as that user it's opened.
 #[test]
 fn read_only(rt: HostRuntime) -> Result<(), Fail> {
     let path = "files_read_only.bin";

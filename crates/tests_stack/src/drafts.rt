@@ -152,7 +152,7 @@ fn there_already(rt: HostRuntime) -> Result<(), Fail> {
     )
 }
 
-/// Where no file can be made, none is: no folder, and names that are too long.
+/// If no file can be made, none is: no folder, and names that are too long.
 #[test]
 fn no_place(rt: HostRuntime) -> Result<(), Fail> {
     assert!(rt; create(&rt, "drafts_no_folder/a.idx") == Err(Fault::Io));
@@ -170,7 +170,7 @@ fn put_zeros(rt: &impl Files<File = File>, path: &str, len: u64) -> Result<(), F
     Ok(())
 }
 
-/// Makes an empty index at the path, where no draft is left: how many entries the verifier counts there.
+/// Makes an empty index at the path: how many entries the verifier counts there. None if a draft is left.
 fn taken_over(
     rt: &impl Files<File = File>,
     alloc: Global,

@@ -266,7 +266,7 @@ fn lists(alloc: Global, device: MemDevice, wanted: &str) -> Result<bool, Fault> 
 }
 
 /// Answers two inserts with a commit each over a device that stops at this call: what is printed, and what a crash leaves; None
-/// where the index isn't opened.
+/// if the index isn't opened.
 fn printed_and_left(
     alloc: Global,
     call: u64,
@@ -281,7 +281,7 @@ fn printed_and_left(
     Ok(Some((printed, left(alloc, index))))
 }
 
-/// The same, and opens what a crash leaves: how many commits were told of; 3 where what is told or left isn't right.
+/// The same, and opens what a crash leaves: how many commits were told of; 3 if what is told or left isn't right.
 fn stops_at(alloc: Global, call: u64) -> Result<Option<usize>, Fail> {
     let Some((printed, found)) = printed_and_left(alloc, call)? else {
         return Ok(None);

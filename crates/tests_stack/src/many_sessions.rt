@@ -51,7 +51,7 @@ fn events_of(alloc: Global, rows: &[(Event, &str, u64)]) -> Result<Vec<Event>, F
     Ok(events)
 }
 
-// The first of these answers, counted from 1, that isn't so; 0 where all are, 99 where there are more or fewer.
+// The first of these answers, counted from 1, that isn't so; 0 if all are, 99 if there are more or fewer.
 fn wrong_answer(answers: &[Answer], rows: &[(Event, &str, u64)]) -> usize {
     let mut place = 0usize;
     for (_, word, number) in rows {
@@ -67,7 +67,7 @@ fn wrong_answer(answers: &[Answer], rows: &[(Event, &str, u64)]) -> usize {
     if answers.len() == rows.len() { 0 } else { 99 }
 }
 
-// The first of these events, counted from 1, that isn't answered so; 0 where all are, 99 where they can't be run.
+// The first of these events, counted from 1, that isn't answered so; 0 if all are, 99 if they can't be run.
 fn wrong<S: PageStore>(
     alloc: Global,
     world: &mut World<S, Blocks>,
@@ -217,7 +217,7 @@ fn readers_and_abandon(rt: HostRuntime) -> Result<(), Fail> {
     Ok(())
 }
 
-// Why no world of so many sessions is made, and how many pages the store has that comes back; NoMemory where one is.
+// Why no world of so many sessions is made, and how many pages the store has that comes back; NoMemory if one is.
 fn refused(alloc: Global, sessions: u32) -> Result<(Fault, u32), Fault> {
     let store = pages(alloc, LIMITS)?;
     let sets: Vec<Blocks> = Vec::new(alloc);
@@ -248,7 +248,7 @@ fn law<D: Device>(world: &World<Store<D>, Blocks>) {
     world.crash_law();
 }
 
-// How many entries the root has, which is a leaf; 99 where it is none.
+// How many entries the root has, which is a leaf; 99 if it is none.
 fn entries_in<S: PageStore>(world: &mut World<S, Blocks>) -> Result<usize, Fault> {
     match page_in(world, 1)?.items {
         Items::Entries(entries) => Ok(entries.len()),

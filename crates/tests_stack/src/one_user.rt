@@ -14,7 +14,7 @@ use tests_support::plain::{
 };
 use tests_support::small::{ALL, LEN, LIMITS, entry, keyed, limits, made, made_with, pages};
 
-// The number of the row that a scan gives, or 0 where it has given all; after 100 the number of a refusal.
+// The number of the row that a scan gives, or 0 if it has given all; after 100 the number of a refusal.
 fn given<S: PageStore>(index: &mut Index<S>, token: ScanToken) -> u64 {
     match next(index, token) {
         Ok(Some(entry)) => u64::from(entry.row.offset()),
@@ -33,7 +33,7 @@ fn of(key: u8) -> Entry {
     entry(key, u16::from(key))
 }
 
-// The action by which the entry was added; 0 where it was refused, or has left a split unfinished.
+// The action by which the entry was added; 0 if it was refused, or has left a split unfinished.
 fn added<S: PageStore>(index: &mut Index<S>, new: Entry) -> u64 {
     match insert(index, new) {
         Ok(

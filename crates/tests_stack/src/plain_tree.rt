@@ -88,8 +88,8 @@ fn bounds_ascend(low: Option<Bound>, links: &[Downlink], high: &Option<Bound>) -
     first.bound.is_none()
 }
 
-/// Whether its state lets the page stand there: a live one has what its level has; a half-dead one is an empty leaf, neither
-/// with an incomplete split nor after a page with an incomplete split, and not the rightmost; a deleted one stands nowhere.
+/// Whether its state lets the page stand there. A live one has what its level has. A half-dead one is an empty leaf, and not
+/// the rightmost. Neither it nor the page before it has an incomplete split. A deleted one stands nowhere.
 fn fits_state(page: &Page, level: u32, here: &Here) -> bool {
     match page.state {
         PageState::Live => {

@@ -131,7 +131,7 @@ const AT_A_PIN: [Line; 22] = [
     (1, Act::Begin(4), Told::Forced(3), Some(5)),
 ];
 
-/// A bulk delete is blocked by the pin of a scan until that is cut, which it is only where its room is full; a full room takes no
+/// A bulk delete is blocked by the pin of a scan until that is cut, which it is only if its room is full; a full room takes no
 /// more.
 #[test]
 fn pinned_leaf(rt: HostRuntime) -> Result<(), Fail> {

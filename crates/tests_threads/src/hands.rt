@@ -328,7 +328,7 @@ struct ByHand<'a> {
     lines: &'a [Line],
 }
 
-// Does the events, where the type of what lies under the lock tells of the jobs. Answers the records.
+// Does the events, if the type of what lies under the lock tells of the jobs. Answers the records.
 fn act_named<
     S: PageStore + Drop,
     T: DeadRows + Drop,

@@ -27,7 +27,7 @@ const KEYS: usize = 4_096;
 /// What a run leaves of an index in memory.
 pub type Done = Finished<Store<MemDevice>, Blocks>;
 
-/// What a plain judge says of a run of these jobs, and what was added. Pages of the index are full where so many are used.
+/// What a plain judge says of a run of these jobs, and what was added. Pages of the index are full if so many are used.
 fn judged<S: PageStore, T: DeadRows + Drop>(
     rt: &(impl Abort + AllocGlobal + Print + Eprint),
     done: &Finished<S, T>,

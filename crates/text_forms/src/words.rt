@@ -47,7 +47,7 @@ impl<'a> Words<'a> {
         }
     }
 
-    /// The next word, or None where the line has ended.
+    /// The next word, or None if the line has ended.
     pub fn next(&mut self) -> Option<&'a [u8]>
         ensures { MatchOption result ((self.old ≡ []) × (self.new ≡ []))
             (λ word. self.old ≡ word.now ∷ self.new) }

@@ -94,7 +94,7 @@ pub type SeatCell = Table<(), SeatView, (), SeatRule, Global>;
 /// A pass of the cell: a worker's, or the keeper's.
 pub type SeatPass = Seat<(), SeatView>;
 
-/// A cell of seats, with the keeper's pass, which knows of no note and no session. None where there is no memory for it.
+/// A cell of seats, with the keeper's pass, which knows of no note and no session. None if there is no memory for it.
 pub fn make_cell(alloc: Global) -> Option<(SeatCell, SeatPass)>
     ensures cell { IfSome result (λ c. c.1.table_id ≡ c.0.shared.table_id) }
     ensures word { IfSome result (λ c. c.0.shared.table_id.words ≡ 1) }

@@ -22,10 +22,10 @@ impl<D: Device, T: DeadRows + Drop> World<Store<D>, T> {
     ghost use Rattle.page_store.specs.Stores.{state_of, held_by, device_of, IsOwnStore};
     ghost use Rattle.page_store.specs.declared.store.Store.{Store};
 
-    /// Does nothing: what the words of crashes are for a store over a device (a store is its own where nobody else wrote
-    /// to the device; a crash leaves what the device may have left at some moment from the first store to the second; and
-    /// bytes restart to pages as an open reads them), and what every crash leaves, at any moment between an earlier store and
-    /// this one.
+    /// Does nothing. Its clauses say what the words of crashes are for a store over a device. A store is own if nobody else
+    /// wrote to the device. A crash leaves what the device may have left at some moment from the first store to the second.
+    /// Bytes restart to pages as an open reads them. And they say what every crash leaves, at any moment between an earlier
+    /// store and this one.
     pub fn crash_law(&self)
         ensures own { (s : Store D D.Device)
             → IsOwnStore D.Device s → ⟦<Store<D> as PageStore>⟧.own s }

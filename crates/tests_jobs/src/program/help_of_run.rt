@@ -103,7 +103,7 @@ fn is_job(
     Ok(is_right && number < JOBS)
 }
 
-/// Marks the jobs of the help's table. Answers the first that isn't read, or ends otherwise; nothing where there is none.
+/// Marks the jobs of the help's table. Answers the first that isn't read, or ends otherwise; nothing if there is none.
 fn mark_jobs<'a>(
     rt: &(impl Abort + AllocGlobal + Print + Eprint + Files<File = File> + Threads + Wait + Sync),
     help: &'a str,

@@ -253,7 +253,7 @@ fn list_all(alloc: Global, lines: &mut String, present: &[bool]) -> Result<(), A
     lines.push_str("worker 0 calls 1\nhistory 1\ncheckpointed 0\n")
 }
 
-/// What a scan of everything prints, where these keys are there.
+/// What a scan of everything prints, if these keys are there.
 fn listed(alloc: Global, present: &[bool]) -> Result<String, AllocError> {
     let count = count_of(present);
     let mut lines = format!(in alloc; "job 0 worker 0 from 0 to 0 scanned {count} finished\n")?;

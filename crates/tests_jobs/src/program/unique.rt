@@ -101,7 +101,7 @@ fn count(lines: &str, part: &str) -> usize {
     lines.lines().filter(|line| line.contains(part)).count()
 }
 
-/// How many keys eight workers add and refuse where each is inserted four times, and how that ends.
+/// How many keys eight workers add and refuse if each is inserted four times, and how that ends.
 fn run_of_eight(
     rt: &(impl AllocGlobal + Files<File = File> + Threads + Wait + Sync),
     path: &str,

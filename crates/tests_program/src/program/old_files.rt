@@ -182,7 +182,7 @@ fn a_file_has_pages_of_both_layouts(rt: HostRuntime) -> Result<(), Fail> {
     remove(&rt, path)
 }
 
-/// Writes bytes over those of a device. Refused with `DeviceTooSmall` where they lie after the end.
+/// Writes bytes over those of a device. Refused with `DeviceTooSmall` if they lie after the end.
 fn write(device: &mut MemDevice, at: u64, bytes: &[u8]) -> Result<(), Fault> {
     let len = bytes.len() as u64;
     if device.len() < len || at > device.len() - len {

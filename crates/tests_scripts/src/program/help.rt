@@ -340,7 +340,7 @@ fn behind(fault: &Option<Fault>) -> Option<Fault> {
     }
 }
 
-/// What the line of a fault begins with; nothing where there is none.
+/// What the line of a fault begins with; nothing if there is none.
 fn head_of(alloc: Global, fault: &Option<Fault>) -> Result<String, AllocError> {
     match fault {
         Some(fault) => {
