@@ -33,7 +33,8 @@ pub said_is_no_refusal : {E P : Type 0} (said end : Result End E) (fault : Fault
 said_is_no_refusal (Ok e) end fault same is told = absurd (let a : Ok e ≡ Ok (Refused fault) = sym same ∙ told in let b : e ≡ AlreadyPrinted = is in cc)
 said_is_no_refusal (Err e) end fault same is told = absurd (let a : Err e ≡ Ok (Refused fault) = sym same ∙ told in cc)
 
--- the device was made over a file that held these bytes, and is as long as it was: so what it was refused for is of that file
+-- the device was made over a file that held these bytes, and is as long as it was: so what it was refused for
+-- is of that file
 pub world_not_opened : {D : Type 0} (d : DeviceGhosts D) (bytes : ℕ → List ℕ) (sized : (n : ℕ) → length (bytes n) ≡ n)
     (frames sessions n : ℕ) (before after : D) (fault : Fault)
     → d.trace before ≡ first (bytes n) → d.failures before ≡ 0 → length (d.trace after).now.seen ≡ length (d.trace before).now.seen

@@ -9,7 +9,8 @@ pub struct Said<'a> {
     pub error: Error,
 }
 
-/// What the system said of the path of an index, if it said something. That no file is there the refusal tells alone.
+/// What the system said of the path of an index, if it said something. That no file is there the refusal
+/// tells alone.
 pub fn said_of<'a>(path: &'a str, error: Option<Error>) -> Option<Said<'a>> {
     match error {
         Some(error) if error.kind() != ErrorKind::NotFound => Some(Said { path, error }),

@@ -45,10 +45,12 @@ pub struct Executed<'a, D, N, S> {
     pub flushed: io::Result<()>,
 }
 
-/// Runs the command of these words, the program's own name first. `input` is read by `play`. What the command prints goes to `out`
-/// in many small pieces, so `out` is best a buffer; it is flushed at the end. A refusal is printed on `err`.
+/// Runs the command of these words, the program's own name first. `input` is read by `play`. What the command
+/// prints goes to `out` in many small pieces, so `out` is best a buffer; it is flushed at the end. A refusal
+/// is printed on `err`.
 ///
-/// The file of an index held what `B` says when it was opened: that is proved for all bytes, and `main` names some.
+/// The file of an index held what `B` says when it was opened: that is proved for all bytes, and `main` names
+/// some.
 pub fn execute<
     'a,
     F: Files<File = File> + Threads + Wait + Sync,

@@ -26,8 +26,8 @@ standard input at once: insert KEY ROW, delete ROW .., list FROM BELOW, vacuum, 
 Behind the last it makes all durable and closes the file. docs/SCRIPTS.md tells the forms.
 ";
 
-/// An index that was opened and closed: its device, how the lines of the input ended, and what the closing answered, which is how
-/// many actions there were. The file is closed when the device is let go.
+/// An index that was opened and closed: its device, how the lines of the input ended, and what the closing
+/// answered, which is how many actions there were. The file is closed when the device is let go.
 #[derive(Drop)]
 pub struct Served<D> {
     pub device: D,
@@ -55,9 +55,9 @@ pub struct Ended<D, N> {
     pub kept: Kept<D, N>,
 }
 
-/// Runs the program of these words, its own name first. Its status is 0 after the last line, 2 if the words, the file or a
-/// stream wasn't as it must be, which is said on `err`. `out` is flushed after each answer. If the system refused something, what
-/// it said is said on `err` too, at once.
+/// Runs the program of these words, its own name first. Its status is 0 after the last line, 2 if the words,
+/// the file or a stream wasn't as it must be, which is said on `err`. `out` is flushed after each answer. If
+/// the system refused something, what it said is said on `err` too, at once.
 ///
 /// The file held what `S` says when it was opened: that is proved for all bytes, and `main` names some.
 pub fn ledger<F: Files<File = File>, S: Start, T: AsStr, R: BufRead, W: Write, E: Write>(
@@ -165,7 +165,8 @@ fn status<D: Device, N: Device, E: Write>(path: &str, kept: &Kept<D, N>, err: &m
     }
 }
 
-// The status of an index that was served so: what refused its last checkpoint is said, else what a stream failed with.
+// The status of an index that was served so: what refused its last checkpoint is said, else what a stream
+// failed with.
 fn status_of<D: Device, E: Write>(path: &str, served: &Served<D>, err: &mut E) -> u8
     ensures whole { result ≡ 0 → IsServedWhole served.now }
     ensures low { result ≤ 2 }

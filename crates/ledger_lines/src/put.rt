@@ -1,4 +1,5 @@
-//! Lines that are put together before they are written, so that it is known what a writer has of one that it doesn't take whole.
+//! Lines that are put together before they are written, so that it is known what a writer has of one that it
+//! doesn't take whole.
 
 ghost use Rattle.std.specs.Prelude.{◌≤◌, ◌∷◌, ◌++◌, [], Some, length, take, IfOk, OnOk, OnErr};
 ghost use Rattle.std.specs.Io.KnownBytes.{Appends, Keeps};
@@ -24,7 +25,8 @@ pub fn put_reply<W: Write>(out: &mut W, reply: &Reply) -> io::Result<()>
     put(out, line.as_slice())
 }
 
-/// Writes the line of an entry, `entry KEY ROW`. If the writer fails, it has the first bytes of the line, or none.
+/// Writes the line of an entry, `entry KEY ROW`. If the writer fails, it has the first bytes of the line, or
+/// none.
 pub fn put_entry<W: Write>(out: &mut W, entry: &Entry) -> io::Result<()>
     ensures all { PrintsLine (W.contents out.old) (W.contents out.new) result
         (given_text (Some entry.now)) }

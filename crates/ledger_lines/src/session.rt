@@ -22,9 +22,9 @@ use std::alloc::Global;
 use std::io::{self, BufRead, Write};
 use text_forms::first_line;
 
-/// Reads lines to the end of the input, and answers each at once: its answer is handed on before the next line is read. A last
-/// line without a newline is a line like others. No input has 2^64 lines: it would fail. If a call of the file failed, what the
-/// system said of this path is said on `err`.
+/// Reads lines to the end of the input, and answers each at once: its answer is handed on before the next
+/// line is read. A last line without a newline is a line like others. No input has 2^64 lines: it would fail.
+/// If a call of the file failed, what the system said of this path is said on `err`.
 pub fn answer_lines<D: Device, R: BufRead, W: Write, E: Write>(
     alloc: Global,
     index: &mut Index<Store<D>>,

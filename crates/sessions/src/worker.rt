@@ -132,8 +132,8 @@ fn take_ready<S: PageStore, T: DeadRows + Drop, J: JobsOn<S>, K: JobList, G: Gat
     mine
 }
 
-// A step, and what is to be done after it: of a scan that has entries ready these are taken; if its room was full before, it is
-// given up.
+// A step, and what is to be done after it: of a scan that has entries ready these are taken; if its room was
+// full before, it is given up.
 fn turn<S: PageStore, T: DeadRows + Drop, J: JobsOn<S>, K: JobList, G: Gate, R: Wait>(
     run: &RunContext<S, T, J, K, G, R>,
     stint: &mut Stint,
@@ -255,8 +255,8 @@ fn wait_for<S: PageStore, T: DeadRows + Drop, J: JobsOn<S>, K: JobList, G: Gate,
     stint.begin(run.rt, &run.door.baton);
 }
 
-/// Does jobs until the queue was empty, once all workers have started. The gate is told of each, once, after it is taken and before
-/// it begins.
+/// Does jobs until the queue was empty, once all workers have started. The gate is told of each, once, after
+/// it is taken and before it begins.
 pub fn work<S: PageStore, T: DeadRows + Drop, J: JobsOn<S>, K: JobList, G: Gate, R: Wait>(
     run: &RunContext<S, T, J, K, G, R>,
     started: &Started<J>,

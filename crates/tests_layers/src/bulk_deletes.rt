@@ -154,7 +154,8 @@ fn split(store: &mut MapStore) -> bool {
     change(store, &[left, right, links]) == Ok(1)
 }
 
-// Leaf 4 is split after the cursor's back, into the deleted page 1: it goes back there, and doesn't count what it finds.
+// Leaf 4 is split after the cursor's back, into the deleted page 1: it goes back there, and doesn't count
+// what it finds.
 fn goes_back(store: &mut MapStore) -> Result<bool, Fault> {
     let mut op = begun(store, session(2)?);
     let last = dead(0x69, 0x6a);

@@ -236,7 +236,8 @@ fn is_left(alloc: Global, device: &MemDevice, image: CrashImage, run: Run) -> bo
     }
 }
 
-// A run that is refused the n-th call: whether it failed, and whether what a crash leaves, and what the log answers, is right.
+// A run that is refused the n-th call: whether it failed, and whether what a crash leaves, and what the log
+// answers, is right.
 fn planned(alloc: Global, n: u64, stops: bool) -> Result<(bool, bool), Fault> {
     let (mut log, mut device) = fresh(alloc)?;
     refuse(&mut device, n, stops);

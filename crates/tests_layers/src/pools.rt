@@ -250,8 +250,8 @@ fn frames_are_chosen(rt: HostRuntime) {
     assert!(rt; over(rt.alloc(), 2, chooses_frames) == Ok(true));
 }
 
-// What was looked at since the hand passed it keeps its frame, as long as another can be taken: the hand passes it, and takes
-// it the next time.
+// What was looked at since the hand passed it keeps its frame, as long as another can be taken: the hand
+// passes it, and takes it the next time.
 fn passes_one(pool: &mut Pool) -> bool {
     note_use(pool, 1)
         && !note_use(pool, 7)
@@ -269,7 +269,8 @@ fn takes_the_first(pool: &mut Pool) -> bool {
         && choose(pool, &[]) == Choice::Free(1)
 }
 
-// Block 4 comes for block 3, since the hand has come there, and block 5 for block 2, since block 1 was looked at.
+// Block 4 comes for block 3, since the hand has come there, and block 5 for block 2, since block 1 was looked
+// at.
 fn brings_for_others(pool: &mut Pool) -> bool {
     note_use(pool, 1)
         && bring(pool, &[], 4)

@@ -191,8 +191,8 @@ fn separator_is_read_again_and_latches_block(rt: HostRuntime) {
     assert!(rt; over(rt.alloc(), 12, &split_leaf(), waits_and_reads_again) == Ok(true));
 }
 
-// Three levels: on the way from the root, page 1, to leaf 4, whose split is unfinished, stands page 2, full, whose split is
-// unfinished too.
+// Three levels: on the way from the root, page 1, to leaf 4, whose split is unfinished, stands page 2, full,
+// whose split is unfinished too.
 fn two_splits() -> [Page; 10] {
     let mut root = parent(1, &[(None, 2)]);
     root.level = 2;

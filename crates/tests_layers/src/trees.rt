@@ -169,7 +169,8 @@ pub fn stored(alloc: Global, most: u32, pages: &[Page]) -> Result<MapStore, Faul
     stored_as(alloc, most, false, pages)
 }
 
-/// Whether this holds of these pages in memory, of so many at most. A test that held a store would drop it at each comparison.
+/// Whether this holds of these pages in memory, of so many at most. A test that held a store would drop it at
+/// each comparison.
 pub fn over<F: FnOnce(&mut MapStore) -> Result<bool, Fault>>(
     alloc: Global,
     most: u32,

@@ -332,7 +332,8 @@ fn flushes_go_on_after_a_failed_checkpoint(rt: HostRuntime) -> Result<(), Fail> 
     Ok(())
 }
 
-/// Fifteen acts, each forced, fill the log: whether each has what is left of it. An act is refused then until a checkpoint is made.
+/// Fifteen acts, each forced, fill the log: whether each has what is left of it. An act is refused then until
+/// a checkpoint is made.
 fn fills(store: &mut Store<MemDevice>) -> bool {
     for n in 0..15u32 {
         let number = u64::from(n) + 1;
@@ -546,15 +547,16 @@ fn a_failed_fetch_is_made_again(rt: HostRuntime) -> Result<(), Fail> {
     Ok(())
 }
 
-/// A store of 40 pages, all written, of which 16 are in memory then: block 39, which is pinned, and the blocks 1 to 15, which were
-/// changed in this order.
+/// A store of 40 pages, all written, of which 16 are in memory then: block 39, which is pinned, and the
+/// blocks 1 to 15, which were changed in this order.
 const CROWDED: [Row; 2] = [
     (Call::All(CallOfAll::Write), Ok(0)),
     (Call::All(CallOfAll::Crowd), Ok(0)),
 ];
 
-// Block 20 comes for block 1, which is written before, and the next four of the changed ones after it: a quarter of the frames.
-// Then block 20 is read. What wasn't written by the call that failed is changed as before, and first in the order.
+// Block 20 comes for block 1, which is written before, and the next four of the changed ones after it: a
+// quarter of the frames. Then block 20 is read. What wasn't written by the call that failed is changed as
+// before, and first in the order.
 #[test]
 fn pages_that_cannot_be_written_stay(rt: HostRuntime) -> Result<(), Fail> {
     for n in 1..8u64 {
@@ -578,7 +580,8 @@ fn pages_that_cannot_be_written_stay(rt: HostRuntime) -> Result<(), Fail> {
     Ok(())
 }
 
-// The same if the acts aren't forced: that takes four calls before, and if one of these fails the log is stopped.
+// The same if the acts aren't forced: that takes four calls before, and if one of these fails the log is
+// stopped.
 #[test]
 fn pages_that_cannot_be_forced_stay(rt: HostRuntime) -> Result<(), Fail> {
     for n in 1..12u64 {

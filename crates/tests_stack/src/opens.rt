@@ -71,8 +71,8 @@ fn short_answers(alloc: Global) -> Result<[Result<(), Fault>; 2], Fault> {
     Ok([create(&mut short, &limits(64)), create(&mut short, &few)])
 }
 
-/// Each of the 70 calls of a create fails once, and a 71st isn't made: zeros, sync, gate, 62 blocks, two pages, sync, superblock,
-/// sync. The first call whose answer isn't that, or 0.
+/// Each of the 70 calls of a create fails once, and a 71st isn't made: zeros, sync, gate, 62 blocks, two
+/// pages, sync, superblock, sync. The first call whose answer isn't that, or 0.
 fn wrong_call(device: &mut MemDevice) -> u64 {
     for n in 1..72u64 {
         device.fail_at(n);
@@ -148,7 +148,8 @@ fn refusal_after(alloc: Global, device: MemDevice, at: u64, bytes: &[u8]) -> Res
     Ok(number)
 }
 
-/// Over a sound index: an open gate, and 16 images, which don't fit; another level of the root; another version.
+/// Over a sound index: an open gate, and 16 images, which don't fit; another level of the root; another
+/// version.
 #[test]
 fn hostile_indexes(rt: HostRuntime) -> Result<(), Fail> {
     for (at, bytes, number) in [
@@ -162,8 +163,8 @@ fn hostile_indexes(rt: HostRuntime) -> Result<(), Fail> {
     Ok(())
 }
 
-/// Superblocks of an index of 3 items a page, of 9 pages, which is longer than its device, and of one none of whose blocks is
-/// in use.
+/// Superblocks of an index of 3 items a page, of 9 pages, which is longer than its device, and of one none of
+/// whose blocks is in use.
 #[test]
 fn hostile_superblocks(rt: HostRuntime) -> Result<(), Fail> {
     for (items, pages, number) in [(3, 8, 18), (4, 9, 14), (4, 8, 17)] {
@@ -224,8 +225,8 @@ fn leaves_all(alloc: Global, device: &MemDevice) -> bool {
     true
 }
 
-/// Opens a device a call of which fails, the nth from now on: whether it's refused, up to the twelfth call, and what a crash leaves
-/// then has all that was forced. Answers also the device if it was refused.
+/// Opens a device a call of which fails, the nth from now on: whether it's refused, up to the twelfth call,
+/// and what a crash leaves then has all that was forced. Answers also the device if it was refused.
 fn fails_right(alloc: Global, found: MemDevice, n: u64) -> (bool, Option<MemDevice>) {
     match open(alloc, found, 16) {
         Ok(store) => ((n, store.used()) == (13, 3), None),
@@ -275,8 +276,8 @@ fn wrong_opening(alloc: Global, device: &MemDevice) -> u64 {
     0
 }
 
-// It reads the superblock, syncs, reads the log, writes two images and syncs them, closes the log by a write and a
-// sync, and reads three pages and the unused block after them.
+// It reads the superblock, syncs, reads the log, writes two images and syncs them, closes the log by a write
+// and a sync, and reads three pages and the unused block after them.
 #[test]
 fn each_call_of_an_open_fails(rt: HostRuntime) -> Result<(), Fail> {
     let device = busy_device(rt.alloc())?;
@@ -292,8 +293,9 @@ fn used(alloc: Global, device: MemDevice) -> u32 {
     }
 }
 
-/// Whether so many pages may be in use if a create stopped at this call: zeros over the superblock, sync, gate, 6 blocks, two
-/// pages, sync, superblock, sync. A crash leaves the index of three pages that was there, none, or the new one of two.
+/// Whether so many pages may be in use if a create stopped at this call: zeros over the superblock, sync,
+/// gate, 6 blocks, two pages, sync, superblock, sync. A crash leaves the index of three pages that was there,
+/// none, or the new one of two.
 fn may_be_used(n: u64, found: u32) -> bool {
     match n {
         1..3 => found == 0 || found == 3,

@@ -99,8 +99,8 @@ impl<S: PageStore> Trial<S> {
         }
     }
 
-    /// Whether an insert goes right: into a sound index the entry is added, or there is no block for a split, or the altered
-    /// byte has made another entry of it.
+    /// Whether an insert goes right: into a sound index the entry is added, or there is no block for a split,
+    /// or the altered byte has made another entry of it.
     fn inserts_right(&mut self, new: Entry) -> bool {
         match insert(&mut self.index, new) {
             Ok(Inserted { unfinished, .. }) => {
@@ -136,8 +136,8 @@ impl<S: PageStore> Trial<S> {
         true
     }
 
-    /// Whether a bulk delete or a cleanup went right that answered this: of a sound index it tells how many entries it
-    /// removed and left.
+    /// Whether a bulk delete or a cleanup went right that answered this: of a sound index it tells how many
+    /// entries it removed and left.
     fn is_vacuum_right(&mut self, answer: Result<VacuumStats, Fault>) -> bool {
         match answer {
             Ok(stats) => match self.entries {
@@ -199,7 +199,8 @@ fn is_open_fault(fault: Fault) -> bool {
     )
 }
 
-/// Whether the pages of a store are a B-link tree by the definition, and, if the index is unique, of such an index.
+/// Whether the pages of a store are a B-link tree by the definition, and, if the index is unique, of such an
+/// index.
 fn is_sound_in<S: PageStore>(alloc: Global, store: &mut S) -> Result<bool, Fault> {
     let mut pages = Vec::new(alloc);
     for block in 0..store.used() {
@@ -231,8 +232,8 @@ fn damage_of(checked: &Result<Report, CheckFault>) -> Option<(u8, u32)> {
     }
 }
 
-/// What both checks answer: a report of the pages, or the number of a damage; None if one was refused, or if the check
-/// of levels alone answers another damage.
+/// What both checks answer: a report of the pages, or the number of a damage; None if one was refused, or if
+/// the check of levels alone answers another damage.
 fn checked<S: PageStore>(alloc: Global, store: &mut S) -> Option<Result<Report, u8>> {
     let first = levels(alloc, store);
     let second = parents(alloc, store);
@@ -278,8 +279,8 @@ fn is_found_again<S: PageStore>(alloc: Global, store: &mut S, entries: Option<u6
     }
 }
 
-/// Whether an index opens again from its device, sound if it was. It may have grown up to a block that wasn't in use and is
-/// altered.
+/// Whether an index opens again from its device, sound if it was. It may have grown up to a block that wasn't
+/// in use and is altered.
 fn opens_again<D: Device + Drop>(
     alloc: Global,
     device: D,

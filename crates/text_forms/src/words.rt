@@ -4,8 +4,8 @@ ghost use Rattle.std.specs.Prelude.{◌≡◌, [], ◌∷◌, ◌↔◌, IsTrue,
 
 use std::marker::Model;
 
-/// The words of a line that are left, which single spaces part: two spaces part an empty word. Contracts see the
-/// list of them.
+/// The words of a line that are left, which single spaces part: two spaces part an empty word. Contracts see
+/// the list of them.
 #[derive(Drop)]
 pub struct Words<'a> {
     rest: Option<&'a [u8]>,

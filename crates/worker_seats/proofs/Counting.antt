@@ -134,7 +134,8 @@ pressed (suc n) f g le sum k l =
     lower zero f g le = omega arith
     lower (suc n) f g le = omega (arith, lower n f g (λ j m. le j (omega (arith, m))), le n (omega arith))
 
--- If the shares sum to the log's length, and together are what was drawn of n numbers, each number below n stands in the log once.
+-- If the shares sum to the log's length, and together are what was drawn of n numbers, each number below n
+-- stands in the log once.
 pub each_once : (n workers : ℕ) (log : List (ℕ × ℕ)) → length log ≡ n
     → ((h : ℕ → ℕ) → weigh h (below n) ≡ sum_below workers (λ w. weigh h (jobs_in (notes_by w log))))
     → (j : ℕ) → j < n → weigh (at_alone j) (jobs_in log) ≡ 1
@@ -181,8 +182,8 @@ pub map_snoc : {A B : Type 0} (f : A → B) (xs : List A) (x : A) → map f (xs 
 map_snoc f [] x = refl
 map_snoc f (y ∷ xs) x = ap (λ l. f y ∷ l) (map_snoc f xs x)
 
--- If every number below n was popped, all popped numbers are those of the workers' notes, and these are all that the log has,
--- each number below n stands in the log once.
+-- If every number below n was popped, all popped numbers are those of the workers' notes, and these are all
+-- that the log has, each number below n stands in the log once.
 pub noted_once : (n workers : ℕ) (popped : List ℕ) (log : List (ℕ × ℕ)) → ((h : ℕ → ℕ) → weigh h (below n) ≡ weigh h popped + weigh h [])
     → ((h : ℕ → ℕ) → weigh h popped ≡ sum_below workers (λ w. weigh h (jobs_in (notes_by w log))))
     → sum_below workers (λ w. length (notes_by w log)) ≡ length log

@@ -18,8 +18,8 @@ pub trait Ticket {
     ghost job: { Self → ℕ };
 }
 
-/// What a pass of the queue knows: its parts of the right to know all, how many numbers were pushed, and which it has popped.
-/// No value of it is made.
+/// What a pass of the queue knows: its parts of the right to know all, how many numbers were pushed, and
+/// which it has popped. No value of it is made.
 pub struct QueueView {
     pub parts: u64,
     pub pushed: u64,

@@ -37,12 +37,13 @@ WorldIsSafe g rows old new start history calls = WorldKeeps g rows old start his
 abbrev pub ForEachWorldHistory : {S T : Type 0} → Ghosts S → SetGhosts T → World S T → World S T → ((Entry → Bool) → List Action → List Call → Type 0) → Type 0
 ForEachWorldHistory g rows old new goes = ForEachHistory g (inside rows old) (inside rows new) goes
 
--- there is a continuation of the history and of the calls that fits the world now, by this event with this answer
+-- there is a continuation of the history and of the calls that fits the world now, by this event with this
+-- answer
 abbrev pub WorldIsRun : {S T : Type 0} → Ghosts S → SetGhosts T → World S T → World S T → Event → Answer → (Entry → Bool) → List Action → List Call → Type 0
 WorldIsRun g rows old new event answer start history calls = EventFollows g (inside rows old) (inside rows new) event answer start history calls
 
--- there is a continuation of the history and of the calls that fits the world now, by a run of these events with these
--- answers
+-- there is a continuation of the history and of the calls that fits the world now, by a run of these events
+-- with these answers
 abbrev pub WorldRuns : {S T : Type 0} → Ghosts S → SetGhosts T → World S T → World S T → List Event → List Answer → (Entry → Bool) → List Action → List Call → Type 0
 WorldRuns g rows old new events answers start history calls = Runs g (inside rows old) (inside rows new) events answers start history calls
 

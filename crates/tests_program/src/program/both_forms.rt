@@ -1,5 +1,5 @@
-//! Files of which a check says the same in many threads and in one: those that are refused, and one whose index has a split half
-//! done.
+//! Files of which a check says the same in many threads and in one: those that are refused, and one whose
+//! index has a split half done.
 
 use super::files::{checks, create, is_refused};
 use super::{plain, remove};

@@ -160,7 +160,8 @@ fn mark(forms: &str, seen: &mut [bool], line: &str) -> bool {
     count == 1
 }
 
-/// Marks the forms of the answers, and what kinds of them there are. Answers the first kind whose line has no form of its own.
+/// Marks the forms of the answers, and what kinds of them there are. Answers the first kind whose line has no
+/// form of its own.
 fn mark_answers(
     alloc: Global,
     forms: &str,
