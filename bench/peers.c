@@ -3,7 +3,7 @@
  * usage: peers lmdb|sqlite FOLDER COUNT COMMIT_EVERY ascending|shuffled insert|all
  *
  * COUNT inserts of different entries with a durable commit behind every COMMIT_EVERY, then two scans in order, the
- * deletion of every other entry in one transaction, and a check where there is one. It prints a line for each part:
+ * deletion of every other entry in one transaction, and a check if there is one. It prints a line for each part:
  * its name, how many entries it was for, and how many nanoseconds it took. An entry is a key of 16 bytes and a row of
  * six, the same as in bench/src/work.rt.txt. */
 #include <lmdb.h>

@@ -274,7 +274,7 @@ static void alone(void) {
         }
     }
     IS(400, syncs);
-    /* Nothing is forced where nothing was done. */
+    /* Nothing is forced if nothing was done. */
     IS(0, nardsill_commit(indexes[0], 0));
     IS(400, syncs);
     struct beside beside[2] = {{.index = indexes[0], .who = 1}, {.index = indexes[0], .who = 2}};

@@ -211,7 +211,7 @@ static void names(void) {
     no_link = 0;
     HOLDS(!stat(PATH, &other) && other.st_size == 9 && access(DRAFT, F_OK));
     unlink(PATH);
-    /* Where there are no hard links the draft is moved, over nothing. */
+    /* If there are no hard links the draft is moved, over nothing. */
     no_link = EPERM;
     IS(0, nardsill_create(PATH, 0));
     HOLDS(!access(PATH, F_OK) && access(DRAFT, F_OK));
@@ -299,7 +299,7 @@ static void refusals(void) {
     FAILS(ENAMETOOLONG, nardsill_create(name, 0));
 }
 
-/* A file never has the number of a standard stream, also where that is closed. */
+/* A file never has the number of a standard stream, also if that is closed. */
 static void closed_streams(void) {
     nardsill *index;
     nardsill_report report = NARDSILL_REPORT;

@@ -10,7 +10,7 @@ enum { FORM = -1, FEW = 64 };
 
 static int digit(char c) { return c >= '0' && c <= '9' ? c - '0' : c >= 'a' && c <= 'f' ? c - 'a' + 10 : -1; }
 
-/* The key of a word: FORM where it is none, else a status. */
+/* The key of a word: FORM if it is none, else a status. */
 static int key_of(const char *word, uint8_t *key, size_t *len) {
     size_t digits = strlen(word);
     *len = 0;

@@ -158,7 +158,7 @@ static size_t name_old(nardsill_row *rows) {
     return count;
 }
 
-/* A bulk delete may be refused where a scan stands, and is made again. */
+/* A bulk delete may be refused if a scan stands, and is made again. */
 static void delete_until_done(const nardsill_row *rows, size_t count) {
     nardsill_stats stats = NARDSILL_STATS;
     uint64_t removed = 0;

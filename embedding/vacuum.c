@@ -26,7 +26,7 @@ static const nardsill_limits small_log = {sizeof limits, 50, 4096, 65536, 0};
 static atomic_uint waiting;
 static atomic_uint slowness;
 static atomic_int failing;
-/* Writes that are left before they fail; below 0 where none does. */
+/* Writes that are left before they fail; below 0 if none does. */
 static atomic_int left = -1;
 
 /* Whether a bell that is rung is kept from ringing, and which one is. */
@@ -224,7 +224,7 @@ static void waits_for(void (*moves)(nardsill_scan **)) {
     is_sound(index, 9);
 }
 
-/* Its patience ends, also where scans move all the time; and it is ended then. */
+/* Its patience ends, also if scans move all the time; and it is ended then. */
 static void patience_ends(void) {
     nardsill_scan *scan, *other;
     struct deleting one;
@@ -238,7 +238,7 @@ static void patience_ends(void) {
     }
     ends(&one, NARDSILL_BLOCKED, 0);
     HOLDS(one.fault.status == NARDSILL_BLOCKED && one.fault.page && one.took >= 100000 && one.took < 5000000);
-    /* It ends at once where its patience is made shorter. */
+    /* It ends at once if its patience is made shorter. */
     IS(0, nardsill_set_patience(index, 4294967295u));
     start(&one, index, rows, 1);
     wait_until(&waiting, 1);
@@ -290,7 +290,7 @@ static void goes_before_scans(void) {
     }
 }
 
-/* Where 62 scans are open beside a vacuum no other one is opened; where 63 are it is made whole, and waits as well. */
+/* If 62 scans are open beside a vacuum no other one is opened; if 63 are it is made whole, and waits as well. */
 static void many_scans(void) {
     nardsill_scan *scans[63];
     nardsill_entry entry;

@@ -188,7 +188,7 @@ def jobs_of(dice, count, entries):
 
 
 class Run:
-    """What a run of jobs has told: of each entry the action that added it (0 where it was there before), and of each bulk delete
+    """What a run of jobs has told: of each entry the action that added it (0 if it was there before), and of each bulk delete
     how many actions there were as it began and as it ended."""
 
     def __init__(self, printed, entries, inserts, bulks):
@@ -215,7 +215,7 @@ class Run:
                     self.gone[entry] = min(first, max(action, began) + 1), last
 
     def least_part(self, entries, at_least):
-        """The least number of actions, from there on, after which the entries may be these; None where there is none. Each that is
+        """The least number of actions, from there on, after which the entries may be these; None if there is none. Each that is
         there was added and isn't gone for sure, and each that was added is there, or may be gone."""
         if not entries <= self.added.keys():
             return None

@@ -44,7 +44,7 @@ static void say(char **message, const char *format, ...) {
     va_end(values);
 }
 
-/* The text of an argument. Quotes around it are undone as SQL does: a doubled one within stands for one. Null where memory is out. */
+/* The text of an argument. Quotes around it are undone as SQL does: a doubled one within stands for one. Null if memory is out. */
 static char *unquoted(const char *text, size_t len) {
     char *out = sqlite3_malloc64(len + 1);
     if (!out) return 0;
@@ -63,7 +63,7 @@ static char *unquoted(const char *text, size_t len) {
     return out;
 }
 
-/* A relative path is beside the file of its database. Where that has none, it is in the working directory. Null where memory is out. */
+/* A relative path is beside the file of its database. If that has none, it is in the working directory. Null if memory is out. */
 static char *whole_path(sqlite3 *db, const char *schema, const char *path) {
     if (*path == '/') return sqlite3_mprintf("%s", path);
     const char *file = sqlite3_db_filename(db, schema), *slash = file ? strrchr(file, '/') : 0;
@@ -81,7 +81,7 @@ typedef struct {
 
 static int is_space(char byte) { return byte == ' ' || (byte >= '\t' && byte <= '\r'); }
 
-/* Parts an argument; 0 where it has no '='. */
+/* Parts an argument; 0 if it has no '='. */
 static int part(const char *text, assignment *out) {
     const char *equals = strchr(text, '='), *end = text + strlen(text);
     if (!equals) return 0;
@@ -103,7 +103,7 @@ static int which_option(const assignment *a) {
     return -1;
 }
 
-/* Takes the number of an option; 0 where it is none, or out of range. */
+/* Takes the number of an option; 0 if it is none, or out of range. */
 static int take_number(arguments *out, int which, const char *value) {
     const option *o = &options[which];
     size_t len = strlen(value);

@@ -221,7 +221,7 @@ static void many_cursors(void) {
     end_case(BEFORE);
 }
 
-/* A statement that reads what it writes ends. So it does where two tables have one index. */
+/* A statement that reads what it writes ends. So it does if two tables have one index. */
 static void itself(void) {
     begin_case("");
     run(db, "insert into t select key || 'x', block + 10, offset from t");

@@ -209,7 +209,7 @@ static void put_joined(void) {
     put(one_of(joins, 12));
 }
 
-/* Puts a query. `is_ordered` where the order of its rows is told. */
+/* Puts a query. `is_ordered` if the order of its rows is told. */
 static void put_query(int *is_ordered) {
     static const char *const selections[] = {"select key, block, offset from @", "select count(*), min(key), max(key), sum(block) from @",
         "select distinct key from @", "select key, count(*), sum(offset) from @", "select key from @", "select block, count(*) from @"};
@@ -523,7 +523,7 @@ static int commit_both(const char *text, int *refused) {
     return is_refused;
 }
 
-/* A statement of its own is a transaction: so the ordinary table's is committed where the other one's is. */
+/* A statement of its own is a transaction: so the ordinary table's is committed when the other one's is. */
 static void change_alone(int *refused) {
     TRUE(!exec(of_ordinary, "begin"));
     answer ordinary = ask(of_ordinary, "o"), now = all_rows(of_ordinary, "o");

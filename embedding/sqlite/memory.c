@@ -2,7 +2,7 @@
 #include "testing.h"
 
 static sqlite3_mem_methods plain;
-static int left_until, refused; /* how many allocations are granted until one is refused; 0 where none is to be */
+static int left_until, refused; /* how many allocations are granted until one is refused; 0 if none is to be */
 
 static int is_refused(void) {
     if (!left_until || --left_until) return 0;

@@ -7,12 +7,12 @@
  *     delete from t where block = 7;
  *     select nardsill_check('file.idx');                          -- what the verifier says of a file that nobody has open
  *
- * The file: a relative path is beside the file of the database. Where the database has none, it is in the working directory. `create`
+ * The file: a relative path is beside the file of the database. If the database has none, it is in the working directory. `create`
  * makes the index if there is no file. `drop` leaves the file. One connection has the file at a time.
  *
  * Arguments behind the file, in any order:
  *
- *     key=text | key=blob     what each key of the table is: text where nothing is said
+ *     key=text | key=blob     what each key of the table is: text if nothing is said
  *     items=  pages=  log_bytes=  unique=1     of the index that is made (nardsill.h, "Sizes"); for one that is there, what it must have
  *     frames=                 pages in memory, 16 to 1024
  *
@@ -62,7 +62,7 @@ static int free_table(table *t) {
     return SQLITE_OK;
 }
 
-/* Text is compared by its bytes only where the database keeps it as UTF-8. */
+/* Text is compared by its bytes only if the database keeps it as UTF-8. */
 static int judge_encoding(sqlite3 *db, char **message) {
     sqlite3_stmt *asking = 0;
     int status = sqlite3_prepare_v2(db, "pragma encoding", -1, &asking, 0);
@@ -259,7 +259,7 @@ static int close_cursor(sqlite3_vtab_cursor *base) {
     return SQLITE_OK;
 }
 
-/* The key that a value is: it has the table's type. `len` may be above 64. 0 where memory is out. */
+/* The key that a value is: it has the table's type. `len` may be above 64. 0 if memory is out. */
 static int bytes_of(const table *t, sqlite3_value *value, const uint8_t **bytes, size_t *len) {
     *bytes = t->is_blob ? sqlite3_value_blob(value) : sqlite3_value_text(value);
     *len = (size_t)sqlite3_value_bytes(value);
@@ -270,7 +270,7 @@ static int has_type(const table *t, sqlite3_value *value) {
     return sqlite3_value_type(value) == (t->is_blob ? SQLITE_BLOB : SQLITE_TEXT);
 }
 
-/* Adds a range to those that a cursor reads; 0 where memory is out. */
+/* Adds a range to those that a cursor reads; 0 if memory is out. */
 static int add_range(cursor *c, const key_range *range) {
     if (c->num_ranges == c->room) {
         int room = 2 * c->room + 1;
@@ -288,7 +288,7 @@ static int compare_ranges(const void *a, const void *b) {
     return compare_keys(one->from, one->from_len, other->from, other->from_len);
 }
 
-/* Makes a range for each value of a list, in order. One range is of all keys where a value isn't of the table's type. */
+/* Makes a range for each value of a list, in order. One range is of all keys if a value isn't of the table's type. */
 static int range_list(cursor *c, sqlite3_value *list) {
     const table *t = (table *)c->base.pVtab;
     const key_range all = {0};
@@ -318,7 +318,7 @@ static uint8_t cut(const uint8_t *bytes, size_t len, uint8_t *out) {
     return kept;
 }
 
-/* Sets the lower end; `is_empty` where no key is behind it. */
+/* Sets the lower end; `is_empty` if no key is behind it. */
 static void set_from(key_range *range, int plan, const uint8_t *bytes, size_t len, int *is_empty) {
     range->from_len = cut(bytes, len, range->from);
     if ((plan & PAST || len > NARDSILL_KEY_MAX) && !make_successor(range->from, &range->from_len)) *is_empty = 1;
@@ -415,7 +415,7 @@ static int column(sqlite3_vtab_cursor *base, sqlite3_context *context, int which
 
 /* ---- Changing ---- */
 
-/* The entry that `spell_entry` spelt; 0 where it is none. */
+/* The entry that `spell_entry` spelt; 0 if it is none. */
 static int parse_entry(sqlite3_value *value, nardsill_entry *out) {
     int len = sqlite3_value_type(value) == SQLITE_BLOB ? sqlite3_value_bytes(value) - ROW_BYTES : -1;
     if (len < 0 || len > NARDSILL_KEY_MAX) return 0;
@@ -446,7 +446,7 @@ static int take_key(table *t, sqlite3_value *value, nardsill_entry *out) {
     return SQLITE_OK;
 }
 
-/* Takes a whole number; it is -1 where it is below 0, or too large for a row. */
+/* Takes a whole number; it is -1 if it is below 0, or too large for a row. */
 static int take_integer(table *t, sqlite3_value *value, const char *name, sqlite3_int64 *out) {
     int type = sqlite3_value_numeric_type(value);
     double real = type == SQLITE_FLOAT ? sqlite3_value_double(value) : 0;
@@ -513,7 +513,7 @@ static int carry_step(table *t, const step *s) {
 
 static int is_replacing(table *t) { return sqlite3_vtab_on_conflict(t->db) == SQLITE_REPLACE; }
 
-/* Refuses an entry because of another one; SQLite passes over it where it is told to ignore it. */
+/* Refuses an entry because of another one; SQLite passes over it if it is told to ignore it. */
 static int refuse_entry(table *t, int status, const nardsill_entry *other, int code) {
     if (sqlite3_vtab_on_conflict(t->db) == SQLITE_IGNORE) return code;
     if (status == NARDSILL_KEY_EXISTS)
@@ -542,7 +542,7 @@ static int step_to(table *t, step *s, const nardsill_entry *old, const nardsill_
     return status;
 }
 
-/* Deletes an entry where `values` is null, else puts another one into its place. One that is gone meanwhile stays gone. */
+/* Deletes an entry if `values` is null, else puts another one into its place. One that is gone meanwhile stays gone. */
 static int change_entry(table *t, sqlite3_value *old_value, sqlite3_value **values) {
     nardsill_entry old, new;
     step s = {.count = 0};

@@ -97,7 +97,7 @@ static int num_levels(pending *p) {
     return levels;
 }
 
-/* The change of this entry, made if there is none: one that changes nothing yet. Null where memory is out. */
+/* The change of this entry, made if there is none: one that changes nothing yet. Null if memory is out. */
 static change *change_of(pending *p, const nardsill_entry *entry, int was) {
     change **links[LEVELS];
     change *found = seek_change(p, entry, links);
@@ -120,7 +120,7 @@ static int is_added(const change *c) { return c->now && !c->was; }
 
 static int is_removed(const change *c) { return c->was && !c->now; }
 
-/* Makes room for so many acts more; 0 where memory is out. */
+/* Makes room for so many acts more; 0 if memory is out. */
 static int reserve_acts(pending *p, size_t more) {
     if (p->num_acts + more <= p->room_of_acts) return 1;
     size_t room = 2 * p->room_of_acts + more + 16;
@@ -151,7 +151,7 @@ static void keep_acts(pending *p, size_t count) {
 }
 
 /* Begins savepoint `number`. A lower one that was never told began with the transaction. One that is open stays as it is, since another
- * table of the same index has told it. 0 where memory is out. */
+ * table of the same index has told it. 0 if memory is out. */
 static int mark(pending *p, int number) {
     if (number >= p->room_of_marks) {
         int room = 2 * number + 8;

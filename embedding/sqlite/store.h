@@ -80,7 +80,7 @@ static int judge_limits(arguments *a, const nardsill_details *details, char **me
     return SQLITE_OK;
 }
 
-/* Opens the index in a file. Where there is no such file and it may, makes it before. */
+/* Opens the index in a file. If there is no such file and it may, makes it before. */
 static int open_index(const arguments *a, int may_make, nardsill **out, char **message) {
     int status = nardsill_open(a->path, a->frames, out);
     if (status == NARDSILL_IO && may_make && nardsill_last_fault()->error == ENOENT) {
@@ -174,7 +174,7 @@ struct reader {
     reader *next;
     const key_range *ranges; /* in order; none has a key of another */
     int num_ranges, at;
-    nardsill_scan *scan; /* null where it isn't begun, or is over */
+    nardsill_scan *scan; /* null if it isn't begun, or is over */
     int is_read; /* the index has no entry of the range behind those in `few` */
     int num_few, at_few;
     nardsill_entry few[64];
@@ -249,7 +249,7 @@ static int read_few(reader *r) {
     return 0;
 }
 
-/* The next entry of the index that the transaction sees; null where the range has none. */
+/* The next entry of the index that the transaction sees; null if the range has none. */
 static int next_stored(reader *r, const nardsill_entry **out) {
     *out = 0;
     while (r->at_few < r->num_few || !r->is_read) {
@@ -286,7 +286,7 @@ static change *seek_added(reader *r, const key_range *range) {
     return c;
 }
 
-/* The next entry that the transaction adds; null where the range has none. */
+/* The next entry that the transaction adds; null if the range has none. */
 static const nardsill_entry *next_added(reader *r) {
     pending *p = &r->of->pending;
     const key_range *range = &r->ranges[r->at];
@@ -315,7 +315,7 @@ static int read_next(reader *r) {
     return 0;
 }
 
-/* Makes the first key behind this one; 0 where there is none. */
+/* Makes the first key behind this one; 0 if there is none. */
 static int make_successor(uint8_t *key, uint8_t *len) {
     if (*len < NARDSILL_KEY_MAX) {
         key[(*len)++] = 0;
@@ -390,7 +390,7 @@ static int each_stored(store *s, int (*visit)(void *, const nardsill_entry *), v
     return answer ? answer : status == NARDSILL_DONE ? 0 : status;
 }
 
-/* The rows of the entries that are removed; or of those that are added. 0 where memory is out. */
+/* The rows of the entries that are removed; or of those that are added. 0 if memory is out. */
 static int gather_rows(pending *p, int (*is_wanted)(const change *), row_set *out) {
     size_t count = 0;
     for (change *c = p->first[0]; c; c = c->next[0]) count += (size_t)is_wanted(c);
@@ -418,7 +418,7 @@ static ptrdiff_t place_of(const row_set *set, nardsill_row row) {
     return found ? found - set->rows : -1;
 }
 
-/* Adds an entry to a list; 0 where memory is out. */
+/* Adds an entry to a list; 0 if memory is out. */
 static int note_entry(entry_list *list, const nardsill_entry *entry) {
     if (list->count == list->room) {
         size_t room = 2 * list->room + 16;
@@ -535,7 +535,7 @@ static int empty_log(store *s) {
     return s->others.count && s->carried == ALL ? nardsill_checkpoint(s->index, &actions) : 0;
 }
 
-/* Undoes in the index whatever was carried out. The pending changes stay. It can be called again where it was refused. */
+/* Undoes in the index whatever was carried out. The pending changes stay. It can be called again if it was refused. */
 static int take_back(store *s) {
     suspend_all(s);
     int status = s->added.count ? each_stored(s, sort_entry, s) : 0;
@@ -558,7 +558,7 @@ static void say_part(int status, char **message) {
     sqlite3_free(why);
 }
 
-/* Carries out the changes. Where a step is refused, takes back what was done before it. */
+/* Carries out the changes. If a step is refused, takes back what was done before it. */
 static int carry_out(store *s, const row_set *removed, char **message) {
     s->carried = SOME;
     int status = delete_rows(s, removed);

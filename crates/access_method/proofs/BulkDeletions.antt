@@ -165,7 +165,7 @@ module _ {S : Type 0} (g : Ghosts S) (index_own dead : Row → Bool) (old new : 
         came = λ e there. fits.explains.contents e ∙ was_there r.then_history t.effects t.own t.history_is e (sym (r.ran.fits.explains.contents e) ∙ there);
       }
 
--- where each bulk delete that runs finds its set under the same number, a moment fits with other sets
+-- if each bulk delete that runs finds its set under the same number, a moment fits with other sets
 module _ {S : Type 0} (g : Ghosts S) (start : Entry → Bool) (now : Moment S) (sets : List (Row → Bool)) where
   abbrev then_with : Moment S
   then_with = record now { sets = sets }

@@ -1,4 +1,4 @@
--- The causes of refusals of an index's calls, and what is left of them where nothing hinders a call.
+-- The causes of refusals of an index's calls, and what is left of them if nothing hinders a call.
 use Rattle.latch_table.specs.Holdings.{holding_of, nothing_held}
 use Rattle.page_delete.specs.Spares.{IsAlone}
 use Rattle.std.proofs.Common.{◌≡◌, ℕ, Bool, true, false, ◌||◌, nat_lt, nat_le, Option, Some, None, Result, Ok, Err, length, slice_get, refl, sym, ap, subst, arith, inl, inr, ◌∙◌, suc, [], ◌∷◌, List, not, ◌++◌}
@@ -217,7 +217,7 @@ none_vacuums (Some (Cleanup op) ∷ slots) none = absurd (none 0 (Cleanup op) re
 pub calm_slots : (slots : List (Option Op)) → ((session : ℕ) → slot_vacuums (slot_of slots session) ≡ false) → one_vacuums slots ≡ false
 calm_slots slots none = none_vacuums slots (λ session op at is. true_false (sym is ∙ sym (ap (λ (o : Option (Option Op)). slot_vacuums (unwrap_or o None)) at) ∙ none session))
 
--- where no open scan's call runs, nobody else holds a page
+-- if no open scan's call runs, nobody else holds a page
 pub all_alone : {S : Type 0} (g : Ghosts S) (start : Entry → Bool) (now : Moment S) → Fits g start now → another_runs now.slots 63 ≡ false
     → IsAlone (g.state now.store) 63
 all_alone g start now fits idle other differ = by (slice_get now.slots other) refl
@@ -236,7 +236,7 @@ all_alone g start now fits idle other differ = by (slice_get now.slots other) re
     by (Some None) at = (let free : IsFreeSession g now other = running_of fits other None at in free.idle.holds)
     by (Some (Some op)) at = absurd (let same : Some op ≡ None = sym (ap (λ (o : Option (Option Op)). unwrap_or o None) at) ∙ none in cc)
 
--- where no other call runs than that of inserts, none vacuums
+-- if no other call runs than that of inserts, none vacuums
 pub calm_alone : (slots : List (Option Op)) → slot_of slots 63 ≡ None → another_runs slots 63 ≡ false → one_vacuums slots ≡ false
 calm_alone slots inserts idle = calm_slots slots (λ session. elim (cases_eq session 63) [
   | inl same ↦ ap slot_vacuums (subst (λ (n : ℕ). slot_of slots n ≡ None) (sym same) inserts)

@@ -30,7 +30,7 @@ all_shapes_say n (suc k) e = ap (λ (o : Option Bool). later_or o None) (all_sha
 after_nothing : (start : Entry → Bool) (l m : List Action) (e : Entry) → last_said m e ≡ None → contents_after start (l ++ m) e ≡ contents_after start l e
 after_nothing start l m e none = contents_after-append start l m e ∙ ap (λ (o : Option Bool). unwrap_or o (contents_after start l e)) none
 
--- where no two entries share a key, no entry of the key of one that is inserted was there
+-- if no two entries share a key, no entry of the key of one that is inserted was there
 key_was_free : (was is : Entry → Bool) (entry : Entry) → ((e : Entry) → is e ≡ (same_entry entry e || was e)) → was entry ≡ false → KeysDiffer is → (row : Row) → was (with_row entry row) ≡ false
 key_was_free was is entry grown absent differ row = by (was (with_row entry row)) refl
   where

@@ -26,7 +26,7 @@ closed_at n i number seats is = of (slice_get seats i) refl
     of (Some None) at = refl
     of (Some (Some sitter)) at = (let e : Some sitter ≡ None = in_replicate n None (Some sitter) i (ap (λ (l : List (Option Sitter)). slice_get l i) (sym is) ∙ at) in absurd cc)
 
--- no vacuum is open where no seat is taken
+-- no vacuum is open if no seat is taken
 pub none_seated : (n i : ℕ) (seats : List (Option Sitter)) → seats ≡ replicate n None → IsVacuumSeat seats i → ⊥
 none_seated n i seats is at = (let e : Some SitsToVacuum ≡ None = in_replicate n None (Some SitsToVacuum) i (ap (λ (l : List (Option Sitter)). slice_get l i) (sym is) ∙ at) in absurd cc)
 
@@ -127,7 +127,7 @@ module _ (old new : List (Option Op)) (seats : List (Option Sitter)) (session : 
     | inr apart ↦ stays_at old new session other stay apart ∙ agree.free other (sym (get_set_other seats session other (Some (SitsToScan seat)) apart) ∙ h)
   ]) calm
 
-  -- ... by a vacuum, where none is open
+  -- ... by a vacuum, if none is open
   pub agree_begun : session < length seats → NoVacuumIsOpen seats → slot_vacuums (slot_of new session) ≡ true → SeatsAgree new (slice_set seats session (Some SitsToVacuum))
   agree_begun within none begun = record {
     inserts = inserts_stay;
@@ -176,7 +176,7 @@ module _ (old new : List (Option Op)) (seats : List (Option Sitter)) (session : 
       was true at h = at
       was false at h = absurd (true_false (sym h ∙ runs_calm (slot_of old session) (slot_of new session) on at))
 
--- where no vacuum is open no session runs a bulk delete
+-- if no vacuum is open no session runs a bulk delete
 pub none_runs : (slots : List (Option Op)) (seats : List (Option Sitter)) → SeatsAgree slots seats → NoVacuumIsOpen seats
     → (session set : ℕ) (op : BulkDeleteOp) → slice_get slots session ≡ Some (Some (Bulk set op)) → ⊥
 none_runs slots seats agree none session set op at =

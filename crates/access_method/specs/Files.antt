@@ -35,8 +35,8 @@ IsOpenFault LogDamaged = ⊤
 IsOpenFault (PageDamaged block) = ⊤
 IsOpenFault fault = ⊥
 
--- Where the device has kept its model up to now: whatever contents, actions and calls fitted the index and were kept, each image
--- that a crash leaves now is an index with the contents after a prefix of these actions, of so many at least.
+-- If the device has kept its model up to now, take any contents, actions and calls that fitted the index and were kept. Each image
+-- that a crash leaves now is an index with the contents after a prefix of these actions, which has this number of them at least.
 abbrev pub StaysOnDisk : {D : Type 0} (d : DeviceGhosts D) → Ghosts (Store D d) → ℕ → Index (Store D d) → Index (Store D d) → Type 0
 StaysOnDisk d g count old new = ForEachIndexHistory g old new (λ start history calls. IndexKeeps g old start history calls
     → (image : List ℕ) → MayCrashTo (held_by d new.store).trace.now image

@@ -71,8 +71,8 @@ IndexIsRun g session Tells came old new = CallIsRun g session Tells came (slots_
 abbrev pub IndexInserts : {S : Type 0} → Ghosts S → ℕ → Entry → Result Inserted Fault → Index S → Index S → Type 0
 IndexInserts g session entry result old new = InsertIsRun g session entry result (slots_within old) (slots_within new)
 
--- whatever the pages are, the call is made of events of this session and of checkpoints: a checkpoint only where the log has room for fewer
--- than five images, a step only where it has room for five, or its whole room; what it came to, it came to by their answers
+-- Whatever the pages are, the call is made of events of this session and of checkpoints. A checkpoint is made only if the log has room for
+-- fewer than five images, a step only if it has room for five, or its whole room. What it came to, it came to by their answers.
 abbrev pub IndexMakes : {S : Type 0} → Ghosts S → ℕ → (List Answer → Type 0) → Index S → Index S → Type 0
 IndexMakes g session CallOutcome old new = IsMadeOf g session 5 CallOutcome (slots_within old) (slots_within new)
 
@@ -91,7 +91,7 @@ pub record IndexStays {S : Type 0} (g : Ghosts S) (old new : Index S) : Type 0 w
   pub safe : (start : Entry → Bool) (history : List Action) (calls : List Call) → IndexFits g old start history calls → IndexKeeps g old start history calls
       → IsCrashSafe g start (snapshot_of (slots_within old) history calls) (snapshot_of (slots_within new) history calls)
 
--- where the device has kept its model up to now, this holds of whatever fitted the index before
+-- if the device has kept its model up to now, this holds of whatever fitted the index before
 abbrev pub ForEachIndexHistory : {S : Type 0} → Ghosts S → Index S → Index S → ((Entry → Bool) → List Action → List Call → Type 0) → Type 0
 ForEachIndexHistory g old new goes = ForEachHistory g (slots_within old) (slots_within new) goes
 
@@ -104,7 +104,7 @@ abbrev pub slots_naming : {S : Type 0} → (Row → Bool) → Index S → StoreA
 slots_naming dead index = record { store = index.store; slots = index.calls.slots.items; sets = dead ∷ [] }
 
 -- A bulk delete of this set goes, run to its end: there is a run of events over the index with this set beside its own, of which one
--- answered what the call came to. The index is fitted by what comes after it; where the history was kept, it is so still, and a crash in
+-- answered what the call came to. The index is fitted by what comes after it; if the history was kept, it is so still, and a crash in
 -- between leaves a prefix of it.
 pub record BulkDeleteRuns {S : Type 0} (g : Ghosts S) (dead : Row → Bool) (result : Result VacuumStats Fault) (old new : Index S) (start : Entry → Bool)
     (history : List Action) (calls : List Call) : Type 0 where
@@ -173,7 +173,7 @@ pub record IsInserted {S : Type 0} (g : Ghosts S) (entry : Entry) (inserted : In
   pub since : (g.state old).acts < inserted.action
   pub until : inserted.action ≤ (g.state new).acts
 
--- the contents are those before; and where an insert was refused because the entry was there, it was; where because its key was
+-- the contents are those before; and if an insert was refused because the entry was there, it was; if because its key was
 -- there with a row, that was another row, and its entry was there
 pub record SameContents {S : Type 0} (g : Ghosts S) (entry : Entry) (fault : Fault) (old new : S) : Type 0 where
   pub contents : (e : Entry) → has_entry g new e ≡ has_entry g old e
@@ -192,8 +192,8 @@ pub record AreSoMany (is_such : Entry → Bool) (count : ℕ) : Type 0 where
   pub such : (e : Entry) → is_among listed e ≡ is_such e
   pub many : count ≡ length listed
 
--- the entries of dead rows are gone, and no others; and it is told how many they were, how many entries are left, how many pages are in use,
--- and how many of them are deleted, of which it has deleted none
+-- The entries of dead rows are gone, and no others. It is told how many they were, how many entries are left, how many pages are in use, and
+-- how many of them are deleted. It has deleted none.
 pub record IsBulkDeleted {S : Type 0} (g : Ghosts S) (dead : Row → Bool) (stats : VacuumStats) (old new : S) : Type 0 where
   pub contents : (e : Entry) → has_entry g new e ≡ (has_entry g old e && not (dead e.row))
   pub removed : AreSoMany (λ e. has_entry g old e && dead e.row) stats.tuples_removed
@@ -206,13 +206,13 @@ pub record LosesDeadRows {S : Type 0} (g : Ghosts S) (dead : Row → Bool) (old 
   pub others : (e : Entry) → dead e.row ≡ false → has_entry g new e ≡ has_entry g old e
   pub came : (e : Entry) → has_entry g new e ≡ true → has_entry g old e ≡ true
 
--- the entries of dead rows are gone; or some of them, where it was refused
+-- the entries of dead rows are gone; or some of them, if it was refused
 abbrev pub IsBulkDeletedOrLess : {S : Type 0} → Ghosts S → (Row → Bool) → Result VacuumStats Fault → S → S → Type 0
 IsBulkDeletedOrLess g dead (Ok stats) old new = IsBulkDeleted g dead stats old new
 IsBulkDeletedOrLess g dead (Err fault) old new = LosesDeadRows g dead old new
 
--- the contents are those before a cleanup; where it answers, it tells how many entries there are, and no half-dead page is left; and how many
--- pages are in use, how many of them are deleted, how many of these were not before, and that it has removed no entry
+-- The contents are those before a cleanup. If it answers, no half-dead page is left. It tells how many entries there are, that it has removed
+-- none, how many pages are in use, how many of them are deleted, and how many of these were not before.
 pub record IsCleanedUp {S : Type 0} (g : Ghosts S) (result : Result VacuumStats Fault) (old new : S) : Type 0 where
   pub contents : (e : Entry) → has_entry g new e ≡ has_entry g old e
   pub told : StatsCountCleaned (g.state new) result

@@ -1,4 +1,4 @@
--- Why a call of an index is refused that runs steps, and what it answers where nothing hinders it.
+-- Why a call of an index is refused that runs steps, and what it answers if nothing hinders it.
 use Rattle.schedule.specs.TheoremMoments.{IsRunningCall}
 use Rattle.index_model.specs.declared.range.Range.{Range}
 use Rattle.index_model.specs.Calls.{AskScan, Call}
@@ -21,8 +21,8 @@ use Rattle.whole_calls.specs.declared.inserted.Inserted.{Inserted}
 use Rattle.access_method.specs.Indexes.{has_entry}
 use Rattle.access_method.specs.declared.index.Index.{Index}
 
--- What may be the cause where a call is refused between these moments: a device call failed meanwhile; the log had failed before, or
--- a counter is at its end; another call still runs, of an open scan or in parts, and may hold a page or a frame; there are fewer frames
+-- What may be the cause if a call is refused between these moments. A device call failed meanwhile. The log had failed before, or a
+-- counter is at its end. Another call still runs, of an open scan or in parts, and may hold a page or a frame. There are fewer frames
 -- than one act needs. The log is never full, there is a session, which has no other call, and no page is damaged.
 abbrev pub causes_of_run : {S : Type 0} → Ghosts S → ℕ → Index S → S → Circumstances
 causes_of_run g session old new = record nothing_wrong {
@@ -101,7 +101,7 @@ abbrev pub GiveHasCause : {S : Type 0} → Ghosts S → ℕ → Result (Option E
 GiveHasCause g session result old new start history calls =
     (number : ℕ) (call : Call) (range : Range) → IsRunningCall calls session number call → call.ask ≡ AskScan range → IfErr result (HasCause (causes_of_run g session old new))
 
--- ... where nothing hinders it, it gives one, or None
+-- ... if nothing hinders it, it gives one, or None
 abbrev pub GivesUnhindered : {S : Type 0} → Ghosts S → ℕ → Result (Option Entry) Fault → Index S → S → (Entry → Bool) → List Action → List Call → Type 0
 GivesUnhindered g session result old new start history calls =
     (number : ℕ) (call : Call) (range : Range) → IsRunningCall calls session number call → call.ask ≡ AskScan range → NothingHinders g session old new → IsOk result

@@ -19,7 +19,7 @@ const NAME_TOO_LONG: i32 = 36;
 
 const WOULD_BLOCK: i32 = 11;
 
-/// A path with `.nardsill-draft` after it: the name that a file has there before it is whole. Refused where that has more than
+/// A path with `.nardsill-draft` after it: the name that a file has there before it is whole. Refused if that has more than
 /// 4,096 bytes.
 pub(crate) fn draft_of(path: &str) -> io::Result<ArrayString<4_096>>
     ensures name { IfOk result (λ draft. draft.bytes ≡ path.now ++ codes ".nardsill-draft") }
@@ -31,7 +31,7 @@ pub(crate) fn draft_of(path: &str) -> io::Result<ArrayString<4_096>>
     Ok(draft)
 }
 
-/// Whether nothing has this name, no link that leads nowhere either. Refused where the system doesn't tell.
+/// Whether nothing has this name, no link that leads nowhere either. Refused if the system doesn't tell.
 fn is_free<R: Files<File = File>>(rt: &R, path: &str) -> io::Result<bool> {
     match fs::symlink_metadata(rt, path) {
         Ok(_) => Ok(false),
@@ -40,7 +40,7 @@ fn is_free<R: Files<File = File>>(rt: &R, path: &str) -> io::Result<bool> {
     }
 }
 
-/// Refused where something has this name.
+/// Refused if something has this name.
 pub(crate) fn want_free<R: Files<File = File>>(rt: &R, path: &str) -> io::Result<()> {
     if is_free(rt, path)? {
         Ok(())
@@ -70,7 +70,7 @@ fn is_draft(file: &Metadata, named: &Metadata) -> bool {
     file.is_file() && file.nlink() == 1 && file.dev() == named.dev() && file.ino() == named.ino()
 }
 
-/// Takes the lock of the draft's file. Refused where another has it, and where the file system has no locks: nobody else has it
+/// Takes the lock of the draft's file. Refused if another has it, and if the file system has no locks: nobody else has it
 /// then, and the draft is removed.
 fn lock_draft<R: Files<File = File>>(rt: &R, draft: &str, file: &File) -> io::Result<()> {
     match file.try_lock() {
@@ -83,7 +83,7 @@ fn lock_draft<R: Files<File = File>>(rt: &R, draft: &str, file: &File) -> io::Re
     }
 }
 
-/// The file of a draft with its lock, a new one or what a stopped making left there. Refused where another has its lock, or the
+/// The file of a draft with its lock, a new one or what a stopped making left there. Refused if another has its lock, or the
 /// name leads elsewhere by now: nothing is changed then.
 fn take_draft<R: Files<File = File>>(rt: &R, draft: &str) -> io::Result<File> {
     let_whole_go(rt, draft)?;
@@ -102,8 +102,8 @@ fn take_draft<R: Files<File = File>>(rt: &R, draft: &str) -> io::Result<File> {
     }
 }
 
-/// A device over the draft, of so many bytes, all zero, of which so many in front are written. Refused with what the system said:
-/// where it took the draft by then, it is removed.
+/// A device over the draft, of `len` zeros, of which the first `filled` are written. Refused with what the system said. If it took
+/// the draft by then, that is removed.
 pub(crate) fn make_draft<R: Files<File = File>>(
     rt: &R,
     draft: &str,
@@ -115,7 +115,7 @@ pub(crate) fn make_draft<R: Files<File = File>>(
     ensures honest { IfOk result (λ d. are_right (replicate d.len 0) d.events.list ≡ true) }
 {
     let file = take_draft(rt, draft)?;
-    // It keeps the lock until the name is gone, where the making is refused.
+    // It keeps the lock until the name is gone, if the making is refused.
     let locked = file.try_clone();
     let made = match &locked {
         Ok(_) => FileDevice::made(file, len, filled),
@@ -128,7 +128,7 @@ pub(crate) fn make_draft<R: Files<File = File>>(
 }
 
 /// Gives a draft that is whole its own name, which it has after a crash too, and takes the draft's from it. Refused with what the
-/// system said where that name is there, the file system has no links, or a call fails: the file has neither name then, if the
+/// system said if that name is there, the file system has no links, or a call fails: the file has neither name then, if the
 /// system lets them be removed.
 ///
 /// A crash may leave the file both names: also one soon after this, as the folder isn't synced again. A crash before its own name

@@ -38,7 +38,7 @@ pub type InFile<S> = Index<Store<FileDevice<S>>>;
 #[derive(Clone, Copy)]
 pub struct NotMade {
     pub fault: Fault,
-    /// What the system said, where that is why.
+    /// What the system said, if that is why.
     pub error: Option<Error>,
 }
 
@@ -48,7 +48,7 @@ pub struct NotOpened<S: Start> {
     pub fault: Fault,
     /// What the system said of the last call that failed, if one did.
     pub error: Option<Error>,
-    /// The device over the file, as the opening left it, where the file was taken.
+    /// The device over the file, as the opening left it, if the file was taken.
     pub device: Option<FileDevice<S>>,
 }
 
@@ -92,10 +92,9 @@ fn not_opened<S: Start>(refused: Refused<FileDevice<S>>) -> NotOpened<S>
 /// it, under the same name with `.nardsill-draft` after, where nothing else is to stand: what a stopped making left there is
 /// written over. `progress` is told of each page that is written.
 ///
-/// Refused with `BadLimits` (18) for limits out of their ranges, before anything is done. Refused with `Io` (2), and with what the
-/// system said, where the path is there, before anything is done; where a name has more bytes than the system allows, with those
-/// 15; where another makes an index at this path, or a call of the file fails, as where the disk has no room: what was made is
-/// removed then.
+/// Refused with `BadLimits` (18) for limits out of their ranges, and with `Io` (2) if the path is there, before anything is done.
+/// Refused with `Io` too, and with what the system said, if a name has more bytes than the system allows, with those 15; if another
+/// makes an index at this path; or if a call of the file fails, for instance since the disk is full. What was made is removed then.
 pub fn create<R: Files<File = File>, P: Progress>(
     rt: &R,
     path: &str,
@@ -164,9 +163,9 @@ fn said<D: Device>(device: &D) -> Error {
     }
 }
 
-/// Opens the pages of the index in a file, after any crash, for so many pages in memory at once (16 to 1,024). Refused with `Io`
-/// (2), and with what the system said, where the path isn't there, can't be opened for writing, or another has it open; and else as
-/// `recovery::open` is, with the device.
+/// Opens the pages of the index in a file, after any crash. `frames` is how many pages are in memory at once, 16 to 1,024.
+/// Refused with `Io` (2), and with what the system said, if the path isn't there, can't be opened for writing, or another has
+/// it open. Else refused as `recovery::open` is, with the device.
 pub fn open_store<R: Files<File = File>, S: Start>(
     rt: &R,
     alloc: Global,
@@ -207,16 +206,16 @@ pub fn open_store<R: Files<File = File>, S: Start>(
     }
 }
 
-/// Opens the index in a file, after any crash, for so many pages in memory at once (16 to 1,024). Refused with `Io` (2), and with
-/// what the system said, where the path isn't there, can't be opened for writing, or another has it open; and else as `Index::open`
-/// is, with the device.
+/// Opens the index in a file, after any crash. `frames` is how many pages are in memory at once, 16 to 1,024. Refused with
+/// `Io` (2), and with what the system said, if the path isn't there, can't be opened for writing, or another has it open. Else
+/// refused as `Index::open` is, with the device.
 pub fn open<R: Files<File = File>, S: Start>(
     rt: &R,
     alloc: Global,
     path: &str,
     frames: u32,
 ) -> Result<InFile<S>, NotOpened<S>>
-    // Where the file held an index whose pages are a B-link tree, it is opened with them.
+    // If the file held an index whose pages are a B-link tree, it is opened with them.
     ensures begins { IfOk result (λ index.
         let d = ⟦<FileDevice<S> as Device>⟧ in
         IsTrue (d.is_honest (device_of d index.store))
@@ -245,7 +244,7 @@ pub fn open<R: Files<File = File>, S: Start>(
     }
 }
 
-/// An index that was closed: what its last checkpoint answered, and the device, whose file is closed where it is let go.
+/// An index that was closed: what its last checkpoint answered, and the device, whose file is closed when it is let go.
 #[derive(Drop)]
 pub struct Closed<D> {
     pub written: Result<u64, Fault>,

@@ -10,7 +10,7 @@ use index_model::{DeadRows, Fault, RowAddr};
 use std::alloc::Global;
 use std::collections::BTreeSet;
 
-/// Rows that are named one by one. Where none is, it has no memory.
+/// Rows that are named one by one. If none is, it has no memory.
 #[derive(Drop)]
 pub struct RowSet {
     pub rows: Option<BTreeSet<RowAddr>>,
@@ -53,7 +53,7 @@ fn rows_of(rows: Option<BTreeSet<RowAddr>>, alloc: Global) -> BTreeSet<RowAddr>
     }
 }
 
-// The set with a row more. None where there is no memory for it.
+// The set with a row more. None if there is no memory for it.
 fn added(rows: BTreeSet<RowAddr>, row: RowAddr) -> Option<BTreeSet<RowAddr>>
     ensures { IfSome result (λ more. (other : Row) → contains row_cmp more other
         ≡ (same_row row other || contains row_cmp rows other)) }

@@ -47,7 +47,7 @@ pub prints_as : {D N : Type 0} (d : DeviceGhosts D) (e : DeviceGhosts N) (g : Gh
     (what : Left D N (Store D d)) → named ≡ other → PrintsCommand d e g rows bytes named old new what → PrintsCommand d e g rows bytes other old new what
 prints_as d e g rows bytes named other old new what same p = subst (λ (n : Named). PrintsCommand d e g rows bytes n old new what) same p
 
--- a command was run, where none can't be
+-- a command was run, if it can't be that none was
 pub not_run_never : {D N S : Type 0} {P : Type 0} (Q : Type 0) (what : Left D N S) → IfNotRun what P → (P → ⊥) → IfNotRun what Q
 not_run_never Q (left.Nothing end) is never = absurd (never is)
 not_run_never Q (left.Played script) is never = tt

@@ -9,7 +9,7 @@ use Rattle.clap.specs.Takes.{is_given}
 use Rattle.clap.specs.Walk.{Held, Names, Row, Text, answers_to, finished, nothing_held, settled, stop_after, walk, walk_from}
 use Rattle.command_line.proofs.Imports.{list_any, IsNoCommand, NamesNone, KeepsLine, named_by, program_line}
 
--- where there is no kind, there is none after the first list
+-- if there is no kind, there is none after the first list
 no_second : (xs ys : Kinds) → or_else xs ys ≡ [] → ys ≡ []
 no_second [] ys none = none
 no_second (x ∷ xs) ys none = cc

@@ -33,7 +33,8 @@ pub said_is_no_refusal : {E P : Type 0} (said end : Result End E) (fault : Fault
 said_is_no_refusal (Ok e) end fault same is told = absurd (let a : Ok e ≡ Ok (Refused fault) = sym same ∙ told in let b : e ≡ AlreadyPrinted = is in cc)
 said_is_no_refusal (Err e) end fault same is told = absurd (let a : Err e ≡ Ok (Refused fault) = sym same ∙ told in cc)
 
--- the device was made over a file that held these bytes, and is as long as it was: so what it was refused for is of that file
+-- the device was made over a file that held these bytes, and is as long as it was: so what it was refused for
+-- is of that file
 pub world_not_opened : {D : Type 0} (d : DeviceGhosts D) (bytes : ℕ → List ℕ) (sized : (n : ℕ) → length (bytes n) ≡ n)
     (frames sessions n : ℕ) (before after : D) (fault : Fault)
     → d.trace before ≡ first (bytes n) → d.failures before ≡ 0 → length (d.trace after).now.seen ≡ length (d.trace before).now.seen
@@ -52,7 +53,7 @@ world_not_opened d bytes sized frames sessions n before after fault held none le
           sound honest allowed some few limits pages (subst (HasIndex limits pages) (sym (ap (λ (t : Trace). t.now.seen) is)) index) tree;
     }
 
--- where the opening was refused, so was the run
+-- if the opening was refused, so was the run
 pub opening_refused : {D T : Type 0} (d : DeviceGhosts D) (g : Ghosts (Store D d)) (rows : SetGhosts T) (bytes : ℕ → List ℕ) (frames workers : ℕ) (jobs : List Job) (sets : List T)
     (fault : Fault) (device : Option D) → IsWorldOpeningRefused d bytes frames workers fault device → IsRunOnFileRefused d g rows bytes frames workers jobs sets fault device
 opening_refused d g rows bytes frames workers jobs sets fault None is = is

@@ -35,7 +35,8 @@ pub record IsKeptFromReuse {S T : Type 0} (g : Ghosts S) (rows : SetGhosts T) (s
   pub count : ℕ
   pub runs : WorldRuns g rows old new (replicate count (Step session)) (replicate count Going) start history calls
 
--- as many steps as may still be made, of 2^64 - 1, and those that are left for the call, are no fewer than were left at first
+-- as many steps as may still be made, of 2^64 - 1, and those that are left for the call, are no fewer than
+-- were left at first
 abbrev pub IsWithin : {S T : Type 0} → Ghosts S → SetGhosts T → ℕ → ℕ → World S T → World S T → Type 0
 IsWithin g rows session left old new =
     18446744073709551615 + steps_left (g.state new.store) (slot_of new.calls.slots.items session) ≤ left + steps_left (g.state old.store) (slot_of old.calls.slots.items session)

@@ -32,8 +32,8 @@ use Rattle.command_line.specs.declared.left.Left.TheVariants as left
 use Rattle.command_line.specs.declared.play.RanScript.{RanScript}
 use Rattle.command_line.specs.declared.running.RanFile.{RanFile}
 
--- A creation with these limits is done with a file made that holds an empty index, and nothing else, and with `created` printed; where it
--- is refused nothing is printed.
+-- A creation with these limits is done with a file made that holds an empty index, and nothing else, and with
+-- `created` printed; if it is refused nothing is printed.
 pub record PrintsCreation {D : Type 0} (d : DeviceGhosts D) (limits : Limits) (old new : Option (List ℕ)) (creation : Created D) : Type 0 where
   pub ends : IfOk creation.end IsDoneOrRefused
   pub allowed : creation.end ≡ Ok Done → AreLimits (made limits)
@@ -46,8 +46,8 @@ pub record PrintsCreation {D : Type 0} (d : DeviceGhosts D) (limits : Limits) (o
       → ((fault ≡ BadLimits) × (AreLimits (made limits) → ⊥)) ⊎ (fault ≡ Io)
   pub silent : (fault : Fault) → creation.end ≡ Ok (Refused fault) → Keeps old new
 
--- A check, with parents and children or without, is done with the report printed of the pages of the index that was opened, and finds
--- damage with the first of it printed; where it is refused nothing is printed.
+-- A check, with parents and children or without, is done with the report printed of the pages of the index
+-- that was opened, and finds damage with the first of it printed; if it is refused nothing is printed.
 pub record PrintsCheck {D : Type 0} (d : DeviceGhosts D) (g : Ghosts (Store D d)) (bytes : ℕ → List ℕ) (parents : Bool)
     (old new : Option (List ℕ)) (looked : Looked D (Store D d)) : Type 0 where
   pub ends : IfOk looked.end IsCheckEnd
@@ -62,8 +62,8 @@ pub record PrintsCheck {D : Type 0} (d : DeviceGhosts D) (g : Ghosts (Store D d)
       → MatchOption looked.store (IsOpeningRefused d IsAnyIndex bytes 64 fault looked.device) (IsCheckRefused d g bytes fault)
   pub silent : (fault : Fault) → looked.end ≡ Ok (Refused fault) → Keeps old new
 
--- A dump is done with the lines printed of all pages of the index that was opened, and refused with those of the first so many; where
--- there was no index nothing is printed.
+-- A dump is done with the lines printed of all pages of the index that was opened, and refused with those of
+-- the first so many; if there was no index nothing is printed.
 pub record PrintsDump {D : Type 0} (d : DeviceGhosts D) (g : Ghosts (Store D d)) (bytes : ℕ → List ℕ)
     (old new : Option (List ℕ)) (looked : Looked D (Store D d)) : Type 0 where
   pub ends : IfOk looked.end IsDoneOrRefused
@@ -76,8 +76,8 @@ pub record PrintsDump {D : Type 0} (d : DeviceGhosts D) (g : Ghosts (Store D d))
   pub cause : (fault : Fault) → looked.end ≡ Ok (Refused fault) → IfSome looked.store (IsDumpRefused d g bytes fault)
   pub silent : IfNone looked.store (Keeps old new)
 
--- The jobs of a file are run by so many workers, with so many pages in memory, and the run is printed; where there was none nothing is
--- printed, and it was refused for its cause.
+-- The jobs of a file are run by so many workers, with so many pages in memory, and the run is printed; if
+-- there was none nothing is printed, and it was refused for its cause.
 pub record PrintsRunning {D T : Type 0} (d : DeviceGhosts D) (g : Ghosts (Store D d)) (rows : SetGhosts T) (bytes : ℕ → List ℕ)
     (frames workers : ℕ) (old new : Option (List ℕ)) (ran : RanFile D (Store D d) T) : Type 0 where
   pub ends : IfOk ran.end IsRunEnd
@@ -87,7 +87,8 @@ pub record PrintsRunning {D T : Type 0} (d : DeviceGhosts D) (g : Ghosts (Store 
   pub refused : (fault : Fault) → ran.end ≡ Ok (Refused fault)
       → IfNone ran.world (IsRunOfJobFileRefused d g rows bytes frames workers fault ran.device)
 
--- A script is run over an index of this setting; where there was no index nothing is printed, and it was refused for its cause.
+-- A script is run over an index of this setting; if there was no index nothing is printed, and it was refused
+-- for its cause.
 pub record PrintsPlay (setting : Setting) (old new : Option (List ℕ)) (script : RanScript) : Type 0 where
   pub run : script.end ≡ Ok Done → IsSome script.engine
   pub asked : IfSome script.engine (λ engine. engine.setting ≡ setting)
@@ -158,8 +159,8 @@ pub record DoesPlay (named : Named) (old new : Option (List ℕ)) (script : RanS
   pub said : HasSetting (said_in words) setting
   pub prints : PrintsPlay setting old new script
 
--- What was left is that of the command that the command line names, run with the values that it says, and what was printed is what this
--- command tells. A file that is made has a device of its own.
+-- What was left is that of the command that the command line names, run with the values that it says, and
+-- what was printed is what this command tells. A file that is made has a device of its own.
 abbrev pub DoesCommand : {D N : Type 0} (d : DeviceGhosts D) → DeviceGhosts N → Ghosts (Store D d) → SetGhosts DeadList → (ℕ → List ℕ) → Named
     → Option (List ℕ) → Option (List ℕ) → Left D N (Store D d) → Type 0
 DoesCommand d e g rows bytes named old new (left.Nothing end) = ⊤

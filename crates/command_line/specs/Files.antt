@@ -15,8 +15,8 @@ use Rattle.recovery.specs.Index.{HasIndex}
 use Rattle.recovery.specs.Opening.{IsFreshlyOpened, IsSameIndex, StandsOnDevice}
 use Rattle.command_line.specs.Listing.{causes_of_listed}
 
--- The store as it is opened, with 64 pages in memory, from a file that held these bytes. What it has is what stood in the file, and
--- an index is opened with its pages, as far as the file kept the disk model.
+-- The store as it is opened, with 64 pages in memory, from a file that held these bytes. What it has is what
+-- stood in the file, and an index is opened with its pages, as far as the file kept the disk model.
 pub record IsOpenedFromFile {D : Type 0} (d : DeviceGhosts D) (bytes : ℕ → List ℕ) (store : Store D d) : Type 0 where
   pub opened : IsFreshlyOpened 64 (state_of d store)
   pub read : IsTrue (d.is_honest (device_of d store))
@@ -25,8 +25,8 @@ pub record IsOpenedFromFile {D : Type 0} (d : DeviceGhosts D) (bytes : ℕ → L
   pub same : IsTrue (d.is_honest (device_of d store)) → (limits : Format) (pages : List Page)
       → HasIndex limits pages (bytes_before bytes (d.trace (device_of d store))) → IsSameIndex d limits pages store
 
--- The store of the index in a file that held these bytes: its pages are those that it was opened with, and only its own calls have
--- written since.
+-- The store of the index in a file that held these bytes: its pages are those that it was opened with, and
+-- only its own calls have written since.
 pub record IsLookedAt {D : Type 0} (d : DeviceGhosts D) (g : Ghosts (Store D d)) (bytes : ℕ → List ℕ)
     (store : Store D d) : Type 0 where
   pub first : Store D d
@@ -34,8 +34,8 @@ pub record IsLookedAt {D : Type 0} (d : DeviceGhosts D) (g : Ghosts (Store D d))
   pub follows : g.follows first store
   pub state_is : g.state store ≡ g.state first
 
--- Why an index in a file that held these bytes isn't opened: the file couldn't be taken, or else what its device tells, as the opening
--- left it. A sound one is refused for want of memory or of the device alone.
+-- Why an index in a file that held these bytes isn't opened: the file couldn't be taken, or else what its
+-- device tells, as the opening left it. A sound one is refused for want of memory or of the device alone.
 abbrev pub IsOpeningRefused : {D : Type 0} (d : DeviceGhosts D) → (Format → List Page → Type 0) → (ℕ → List ℕ) → ℕ → Fault → Option D → Type 0
 IsOpeningRefused d Sound bytes frames fault None = fault ≡ Io
 IsOpeningRefused d Sound bytes frames fault (Some device) = IsNotOpened d Sound bytes frames fault device

@@ -20,7 +20,7 @@ module _ {D N S : Type 0} where
   IsRun (Nothing end) = ⊥
   IsRun left = ⊤
 
-  -- this, where no command was run
+  -- this, if no command was run
   abbrev pub IfNotRun : Left D N S → Type 0 → Type 0
   IfNotRun (Nothing end) p = p
   IfNotRun left p = ⊤

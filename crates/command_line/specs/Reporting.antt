@@ -29,8 +29,8 @@ pub record PrintsReport (honest : Bool) (pages : List Page) (old new : Option (L
   pub printed : Appends old new (report_text report ++ 10 ∷ [])
   pub is : honest ≡ true → IsReport pages report
 
--- what was printed is the first damage that the pages have, with parents and children or without; pages that are a B-link
--- tree, and on a unique index those of one, have none
+-- what was printed is the first damage that the pages have, with parents and children or without; pages that
+-- are a B-link tree, and on a unique index those of one, have none
 pub record PrintsDamage (honest parents : Bool) (st : State) (old new : Option (List ℕ)) : Type 0 where
   pub number : ℕ
   pub block : ℕ
@@ -38,7 +38,8 @@ pub record PrintsDamage (honest parents : Bool) (st : State) (old new : Option (
   pub first : honest ≡ true → IsFirstDamage parents st.limits.unique st.pages number block
   pub unsound : honest ≡ true → IsTreeFor st.limits st.pages → ⊥
 
--- the pages are sound: with parents and children a B-link tree, without them an index of levels; and on a unique index those of one
+-- the pages are sound: with parents and children a B-link tree, without them an index of levels; and on a
+-- unique index those of one
 abbrev pub AreSound : Bool → State → Type 0
 AreSound true st = IsTreeFor st.limits st.pages
 AreSound false st = HasLevelsFor st.limits st.pages

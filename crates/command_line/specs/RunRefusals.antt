@@ -21,8 +21,8 @@ use Rattle.text_forms.specs.Spelling.{lines_of}
 use Rattle.tree_acts.specs.TheoremKeys.{IsTreeFor}
 use Rattle.world.specs.declared.world.World.{World}
 
--- an opening with so many sessions is refused: their number is out of its range, memory was refused, or a call of the device failed; or else as
--- that of the pages is
+-- an opening with so many sessions is refused: their number is out of its range, memory was refused, or a
+-- call of the device failed; or else as that of the pages is
 abbrev pub IsWorldRefusal : Bool → ℕ → ℕ → Trace → Trace → ℕ → ℕ → Fault → Type 0
 IsWorldRefusal honest frames sessions old new failed fails fault =
     ((fault ≡ BadLimits) × ((sessions ≡ 0) ⊎ (64 < sessions)))
@@ -30,8 +30,8 @@ IsWorldRefusal honest frames sessions old new failed fails fault =
     ⊎ ((fault ≡ Io) × (fails ≡ suc failed))
     ⊎ IsRefusal honest frames old new fault
 
--- Why an index isn't opened with so many sessions in a file that held these bytes when it was taken, and whose device was left so. A sound
--- index is refused for want of memory or of the device alone.
+-- Why an index isn't opened with so many sessions in a file that held these bytes when it was taken, and
+-- whose device was left so. A sound index is refused for want of memory or of the device alone.
 pub record IsWorldNotOpened {D : Type 0} (d : DeviceGhosts D) (bytes : ℕ → List ℕ) (frames sessions : ℕ) (fault : Fault) (device : D) : Type 0 where
   pub cause : IsWorldRefusal (d.is_honest device) frames sessions (first (bytes_before bytes (d.trace device))) (d.trace device) 0 (d.failures device) fault
   pub sound : IsTrue (d.is_honest device) → AreFrames frames → 1 ≤ sessions → sessions ≤ 64 → (limits : Format) (pages : List Page)
@@ -42,8 +42,8 @@ abbrev pub IsWorldOpeningRefused : {D : Type 0} → DeviceGhosts D → (ℕ → 
 IsWorldOpeningRefused d bytes frames sessions fault None = fault ≡ Io
 IsWorldOpeningRefused d bytes frames sessions fault (Some device) = IsWorldNotOpened d bytes frames sessions fault device
 
--- The index was opened with a session for each worker, over the device that is left, and the run of these jobs is refused: a limit is passed, or
--- there is no memory or no thread for it.
+-- The index was opened with a session for each worker, over the device that is left, and the run of these
+-- jobs is refused: a limit is passed, or there is no memory or no thread for it.
 pub record IsRunNotMade {D T : Type 0} (d : DeviceGhosts D) (g : Ghosts (Store D d)) (rows : SetGhosts T) (bytes : ℕ → List ℕ) (frames workers : ℕ)
     (jobs : List Job) (sets : List T) (fault : Fault) (device : D) : Type 0 where
   pub before : World (Store D d) T

@@ -27,15 +27,16 @@ abbrev pub end_after : Answer → End
 end_after (NotMade fault) = Refused fault
 end_after answer = Done
 
--- A checkpoint has followed a run that is done, and left this world. What was printed is that run: each job's record, by the jobs'
--- numbers, and how many each worker has; and what the checkpoint answered.
+-- A checkpoint has followed a run that is done, and left this world. What was printed is that run: each job's
+-- record, by the jobs' numbers, and how many each worker has; and what the checkpoint answered.
 pub record PrintsDone {S T : Type 0} (g : Ghosts S) (rows : SetGhosts T) (done : Finished S T) (after : World S T) (old new : Option (List ℕ)) (end : End) : Type 0 where
   pub answer : Answer
   pub checkpointed : IsEventDone g Checkpoint answer (inside rows done.world) (inside rows after)
   pub printed : Appends old new (run_text done.history.items done.receipts.items done.calls.items ++ last_text answer)
   pub end_is : end ≡ end_after answer
 
--- ... which was a run of these jobs by so many workers on the world before: so its records are those of calls that this world had since
+-- ... which was a run of these jobs by so many workers on the world before: so its records are those of calls
+-- that this world had since
 pub record PrintsRun {S T : Type 0} (g : Ghosts S) (rows : SetGhosts T) (jobs : List Job) (workers : ℕ) (before after : World S T) (old new : Option (List ℕ)) (end : End) : Type 0 where
   pub done : Finished S T
   pub ran : IsFinished g rows jobs workers before done

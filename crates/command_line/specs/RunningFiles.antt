@@ -19,8 +19,9 @@ use Rattle.command_line.specs.Running.{PrintsRun}
 use Rattle.command_line.specs.declared.end.End.{End}
 use Rattle.text_forms.specs.Spelling.{lines_of}
 
--- The world as it is opened from a file that held these bytes: with so many pages in memory, so many sessions, and these sets. An
--- index whose pages are a B-link tree is opened with them, as far as the file kept the disk model.
+-- The world as it is opened from a file that held these bytes: with so many pages in memory, so many
+-- sessions, and these sets. An index whose pages are a B-link tree is opened with them, as far as the file
+-- kept the disk model.
 pub record IsWorldOfFile {D T : Type 0} (d : DeviceGhosts D) (g : Ghosts (Store D d)) (rows : SetGhosts T)
     (bytes : ℕ → List ℕ) (frames sessions : ℕ) (sets : List T) (world : World (Store D d) T) : Type 0 where
   pub opened : IsFreshlyOpened frames (state_of d world.store)
@@ -30,7 +31,8 @@ pub record IsWorldOfFile {D T : Type 0} (d : DeviceGhosts D) (g : Ghosts (Store 
       → HasIndex limits pages (bytes_before bytes (d.trace (device_of d world.store))) → IsTreeFor limits pages
       → BeginsWith d g rows limits pages world
 
--- what was printed is a run of these jobs on such a world, with a session for each worker, which left this one
+-- what was printed is a run of these jobs on such a world, with a session for each worker, which left this
+-- one
 pub record PrintsRunOnFile {D T : Type 0} (d : DeviceGhosts D) (g : Ghosts (Store D d)) (rows : SetGhosts T)
     (bytes : ℕ → List ℕ) (frames workers : ℕ) (jobs : List Job) (sets : List T) (after : World (Store D d) T)
     (old new : Option (List ℕ)) (end : End) : Type 0 where

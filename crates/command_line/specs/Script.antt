@@ -72,7 +72,8 @@ HasValues (Stop number) = IsCount number
 HasValues (CrashOf crash) = ⊤
 HasValues Dump = ⊤
 
--- the names of the lines of one word, of the device, of a session alone, with an entry, with a range, and with rows
+-- the names of the lines of one word, of the device, of a session alone, with an entry, with a range, and
+-- with rows
 abbrev pub is_plain : List ℕ → Bool
 is_plain name = is_one_of name (codes "force" ∷ codes "flush" ∷ codes "checkpoint" ∷ codes "dump" ∷ [])
 
@@ -91,7 +92,8 @@ has_range name = is_one_of name (codes "scan" ∷ codes "list" ∷ [])
 abbrev pub has_rows : List ℕ → Bool
 has_rows name = is_one_of name (codes "bulk" ∷ [])
 
--- what a line of this name with these words after its session is refused with: it has its form, but a key or a row that there isn't
+-- what a line of this name with these words after its session is refused with: it has its form, but a key or
+-- a row that there isn't
 abbrev pub AreNoValues : Fault → List ℕ → List (List ℕ) → Type 0
 AreNoValues fault name words = ((names_entry name ≡ true) × AreNoEntry fault words [])
     ⊎ (((has_range name ≡ true) × AreNoRange fault words []) ⊎ ((has_rows name ≡ true) × AreNoRows fault words))

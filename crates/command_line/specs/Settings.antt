@@ -19,6 +19,7 @@ pub record IsInRange (setting : Setting) : Type 0 where
   pub limits : AreLimits (made setting.limits)
   pub sizes : IsSetting setting
 
--- why no index of this setting was made: a size is out of its range; or memory was refused, or a call of the device failed
+-- why no index of this setting was made: a size is out of its range; or memory was refused, or a call of the
+-- device failed
 abbrev pub IsNotMade : Setting → Fault → Type 0
 IsNotMade setting fault = ((fault ≡ BadLimits) × (IsInRange setting → ⊥)) ⊎ IsNoMemoryOrIo fault

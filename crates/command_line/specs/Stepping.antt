@@ -26,8 +26,9 @@ steps_of session count = replicate count (Step session) ++ Step session ∷ []
 abbrev pub answers_to : Answer → ℕ → List Answer
 answers_to answer count = replicate count Going ++ answer ∷ []
 
--- There is a continuation of the history and of the calls that fits the world now, by a run of these events with these
--- answers and of steps of the session after them: the last answers this, and each before it that its call goes on.
+-- A continuation of the history and of the calls fits the world now, by a run of these events with these
+-- answers and of steps of the session after them. The last step answers this, and each before it that its
+-- call goes on.
 pub record IsStepped {S T : Type 0} (g : Ghosts S) (rows : SetGhosts T) (events : List Event) (answers : List Answer) (session : ℕ) (answer : Answer)
     (old new : World S T) (start : Entry → Bool) (history : List Action) (calls : List Call) : Type 0 where
   -- how many steps go on

@@ -15,11 +15,11 @@ use std::alloc::Global;
 use std::io::{self, Write};
 use std::thread::Threads;
 
-/// Judges the levels and links of a store's pages, and their parents and children where that is asked for, and prints the
-/// report, or the first damage. Refused as `amcheck::check` is: nothing is printed then.
+/// Judges the levels and links of a store's pages, and their parents and children if that is asked for, and
+/// prints the report, or the first damage. Refused as `amcheck::check` is: nothing is printed then.
 ///
-/// A printed report is that of the pages, and with parents it means that they are a B-link tree; pages that are one have no
-/// damage. A printed damage is the first that there is.
+/// A printed report is that of the pages, and with parents it means that they are a B-link tree; pages that
+/// are one have no damage. A printed damage is the first that there is.
 pub fn check_pages<R: Threads + Sync, S: PageStore, P: Progress, W: Write>(
     rt: &R,
     alloc: Global,

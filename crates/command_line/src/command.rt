@@ -28,8 +28,8 @@ const WORKERS: &str = "Threads, each with a session: 1 to 64";
 
 const FRAMES: &str = "Pages that are held in memory: 16 to 1024";
 
-// A command, or no memory for it. Each step takes and gives one, so that only the step itself may leave at two places: a `?`
-// costs the prover seconds at each place where a command is held.
+// A command, or no memory for it. Each step takes and gives one, so that only the step itself may leave at
+// two places: a `?` costs the prover seconds at each place where a command is held.
 type Made<'a> = Result<Command<'a>, AllocError>;
 
 /// The whole command line.

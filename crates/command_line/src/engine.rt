@@ -65,8 +65,8 @@ pub trait Sink {
     fn page(&mut self, page: &Page) -> io::Result<()>;
 }
 
-/// An index on a device in memory, and its sessions: as many pages are held in memory, and there are as many sessions, as was asked
-/// for.
+/// An index on a device in memory, and its sessions: as many pages are held in memory, and there are as many
+/// sessions, as was asked for.
 #[derive(Drop)]
 pub struct Engine {
     alloc: Global,
@@ -78,9 +78,9 @@ pub struct Engine {
 }
 
 impl Engine {
-    /// An empty index, made on a device in memory and opened, and the sets of dead rows that its events name by their places.
-    /// Refused with `BadLimits` (18) for a size out of its range, with `NoMemory` (1), and with `Io` (2) where the device had no memory
-    /// for a write.
+    /// An empty index, made on a device in memory and opened, and the sets of dead rows that its events name
+    /// by their places. Refused with `BadLimits` (18) for a size out of its range, with `NoMemory` (1), and
+    /// with `Io` (2) if the device had no memory for a write.
     pub fn new(alloc: Global, setting: &Setting, sets: Vec<DeadList>) -> Result<Engine, Fault>
         ensures setting { IfOk result (λ engine. engine.setting ≡ setting.now) }
         ensures sets { IfOk result (λ engine. engine.world.sets ≡ sets) }
@@ -113,7 +113,8 @@ impl Engine {
         self.world.one(event)
     }
 
-    /// Steps of a session's call until one doesn't answer `Going`, and that answer. No checkpoint is made for them.
+    /// Steps of a session's call until one doesn't answer `Going`, and that answer. No checkpoint is made for
+    /// them.
     pub fn run(&mut self, session: u32) -> Answer
         ensures setting { self.new.setting ≡ self.old.setting }
         ensures goes { ForEachWorldHistory ⟦<Store<MemDevice> as PageStore>⟧ ⟦<DeadList as DeadRows>⟧
@@ -137,8 +138,8 @@ impl Engine {
         run_insert(&mut self.world, session, *entry)
     }
 
-    /// A scan, run to its end: hands over each entry of the range in order, and answers their number. A scan that is
-    /// refused on its way is given up.
+    /// A scan, run to its end: hands over each entry of the range in order, and answers their number. A scan
+    /// that is refused on its way is given up.
     pub fn list<S: Sink>(
         &mut self,
         session: u32,
@@ -206,8 +207,8 @@ impl Engine {
         self.world.stop_at(n);
     }
 
-    /// A crash, and the index opened again, with as many sessions, and with these sets of dead rows. Refused as `open` is,
-    /// and with `NoMemory`; the index is as it was then.
+    /// A crash, and the index opened again, with as many sessions, and with these sets of dead rows. Refused
+    /// as `open` is, and with `NoMemory`; the index is as it was then.
     pub fn crash(&mut self, image: CrashImage, sets: Vec<DeadList>) -> Result<(), Fault>
         ensures setting { self.new.setting ≡ self.old.setting }
         ensures sets { OnOk result (self.new.world.sets ≡ sets) }

@@ -1,5 +1,6 @@
-//! The commands over a file. Each hands back what it worked on, so that its clauses name it: the index that was opened, or the file
-//! that was made. What a check and a dump print is of the pages of that index, which stood in the file.
+//! The commands over a file. Each hands back what it worked on, so that its clauses name it: the index that
+//! was opened, or the file that was made. What a check and a dump print is of the pages of that index, which
+//! stood in the file.
 
 ghost use Rattle.std.specs.Prelude.{◌≡◌, ◌⊎◌, ◌∷◌, ◌++◌, [], true, length, Ok, IsSome, IfOk, IfSome, IfNone, IsSomeAnd, MatchOption, codes};
 ghost use Rattle.std.specs.Io.KnownBytes.{Appends};
@@ -30,7 +31,8 @@ use std::thread::Threads;
 /// Pages of an index in a file that are held in memory.
 const FRAMES: u32 = 64;
 
-/// What a creation leaves: the file, if it was made, what the system said, if that is why it wasn't, and how the command ends.
+/// What a creation leaves: the file, if it was made, what the system said, if that is why it wasn't, and how
+/// the command ends.
 #[derive(Drop)]
 pub struct Created<'a, D> {
     pub device: Option<D>,
@@ -38,7 +40,8 @@ pub struct Created<'a, D> {
     pub end: io::Result<End>,
 }
 
-/// Makes a new file with an empty index, and says so. Refused as `in_file::create` is: nothing is printed then.
+/// Makes a new file with an empty index, and says so. Refused as `in_file::create` is: nothing is printed
+/// then.
 pub fn create<'a, R: Files<File = File>, P: Progress, W: Write>(
     rt: &R,
     path: &'a str,
@@ -93,8 +96,9 @@ fn say_created<W: Write>(out: &mut W) -> io::Result<End>
     Ok(End::Done)
 }
 
-/// What a check or a dump leaves: the index in the file, if it was opened, else the device as the opening left it, if the file was
-/// taken; what the system said of the last call that failed; and how the command ends.
+/// What a check or a dump leaves: the index in the file, if it was opened. Else the device as the opening
+/// left it, if the file was taken. What the system said of the last call that failed. And how the command
+/// ends.
 #[derive(Drop)]
 pub struct Looked<'a, D, S> {
     pub store: Option<S>,
@@ -103,8 +107,8 @@ pub struct Looked<'a, D, S> {
     pub end: io::Result<End>,
 }
 
-/// Prints what a check of the index in a file answers, as `check_pages` does: with parents and children where that is asked
-/// for. Refused as `open_store` and `check_pages` are: nothing is printed then.
+/// Prints what a check of the index in a file answers, as `check_pages` does: with parents and children if
+/// that is asked for. Refused as `open_store` and `check_pages` are: nothing is printed then.
 pub fn check<'a, R: Files<File = File> + Threads + Sync, S: Start, P: Progress, W: Write>(
     rt: &R,
     alloc: Global,
@@ -222,8 +226,8 @@ pub fn check_one<'a, R: Files<File = File>, S: Start, P: Progress, W: Write>(
     }
 }
 
-/// Prints each page in use of the index in a file, as `list_pages` does. Refused as `open_store` and `list_pages` are: nothing is
-/// printed of an index that wasn't opened.
+/// Prints each page in use of the index in a file, as `list_pages` does. Refused as `open_store` and
+/// `list_pages` are: nothing is printed of an index that wasn't opened.
 pub fn dump<'a, R: Files<File = File>, S: Start, W: Write>(
     rt: &R,
     alloc: Global,

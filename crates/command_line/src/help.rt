@@ -1,5 +1,5 @@
-//! What the help says beside the options: tests compare it with the lines that are read, the answers that are printed, and
-//! the faults that there are.
+//! What the help says beside the options: tests compare it with the lines that are read, the answers that are
+//! printed, and the faults that there are.
 
 /// The faults, their names, and what a status means.
 pub const FAULTS: &str = "Faults, as `refused N` and `btidx: refused N NAME` name them:

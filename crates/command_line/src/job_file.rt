@@ -11,7 +11,8 @@ use shared_world::Job;
 use std::alloc::Global;
 use text_forms::{Rows, first_line};
 
-/// The jobs of a job file, in their order, and the sets of dead rows that its bulk deletes name by their places.
+/// The jobs of a job file, in their order, and the sets of dead rows that its bulk deletes name by their
+/// places.
 #[derive(Drop)]
 pub struct JobFile {
     pub jobs: Vec<Job>,
@@ -27,8 +28,8 @@ pub enum JobFileError {
     NoMemory,
 }
 
-/// Reads the lines of a job file, each of which is a job. Refused with `NotAJob` at the first that isn't, with `NoMemory` where
-/// memory is refused.
+/// Reads the lines of a job file, each of which is a job. Refused with `NotAJob` at the first that isn't,
+/// with `NoMemory` if memory is refused.
 pub fn read_jobs(alloc: Global, text: &[u8]) -> Result<JobFile, JobFileError>
     ensures jobs { IfOk result (λ file. SpellJobs 0 (lines_of text.now) file.jobs.items) }
     ensures sets { IfOk result (λ file. vec_len file.sets ≡ sets_after 0 file.jobs.items) }
@@ -56,8 +57,8 @@ pub fn read_jobs(alloc: Global, text: &[u8]) -> Result<JobFile, JobFileError>
     Ok(JobFile { jobs, sets })
 }
 
-// Puts the set of a bulk delete after the others, of which there are so many, and answers how many there are now. Other lines
-// have none.
+// Puts the set of a bulk delete after the others, `count` of them, and answers how many there are now. Other
+// lines have none.
 fn add_set(
     alloc: Global,
     sets: &mut Vec<DeadList>,

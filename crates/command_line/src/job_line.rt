@@ -23,8 +23,8 @@ pub enum JobLine<'a> {
     Checkpoint,
 }
 
-/// The job that a line of a job file spells, if it spells one. An empty line or a comment doesn't, nor does a line with a key of
-/// more than 64 bytes or with a row that there isn't.
+/// The job that a line of a job file spells, if it spells one. An empty line or a comment doesn't, nor does a
+/// line with a key of more than 64 bytes or with a row that there isn't.
 pub fn parse_job(text: &[u8]) -> Option<JobLine<'_>>
     ensures words { IfSome result (λ line. words_of text.now ≡ job_words line) }
     ensures valid { IfSome result HasJobValues }

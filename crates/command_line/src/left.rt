@@ -11,11 +11,12 @@ use crate::running::RanFile;
 use crate::said::Said;
 use std::io;
 
-/// What a command leaves, by which it was: all that its own clauses name. `D` is the device of an index in a file, `S` its store, and
-/// `N` the device of a new file.
+/// What a command leaves, by which it was: all that its own clauses name. `D` is the device of an index in a
+/// file, `S` its store, and `N` the device of a new file.
 #[derive(Drop)]
 pub enum Left<'a, D, N, S> {
-    /// No command was run: help was asked for, the words were no command line, or there was no memory to read them.
+    /// No command was run: help was asked for, the words were no command line, or there was no memory to read
+    /// them.
     Nothing(io::Result<End>),
     Played(RanScript),
     Ran(RanFile<'a, D, S, DeadList>),

@@ -1,6 +1,6 @@
-//! The program `btidx` as a library: its command line, the lines of a script, and what is printed. The program itself hands
-//! [`execute`] the streams of its process, and gets back its status and what the command left: [`Executed`] and [`Left`]. All
-//! else that is public here is for tests.
+//! The program `btidx` as a library: its command line, the lines of a script, and what is printed. The
+//! program itself hands [`execute`] the streams of its process, and gets back its status and what the command
+//! left: [`Executed`] and [`Left`]. All else that is public here is for tests.
 #![tactic(auto)]
 
 mod checking;

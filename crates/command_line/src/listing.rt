@@ -11,7 +11,8 @@ use page_action::PageStore;
 use std::io::{self, Write};
 use text_forms::print_page;
 
-/// Prints each page in use, lowest block first. Refused as `PageStore::fetch` is; the pages before that one are printed then.
+/// Prints each page in use, lowest block first. Refused as `PageStore::fetch` is; the pages before that one
+/// are printed then.
 pub fn list_pages<S: PageStore, W: Write>(store: &mut S, out: &mut W) -> io::Result<End>
     ensures steps { Continues S.follows store.old store.new }
     ensures state { S.state store.new ≡ S.state store.old }

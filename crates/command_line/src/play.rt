@@ -40,8 +40,8 @@ pub struct RanScript {
     pub end: io::Result<End>,
 }
 
-/// Reads a script to its end and runs it, printing an answer for each line. The first line that is no event ends it. Where there is
-/// no index, nothing is printed: it is refused as `Engine::new` is then.
+/// Reads a script to its end and runs it, printing an answer for each line. The first line that is no event
+/// ends it. If there is no index, nothing is printed: it is refused as `Engine::new` is then.
 pub fn play<R: Read, W: Write, E: Write>(
     alloc: Global,
     setting: &Setting,

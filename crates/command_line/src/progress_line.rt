@@ -30,8 +30,8 @@ impl<E: Write> Screen<'_, E> {
     }
 }
 
-/// A line on a stream that tells how far long work is, if that is asked for. It is written anew in place. It is left out where the
-/// stream fails, or while another thread writes it.
+/// A line on a stream that tells how far long work is, if that is asked for. It is written anew in place. It
+/// is left out if the stream fails, or while another thread writes it.
 #[derive(Drop)]
 pub struct ProgressLine<'a, E> {
     screen: Mutex<Screen<'a, E>>,

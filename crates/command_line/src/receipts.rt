@@ -11,7 +11,8 @@ use shared_world::Record;
 use std::io::{self, Write};
 use text_forms::{print_answer, print_entries};
 
-/// Prints the record of each job, by the jobs' numbers, how many calls each worker recorded, and how many records there are.
+/// Prints the record of each job, by the jobs' numbers, how many calls each worker recorded, and how many
+/// records there are.
 pub fn print_run<W: Write>(
     out: &mut W,
     history: &[Record],

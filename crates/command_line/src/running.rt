@@ -47,8 +47,9 @@ pub struct RunSetting<'a> {
     pub progress: bool,
 }
 
-/// What a run of the jobs of a file leaves: the world after it, if it was made, else the device, if the file of the index was taken;
-/// what the system said of the last call that failed, if one did; and how the command ends.
+/// What a run of the jobs of a file leaves: the world after it, if it was made. Else the device, if the file
+/// of the index was taken. What the system said of the last call that failed, if one did. And how the command
+/// ends.
 #[derive(Drop)]
 pub struct RanFile<'a, D, S, T> {
     pub world: Option<World<S, T>>,
@@ -57,12 +58,13 @@ pub struct RanFile<'a, D, S, T> {
     pub end: io::Result<End>,
 }
 
-/// Runs the jobs of a file: reads them, opens the index with a session for each worker, runs them, makes a checkpoint, and prints
-/// the record of each job, what each worker did, and the checkpoint's answer.
+/// Runs the jobs of a file: reads them, opens the index with a session for each worker, runs them, makes a
+/// checkpoint, and prints the record of each job, what each worker did, and the checkpoint's answer.
 ///
-/// A line that is no job is said on `err`, and nothing is run. Refused with `Io` (2) where a file isn't there or a call of it
-/// fails; as `World::open` is; with `BadLimits` (18) for more than 65,536 jobs, or for more than 1,048,576 entries that scans may
-/// give in all; with `NoMemory` (1). A refusal of the checkpoint comes after what is printed of the jobs.
+/// A line that is no job is said on `err`, and nothing is run. Refused with `Io` (2) if a file isn't there or
+/// a call of it fails, with `NoMemory` (1), and as `World::open` is. Refused with `BadLimits` (18) for more
+/// than 65,536 jobs, or for more than 1,048,576 entries that scans may give in all. A refusal of the
+/// checkpoint comes after what is printed of the jobs.
 pub fn run<
     'a,
     R: Files<File = File> + Threads + Wait + Sync,
@@ -229,8 +231,8 @@ fn run_file<
     }
 }
 
-// Opens the index in a file with a session for each worker, after any crash. Refused with `Io` (2) where the file isn't there or
-// can't be opened for writing, and else as `World::open` is, with the device.
+// Opens the index in a file with a session for each worker, after any crash. Refused with `Io` (2) if the
+// file isn't there or can't be opened for writing, and else as `World::open` is, with the device.
 fn open_world<'a, R: Files<File = File>, S: Start>(
     rt: &R,
     alloc: Global,
@@ -262,7 +264,8 @@ fn open_world<'a, R: Files<File = File>, S: Start>(
     }
 }
 
-// Why a world wasn't opened, what the system said, and the device as the opening left it, if the file was taken.
+// Why a world wasn't opened, what the system said, and the device as the opening left it, if the file was
+// taken.
 #[derive(Drop)]
 struct Unopened<'a, D> {
     fault: Fault,
@@ -277,9 +280,9 @@ pub struct Ran<S, T> {
     pub end: io::Result<End>,
 }
 
-/// Runs these jobs on the world, as `run_jobs` does, whose gate is told of each, makes a checkpoint, and prints the record of each
-/// job, what each worker did, and the checkpoint's answer. It ends with the refusal of the checkpoint, if that is refused: it comes
-/// after what is printed of the jobs. Waits for the workers.
+/// Runs these jobs on the world, as `run_jobs` does, whose gate is told of each, makes a checkpoint, and
+/// prints the record of each job, what each worker did, and the checkpoint's answer. It ends with the refusal
+/// of the checkpoint, if that is refused: it comes after what is printed of the jobs. Waits for the workers.
 ///
 /// Refused as `run_jobs` is, with the world as it was: nothing is run or printed then.
 pub fn run_world<

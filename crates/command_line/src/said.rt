@@ -2,14 +2,15 @@
 
 use std::io::{self, Error, ErrorKind, Write};
 
-/// What the system said of a path, where a call of it failed.
+/// What the system said of a path, if a call of it failed.
 #[derive(Clone, Copy)]
 pub struct Said<'a> {
     pub path: &'a str,
     pub error: Error,
 }
 
-/// What the system said of the path of an index, if it said something. That no file is there the refusal tells alone.
+/// What the system said of the path of an index, if it said something. That no file is there the refusal
+/// tells alone.
 pub fn said_of<'a>(path: &'a str, error: Option<Error>) -> Option<Said<'a>> {
     match error {
         Some(error) if error.kind() != ErrorKind::NotFound => Some(Said { path, error }),

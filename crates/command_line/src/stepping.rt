@@ -1,5 +1,5 @@
-//! Calls of a world's sessions, stepped until a step doesn't go on. Each line of a script that runs steps itself is a run of
-//! the world's events.
+//! Calls of a world's sessions, stepped until a step doesn't go on. Each line of a script that runs steps
+//! itself is a run of the world's events.
 
 ghost use Rattle.std.specs.Prelude.{◌≡◌, ◌≢◌, ◌≤◌, ◌∷◌, []};
 ghost use Rattle.page_action.specs.States.{Continues};
@@ -12,8 +12,8 @@ use schedule::Event;
 use session_calls::Answer;
 use world::World;
 
-/// Steps of a session's call until one doesn't answer `Going`, and that answer. Over a device that breaks its model a call
-/// that goes on and on is refused with `PageDamaged(0)` (17), after 2^64 - 1 steps.
+/// Steps of a session's call until one doesn't answer `Going`, and that answer. Over a device that breaks its
+/// model a call that goes on and on is refused with `PageDamaged(0)` (17), after 2^64 - 1 steps.
 pub fn run_call<S: PageStore, T: DeadRows + Drop>(world: &mut World<S, T>, session: u32) -> Answer
     requires pages { (S.state world.old.store).limits.pages ≤ 65536 }
     ensures steps { Continues S.follows world.old.store world.new.store }
@@ -22,7 +22,8 @@ pub fn run_call<S: PageStore, T: DeadRows + Drop>(world: &mut World<S, T>, sessi
         (IsStepped S.PageStore T.DeadRows [] [] session result world.old world.new) }
     ensures over { result ≢ Answer.Going }
 {
-    // Over a device that breaks its model nothing else bounds the steps; over one that keeps it this many are never made.
+    // Over a device that breaks its model nothing else bounds the steps; over one that keeps it this many are
+    // never made.
     let mut left = u64::MAX;
     while left > 0 {
         match world.one(Event::Step(session)) {
@@ -52,7 +53,7 @@ pub fn run_insert<S: PageStore, T: DeadRows + Drop>(
     }
 }
 
-/// The next entry that a session's scan has ready; where none is, one step of it.
+/// The next entry that a session's scan has ready; if none is, one step of it.
 pub fn next_or_step<S: PageStore, T: DeadRows + Drop>(
     world: &mut World<S, T>,
     session: u32,

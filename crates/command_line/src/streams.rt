@@ -37,7 +37,7 @@ use std::thread::Threads;
 /// What the program leaves.
 #[derive(Drop)]
 pub struct Executed<'a, D, N, S> {
-    /// 0 where all was done, 1 where a check found damage, 2 where the program was refused.
+    /// 0 if all was done, 1 if a check found damage, 2 if the program was refused.
     pub status: u8,
     /// What the command left.
     pub left: Left<'a, D, N, S>,
@@ -45,10 +45,12 @@ pub struct Executed<'a, D, N, S> {
     pub flushed: io::Result<()>,
 }
 
-/// Runs the command of these words, the program's own name first. `input` is read by `play`. What the command prints goes to `out`
-/// in many small pieces, so `out` is best a buffer; it is flushed at the end. A refusal is printed on `err`.
+/// Runs the command of these words, the program's own name first. `input` is read by `play`. What the command
+/// prints goes to `out` in many small pieces, so `out` is best a buffer; it is flushed at the end. A refusal
+/// is printed on `err`.
 ///
-/// The file of an index held what `B` says when it was opened: that is proved for all bytes, and `main` names some.
+/// The file of an index held what `B` says when it was opened: that is proved for all bytes, and `main` names
+/// some.
 pub fn execute<
     'a,
     F: Files<File = File> + Threads + Wait + Sync,
@@ -72,7 +74,7 @@ pub fn execute<
         (W.contents out.old) (W.contents out.new) result.left }
     // No command is run on words that break the command line.
     ensures fit { IsRun result.left → KeepsLine (map S.text words.entry.now) }
-    // Where the words keep it and no command is run, there was no memory.
+    // If the words keep it and no command is run, there was no memory.
     ensures no_memory { KeepsLine (map S.text words.entry.now)
         → IfNotRun result.left (end_of result.left ≡ Ok (End.Refused Fault.NoMemory)) }
     ensures silent { KeepsLine (map S.text words.entry.now)
@@ -138,7 +140,7 @@ fn refuse_for<E: Write>(err: &mut E, fault: Fault, said: &Option<Said<'_>>) -> u
     2
 }
 
-// ... where a stream failed.
+// ... if a stream failed.
 fn refuse_stream<E: Write>(err: &mut E, error: &io::Error) -> u8
     ensures { result ≡ 2 }
 {
@@ -283,7 +285,7 @@ fn run<
     }
 }
 
-/// A check, in one thread where that is asked for: what is printed is the same.
+/// A check, in one thread if that is asked for: what is printed is the same.
 fn run_check<'a, F: Files<File = File> + Threads + Sync, B: Start, P: Progress, W: Write>(
     rt: &F,
     alloc: Global,

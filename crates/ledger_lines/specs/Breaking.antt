@@ -1,4 +1,4 @@
--- What is told where a stream fails inside an answer.
+-- What is told if a stream fails inside an answer.
 use Rattle.std.specs.Prelude.{◌≡◌, ℕ, Option, List, ◌++◌, flat_map}
 use Rattle.std.specs.Io.KnownBytes.{Appends}
 use Rattle.access_method.specs.declared.index.Index.{Index}

@@ -31,7 +31,8 @@ use Rattle.ledger_lines.specs.declared.line.Line.TheVariants.{Insert, Delete, Li
 use Rattle.ledger_lines.specs.declared.reply.Reply.{Reply}
 use Rattle.ledger_lines.specs.declared.reply.Reply.TheVariants.{Added, Deleted, Listed, CleanedUp, Checkpointed, Committed, Refused}
 
--- an insert of this entry answered so: whatever the pages are, by the answers of its events; and what that says of the contents
+-- an insert of this entry answered so: whatever the pages are, by the answers of its events; and what that
+-- says of the contents
 pub record IsInsert {S : Type 0} (g : Ghosts S) (entry : Entry) (result : Result Inserted Fault) (old new : Index S) : Type 0 where
   pub made : IndexMakes g 63 (InsertComesTo result) old new
   pub inserts : ForEachIndexHistory g old new (λ start history calls. InsertsOrKeeps g entry result old.store new.store)
@@ -63,7 +64,8 @@ pub record DeletesSoMany {S : Type 0} (g : Ghosts S) (is_in : Dead → Row → B
   pub removed_is : removed ≡ stats.tuples_removed
   pub deletes : DeletesNamed g is_in words (Ok stats) old new
 
--- what a delete is replied with is what it answered; or there was no memory for its rows, and nothing was done
+-- what a delete is replied with is what it answered; or there was no memory for its rows, and nothing was
+-- done
 abbrev pub DeleteReplies : {S : Type 0} → Ghosts S → (Dead → Row → Bool) → List (List ℕ) → Index S → Index S → Reply → Type 0
 DeleteReplies g is_in words old new (Deleted removed) = DeletesSoMany g is_in words removed old new
 DeleteReplies g is_in words old new (Refused fault) = DeletesNamed g is_in words (Err fault) old new ⊎ ((fault ≡ NoMemory) × (new ≡ old))
@@ -131,7 +133,8 @@ pub record PrintsGiven {S : Type 0} (g : Ghosts S) (range : Range) (result : Res
   pub begun : OpensScan g range token old opened
   pub prints : PrintsScan g token result opened closed before after
 
--- what a list is replied with is how many entries were printed, or what refused it; or no scan could be opened, and nothing was printed
+-- what a list is replied with is how many entries were printed, or what refused it; or no scan could be
+-- opened, and nothing was printed
 abbrev pub ListReplies : {S : Type 0} → Ghosts S → Range → Index S → Option (List ℕ) → Option (List ℕ) → Reply → Type 0
 ListReplies g range old before after (Listed count) = PrintsGiven g range (Ok count) old before after
 ListReplies g range old before after (Refused fault) = PrintsGiven g range (Err fault) old before after ⊎ (NotOpenedFor g old fault × (after ≡ before))

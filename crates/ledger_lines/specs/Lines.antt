@@ -28,7 +28,8 @@ HasLedgerValues Commit = ⊤
 abbrev pub is_alone : List ℕ → Bool
 is_alone name = is_one_of name (codes "vacuum" ∷ codes "checkpoint" ∷ codes "commit" ∷ [])
 
--- what a line of this name with these words after it is refused with: it has its form, but a key or a row that there isn't
+-- what a line of this name with these words after it is refused with: it has its form, but a key or a row
+-- that there isn't
 abbrev pub LedgerValuesFail : Fault → List ℕ → List (List ℕ) → Type 0
 LedgerValuesFail fault name words = ((name ≡ codes "insert") × AreNoEntry fault words [])
     ⊎ (((name ≡ codes "list") × AreNoRange fault words []) ⊎ ((name ≡ codes "delete") × AreNoRows fault words))

@@ -27,7 +27,8 @@ use Rattle.tree_acts.specs.TheoremKeys.{IsTreeFor}
 abbrev pub new_limits : Limits
 new_limits = record { items = 50; pages = 4096; log_bytes = 1048576; unique = false }
 
--- an index as it is opened from a file that held these bytes: where they were an index whose pages are a B-link tree, with them
+-- an index as it is opened from a file that held these bytes: if they were an index whose pages are a B-link
+-- tree, with them
 abbrev pub BeginsFrom : {D : Type 0} (d : DeviceGhosts D) → Ghosts (Store D d) → (ℕ → List ℕ) → Index (Store D d) → Type 0
 BeginsFrom d g bytes index =
     IsTrue (d.is_honest (device_of d index.store)) → (format : Format) (pages : List Page)
@@ -44,7 +45,7 @@ pub record BeginsEmptyIndex {D : Type 0} (d : DeviceGhosts D) (g : Ghosts (Store
 abbrev pub BeginsNew : {D : Type 0} (d : DeviceGhosts D) → Ghosts (Store D d) → Index (Store D d) → Type 0
 BeginsNew d g index = IsTrue (d.is_honest (device_of d index.store)) → BeginsEmptyIndex d g (made new_limits) index
 
--- what was opened begins so where it was there, and so where it was made
+-- what was opened begins so if it was there, and so if it was made
 abbrev pub OpensAs : {I N : Type 0} → (I → Type 0) → (N → Type 0) → Opened I N → Type 0
 OpensAs Is New (Found index) = Is index
 OpensAs Is New (Made index) = New index
@@ -54,15 +55,15 @@ abbrev pub left_of : {D N : Type 0} → Option D → Left D N
 left_of None = Nothing
 left_of (Some device) = FoundThere device
 
--- Why no new index is served: it couldn't be made, for a call of the file; or it was, and there was no memory to open it or its device failed,
--- as far as that kept the disk model.
+-- Why no new index is served: it couldn't be made, for a call of the file; or it was, and there was no memory
+-- to open it or its device failed, as far as that kept the disk model.
 abbrev pub IsNewNotServed : {D N : Type 0} → DeviceGhosts N → Fault → Left D N → Type 0
 IsNewNotServed e fault Nothing = fault ≡ Io
 IsNewNotServed e fault (FoundThere device) = ⊥
 IsNewNotServed e fault (MadeNew device) = IsTrue (e.is_honest device) → IsNoMemoryOrIo fault
 
--- Why no index is served: the file couldn't be taken or made; or else why that in a file which held these bytes, or the new one, isn't opened.
--- A sound one is refused for want of memory or of the device alone.
+-- Why no index is served: the file couldn't be taken or made; or else why that in a file which held these
+-- bytes, or the new one, isn't opened. A sound one is refused for want of memory or of the device alone.
 abbrev pub IsNotServed : {D N : Type 0} → DeviceGhosts D → DeviceGhosts N → (ℕ → List ℕ) → Fault → Left D N → Type 0
 IsNotServed d e bytes fault Nothing = fault ≡ Io
 IsNotServed d e bytes fault (FoundThere device) = IsNotOpened d IsTreeFor bytes 64 fault device

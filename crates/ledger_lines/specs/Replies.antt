@@ -50,7 +50,7 @@ reply_text (Committed actions) = numbered (codes "committed ") actions
 reply_text (Refused fault) = refusal_text fault
 reply_text NotALine = codes "not a line"
 
--- where a reply says how many actions are durable, so many are
+-- if a reply says how many actions are durable, so many are
 abbrev pub ReplyIsDurable : {S : Type 0} → Ghosts S → Index S → Reply → Type 0
 ReplyIsDurable g index (Checkpointed actions) = (g.backing index.store).durable ≡ actions
 ReplyIsDurable g index (Committed actions) = (g.backing index.store).durable ≡ actions

@@ -33,7 +33,8 @@ pub record IsReplied {S : Type 0} (g : Ghosts S) (is_in : Dead → Row → Bool)
   pub spelled : words ≡ ledger_words line
   pub replies : Replies g is_in line old new before after reply
 
--- what words that spell no line are replied with: that there is no such key or row; or that they don't, where no key or row is at fault
+-- what words that spell no line are replied with: that there is no such key or row; or that they don't, if no
+-- key or row is at fault
 abbrev pub NotDoneReplies : List (List ℕ) → Reply → Type 0
 NotDoneReplies words (IsRefused fault) = LedgerLineFails fault words
 NotDoneReplies words NotALine = (fault : Fault) → LedgerLineFails fault words → ⊥
@@ -51,8 +52,8 @@ abbrev pub RepliesTo : {S : Type 0} → Ghosts S → (Dead → Row → Bool) →
 RepliesTo g is_in text old new before after reply =
     IsReplied g is_in (words_of text) old new before after reply ⊎ IsNotDone (words_of text) old new before after reply
 
--- The text of a line was replied to, and this was done with the reply's line, after what a list gave. Where the reply says how many
--- actions are durable, so many are, and they are on the disk.
+-- The text of a line was replied to, and this was done with the reply's line, after what a list gave. If the
+-- reply says how many actions are durable, so many are, and they are on the disk.
 pub record AnswersBy {D : Type 0} (d : DeviceGhosts D) (g : Ghosts (Store D d)) (is_in : Dead → Row → Bool) (Prints : Option (List ℕ) → Option (List ℕ) → List ℕ → Type 0)
     (text : List ℕ) (old new : Index (Store D d)) (before after : Option (List ℕ)) : Type 0 where
   pub reply : Reply
@@ -109,13 +110,15 @@ pub record AnswersThenBegins {D : Type 0} (d : DeviceGhosts D) (g : Ghosts (Stor
   pub answers : AnswersEach d g is_in texts old mid before between
   pub begins : BeginsAnswer d g is_in text mid new between after
 
--- The lines before a stream failed were each answered, and of the next one the answer was begun, or nothing was done.
+-- The lines before a stream failed were each answered, and of the next one the answer was begun, or nothing
+-- was done.
 abbrev pub AnswersFirst : {D : Type 0} (d : DeviceGhosts D) (g : Ghosts (Store D d)) → (Dead → Row → Bool) → Option (List ℕ) → Index (Store D d) → Index (Store D d)
     → Option (List ℕ) → Option (List ℕ) → Type 0
 AnswersFirst d g is_in input old new before after =
     AnswersSome d g is_in input old new before after ⊎ AnswersThenBegins d g is_in input old new before after
 
--- The device of an index that was closed: whatever a crash leaves of it has all of the actions, and none of them waits in the log.
+-- The device of an index that was closed: whatever a crash leaves of it has all of the actions, and none of
+-- them waits in the log.
 pub record IsClosed {D : Type 0} (d : DeviceGhosts D) (g : Ghosts (Store D d)) (last : Index (Store D d)) (device : D) : Type 0 where
   pub stands : StaysOnDevice d g (state_of d last.store).acts last device
   pub empties : IsLastOver d g last device (IsAtRest g (state_of d last.store).limits)
@@ -125,8 +128,8 @@ abbrev pub IsClosingRefused : {D : Type 0} (d : DeviceGhosts D) → Ghosts (Stor
 IsClosingRefused d g fault last device =
     IsLastOver d g last device (λ store. HasCause (causes_of_forced (g.backing last.store) (g.backing store)) fault)
 
--- Lines of the input were answered by this index, and it was closed. Where the streams went well, each line was answered, whatever the
--- closing answered; where one failed, those before it were.
+-- Lines of the input were answered by this index, and it was closed. If the streams went well, each line was
+-- answered, whatever the closing answered; if one failed, those before it were.
 pub record Serves {D : Type 0} (d : DeviceGhosts D) (g : Ghosts (Store D d)) (is_in : Dead → Row → Bool) (opened : Index (Store D d)) (input before after : Option (List ℕ)) (served : Served D) : Type 0 where
   pub last : Index (Store D d)
   pub answers : OnOk served.answered (AnswersAll d g is_in input opened last before after)
@@ -146,7 +149,7 @@ IsWhole (Refused refusal) = ⊥
 IsWhole (Found served) = IsServedWhole served
 IsWhole (Made served) = IsServedWhole served
 
--- this, where no index was opened
+-- this, if no index was opened
 abbrev pub IfNotServed : {D N : Type 0} → Kept D N → Type 0 → Type 0
 IfNotServed NoPath p = p
 IfNotServed (Refused refusal) p = p

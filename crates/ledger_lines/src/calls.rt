@@ -23,8 +23,8 @@ use std::alloc::Global;
 use std::io::{self, Write};
 use text_forms::Rows;
 
-/// Does what a line says. `Committed` and `Checkpointed` are replied only where so many actions are durable: whatever a crash
-/// leaves of the device, a file or memory, has them.
+/// Does what a line says. `Committed` and `Checkpointed` are replied only if that number of actions is
+/// durable: whatever a crash leaves of the device, a file or memory, has them.
 pub fn call<D: Device, W: Write>(
     alloc: Global,
     index: &mut Index<Store<D>>,
@@ -34,11 +34,12 @@ pub fn call<D: Device, W: Write>(
     ensures stands { IfOk result
         (IsOnDisk D.Device ⟦<Store<D> as PageStore>⟧ index.old index.new) }
     ensures durable { IfOk result (ReplyIsDurable ⟦<Store<D> as PageStore>⟧ index.new) }
-    // What it is replied with is what the index's calls answered, and what a list prints is what its scan gave.
+    // What it is replied with is what the index's calls answered, and what a list prints is what its scan
+    // gave.
     ensures replies { HasLedgerValues line.entry → IfOk result
         (Replies ⟦<Store<D> as PageStore>⟧ ⟦<Dead as DeadRows>⟧.is_in line.entry
         index.old index.new (W.contents out.old) (W.contents out.new)) }
-    // Where the writer fails, a list was broken off.
+    // If the writer fails, a list was broken off.
     ensures broken { HasLedgerValues line.entry → OnErr result
         (IsBrokenOff ⟦<Store<D> as PageStore>⟧ (ledger_words line.entry) index.old index.new
         (W.contents out.old) (W.contents out.new)) }
@@ -65,7 +66,8 @@ fn insert<D: Device>(index: &mut Index<Store<D>>, entry: Entry) -> Reply
     }
 }
 
-// Deletes all entries with one of these rows. Refused with `NoMemory` (1) where there is no memory for them: nothing is changed.
+// Deletes all entries with one of these rows. Refused with `NoMemory` (1) if there is no memory for them:
+// nothing is changed.
 fn delete<D: Device>(alloc: Global, index: &mut Index<Store<D>>, rows: Rows<'_>) -> Reply
     ensures stands { IsOnDisk D.Device ⟦<Store<D> as PageStore>⟧ index.old index.new result }
     ensures durable { ReplyIsDurable ⟦<Store<D> as PageStore>⟧ index.new result }
@@ -117,7 +119,8 @@ fn commit<D: Device>(index: &mut Index<Store<D>>) -> Reply
     }
 }
 
-// Prints the entries of a range in order, `entry KEY ROW` for each. Where it is refused after some of them, these are printed.
+// Prints the entries of a range in order, `entry KEY ROW` for each. If it is refused after some of them,
+// these are printed.
 fn list<D: Device, W: Write>(
     index: &mut Index<Store<D>>,
     range: Range,

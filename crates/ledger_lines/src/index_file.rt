@@ -34,8 +34,8 @@ pub enum Opened<I, N> {
     Made(N),
 }
 
-/// The device over the file, as a refused opening left it: none, where the file couldn't be taken or made; that of a file that was
-/// there; or that of a new one.
+/// The device over the file, as a refused opening left it: none, if the file couldn't be taken or made; that
+/// of a file that was there; or that of a new one.
 #[derive(Drop)]
 pub enum Left<D, N> {
     Nothing,
@@ -73,14 +73,15 @@ fn found_left<D, N>(device: Option<D>) -> Left<D, N>
     }
 }
 
-/// Opens the index in a file, after any crash; where there is no file, makes an empty one. Refused with `Io` (2) where the file
-/// can't be made or opened, or another has it open, and else as `Index::open` is.
+/// Opens the index in a file, after any crash; if there is no file, makes an empty one. Refused with `Io` (2)
+/// if the file can't be made or opened, or another has it open, and else as `Index::open` is.
 pub fn open<F: Files<File = File>, S: Start>(
     rt: &F,
     alloc: Global,
     path: &str,
 ) -> Result<Opened<InFile<S>, InFile<Zeros>>, Refusal<FileDevice<S>, FileDevice<Zeros>>>
-    // Where the file held an index whose pages are a B-link tree, it is opened with them; a new one begins without entries.
+    // If the file held an index whose pages are a B-link tree, it is opened with them; a new one begins
+    // without entries.
     ensures begins { IfOk result (OpensAs
         (BeginsFrom ⟦<FileDevice<S> as Device>⟧ ⟦<Store<FileDevice<S>> as PageStore>⟧ S.Start.bytes)
         (BeginsNew ⟦<FileDevice<Zeros> as Device>⟧ ⟦<Store<FileDevice<Zeros>> as PageStore>⟧)) }

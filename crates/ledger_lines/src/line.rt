@@ -22,8 +22,8 @@ pub enum Line<'a> {
     Commit,
 }
 
-/// The line that a text spells. None where it has no form of a line; refused with `KeyTooLong` (6) or `BadRow` (7) where it has,
-/// but there is no such key, or else no such row.
+/// The line that a text spells. None if it has no form of a line; refused with `KeyTooLong` (6) or `BadRow`
+/// (7) if it has, but there is no such key, or else no such row.
 pub fn parse(text: &[u8]) -> Option<Result<Line<'_>, Fault>>
     ensures ok { IfSome result (λ read. IfOk read (λ line. words_of text.now ≡ ledger_words line)) }
     ensures valid { IfSome result (λ read. IfOk read HasLedgerValues) }

@@ -26,12 +26,12 @@ standard input at once: insert KEY ROW, delete ROW .., list FROM BELOW, vacuum, 
 Behind the last it makes all durable and closes the file. docs/SCRIPTS.md tells the forms.
 ";
 
-/// An index that was opened and closed: its device, how the lines of the input ended, and what the closing answered, which is how
-/// many actions there were. The file is closed where the device is let go.
+/// An index that was opened and closed: its device, how the lines of the input ended, and what the closing
+/// answered, which is how many actions there were. The file is closed when the device is let go.
 #[derive(Drop)]
 pub struct Served<D> {
     pub device: D,
-    /// Ok where each line was answered; else what a stream failed with.
+    /// Ok if each line was answered; else what a stream failed with.
     pub answered: io::Result<()>,
     pub closed: Result<u64, Fault>,
 }
@@ -50,14 +50,14 @@ pub enum Kept<D, N> {
 /// How the program ends.
 #[derive(Drop)]
 pub struct Ended<D, N> {
-    /// 0 where each line was answered and the index was closed, else 2.
+    /// 0 if each line was answered and the index was closed, else 2.
     pub status: u8,
     pub kept: Kept<D, N>,
 }
 
-/// Runs the program of these words, its own name first. Its status is 0 after the last line, 2 where the words, the file or a
-/// stream wasn't as it must be, which is said on `err`. `out` is flushed after each answer. Where the system refused something, what
-/// it said is said on `err` too, at once.
+/// Runs the program of these words, its own name first. Its status is 0 after the last line, 2 if the words,
+/// the file or a stream wasn't as it must be, which is said on `err`. `out` is flushed after each answer. If
+/// the system refused something, what it said is said on `err` too, at once.
 ///
 /// The file held what `S` says when it was opened: that is proved for all bytes, and `main` names some.
 pub fn ledger<F: Files<File = File>, S: Start, T: AsStr, R: BufRead, W: Write, E: Write>(
@@ -77,7 +77,7 @@ pub fn ledger<F: Files<File = File>, S: Start, T: AsStr, R: BufRead, W: Write, E
         ⟦<FileDevice<Zeros> as Device>⟧ ⟦<Store<FileDevice<Zeros>> as PageStore>⟧
         ⟦<Dead as DeadRows>⟧.is_in S.Start.bytes
         (R.remaining input.old) (W.contents out.old) (W.contents out.new) result.kept }
-    // Where no index was opened, nothing is read or printed.
+    // If no index was opened, nothing is read or printed.
     ensures unread { IfNotServed result.kept (R.remaining input.new ≡ R.remaining input.old) }
     ensures silent { IfNotServed result.kept (W.contents out.new ≡ W.contents out.old) }
 {
@@ -165,7 +165,8 @@ fn status<D: Device, N: Device, E: Write>(path: &str, kept: &Kept<D, N>, err: &m
     }
 }
 
-// The status of an index that was served so: what refused its last checkpoint is said, else what a stream failed with.
+// The status of an index that was served so: what refused its last checkpoint is said, else what a stream
+// failed with.
 fn status_of<D: Device, E: Write>(path: &str, served: &Served<D>, err: &mut E) -> u8
     ensures whole { result ≡ 0 → IsServedWhole served.now }
     ensures low { result ≤ 2 }
@@ -217,7 +218,7 @@ pub fn refuse_words<E: Write>(err: &mut E, error: &io::Error) -> u8
     status
 }
 
-// Says on `err` what refused the program, and, where that is a call of the system, what the system said of this.
+// Says on `err` what refused the program, and, if that is a call of the system, what the system said of this.
 fn refuse_for<E: Write>(err: &mut E, fault: Fault, what: &str, error: &Option<io::Error>) -> u8
     ensures { result ≡ 2 }
 {

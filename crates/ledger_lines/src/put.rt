@@ -1,4 +1,5 @@
-//! Lines that are put together before they are written, so that it is known what a writer has of one that it doesn't take whole.
+//! Lines that are put together before they are written, so that it is known what a writer has of one that it
+//! doesn't take whole.
 
 ghost use Rattle.std.specs.Prelude.{◌≤◌, ◌∷◌, ◌++◌, [], Some, length, take, IfOk, OnOk, OnErr};
 ghost use Rattle.std.specs.Io.KnownBytes.{Appends, Keeps};
@@ -12,7 +13,7 @@ use index_model::Entry;
 use std::io::{self, Write};
 use text_forms::print_entry;
 
-/// Writes the line of a reply. Where the writer fails, it has the first bytes of the line, or none.
+/// Writes the line of a reply. If the writer fails, it has the first bytes of the line, or none.
 pub fn put_reply<W: Write>(out: &mut W, reply: &Reply) -> io::Result<()>
     ensures all { PrintsLine (W.contents out.old) (W.contents out.new) result (reply_text reply.now) }
     ensures first { OnErr result (AppendsFirst (W.contents out.old) (W.contents out.new)
@@ -24,7 +25,8 @@ pub fn put_reply<W: Write>(out: &mut W, reply: &Reply) -> io::Result<()>
     put(out, line.as_slice())
 }
 
-/// Writes the line of an entry, `entry KEY ROW`. Where the writer fails, it has the first bytes of the line, or none.
+/// Writes the line of an entry, `entry KEY ROW`. If the writer fails, it has the first bytes of the line, or
+/// none.
 pub fn put_entry<W: Write>(out: &mut W, entry: &Entry) -> io::Result<()>
     ensures all { PrintsLine (W.contents out.old) (W.contents out.new) result
         (given_text (Some entry.now)) }
@@ -43,7 +45,7 @@ fn put<W: Write>(out: &mut W, bytes: &[u8]) -> io::Result<()>
     ensures first { AppendsFirst (W.contents out.old) (W.contents out.new) bytes.now }
 {
     let mut rest = bytes;
-    // No writer takes nothing so many times.
+    // No writer takes nothing 2^64 times.
     for _ in 0..u64::MAX {
         if rest.is_empty() {
             return Ok(());
@@ -54,7 +56,7 @@ fn put<W: Write>(out: &mut W, bytes: &[u8]) -> io::Result<()>
     Err(io::Error::from(io::ErrorKind::Other))
 }
 
-// Writes bytes once, and answers how many the writer has taken: none where it was interrupted.
+// Writes bytes once, and answers how many the writer has taken: none if it was interrupted.
 #[tactic(auto, using(crate::proofs::Putting::appends_none, crate::proofs::Putting::keeps_none))]
 fn write_some<W: Write>(out: &mut W, bytes: &[u8]) -> io::Result<usize>
     ensures bound { IfOk result (λ n. n ≤ length bytes.now) }

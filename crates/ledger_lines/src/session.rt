@@ -22,9 +22,9 @@ use std::alloc::Global;
 use std::io::{self, BufRead, Write};
 use text_forms::first_line;
 
-/// Reads lines to the end of the input, and answers each at once: its answer is handed on before the next line is read. A last
-/// line without a newline is a line like others. No input has 2^64 lines: it would fail. Where a call of the file failed, what the
-/// system said of this path is said on `err`.
+/// Reads lines to the end of the input, and answers each at once: its answer is handed on before the next
+/// line is read. A last line without a newline is a line like others. No input has 2^64 lines: it would fail.
+/// If a call of the file failed, what the system said of this path is said on `err`.
 pub fn answer_lines<D: Device, R: BufRead, W: Write, E: Write>(
     alloc: Global,
     index: &mut Index<Store<D>>,
@@ -35,7 +35,7 @@ pub fn answer_lines<D: Device, R: BufRead, W: Write, E: Write>(
 ) -> io::Result<()>
     ensures all { OnOk result (AnswersAll D.Device ⟦<Store<D> as PageStore>⟧ ⟦<Dead as DeadRows>⟧.is_in
         (R.remaining input.old) index.old index.new (W.contents out.old) (W.contents out.new)) }
-    // Where a stream fails, the lines before were each answered.
+    // If a stream fails, the lines before were each answered.
     ensures first { OnErr result (AnswersFirst D.Device ⟦<Store<D> as PageStore>⟧
         ⟦<Dead as DeadRows>⟧.is_in (R.remaining input.old) index.old index.new
         (W.contents out.old) (W.contents out.new)) }
@@ -53,7 +53,7 @@ pub fn answer_lines<D: Device, R: BufRead, W: Write, E: Write>(
     Err(io::Error::from(io::ErrorKind::Other))
 }
 
-/// Does what a line says, and prints its answer. Where the writer fails, it has the first bytes of the answer.
+/// Does what a line says, and prints its answer. If the writer fails, it has the first bytes of the answer.
 fn answer<D: Device, W: Write, E: Write>(
     alloc: Global,
     index: &mut Index<Store<D>>,

@@ -13,7 +13,7 @@ if_some (Some x) P f = f x refl
 same_there : {A : Type 0} (o : Option A) (x y : A) → o ≡ Some x → o ≡ Some y → x ≡ y
 same_there o x y e f = cc
 
--- what is kept, where less was kept then
+-- what is kept, if less was kept then
 keeps_as : {S : Type 0} (g : Ghosts S) (jobs : List Job) (contents : Entry → Bool) (old : List Action) (calls : List Call) (A B : Type 0)
     (now : StoreAndSlots S) (start : ℕ) (pending : List (Option Pending)) (records : List Record)
     → (A → B) → KeepsFitting g jobs contents old calls B now start pending records → KeepsFitting g jobs contents old calls A now start pending records

@@ -21,7 +21,8 @@ use Rattle.shared_world.specs.Handed.{ComesOf, handed_of}
 use Rattle.shared_world.specs.Jobs.{room_of}
 use Rattle.shared_world.specs.Kept.{KeepsAll}
 
--- 1 to 64 workers, no more than there are sessions; and 65,536 jobs at most, whose scans may give 1,048,576 entries at most in all
+-- 1 to 64 workers, no more than there are sessions; and 65,536 jobs at most, whose scans may give 1,048,576
+-- entries at most in all
 pub record IsWithinLimits (sessions : ℕ) (jobs : List Job) (workers : ℕ) : Type 0 where
   pub some_worker : 0 < workers
   pub few_workers : workers ≤ 64
@@ -29,7 +30,8 @@ pub record IsWithinLimits (sessions : ℕ) (jobs : List Job) (workers : ℕ) : T
   pub few_jobs : length jobs ≤ 65536
   pub little_room : sum_by room_of jobs ≤ 1048576
 
--- why a run is refused: a limit is passed; else a session has a call; else there is no memory for it, or no thread
+-- why a run is refused: a limit is passed; else a session has a call; else there is no memory for it, or no
+-- thread
 abbrev pub RunIsRefusedFor : Fault → List (Option Op) → List Job → ℕ → Type 0
 RunIsRefusedFor BadLimits slots jobs workers = IsWithinLimits (length slots) jobs workers → ⊥
 RunIsRefusedFor SessionBusy slots jobs workers = IsWithinLimits (length slots) jobs workers × ((session : ℕ) × (has_call slots session ≡ true))

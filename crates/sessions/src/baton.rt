@@ -13,7 +13,8 @@ struct Group {
     given: bool,
 }
 
-// Who has the baton, and who waits for it. Those of one group get it first, and who comes meanwhile joins the other.
+// Who has the baton, and who waits for it. Those of one group get it first, and who comes meanwhile joins the
+// other.
 #[derive(Drop)]
 struct Line {
     held: bool,
@@ -39,10 +40,11 @@ fn give(group: &mut Group) -> bool {
     true
 }
 
-/// The baton of a run's workers. Each event is done under the one lock, so one worker at a time can go on anyway; where eight
-/// strive for the lock at each event, most of their time goes to handing it on. So a worker makes its events while it has the
-/// baton, and hands it on when it has made some in a row, is blocked, or is to wait for others. Who has waited longest gets it,
-/// except for those that came in the same while. A commit needs none.
+/// The baton of a run's workers. Each event is done under the one lock, so one worker at a time can go on
+/// anyway; if eight strive for the lock at each event, most of their time goes to handing it on. So a worker
+/// makes its events while it has the baton, and hands it on when it has made some in a row, is blocked, or is
+/// to wait for others. Who has waited longest gets it, except for those that came in the same while. A commit
+/// needs none.
 #[derive(Drop)]
 pub struct Baton {
     line: Mutex<Line>,
@@ -83,7 +85,7 @@ impl Baton {
         }
     }
 
-    // Hands it on, where somebody waits.
+    // Hands it on, if somebody waits.
     fn hand_on<R: Wait>(&self, rt: &R) {
         let mut line = self.line.lock(rt);
         let next = if line.odd_is_next {
@@ -150,7 +152,7 @@ impl Stint {
         }
     }
 
-    /// After an event: the baton is handed on where the worker has made its share, and waits for it again.
+    /// After an event: the baton is handed on if the worker has made its share, and waits for it again.
     pub fn go_on<R: Wait>(&mut self, rt: &R, baton: &Baton) {
         self.left = self.left.saturating_sub(1);
         if self.left > 0 || !self.held {

@@ -24,7 +24,8 @@ use std::thread::{PromisedHandle, Threads};
 use worker_seats::{JobQueue, Worker};
 use world::World;
 
-/// Runs all jobs, by threads in a scope. Where a thread can't be started, the world is given back and nothing was run.
+/// Runs all jobs, by threads in a scope. If a thread can't be started, the world is given back and nothing
+/// was run.
 pub fn run_all<
     'x,
     S: PageStore + Drop + Send + 'x,

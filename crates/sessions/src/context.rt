@@ -15,9 +15,9 @@ use shared_world::JobsOn;
 use std::sync::{Mutex, Wait};
 use worker_seats::{JobQueue, Parts, QueuePass};
 
-/// What the workers of a run share: the queue of its jobs, what lies under the lock, what lies beside it, and who is told of each
-/// job. The types tell of the same jobs and queue. Only who knows that all workers have started gets the queue, since the field is
-/// private.
+/// What the workers of a run share: the queue of its jobs, what lies under the lock, what lies beside it, and
+/// who is told of each job. The types tell of the same jobs and queue. Only who knows that all workers have
+/// started gets the queue, since the field is private.
 #[derive(Drop)]
 pub struct RunContext<
     'a,

@@ -26,7 +26,7 @@ impl<J: Jobs, K: JobList, H: Telling> Promise<Worker<J, JobTicket<K>, H>> for Nu
     ghost kept_by = { λ p r. r.seat.worker ≡ p.0 };
 }
 
-/// A worker's thread: it waits until all have started, and works where the lock was opened.
+/// A worker's thread: it waits until all have started, and works if the lock was opened.
 pub fn crew<S: PageStore, T: DeadRows + Drop, J: JobsOn<S>, K: JobList, G: Gate, R: Wait>(
     run: &RunContext<S, T, J, K, G, R>,
     seat: Seat<J>,

@@ -17,7 +17,8 @@ pub trait Gate {
     fn taken(&self, hand: &mut Self::Hand, worker: u32, job: u32)
         ensures { Self.Hand.told hand.new ≡ Self.Hand.told hand.old ++ job ∷ [] };
 
-    /// Whether `taken` may wait for other workers. Those that are about to commit don't wait for the worker then.
+    /// Whether `taken` may wait for other workers. Those that are about to commit don't wait for the worker
+    /// then.
     fn may_wait(&self) -> bool {
         true
     }

@@ -55,7 +55,7 @@ fn take_out<S: PageStore + Drop, T: DeadRows + Drop, J: JobsOn<S>, K: JobList, G
     shared
 }
 
-// Starts a thread for each worker but the last. False where one can't be started.
+// Starts a thread for each worker but the last. False if one can't be started.
 fn start_all<
     's,
     E,
@@ -185,8 +185,9 @@ fn work_out<S: PageStore, T: DeadRows + Drop, J: JobsOn<S>, K: JobList, G: Gate,
     (seats, pass, hands)
 }
 
-/// Starts a thread for each worker but the last, opens the lock when all have started, and works itself as the last worker, joins
-/// the others, and works on until no job is left. Where a thread can't be started, the world is given back and nothing was run.
+/// Starts a thread for each worker but the last, opens the lock when all have started, and works itself as
+/// the last worker, joins the others, and works on until no job is left. If a thread can't be started, the
+/// world is given back and nothing was run.
 pub fn hire<
     's,
     E,

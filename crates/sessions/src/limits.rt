@@ -50,8 +50,8 @@ fn is_any_running<S: PageStore, T: DeadRows + Drop>(world: &World<S, T>) -> bool
     false
 }
 
-/// Why a run is refused before anything is made for it, if it is: `BadLimits` where a limit is passed, else `SessionBusy` where a
-/// session has a call.
+/// Why a run is refused before anything is made for it, if it is: `BadLimits` if a limit is passed, else
+/// `SessionBusy` if a session has a call.
 pub fn refusal<S: PageStore, T: DeadRows + Drop>(
     world: &World<S, T>,
     jobs: &[Job],

@@ -29,7 +29,7 @@ pub fn is_open<S: PageStore, T: DeadRows + Drop, J: JobsOn<S>>(slot: &Slot<S, T,
     }
 }
 
-/// That all workers have started. None where the lock wasn't opened.
+/// That all workers have started. None if the lock wasn't opened.
 pub fn started_in<S: PageStore, T: DeadRows + Drop, J: JobsOn<S>>(
     slot: &Slot<S, T, J>,
 ) -> Option<Started<J>> {

@@ -9,7 +9,7 @@ use crate::outcome::Receipt;
 use shared_world::Record;
 use std::alloc::Global;
 
-/// Room for the receipts of so many jobs, and a count of 0 for each worker. None where there is no memory for it.
+/// Room for a receipt of each job, and a count of 0 for each worker. None if there is no memory for it.
 pub fn make_tables(alloc: Global, jobs: usize, workers: u32) -> Option<(Vec<Receipt>, Vec<u64>)>
     ensures receipts { IfSome result (λ r. vec_len r.0 ≡ jobs) }
     ensures calls { IfSome result (λ r. r.1.items ≡ replicate workers 0) }

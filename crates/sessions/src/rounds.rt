@@ -3,7 +3,8 @@
 use shared_world::Job;
 use std::sync::{Condvar, Mutex, Wait};
 
-/// So many inserts of other workers begin while one waits to commit, and so many more while the commits of a round are done.
+/// How many inserts of other workers begin while one waits to commit, and as many again while the commits of
+/// a round are done.
 const MOST: u32 = 64;
 
 // How many workers are at work, and how far the rounds are.
@@ -13,7 +14,8 @@ struct Counts {
     working: u32,
     // Workers that are about to commit.
     ready: u32,
-    // Inserts that have begun since the last round did, or since one of those workers is there if its commits are done.
+    // Inserts that have begun since the last round did, or since one of those workers is there if its commits
+    // are done.
     passed: u32,
     // Rounds that have begun.
     begun: u64,
@@ -23,8 +25,8 @@ struct Counts {
     done: u64,
 }
 
-// Begins a round where somebody is about to commit, the commits of the last one are done, and nobody is at work or many inserts
-// have begun meanwhile. All of its workers are at work again.
+// Begins a round if somebody is about to commit, the commits of the last one are done, and nobody is at work
+// or many inserts have begun meanwhile. All of its workers are at work again.
 fn begin_round(counts: &mut Counts) -> bool {
     if counts.ready == 0 || counts.left > 0 {
         return false;
@@ -56,13 +58,15 @@ fn add_passed(counts: &mut Counts) {
     }
 }
 
-/// The rounds of the workers' commits. A commit waits until no worker is at work: until each one inserts no more, and is about to
-/// commit too, does a longer job, or has left. It waits no longer than until others have begun so many inserts. Then all commits of
-/// the round go on, of which the first one forces what the others logged; and none of their workers goes on before all of them are
-/// done, so that none has to force what is logged after it. Nor does an insert begin before that after so many more.
+/// The rounds of the workers' commits. A commit waits until no worker is at work: until each one inserts no
+/// more, and is about to commit too, does a longer job, or has left. It waits no longer than until others
+/// have begun 64 inserts. Then all commits of the round go on, and the first one forces what the others
+/// logged. None of their workers goes on before all of them are done, so that none has to force what is
+/// logged after it. Nor does an insert begin before that once 64 more have begun.
 ///
-/// A worker that waits here has no call, no latch and no pin, and one that is at work waits for no commit but those of a round that
-/// has begun. A commit doesn't wait for a scan, a bulk delete, a cleanup or a checkpoint.
+/// A worker that waits here has no call, no latch and no pin, and one that is at work waits for no commit but
+/// those of a round that has begun. A commit doesn't wait for a scan, a bulk delete, a cleanup or a
+/// checkpoint.
 #[derive(Drop)]
 pub struct Rounds {
     counts: Mutex<Counts>,
@@ -85,7 +89,7 @@ impl Rounds {
         }
     }
 
-    // Wakes those that wait, where a round has begun.
+    // Wakes those that wait, if a round has begun.
     fn wake(&self, begins: bool) {
         if begins {
             self.bell.notify_all();
@@ -118,7 +122,7 @@ impl Rounds {
         before
     }
 
-    /// Waits until the round after so many has begun.
+    /// Waits until a round has begun after this number of them.
     pub fn begin_commit<R: Wait>(&self, rt: &R, before: u64) {
         let counts = self
             .bell
@@ -144,7 +148,8 @@ impl Rounds {
         drop(counts);
     }
 
-    /// An insert is about to begin. Waits until the commits of the round are done, where many have begun since that did.
+    /// An insert is about to begin. Waits until the commits of the round are done, if many have begun since
+    /// that did.
     pub fn begin_insert<R: Wait>(&self, rt: &R) {
         let counts = self.counts.lock(rt);
         let round = counts.done;

@@ -82,7 +82,7 @@ fn finish<S, T>(
     }
 }
 
-// The queue of the jobs' tickets, with the pass that has every part. None where there is no memory for it.
+// The queue of the jobs' tickets, with the pass that has every part. None if there is no memory for it.
 fn queue_of<K: JobList, R: Wait>(
     rt: &R,
     alloc: Global,
@@ -206,8 +206,9 @@ fn run_listed<
     )
 }
 
-/// Runs these jobs as `run_jobs` does, and also gives back with what each worker told the gate: of the jobs of its records, of each
-/// once, in order, after it took the job and before the job began (`told`).
+/// Runs these jobs as `run_jobs` does, and also gives back with what each worker told the gate. That was told
+/// of the jobs of its records, of each once, in order, after it took the job and before the job began
+/// (`told`).
 pub fn run_told<
     S: PageStore + Drop + Send,
     T: DeadRows + Drop + Send,
@@ -238,17 +239,20 @@ pub fn run_told<
     run_listed::<S, T, Brand, G, R>(rt, alloc, world, jobs, workers, gate)
 }
 
-/// Runs these jobs on the world, each by one of so many workers, and gives it back with their records. The calling thread is one of
-/// the workers; worker w uses session w. All room is made, and all threads are started, before the first job is taken; each event
-/// is done under one lock. Waits for the workers.
+/// Runs these jobs on the world, each by one of the workers, and gives it back with their records. The
+/// calling thread is one of the workers; worker w uses session w. All room is made, and all threads are
+/// started, before the first job is taken; each event is done under one lock. Waits for the workers.
 ///
-/// Refused, with the world as it was and nothing run: with `BadLimits` for no worker, for more than 64 or than there are sessions,
-/// for more than 65,536 jobs, and for scans that may give more than 1,048,576 entries in all; with `SessionBusy` where a session
-/// has a call; and with `NoMemory` where there is no memory, or no thread, for it. The first that applies is answered.
+/// A refusal leaves the world as it was, with nothing run. The first of these that applies is answered:
 ///
-/// Where the device kept its model up to now, it kept it before, and whatever contents, actions and calls fitted the world before,
-/// there are more actions and more calls that fit it now, of which each record lists one, whole, or is a commit or a checkpoint
-/// (`kept`).
+/// - `BadLimits`: no worker, more than 64 or than there are sessions; more than 65,536 jobs; scans that may
+///   give more than 1,048,576 entries in all;
+/// - `SessionBusy`: a session has a call;
+/// - `NoMemory`: there is no memory, or no thread, for it.
+///
+/// If the device has kept its model up to now, it had kept it before. Whatever contents, actions and calls
+/// fitted the world before, there are more actions and more calls that fit it now. Each record lists one of
+/// these calls, whole, or is a commit or a checkpoint (`kept`).
 pub fn run_jobs<
     S: PageStore + Drop + Send,
     T: DeadRows + Drop + Send,

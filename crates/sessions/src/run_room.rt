@@ -11,8 +11,8 @@ use std::alloc::Global;
 use std::sync::ledger::{Book, Share};
 use worker_seats::{Desk, QueuePass, Seat, Telling, Worker};
 
-/// What a run is given before it begins: the desk of the seats, the pass of the whole queue, the ledger, and room for the records,
-/// the jobs whose calls run, the workers and their hands.
+/// What a run is given before it begins: the desk of the seats, the pass of the whole queue, the ledger, and
+/// room for the records, the jobs whose calls run, the workers and their hands.
 #[derive(Drop)]
 pub struct Room<J: Jobs, K: JobList, H: Telling> {
     pub desk: Desk<J>,
@@ -43,7 +43,7 @@ pub struct Room<J: Jobs, K: JobList, H: Telling> {
     pub ghost for_seats: { J.workers ≤ vec_capacity seats },
 }
 
-/// The room of a run of so many jobs by so many workers. None where there is no memory for it.
+/// The room of a run of these numbers of jobs and workers. None if there is no memory for it.
 pub fn make_room<J: Jobs, K: JobList, H: Telling + Drop>(
     alloc: Global,
     desk: Desk<J>,

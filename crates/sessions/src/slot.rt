@@ -5,8 +5,8 @@ use index_model::DeadRows;
 use page_action::PageStore;
 use shared_world::{JobsOn, Shared};
 
-/// What the lock holds: nothing until all workers have started, and nothing where one can't be. It is opened with what tells that
-/// they have.
+/// What the lock holds: nothing until all workers have started, and nothing if one can't be. It is opened
+/// with what tells that they have.
 #[derive(Drop)]
 pub enum Slot<S: PageStore, T: DeadRows + Drop, J: JobsOn<S>> {
     Waiting,

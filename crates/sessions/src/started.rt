@@ -9,7 +9,8 @@ use std::marker::PhantomData;
 use std::thread::PromisedHandle;
 use worker_seats::{Telling, Worker};
 
-/// That each worker of the run has its thread. Only `all_started` makes the first one, since the field is private.
+/// That each worker of the run has its thread. Only `all_started` makes the first one, since the field is
+/// private.
 #[derive(Drop)]
 pub struct Started<J: Jobs> {
     of: PhantomData<J>,

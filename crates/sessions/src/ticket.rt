@@ -65,7 +65,7 @@ fn one_ticket<K: JobList>(job: u32, asked: &Job, room: Vec<Entry>) -> JobTicket<
     }
 }
 
-/// A ticket for each of the jobs, in order. None where there is no memory for the rooms.
+/// A ticket for each of the jobs, in order. None if there is no memory for the rooms.
 pub fn all_tickets<K: JobList>(alloc: Global, jobs: &[Job]) -> Option<Vec<JobTicket<K>>>
     requires jobs { K.list ≡ jobs.now }
     requires few { length jobs.now < 2 ^ 32 }

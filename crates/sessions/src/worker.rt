@@ -90,7 +90,7 @@ fn next_in<S: PageStore, T: DeadRows + Drop, J: JobsOn<S>, K: JobList, G: Gate, 
     seat
 }
 
-// Gives the session's scan up where its room is full, in a hold of the lock.
+// Gives the session's scan up if its room is full, in a hold of the lock.
 fn end_in<S: PageStore, T: DeadRows + Drop, J: JobsOn<S>, K: JobList, G: Gate, R: Wait>(
     run: &RunContext<S, T, J, K, G, R>,
     seat: Seat<J>,
@@ -112,7 +112,7 @@ fn end_in<S: PageStore, T: DeadRows + Drop, J: JobsOn<S>, K: JobList, G: Gate, R
     shared.end(seat, job, *asked)
 }
 
-// Takes so many entries that are ready.
+// Takes this number of entries, which are ready.
 fn take_ready<S: PageStore, T: DeadRows + Drop, J: JobsOn<S>, K: JobList, G: Gate, R: Wait>(
     run: &RunContext<S, T, J, K, G, R>,
     stint: &mut Stint,
@@ -132,8 +132,8 @@ fn take_ready<S: PageStore, T: DeadRows + Drop, J: JobsOn<S>, K: JobList, G: Gat
     mine
 }
 
-// A step, and what is to be done after it: of a scan that has entries ready these are taken; where its room was full before, it is
-// given up.
+// A step, and what is to be done after it: of a scan that has entries ready these are taken; if its room was
+// full before, it is given up.
 fn turn<S: PageStore, T: DeadRows + Drop, J: JobsOn<S>, K: JobList, G: Gate, R: Wait>(
     run: &RunContext<S, T, J, K, G, R>,
     stint: &mut Stint,
@@ -215,7 +215,7 @@ fn one_job<S: PageStore, T: DeadRows + Drop, J: JobsOn<S>, K: JobList, G: Gate, 
     unreachable!()
 }
 
-// Tells the gate of a job. Where that may wait for others, nobody waits for this worker meanwhile.
+// Tells the gate of a job. If that may wait for others, nobody waits for this worker meanwhile.
 fn tell<S: PageStore, T: DeadRows + Drop, J: JobsOn<S>, K: JobList, G: Gate, R: Wait>(
     run: &RunContext<S, T, J, K, G, R>,
     stint: &mut Stint,
@@ -255,8 +255,8 @@ fn wait_for<S: PageStore, T: DeadRows + Drop, J: JobsOn<S>, K: JobList, G: Gate,
     stint.begin(run.rt, &run.door.baton);
 }
 
-/// Does jobs until the queue was empty, once all workers have started. The gate is told of each, once, after it is taken and before
-/// it begins.
+/// Does jobs until the queue was empty, once all workers have started. The gate is told of each, once, after
+/// it is taken and before it begins.
 pub fn work<S: PageStore, T: DeadRows + Drop, J: JobsOn<S>, K: JobList, G: Gate, R: Wait>(
     run: &RunContext<S, T, J, K, G, R>,
     started: &Started<J>,

@@ -64,7 +64,7 @@ module _ {S : Type 0} (g : Ghosts S) (handed : Handed) (jobs : List Job) (w v : 
   none_next : AllByRecursion (λ x. is_owner (OfRecord n) x ≡ false) a.owners
   none_next = all_so (IsKnown pending records) _ a.owners apart_next a.known
 
-  -- what is known stays so where the session runs a job then
+  -- what is known stays so if the session runs a job then
   known_runs : (s : ℕ) (p : Pending) (was : Option Pending) → slice_get pending s ≡ Some was → (x : Owner) → IsKnown pending records x → IsKnown (slice_set pending s (Some p)) records x
   known_runs s p was at (OfRecord place) h = h
   known_runs s p was at (OfSession t) h = ⊎_elim
@@ -263,7 +263,7 @@ acts_first g handed jobs w pending was none = record {
   running = λ s p h. absurd (none s p h);
 }
 
--- where no job runs, each transition is of a record
+-- if no job runs, each transition is of a record
 pub acts_all_done : {S : Type 0} (g : Ghosts S) (handed : Handed) (jobs : List Job) (w : StoreAndSlots S) (pending : List (Option Pending))
     (records : List Record) → ((s : ℕ) (p : Pending) → slice_get pending s ≡ Some (Some p) → ⊥)
     → HasActed g handed jobs w pending records → HasActed g handed jobs w [] records

@@ -54,7 +54,8 @@ cut_is start l more sets (Scan range room) request call s p answer to ready asks
         p.given.ok.0 in let fits = p.given.ok.1 in omega (arith, cap, over, long, fits))
 cut_is start l more sets job request call s p answer to ready asks ask began given is full le next = absurd full
 
--- what a running call answers that is asked for its next entry or given up, and which sessions run a call then
+-- what a running call answers that is asked for its next entry or given up, and which sessions run a call
+-- then
 module _ {S : Type 0} (g : Ghosts S) (w v : StoreAndSlots S) (s : ℕ) (runs : has_call w.slots s ≡ true) where
   -- it goes on
   goes_on : (answer : Answer) → IsEventDone g (Next s) answer w v → is_last answer ≡ false

@@ -15,7 +15,7 @@ get_note [] place r e = absurd cc
 get_note (x ∷ records) zero r e = (let s : x ≡ r = cc in ap (λ y. Some (note_of y)) s)
 get_note (x ∷ records) (suc place) r e = get_note records place r e
 
--- where no session of the workers runs a job, none is pending
+-- if no session of the workers runs a job, none is pending
 pub none_waits : (pending : List (Option Pending)) → ((k : ℕ) → k < length pending → slice_get (jobs_of pending) k ≡ Some None)
     → (session : ℕ) (p : Pending) → slice_get pending session ≡ Some (Some p) → ⊥
 none_waits pending idle session p at =
@@ -39,7 +39,7 @@ all_idle slots pending m idle session = no (has_call slots session) (λ yes. ∥
     no true f = absurd (f refl)
     no false f = refl
 
--- what is kept, where no job is pending
+-- what is kept, if no job is pending
 pub keeps_nothing_pending : {S : Type 0} (g : Ghosts S) (stood kept_then : (Entry → Bool) → List Action → List Call → Type 0) (jobs : List Job)
     (now : StoreAndSlots S) (start : ℕ) (pending : List (Option Pending)) (records : List Record)
     → ((session : ℕ) (p : Pending) → slice_get pending session ≡ Some (Some p) → ⊥)

@@ -4,7 +4,8 @@ use Rattle.page_action.proofs.Laters.{later_trans}
 use Rattle.schedule.proofs.Keeping.{Laws}
 use Rattle.shared_world.proofs.Imports.{SetGhosts, Continues, State, Backing, IsLater, Ghosts, StoreAndSlots, Op, SameSessions, inside, World, Handed, IsAsHanded, ComesOf, StillFollows}
 
--- an event has made this world of that one: its sessions and sets are the same, its device is a later one, and its store follows what that one's did
+-- an event has made this world of that one: its sessions and sets are the same, its device is a later one,
+-- and its store follows what that one's did
 pub record IsNext {S : Type 0} (g : Ghosts S) (w v : StoreAndSlots S) : Type 0 where
   pub sessions : length v.slots ≡ length w.slots
   pub sets : v.sets ≡ w.sets

@@ -25,7 +25,7 @@ module _ {S : Type 0} (g : Ghosts S) (jobs : List Job) (contents : Entry → Boo
   abbrev was : Moment S
   was = snapshot_of w k.history k.calls
 
-  -- where the history was kept over crashes, it is
+  -- if the history was kept over crashes, it is
   abbrev StaysSafe : List Action → List Call → Type 0
   StaysSafe history calls = KeepsHistory g contents was → KeepsHistory g contents (snapshot_of v history calls)
 

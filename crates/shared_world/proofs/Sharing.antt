@@ -30,7 +30,7 @@ module _ {S T J : Type 0} {g : Ghosts S} {rows : SetGhosts T} {past : StoreJobGh
         let p = some_there self.pending.items w job known in
         (p.0, record { found = p.1; job_is = p.2; inside = omega (arith, inside, self.pending.ok.0); has = runs_there self.world.calls.slots.items self.pending.items w p.0 self.matches p.1 })
 
-    -- it runs nothing, where its seat tells so
+    -- it runs nothing, if its seat tells so
     pub idle_at : {o : Option ℕ} → slice_get (known_by self.desk.keeper).running w ≡ Some o → o ≡ None → slice_get self.pending.items w ≡ Some None
     idle_at {o} at is = none_there self.pending.items w (seat_runs (known_by self.desk.keeper) w (notes_of self.history.items) self.pending.items o None self.knows at is)
 
@@ -72,15 +72,16 @@ module _ {S T J : Type 0} {g : Ghosts S} {rows : SetGhosts T} {past : StoreJobGh
         record { rests = rests; notes = notes ∙ (λ i. (view i).notes ++ (place i, here.job_is i) ∷ []) }
 
   module _ (world : World S T) where
-    -- an event leaves the world so, with these jobs that run and these records: what was so under the lock is so of them
+    -- an event leaves the world so, with these jobs that run and these records: what was so under the lock is
+    -- so of them
     pub record CarriesOn (pending : List (Option Pending)) (records : List Record) : Type 0 where
       pub keeps : KeepsWith (inside rows self.world) self.pending.items self.history.items → KeepsWith (inside rows world) pending records
       pub acts : ActsWith (inside rows self.world) self.pending.items self.history.items → ActsWith (inside rows world) pending records
       pub matches : MatchesPending self.world.calls.slots.items self.pending.items → MatchesPending world.calls.slots.items pending
       pub next : IsNext g (inside rows self.world) (inside rows world)
 
-    -- all that is to be so as the lock is released, with so many records, in room for so many, and this number in the book; the keeper's pass has
-    -- this view
+    -- all that is to be so as the lock is released, with so many records, in room for so many, and this
+    -- number in the book; the keeper's pass has this view
     abbrev pub IsInOrder : List (Option Pending) → List Record → ℕ → ℕ → ℕ → SeatView → Type 0
     IsInOrder pending records count capacity total view = record {
       kept : ∥ KeepsWith (inside rows world) pending records ∥₁;

@@ -1,4 +1,5 @@
--- What was done for each record and for each job that runs, whatever the pages are: events of its own, from the world as it was handed in.
+-- What was done for each record and for each job that runs, whatever the pages are: events of its own, from
+-- the world as it was handed in.
 use Rattle.std.specs.Prelude.{◌≡◌, ◌⊎◌, ℕ, suc, ◌<◌, false, true, Option, Some, List, [], ◌∷◌, ◌++◌, length, slice_get, vec_capacity}
 use Rattle.std.specs.List.{AllByRecursion}
 use Rattle.index_model.specs.declared.entry.Entry.{Entry}
@@ -32,7 +33,8 @@ pub record MakesRecord {S : Type 0} (g : Ghosts S) (place to : ℕ) (t : Transit
   pub next_is : t.behind.recorded ≡ suc place
   pub to_is : (g.state t.behind.here.store).acts ≡ to
 
--- the event that begins the job, or does it whole, where its session runs nothing; so many records and actions there were before
+-- the event that begins the job, or does it whole, if its session runs nothing; so many records and actions
+-- there were before
 pub record IsBeginning {S : Type 0} (g : Ghosts S) (session : ℕ) (job : Job) (seen from : ℕ) (answer : Answer) (t : Transition S) : Type 0 where
   pub event_is : t.event ≡ event_of session job
   pub answer_is : t.answer ≡ answer
@@ -40,12 +42,12 @@ pub record IsBeginning {S : Type 0} (g : Ghosts S) (session : ℕ) (job : Job) (
   pub from_is : (g.state t.before.here.store).acts ≡ from
   pub free : has_call t.before.here.slots session ≡ false
 
--- before a step the log has room for five images, or its whole room; a checkpoint is made only where it hasn't
+-- before a step the log has room for five images, or its whole room; a checkpoint is made only if it hasn't
 abbrev pub HasRoomForStep : {S : Type 0} → Ghosts S → Transition S → Type 0
 HasRoomForStep g t = HasItsRoom 5 (kind_of t.event) (g.state t.before.here.store).limits (g.backing t.before.here.store)
 
--- an event that leaves a session's call running: a step, or asking for the next entry, whose answer isn't the last; or a checkpoint that is
--- made before a step
+-- an event that leaves a session's call running: a step, or asking for the next entry, whose answer isn't the
+-- last; or a checkpoint that is made before a step
 abbrev pub EventKeepsCall : ℕ → Event → Answer → Type 0
 EventKeepsCall session (Step of) answer = (of ≡ session) × (is_last answer ≡ false)
 EventKeepsCall session (Next of) answer = (of ≡ session) × (is_last answer ≡ false)
@@ -58,7 +60,8 @@ pub record KeepsRunning {S : Type 0} (g : Ghosts S) (session : ℕ) (t : Transit
   pub room : HasRoomForStep g t
   pub unrecorded : IsUnrecorded t
 
--- what was done for a job whose call runs: it began, each event since has left it running, and these entries were given
+-- what was done for a job whose call runs: it began, each event since has left it running, and these entries
+-- were given
 pub record AreOfRunning {S : Type 0} (g : Ghosts S) (session : ℕ) (job : Job) (seen from : ℕ) (given : List Entry) (ts : List (Transition S)) : Type 0 where
   pub first : Transition S
   pub more : List (Transition S)
@@ -138,8 +141,9 @@ abbrev pub IsKnown : List (Option Pending) → List Record → Owner → Type 0
 IsKnown pending records (OfRecord place) = place < length records
 IsKnown pending records (OfSession session) = (p : Pending) × (slice_get pending session ≡ Some (Some p))
 
--- Transitions lead from the world as it was handed in to what it is now. Each belongs to a record or to a job that runs; those of a record are
--- its job done, with its answer, its given entries and its interval, and those of a job that runs are its call so far.
+-- Transitions lead from the world as it was handed in to what it is now. Each belongs to a record or to a job
+-- that runs. Those of a record are its job done, with its answer, its given entries and its interval. Those
+-- of a job that runs are its call so far.
 pub record HasActed {S : Type 0} (g : Ghosts S) (handed : Handed) (jobs : List Job) (now : StoreAndSlots S) (pending : List (Option Pending)) (records : List Record) : Type 0 where
   pub first : LockMoment S
   pub transitions : List (Transition S)

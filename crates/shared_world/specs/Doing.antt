@@ -36,7 +36,7 @@ abbrev pub taken_after : Option Answer → List Entry → List Entry
 taken_after None given = given
 taken_after (Some answer) given = given_after answer given
 
--- a running job has taken what was given, in the same room; where nothing was done, it is as it was
+-- a running job has taken what was given, in the same room; if nothing was done, it is as it was
 pub record HasTaken (answer : Option Answer) (before after : Pending) : Type 0 where
   pub job : after.job ≡ before.job
   pub from : after.from ≡ before.from

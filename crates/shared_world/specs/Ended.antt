@@ -24,8 +24,9 @@ AreIdle slots = (session : ℕ) → has_call slots session ≡ false
 abbrev pub jobs_of_records : List Record → List ℕ
 jobs_of_records records = map (λ r. r.job) records
 
--- All jobs are done: what is kept under the lock is so with no job pending, and so is what was done for each record; the store follows what it
--- followed, no session has a call, the records are those of the jobs that were handed out, and each is of one of the workers.
+-- All jobs are done. What is kept under the lock is so with no job pending, and so is what was done for each
+-- record. The store follows what it followed, and no session has a call. The records are those of the jobs
+-- that were handed out, and each is of one of the workers.
 pub record HasRun {S T : Type 0} (g : Ghosts S) (rows : SetGhosts T) (stood kept_then : (Entry → Bool) → List Action → List Call → Type 0) (followed : S → Type 0)
     (handed : Handed) (jobs : List Job) (workers : ℕ) (world : World S T) (start : ℕ) (records : List Record) : Type 0 where
   pub kept : ∥ KeepsAll g stood kept_then jobs (inside rows world) start [] records ∥₁

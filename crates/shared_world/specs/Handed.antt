@@ -10,14 +10,15 @@ use Rattle.schedule.specs.TheoremMoments.{StoreAndSlots}
 use Rattle.world.specs.Worlds.{inside}
 use Rattle.world.specs.declared.world.World.{World}
 
--- all that is seen of its store: pages, calls and holdings, and the log and the device; what its sessions ran, and the sets of dead rows
+-- all that is seen of its store: pages, calls and holdings, and the log and the device; what its sessions
+-- ran, and the sets of dead rows
 pub record Handed : Type 0 where
   pub state : State
   pub backing : Backing
   pub slots : List (Option Op)
   pub sets : DeadSets
 
--- where none is
+-- if none is
 abbrev pub nothing_handed : Handed
 nothing_handed = record {
   state = record {

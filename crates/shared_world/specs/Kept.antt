@@ -1,5 +1,5 @@
--- What is kept under the lock: whatever history and calls fitted the world as it was handed in, there are more actions and more calls that
--- fit it now, and the records list those of the calls that have ended since.
+-- What is kept under the lock. Whatever history and calls fitted the world as it was handed in, there are
+-- more actions and more calls that fit it now. The records list those of the calls that have ended since.
 use Rattle.std.specs.Prelude.{◌≡◌, ◌⊎◌, ℕ, ◌<◌, ◌≤◌, Bool, true, false, Option, Some, None, List, ◌++◌, length, slice_get, vec_capacity}
 use Rattle.index_model.specs.Actions.{Action}
 use Rattle.index_model.specs.Calls.{Ask, Ending, Running, Added as EndsAdded, Finished as EndsFinished, Vacuumed, GivenUp, Failed, Call}
@@ -54,7 +54,8 @@ IsBlocked answer = ⊥
 abbrev pub HasEndedBy : Answer → Call → Type 0
 HasEndedBy answer call = (call.ending ≡ ending_by answer) ⊎ WasCutShort answer call
 
--- the call is what the record says: what was asked, by the worker's session, with its answer, all that it gave, and its interval
+-- the call is what the record says: what was asked, by the worker's session, with its answer, all that it
+-- gave, and its interval
 pub record IsCallOf (ask : Ask) (r : Record) (call : Call) : Type 0 where
   pub ask_is : call.ask ≡ ask
   pub session_is : call.session ≡ r.worker
@@ -66,13 +67,14 @@ pub record IsCallOf (ask : Ask) (r : Record) (call : Call) : Type 0 where
   -- one that is blocked goes on, and isn't recorded for it
   pub settled : IsBlocked r.answer → ⊥
 
--- a scan was given up rightly: its room was full, and there was one match more, beyond all that it gave, at some moment of its interval
+-- a scan was given up rightly: its room was full, and there was one match more, beyond all that it gave, at
+-- some moment of its interval
 abbrev pub IsCut : (Entry → Bool) → List Action → Job → Record → Type 0
 IsCut start history (Scan range room) r = (length r.given.items ≡ room) × MayComeNext start history range r.from r.to r.given.items
 IsCut start history job r = ⊥
 
--- the record at a place lists a call, which was asked the record's job; a scan gave no more than its room holds, and was ended by its
--- worker only where that was full and one match more was there
+-- The record at a place lists a call, which was asked the record's job. A scan gave no more than its room
+-- holds. Its worker ended it only if that was full and one match more was there.
 pub record ListsCall (start : Entry → Bool) (history : List Action) (sets : DeadSets) (jobs : List Job) (calls : List Call) (at : List (Option ℕ)) (place : ℕ) (r : Record) : Type 0 where
   pub number : ℕ
   pub job : Job
@@ -86,8 +88,8 @@ pub record ListsCall (start : Entry → Bool) (history : List Action) (sets : De
   pub most : IsWithinRoom job r.given.items
   pub cut : r.answer ≡ Ended → IsCut start history job r
 
--- it stands beside the calls: a commit or a checkpoint, which gives nothing, takes no action's time, answers what its kind may, and tells a
--- number of actions only where so many were there and are durable
+-- it stands beside the calls: a commit or a checkpoint, which gives nothing, takes no action's time, answers
+-- what its kind may, and tells a number of actions only if so many were there and are durable
 pub record ListsUpkeep (durable : ℕ) (jobs : List Job) (at : List (Option ℕ)) (place : ℕ) (r : Record) : Type 0 where
   pub job : Job
   pub upkeep : Upkeep
@@ -145,7 +147,8 @@ pub record IsInTime (count place : ℕ) (r : Record) : Type 0 where
   pub from_is : r.from ≤ r.to
   pub to_is : r.to ≤ count
 
--- What fitted the world when the run began goes on to what fits it now. `KeptThen` says that the history was kept then.
+-- What fitted the world when the run began goes on to what fits it now. `KeptThen` says that the history was
+-- kept then.
 pub record KeepsFitting {S : Type 0} (g : Ghosts S) (jobs : List Job) (contents : Entry → Bool) (old_history : List Action) (old_calls : List Call)
     (KeptThen : Type 0) (now : StoreAndSlots S) (start : ℕ) (pending : List (Option Pending)) (records : List Record) : Type 0 where
   pub history : List Action
@@ -155,7 +158,7 @@ pub record KeepsFitting {S : Type 0} (g : Ghosts S) (jobs : List Job) (contents 
   pub start_is : start ≡ length old_history
   pub grows : (more : List Action) × (history ≡ old_history ++ more)
   pub fit : Fits g contents (snapshot_of now history calls)
-  -- where the history was kept over crashes, it is
+  -- if the history was kept over crashes, it is
   pub safe : KeptThen → KeepsHistory g contents (snapshot_of now history calls)
   -- the calls that were there are as they were; each other one is listed, or runs for a job
   pub same : (number : ℕ) (call : Call) → slice_get old_calls number ≡ Some call → slice_get calls number ≡ Some call

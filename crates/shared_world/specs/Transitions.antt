@@ -21,7 +21,8 @@ pub record Transition (S : Type 0) : Type 0 where
   pub before : LockMoment S
   pub behind : LockMoment S
 
--- they lead from one moment to another: each begins where the one before ended, and is what its event makes with its answer
+-- they lead from one moment to another: each begins where the one before ended, and is what its event makes
+-- with its answer
 abbrev pub IsPath : {S : Type 0} → Ghosts S → LockMoment S → List (Transition S) → LockMoment S → Type 0
 IsPath g first [] last = last ≡ first
 IsPath g first (t ∷ ts) last = (t.before ≡ first) × EventEffect g (kind_of t.event) t.answer t.before.here t.behind.here × IsPath g t.behind ts last

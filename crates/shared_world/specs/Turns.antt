@@ -28,13 +28,15 @@ abbrev pub AreLeft : ℕ → Option ℕ → List (Option Pending) → List (Opti
 AreLeft session None before after = after ≡ before
 AreLeft session (Some place) before after = after ≡ slice_set before session None
 
--- a job begins, as the records and the actions are: after it there is one job more that runs, or one record more, of no time at all
+-- a job begins, as the records and the actions are: after it there is one job more that runs, or one record
+-- more, of no time at all
 pub record JobBeginMeans (session : ℕ) (p : Pending) (answer : Answer) (place : Option ℕ) (old new : List Record) (before after : List (Option Pending)) : Type 0 where
   pub history : IsRecordedAt (record_of session p answer p.from) place old new
   pub pending : AreBegun session p place before after
 
--- a turn of the job that the session runs: after it there are the records and the jobs that were there; or one record more, of all that the
--- job did, so many actions being there now, and one job fewer that runs
+-- A turn of the job that the session runs. After it there are the records and the jobs that were there. Or
+-- there is one record more, of all that the job did, which ends at the number of actions now, and one job
+-- fewer runs.
 pub record TurnMeans (session job : ℕ) (answer : Answer) (to : ℕ) (place : Option ℕ) (old new : List Record) (before after : List (Option Pending)) : Type 0 where
   pub running : Pending
   pub found : slice_get before session ≡ Some (Some running)
@@ -42,7 +44,8 @@ pub record TurnMeans (session job : ℕ) (answer : Answer) (to : ℕ) (place : O
   pub history : IsRecordedAt (record_of session running answer to) place old new
   pub pending : AreLeft session place before after
 
--- the session's call was asked for its next entry, exactly where there was room for one; it has taken what that gave
+-- the session's call was asked for its next entry, exactly if there was room for one; it has taken what that
+-- gave
 pub record TakeMeans (session job : ℕ) (answer : Option Answer) (before after : List (Option Pending)) : Type 0 where
   pub running : Pending
   pub then_running : Pending

@@ -7,7 +7,7 @@ use index_model::{Entry, Range};
 pub enum Job {
     /// To insert the entry.
     Insert(Entry),
-    /// To give the entries of the range, so many at most.
+    /// To give the entries of the range, `room` at most.
     Scan { range: Range, room: u32 },
     /// To remove the entries whose rows are in the set at this place among the world's sets.
     Bulk(u32),

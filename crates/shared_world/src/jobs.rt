@@ -28,7 +28,8 @@ pub trait Jobs: Run {
     ghost handed: { Handed };
 }
 
-/// Jobs on a world whose store is of this type. Each run picks what its store followed as the world was handed in.
+/// Jobs on a world whose store is of this type. Each run picks what its store followed as the world was
+/// handed in.
 pub trait JobsOn<S>: Jobs {
     /// These are stores that it followed.
     ghost followed: { S → Type 0 };

@@ -1,4 +1,5 @@
-//! A world under one lock, with the jobs that are done on it: each event in one hold, and a record of each job.
+//! A world under one lock, with the jobs that are done on it: each event in one hold, and a record of each
+//! job.
 #![tactic(auto)]
 
 mod job;

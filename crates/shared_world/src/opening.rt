@@ -54,8 +54,8 @@ pub fn first<S: PageStore, T: DeadRows + Drop, J: JobsOn<S>>(
     }
 }
 
-/// What a run has left, told with all seats, and every part of the ledger and of the queue: the world, how many actions there were
-/// as it began, and the records of the jobs.
+/// What a run has left, told with all seats, and every part of the ledger and of the queue: the world, how
+/// many actions there were as it began, and the records of the jobs.
 pub fn ended<S: PageStore, T: DeadRows + Drop, J: JobsOn<S>, X>(
     shared: Shared<S, T, J>,
     seats: Vec<Seat<J>>,

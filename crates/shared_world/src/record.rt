@@ -8,8 +8,8 @@ use session_calls::Answer;
 pub struct Record {
     pub worker: u32,
     pub job: u32,
-    /// The answer of its last event; where its call was given up for a refused checkpoint, that refusal. A scan that was ended
-    /// since its room was full has `Ended`.
+    /// The answer of its last event; if its call was given up for a refused checkpoint, that refusal. A scan
+    /// that was ended since its room was full has `Ended`.
     pub answer: Answer,
     /// What a scan gave.
     pub given: Vec<Entry>,

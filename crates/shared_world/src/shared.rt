@@ -100,7 +100,7 @@ fn record(worker: u32, done: Pending, answer: &Answer, to: u64) -> Record
     }
 }
 
-// Puts the entry that an answer gives after those that were given, where there is room.
+// Puts the entry that an answer gives after those that were given, if there is room.
 fn keep_gift(given: &mut Vec<Entry>, answer: &Answer)
     requires room { vec_len given.old < vec_capacity given.old }
     ensures items { given.new.items ≡ given_after answer.now given.old.items }
@@ -112,7 +112,7 @@ fn keep_gift(given: &mut Vec<Entry>, answer: &Answer)
     }
 }
 
-// The next entry of the session's call, put after those that it has given. Where their room is full, nothing is done.
+// The next entry of the session's call, put after those that it has given. If their room is full, nothing is done.
 fn take_next<S: PageStore, T: DeadRows + Drop>(
     world: &mut World<S, T>,
     session: u32,
@@ -134,7 +134,7 @@ fn take_next<S: PageStore, T: DeadRows + Drop>(
     Some(answer)
 }
 
-// Whether the job is a scan whose room is full and which has so many entries ready, one or more.
+// Whether the job is a scan whose room is full, and which has an entry ready.
 fn is_full(asked: Job, running: &Option<Pending>, ready: u32) -> bool
     ensures yes { result ≡ true → IsFullScan asked running.now ready }
     ensures no { result ≡ false → IsFullScan asked running.now ready → ⊥ }
@@ -225,8 +225,8 @@ impl<S: PageStore, T: DeadRows + Drop, J: JobsOn<S>> Shared<S, T, J> {
         told(seat, answer, Some(seen))
     }
 
-    /// A step of the session's call, with the checkpoint before it for which the log has too little room. Where its answer is the
-    /// last, it is recorded, and has its place; where it is blocked, it goes on.
+    /// A step of the session's call, with the checkpoint before it for which the log has too little room. If its answer is the
+    /// last, it is recorded, and has its place; if it is blocked, it goes on.
     pub fn step(&mut self, seat: Seat<J>, job: u32) -> Turn<J>
         requires runs { (known_by seat.pass).job ≡ Some job }
         requires room { vec_len self.old.history < vec_capacity self.old.history }
@@ -274,7 +274,7 @@ impl<S: PageStore, T: DeadRows + Drop, J: JobsOn<S>> Shared<S, T, J> {
         told(seat, answer, Some(place))
     }
 
-    /// Asks the session's call for its next entry, which is put after those that it has given. Where their room is full, nothing
+    /// Asks the session's call for its next entry, which is put after those that it has given. If their room is full, nothing
     /// is done, and there is no answer.
     pub fn next(&mut self, seat: Seat<J>, job: u32) -> (Seat<J>, Option<Answer>)
         requires runs { (known_by seat.pass).job ≡ Some job }
@@ -306,7 +306,7 @@ impl<S: PageStore, T: DeadRows + Drop, J: JobsOn<S>> Shared<S, T, J> {
         (seat, answer)
     }
 
-    /// Gives the call of the session's scan up, where its room is full and it has an entry more ready: it is recorded with what it
+    /// Gives the call of the session's scan up, if its room is full and it has an entry more ready: it is recorded with what it
     /// gave, and has its place. Else nothing is done.
     pub fn end(&mut self, seat: Seat<J>, job: u32, asked: Job) -> (Seat<J>, Option<u64>)
         requires runs { (known_by seat.pass).job ≡ Some job }

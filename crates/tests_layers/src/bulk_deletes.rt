@@ -36,7 +36,7 @@ fn step(
     op.step(store, &dead)
 }
 
-// Steps until it has finished; NoMemory where it goes on after twenty steps.
+// Steps until it has finished; NoMemory if it goes on after twenty steps.
 fn finish(op: &mut BulkDeleteOp, store: &mut MapStore, dead: Blocks) -> Result<VacuumStats, Fault> {
     for _ in 0..20 {
         if let BulkDeleteStep::Finished(stats) = step(op, store, dead)? {
@@ -61,7 +61,7 @@ fn stats(pages: u32, tuples: u64, removed: u64, deleted: u32, free: u32) -> Vacu
     }
 }
 
-// How many entries the page has; 99 where it is none.
+// How many entries the page has; 99 if it is none.
 fn count_on(store: &mut MapStore, block: u32) -> usize {
     match store.page(block) {
         Ok(page) => match &page.items {
@@ -95,7 +95,7 @@ fn dead_entries_go(rt: HostRuntime) {
     assert!(rt; over(rt.alloc(), 8, &tree(), are_gone) == Ok(true));
 }
 
-// Where no entry is dead, nothing is written.
+// If no entry is dead, nothing is written.
 fn are_all_left(store: &mut MapStore) -> Result<bool, Fault> {
     let mut op = begun(store, session(2)?);
     Ok(finish(&mut op, store, NONE) == Ok(stats(4, 5, 0, 0, 0)) && acts(store) == 0)
@@ -154,7 +154,8 @@ fn split(store: &mut MapStore) -> bool {
     change(store, &[left, right, links]) == Ok(1)
 }
 
-// Leaf 4 is split after the cursor's back, into the deleted page 1: it goes back there, and doesn't count what it finds.
+// Leaf 4 is split after the cursor's back, into the deleted page 1: it goes back there, and doesn't count
+// what it finds.
 fn goes_back(store: &mut MapStore) -> Result<bool, Fault> {
     let mut op = begun(store, session(2)?);
     let last = dead(0x69, 0x6a);
@@ -174,7 +175,7 @@ fn going_back(rt: HostRuntime) {
     assert!(rt; over(rt.alloc(), 8, &tree_after_a_deleted_page(), goes_back) == Ok(true));
 }
 
-// Deletes the page, where so many calls have begun.
+// Deletes the page, if so many calls have begun.
 fn delete(store: &mut MapStore, block: u32, deletion: u64) -> bool {
     let mut gone = emptied(block, None, 2, None, PageState::Deleted);
     gone.deletion = deletion;

@@ -95,7 +95,8 @@ fn a_call_is_given_up(rt: HostRuntime) {
     assert!(rt; over_calls(rt.alloc(), 8, &[], 7, is_given_up) == Ok(true));
 }
 
-// The answer to the first of the next steps that isn't `Going`, and how many acts were done at each step that was.
+// The answer to the first of the next steps that isn't `Going`, and how many acts were done at each step that
+// was.
 fn run(store: &mut MapStore, calls: &mut Calls) -> (Answer, ArrayVec<u64, 20>) {
     let mut done = ArrayVec::new();
     let mut answer = step(store, calls, &NO_SETS, 5);
@@ -178,7 +179,8 @@ fn is_begun_alone(store: &mut MapStore, calls: &mut Calls) -> bool {
         && cycle(store) == 1
 }
 
-// Whether the session's vacuum is over after one step more: how many entries it has removed, and how many it has left.
+// Whether the session's vacuum is over after one step more: how many entries it has removed, and how many it
+// has left.
 fn finishes(
     store: &mut MapStore,
     calls: &mut Calls,

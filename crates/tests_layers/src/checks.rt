@@ -1,4 +1,4 @@
-//! The verifier: each damage that it finds, and what it answers where there is none, in many threads and in one.
+//! The verifier: each damage that it finds, and what it answers if there is none, in many threads and in one.
 
 use crate::plain::add;
 use crate::trees::{

@@ -38,7 +38,7 @@ fn goes_on_four_times(op: &mut CleanupOp, store: &mut MapStore) -> bool {
     goes_on(op, store) && goes_on(op, store) && goes_on(op, store) && goes_on(op, store)
 }
 
-// Steps until it has finished; NoMemory where it goes on after thirty steps.
+// Steps until it has finished; NoMemory if it goes on after thirty steps.
 fn finish(op: &mut CleanupOp, store: &mut MapStore) -> Result<VacuumStats, Fault> {
     for _ in 0..30 {
         if let CleanupStep::Finished(stats) = step(op, store)? {

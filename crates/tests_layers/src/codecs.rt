@@ -179,8 +179,8 @@ const LEAF_HEAD: [(usize, u8); 28] = [
     (35, 1),
 ];
 
-/// Damages in its high key and entries. The high key stands at 36, entry i at 107 + 71 i: its key from 1 on, its block at 65, its
-/// offset at 69.
+/// Damages in its high key and entries. The high key stands at 36, entry i at 107 + 71 i: its key from 1 on,
+/// its block at 65, its offset at 69.
 const LEAF_ITEMS: [(usize, u8); 21] = [
     // a high key of 65 bytes, with other padding, without a row
     (36, 65),
@@ -321,7 +321,8 @@ fn is_page_up_to(page: &mut Page, high: Bound) -> bool {
     is_page(page)
 }
 
-/// A bound before all rows of a key is an entry with block 0 and offset 0, on a page of layout 2 alone; its key isn't empty.
+/// A bound before all rows of a key is an entry with block 0 and offset 0, on a page of layout 2 alone; its
+/// key isn't empty.
 #[test]
 fn bounds_before_all_rows(rt: HostRuntime) {
     let entries = [nth_entry(0), nth_entry(1), nth_entry(2)];
@@ -362,7 +363,7 @@ fn downlinks_before_all_rows(rt: HostRuntime) {
     assert!(rt; !is_page(&page));
 }
 
-/// Puts an entry onto a leaf; false where it can't be.
+/// Puts an entry onto a leaf; false if it can't be.
 fn is_added(page: &mut Page, at: usize, entry: Entry) -> bool {
     match &page.items {
         Items::Entries(entries) if at <= entries.len() && entries.len() < 50 => {
@@ -373,7 +374,8 @@ fn is_added(page: &mut Page, at: usize, entry: Entry) -> bool {
     }
 }
 
-/// Cuts the entries from this place on from a leaf, and answers how many they are; 99 where it has no such place.
+/// Cuts the entries from this place on from a leaf, and answers how many they are; 99 if it has no such
+/// place.
 fn cut(page: &mut Page, at: usize) -> usize {
     match &page.items {
         Items::Entries(entries) if at <= entries.len() => cut_entries(page, at).len(),

@@ -21,7 +21,7 @@ fn nth(place: u8) -> Entry {
     entry(u8::try_from(u32::from(place) * 7 % 23).unwrap_or(0), 1, 1)
 }
 
-// An event of a session that inserts, where so many inserts have begun: a step of its call, or the next insert.
+// An event of a session that inserts, if so many inserts have begun: a step of its call, or the next insert.
 fn to_insert(calls: &Calls, session: u32, begun: u8) -> Event {
     if is_running(calls, session) || begun == MOST {
         Event::Step(session)
@@ -82,8 +82,8 @@ fn fresh_scan() -> Scanned {
     }
 }
 
-// Two sessions insert, a third one scans, each of them one event in turn, until all is inserted and no insert runs: how
-// many inserts were added and how many scans have given all, or None for a wrong answer.
+// Two sessions insert, a third one scans, each one event in turn, until all is inserted and no insert runs.
+// How many inserts were added and how many scans have given all; None for a wrong answer.
 fn take_turns(store: &mut MapStore, calls: &mut Calls, turns: u32) -> Option<(u8, u8)> {
     let mut scanned = fresh_scan();
     let (mut begun, mut added, mut scans) = (0u8, 0u8, 0u8);
@@ -182,7 +182,8 @@ fn two_split_leaves_while_a_third_scans(rt: HostRuntime) {
     assert!(rt; over_calls(rt.alloc(), 32, &[], 3, are_split_beside_scans) == Ok(true));
 }
 
-// Whether this holds of an empty tree of so many pages at most, of the calls of so many sessions, and of a list for answers.
+// Whether this holds of an empty tree of so many pages at most, of the calls of so many sessions, and of a
+// list for answers.
 fn over_answers<F: FnOnce(&mut MapStore, &mut Calls, &mut Vec<Answer>) -> bool>(
     alloc: Global,
     most: u32,
@@ -355,7 +356,8 @@ fn waits(store: &mut MapStore, calls: &mut Calls) -> bool {
     is_refused(&finish(store, calls, &SETS, 2), Fault::Blocked(1))
 }
 
-// How many entries the vacuum of session 2 has removed and left, and how many pages there are; None where it does not finish.
+// How many entries the vacuum of session 2 has removed and left, and how many pages there are; None if it
+// does not finish.
 fn counts_of(store: &mut MapStore, calls: &mut Calls) -> Option<(u64, u64, u32)> {
     match finish(store, calls, &SETS, 2) {
         Answer::Finished(stats) => {
@@ -385,8 +387,9 @@ fn a_bulk_delete_waits_for_a_scan(rt: HostRuntime) {
     assert!(rt; over_calls(rt.alloc(), 32, &[], 3, bulk_delete_waits) == Ok(true));
 }
 
-// Two sessions insert entries of both sets, a third runs one bulk delete of the second set after the other, each of them one
-// event in turn: how many inserts were added, and how many bulk deletes have finished, or None for a wrong answer.
+// Two sessions insert entries of both sets, and a third runs one bulk delete of the second set after the
+// other. Each does one event in turn. How many inserts were added, and how many bulk deletes have finished;
+// None for a wrong answer.
 fn delete_beside(store: &mut MapStore, calls: &mut Calls, turns: u32) -> Option<(u8, u8)> {
     let (mut begun, mut added, mut finished) = (0u8, 0u8, 0u8);
     for turn in 0..turns {

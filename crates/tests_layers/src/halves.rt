@@ -52,7 +52,7 @@ fn four_links() -> [Downlink; 4] {
     [lowest(1), link(3, 2), link(5, 3), link(7, 4)]
 }
 
-// Splits the leaf for an entry that it hasn't; None where it can't be.
+// Splits the leaf for an entry that it hasn't; None if it can't be.
 fn leaf_halves(page: &mut Page, entry: Entry, new: u32, cycle: u32) -> Option<Page> {
     let Err(place) = find(entries_on(page), &entry) else {
         return None;
@@ -127,7 +127,7 @@ fn place_of_a_downlink(rt: HostRuntime) {
     assert!(rt; are_placed(&[lowest(1), link(3, 2), link(7, 4)]));
 }
 
-// Puts a downlink of this key after that place; false where it can't be.
+// Puts a downlink of this key after that place; false if it can't be.
 fn is_linked(page: &mut Page, place: usize, key: u8, child: u32) -> bool {
     if !has_links(page) || links_on(page).len() >= 50 || place >= links_on(page).len() {
         return false;
@@ -144,7 +144,7 @@ fn downlink_comes_onto_a_page(rt: HostRuntime) {
     assert!(rt; links_on(&page) == [lowest(1), link(3, 2), link(7, 4)].as_slice());
 }
 
-// Splits the page for a downlink of this key after that place; None where it can't be.
+// Splits the page for a downlink of this key after that place; None if it can't be.
 fn inner_halves(page: &mut Page, place: usize, key: u8, child: u32, new: u32) -> Option<Page> {
     let separator = at(key);
     let links = links_on(page);

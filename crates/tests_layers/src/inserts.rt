@@ -17,7 +17,8 @@ fn step(op: &mut InsertOp, store: &mut MapStore) -> Result<InsertStep, Fault> {
     )
 }
 
-// All steps of an insert, and the action that it answers; 0 if it goes on after forty steps, or leaves a split unfinished.
+// All steps of an insert, and the action that it answers; 0 if it goes on after forty steps, or leaves a
+// split unfinished.
 fn insert(store: &mut MapStore, session: Session, entry: Entry) -> Result<u64, Fault> {
     enter(store, session)?;
     let mut op = InsertOp::new(session, entry);

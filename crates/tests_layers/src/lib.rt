@@ -1,5 +1,6 @@
-//! Tests of each layer from the words of an index up to whole calls over pages in memory, and nothing else, a module a layer. They
-//! stand in one crate, because each crate with tests is proved once more with them, and compiled with all that it stands on.
+//! Tests of each layer from the words of an index up to whole calls over pages in memory, and nothing else, a
+//! module a layer. They stand in one crate, because each crate with tests is proved once more with them, and
+//! compiled with all that it stands on.
 #![tactic(auto)]
 
 #[cfg(test)]

@@ -268,7 +268,8 @@ fn is_left(alloc: Global, device: &MemDevice, image: CrashImage, run: Run) -> bo
     }
 }
 
-// A run that is refused the n-th call: whether it failed, and whether what a crash leaves, and what the log answers, is right.
+// A run that is refused the n-th call: whether it failed, and whether what a crash leaves, and what the log
+// answers, is right.
 fn planned(alloc: Global, n: u64, stops: bool) -> Result<(bool, bool), Fault> {
     let (mut log, mut device) = fresh(alloc)?;
     refuse(&mut device, n, stops);
@@ -465,7 +466,7 @@ fn an_open_gate_in_front_of_old_bytes_would_be_replayed(rt: HostRuntime) {
     assert!(rt; over(rt.alloc(), is_taken_again) == Ok(true));
 }
 
-// How many blocks have an image for a restart where a fresh log has this gate before a group of none.
+// How many blocks have an image for a restart if a fresh log has this gate before a group of none.
 fn count_with(alloc: Global, gate: u8) -> Result<u32, Fault> {
     let (_log, mut device) = fresh(alloc)?;
     put(&mut device, &[gate, 0, 0, 0, 0])?;

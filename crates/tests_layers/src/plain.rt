@@ -1,5 +1,6 @@
-//! Calls without their contracts. A test looks at the answers alone, and what a call promises would be carried, call by call, to
-//! the end of the test that makes it: to prove one of fifty lines took more than a minute.
+//! Calls without their contracts. A test looks at the answers alone, and what a call promises would be
+//! carried, call by call, to the end of the test that makes it: to prove one of fifty lines took more than a
+//! minute.
 
 use index_model::{DeadRows, Entry, Fault, Limits, Range, Session};
 use latch_table::Mode;

@@ -47,7 +47,7 @@ fn changed_at(pool: &Pool, place: usize) -> Option<(u32, u64)> {
     pool.changed_at(place)
 }
 
-/// Puts a page of the block where one can be put; false where none can.
+/// Puts a page of the block if one can be put; false if none can.
 fn bring(pool: &mut Pool, pinned: &[u32], block: u32) -> bool {
     let page = marked(block, 0);
     match pool.choose(pinned) {
@@ -82,7 +82,7 @@ fn write_first(pool: &mut Pool, count: usize) {
     }
 }
 
-/// The cycle of the held page, 99 where none is held.
+/// The cycle of the held page, 99 if none is held.
 fn cycle_of(pool: &Pool, block: u32) -> u32 {
     match pool.find(block) {
         Some(at) => pool.page(at).cycle,
@@ -250,8 +250,8 @@ fn frames_are_chosen(rt: HostRuntime) {
     assert!(rt; over(rt.alloc(), 2, chooses_frames) == Ok(true));
 }
 
-// What was looked at since the hand passed it keeps its frame, as long as another can be taken: the hand passes it, and takes
-// it the next time.
+// What was looked at since the hand passed it keeps its frame, as long as another can be taken: the hand
+// passes it, and takes it the next time.
 fn passes_one(pool: &mut Pool) -> bool {
     note_use(pool, 1)
         && !note_use(pool, 7)
@@ -261,7 +261,7 @@ fn passes_one(pool: &mut Pool) -> bool {
         && choose(pool, &[]) == Choice::Free(0)
 }
 
-// Where all were looked at, the first from the hand on is taken.
+// If all were looked at, the first from the hand on is taken.
 fn takes_the_first(pool: &mut Pool) -> bool {
     note_use(pool, 1)
         && note_use(pool, 2)
@@ -269,7 +269,8 @@ fn takes_the_first(pool: &mut Pool) -> bool {
         && choose(pool, &[]) == Choice::Free(1)
 }
 
-// Block 4 comes for block 3, since the hand has come there, and block 5 for block 2, since block 1 was looked at.
+// Block 4 comes for block 3, since the hand has come there, and block 5 for block 2, since block 1 was looked
+// at.
 fn brings_for_others(pool: &mut Pool) -> bool {
     note_use(pool, 1)
         && bring(pool, &[], 4)

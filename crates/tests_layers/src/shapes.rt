@@ -19,7 +19,7 @@ fn places_on_a_leaf(rt: HostRuntime) {
     }
 }
 
-// Puts an entry onto a leaf; false where it can't be.
+// Puts an entry onto a leaf; false if it can't be.
 fn is_put(page: &mut Page, at: usize, entry: Entry) -> bool {
     match &page.items {
         Items::Entries(entries) if at <= entries.len() && entries.len() < 50 => {

@@ -55,7 +55,7 @@ fn step(op: &mut FinishOp, store: &mut MapStore) -> Result<FinishStep, Fault> {
     op.step(store, &mut [Page::blank(), Page::blank(), Page::blank()])
 }
 
-// All steps for this target, and the number of those that went on; 20 where more do.
+// All steps for this target, and the number of those that went on; 20 if more do.
 fn steps(store: &mut MapStore, session: Session, target: Target) -> Result<u32, Fault> {
     let mut op = FinishOp::new(session, target);
     for steps in 0..20 {
@@ -191,8 +191,8 @@ fn separator_is_read_again_and_latches_block(rt: HostRuntime) {
     assert!(rt; over(rt.alloc(), 12, &split_leaf(), waits_and_reads_again) == Ok(true));
 }
 
-// Three levels: on the way from the root, page 1, to leaf 4, whose split is unfinished, stands page 2, full, whose split is
-// unfinished too.
+// Three levels: on the way from the root, page 1, to leaf 4, whose split is unfinished, stands page 2, full,
+// whose split is unfinished too.
 fn two_splits() -> [Page; 10] {
     let mut root = parent(1, &[(None, 2)]);
     root.level = 2;

@@ -69,7 +69,7 @@ fn pages_and_acts(rt: HostRuntime) {
     assert!(rt; over(rt.alloc(), 8, &[], holds_pages) == Ok(true));
 }
 
-// Whether a deleted page is free for a session's call; None where the block is none.
+// Whether a deleted page is free for a session's call; None if the block is none.
 fn free_for(store: &MapStore, session: Session, block: u32) -> Option<bool> {
     store.free_for(session, block)
 }

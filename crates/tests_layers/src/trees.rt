@@ -169,7 +169,8 @@ pub fn stored(alloc: Global, most: u32, pages: &[Page]) -> Result<MapStore, Faul
     stored_as(alloc, most, false, pages)
 }
 
-/// Whether this holds of these pages in memory, of so many at most. A test that held a store would drop it at each comparison.
+/// Whether this holds of these pages in memory, of so many at most. A test that held a store would drop it at
+/// each comparison.
 pub fn over<F: FnOnce(&mut MapStore) -> Result<bool, Fault>>(
     alloc: Global,
     most: u32,
@@ -202,7 +203,7 @@ pub fn over_calls<F: FnOnce(&mut MapStore, &mut Calls) -> bool>(
     Ok(is_right(&mut store, &mut calls))
 }
 
-/// Changes pages as another session does; NoMemory where a store would not take them.
+/// Changes pages as another session does; NoMemory if a store would not take them.
 pub fn change(store: &mut MapStore, pages: &[Page]) -> Result<u64, Fault> {
     if pages.is_empty()
         || pages.len() > 4

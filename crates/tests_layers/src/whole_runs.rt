@@ -9,7 +9,8 @@ use schedule::Event;
 use session_calls::{Answer, Calls};
 use std::test::*;
 
-// Whether an insert is the action of this number, with no split left unfinished; no number is asked for where it is 0.
+// Whether an insert is the action of this number, with no split left unfinished; no number is asked for if it
+// is 0.
 fn inserts(
     store: &mut MapStore,
     calls: &mut Calls,

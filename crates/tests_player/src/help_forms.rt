@@ -17,7 +17,8 @@ fn before_blank(text: &str) -> &str {
     }
 }
 
-/// The first column of a line, and what stands after it. The line begins with two spaces, and the column ends with two.
+/// The first column of a line, and what stands after it. The line begins with two spaces, and the column ends
+/// with two.
 pub fn columns(line: &str) -> Option<(&str, &str)> {
     let text = line.strip_prefix("  ")?;
     if text.starts_with(" ") {
@@ -29,7 +30,7 @@ pub fn columns(line: &str) -> Option<(&str, &str)> {
     }
 }
 
-/// An example of a word of a line's form, of which there are three where the form names three.
+/// An example of a word of a line's form, of which there are three if the form names three.
 fn example(word: &str, choice: usize) -> &str {
     match word {
         "S" => "1",

@@ -34,8 +34,8 @@ pub fn played<R: AllocGlobal + Files<File = File> + Threads + Wait + Sync>(
     Printed { out, err, status }
 }
 
-/// Runs the program on a script, with this for its output. Answers what it printed on standard error, and its status. (Each call
-/// of `execute` costs the prover a minute, so the tests make none but this.)
+/// Runs the program on a script, with this for its output. Answers what it printed on standard error, and its
+/// status. (Each call of `execute` costs the prover a minute, so the tests make none but this.)
 pub fn played_to<R: AllocGlobal + Files<File = File> + Threads + Wait + Sync, O: Write>(
     rt: &R,
     words: &[&str],
@@ -66,8 +66,8 @@ pub fn text(bytes: &[u8]) -> &str {
     str::from_utf8(bytes).unwrap_or("no text")
 }
 
-/// The script of these parts, one after the other, and what it is to print. The script's lines stand after `> `, or are
-/// comments; what a line prints stands below it.
+/// The script of these parts, one after the other, and what it is to print. The script's lines stand after
+/// `> `, or are comments; what a line prints stands below it.
 pub fn script_of(alloc: Global, parts: &[&str]) -> Result<(String, String), AllocError> {
     let mut script = String::new(alloc);
     let mut printed = String::new(alloc);

@@ -54,8 +54,8 @@ pub fn opens_right(
     Ok(true)
 }
 
-/// Whether an insert, a bulk delete, a cleanup and a scan go right, each alone, the scan gives exactly the contents, and a force
-/// goes right.
+/// Whether an insert, a bulk delete, a cleanup and a scan go right, each alone, the scan gives exactly the
+/// contents, and a force goes right.
 fn works_on<S: PageStore>(
     run: Run,
     world: &mut World<S, Blocks>,
@@ -94,7 +94,8 @@ fn works_on_from<S: PageStore>(
     works_on(run, world, judge, &mut dice).unwrap_or(false)
 }
 
-/// What a crash leaves of all that was done by an index in a store that works on; None if an answer isn't right.
+/// What a crash leaves of all that was done by an index in a store that works on; None if an answer isn't
+/// right.
 fn worked_on(
     run: Run,
     store: Store<MemDevice>,
@@ -107,8 +108,8 @@ fn worked_on(
     Ok(if works { Some(left) } else { None })
 }
 
-/// Whether the entries of what was opened are those after some prefix of the actions that holds every forced one, and the
-/// verifier finds no damage.
+/// Whether the entries of what was opened are those after some prefix of the actions that holds every forced
+/// one, and the verifier finds no damage.
 fn ends_sound<S: PageStore + Drop>(
     run: Run,
     mut world: World<S, Blocks>,
@@ -132,8 +133,8 @@ fn goes_on(
     Ok(ends_sound(run, opened(run, FOR_ALL, device)?, judge)?)
 }
 
-/// Opens what a crash left: whether its entries are those after some prefix of the actions that holds every forced one, the
-/// verifier finds no damage, and, if that is asked, the index works on.
+/// Opens what a crash left: whether its entries are those after some prefix of the actions that holds every
+/// forced one, the verifier finds no damage, and, if that is asked, the index works on.
 fn is_right_after(
     run: Run,
     found: MemDevice,
@@ -163,7 +164,8 @@ fn is_right_behind(
     goes_on(run, store, next, counted)
 }
 
-/// The device that an opening gives back of which this call and each later one fails; None where it makes fewer calls.
+/// The device that an opening gives back of which this call and each later one fails; None if it makes fewer
+/// calls.
 pub fn stopped_at(run: Run, found: MemDevice, call: u64) -> Result<Option<MemDevice>, Fail> {
     match opening(run, FOR_ALL, (found, call))? {
         Ok(_) => Ok(None),
@@ -171,8 +173,8 @@ pub fn stopped_at(run: Run, found: MemDevice, call: u64) -> Result<Option<MemDev
     }
 }
 
-/// Stops an opening at each of its calls, and opens what a crash leaves then. After n it is the opening of image n mod 3, and after
-/// each stop another image.
+/// Stops an opening at each of its calls, and opens what a crash leaves then. After n it is the opening of
+/// image n mod 3, and after each stop another image.
 pub fn stops_opening(
     run: Run,
     world: &OverDevice,

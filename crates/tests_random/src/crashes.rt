@@ -17,7 +17,8 @@ use tests_support::plain::{fail_at, left, left_by, open_world, stop_at, world};
 use tests_support::small::made_with;
 use world::{NotOpened, World};
 
-/// Pages in memory at once: all, so that who looks at a page makes no device call, and none of those that fail.
+/// Pages in memory at once: all, so that who looks at a page makes no device call, and none of those that
+/// fail.
 pub const FOR_ALL: u32 = 1_024;
 
 /// A world over a device in memory.
@@ -28,8 +29,8 @@ pub fn store_of<S: PageStore>(world: World<S, Blocks>) -> S {
     world.into_store()
 }
 
-/// Whether the verifier finds no damage in a store. What it promises ends here, as what `store_of` does: carried into a function
-/// over a device it costs the prover minutes.
+/// Whether the verifier finds no damage in a store. What it promises ends here, as what `store_of` does:
+/// carried into a function over a device it costs the prover minutes.
 pub fn is_sound<S: PageStore>(alloc: Global, store: &mut S) -> bool {
     check_parents_one(alloc, store, &NoProgress).is_ok()
 }
@@ -63,8 +64,8 @@ fn image(dice: &mut Dice) -> CrashImage {
     }
 }
 
-/// Opens the index after a crash, with so many frames. Half of the times the device stops inside of the first open, which may
-/// be refused with `Io`, and crashes again.
+/// Opens the index after a crash, with so many frames. Half of the times the device stops inside of the first
+/// open, which may be refused with `Io`, and crashes again.
 pub fn opened_again(
     run: Run,
     frames: u32,
@@ -99,7 +100,8 @@ fn left_by_opening(
     }
 }
 
-/// An opening of which this device call and all later ones fail, or none for 0; the device where it is refused with `Io`.
+/// An opening of which this device call and all later ones fail, or none for 0; the device if it is refused
+/// with `Io`.
 pub fn opening(
     run: Run,
     frames: u32,
@@ -147,7 +149,8 @@ fn fails_right(
     are_right(run, world, judge, dice, 100)
 }
 
-/// Random events, a crash, and what is opened after it, of which the judge hears from then on: whether all is right.
+/// Random events, a crash, and what is opened after it, of which the judge hears from then on: whether all is
+/// right.
 fn crashes_right(
     run: Run,
     world: &mut OverDevice,

@@ -60,7 +60,7 @@ pub fn sets_of(alloc: Global, space: Space) -> Result<Vec<Blocks>, Fault> {
     }
 }
 
-/// The rows of the set at this place, of those that entries have; None where there is no such set.
+/// The rows of the set at this place, of those that entries have; None if there is no such set.
 pub fn rows_of(
     alloc: Global,
     space: Space,

@@ -1,4 +1,5 @@
-//! Scripts during which device calls fail: each call of the device that a script makes fails once, and each with all after it.
+//! Scripts during which device calls fail: each call of the device that a script makes fails once, and each
+//! with all after it.
 
 use crate::behind::Counted;
 use crate::dice::Space;
@@ -40,8 +41,8 @@ fn scripted_on(alloc: Global, items: u32, pages: u32, unique: bool) -> Run {
     }
 }
 
-/// Of this script each call of the device fails once, and each with all after it; then each opening after the second is stopped
-/// at each of its calls.
+/// Of this script each call of the device fails once, and each with all after it; then each opening after the
+/// second is stopped at each of its calls.
 fn each_fails<R: Abort>(rt: &R, run: Run, script: &Script) -> Result<(), Fail> {
     let mut counted = Counted::default();
     let script = play(run, script)?;
@@ -103,8 +104,8 @@ fn full_index(rt: HostRuntime) -> Result<(), Fail> {
     each_fails(&rt, scripted(alloc, 4, 8), &full(alloc)?)
 }
 
-/// After a force whose gate's sync failed the opening is stopped at each of its calls: each image of a crash then has the entries
-/// that were forced before, or those of this force too.
+/// After a force whose gate's sync failed the opening is stopped at each of its calls: each image of a crash
+/// then has the entries that were forced before, or those of this force too.
 #[test]
 fn gate_sync_fails(rt: HostRuntime) -> Result<(), Fail> {
     let run = scripted(rt.alloc(), 4, 16);

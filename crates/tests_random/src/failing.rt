@@ -15,12 +15,13 @@ use tests_support::dead::Blocks;
 use tests_support::plain::{fail_at, one as did, stop_at};
 use world::World;
 
-/// A script whose lines are made once each, each with its answer where no call fails.
+/// A script whose lines are made once each, each with its answer if no call fails.
 #[derive(Drop)]
 pub struct Played {
     pub lines: Vec<Line>,
     pub answers: Vec<Answer>,
-    /// How many calls of the device these lines made, after those of making and opening the index and of looking at its pages.
+    /// How many calls of the device these lines made, after those of making and opening the index and of
+    /// looking at its pages.
     pub calls: u64,
 }
 
@@ -53,8 +54,8 @@ fn play_line<S: PageStore>(
     Ok(())
 }
 
-/// Runs a script over a new index, in which no call fails. A force, a flush and a checkpoint stand after it. Their calls aren't
-/// counted yet.
+/// Runs a script over a new index, in which no call fails. A force, a flush and a checkpoint stand after it.
+/// Their calls aren't counted yet.
 fn play_lines<S: PageStore>(
     run: Run,
     world: &mut World<S, Blocks>,
@@ -112,8 +113,8 @@ fn are_alike(a: &Answer, b: &Answer) -> bool {
     }
 }
 
-/// Runs the events of a script, of which the judge hears, while a call fails: whether all is right, each answer before is that of
-/// the undisturbed run, and the first other one tells of the failure.
+/// Runs the events of a script, of which the judge hears, while a call fails: whether all is right, each
+/// answer before is that of the undisturbed run, and the first other one tells of the failure.
 fn replays<S: PageStore>(
     run: Run,
     world: &mut World<S, Blocks>,
@@ -145,8 +146,9 @@ fn will_fail(world: &mut OverDevice, n: u64, for_good: bool) {
     }
 }
 
-/// Whether the run in which the nth call fails, once or with all after it, is right, and then what is opened after a crash of each
-/// kind. If all fail, an opening is stopped at some of its calls too, and what is opened after that is right.
+/// Whether the run in which the nth call fails, once or with all after it, is right, and then what is opened
+/// after a crash of each kind. If all fail, an opening is stopped at some of its calls too, and what is
+/// opened after that is right.
 pub fn fails(
     run: Run,
     script: &Played,

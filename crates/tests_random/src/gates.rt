@@ -1,5 +1,5 @@
-//! A force whose last sync fails has written its gate: whether what it forced stands isn't known, and each opening after it is
-//! stopped at each of its calls.
+//! A force whose last sync fails has written its gate: whether what it forced stands isn't known, and each
+//! opening after it is stopped at each of its calls.
 
 use crate::behind::{Counted, IMAGES, stopped_at};
 use crate::crashes::{FOR_ALL, OverDevice, is_sound, on_a_device, opened, store_of};
@@ -25,8 +25,8 @@ fn entry(place: u8) -> Entry {
     }
 }
 
-/// The device on which four inserts were forced, and a fifth one not: the sync of the gate of its force failed, its fourth
-/// call.
+/// The device on which four inserts were forced, and a fifth one not: the sync of the gate of its force
+/// failed, its fourth call.
 fn left_open(run: Run) -> Result<MemDevice, Fail> {
     let mut world = on_a_device(run, FOR_ALL)?;
     let is_forced = forces_four(&mut world);
@@ -78,8 +78,8 @@ fn has_four_or_five<S: PageStore>(
     Ok(are_four_or_five(&contents(run.alloc, &pages)?))
 }
 
-/// Whether what a crash has left has the first four entries or all five, and the verifier finds no damage. Without memory for the
-/// pages it isn't right.
+/// Whether what a crash has left has the first four entries or all five, and the verifier finds no damage.
+/// Without memory for the pages it isn't right.
 fn is_right(run: Run, found: MemDevice) -> Result<bool, Fail> {
     let mut world = opened(run, FOR_ALL, found)?;
     let has_entries = has_four_or_five(run, &mut world).unwrap_or(false);
@@ -98,8 +98,8 @@ fn are_right(run: Run, device: &MemDevice, counted: &mut Counted) -> Result<bool
     Ok(true)
 }
 
-/// Whether all is right where the opening is stopped at this call: it is refused, and each image of the device that it gives
-/// back is right. None where it makes fewer calls.
+/// Whether all is right if the opening is stopped at this call: it is refused, and each image of the device
+/// that it gives back is right. None if it makes fewer calls.
 pub fn stops_right(run: Run, call: u64, counted: &mut Counted) -> Result<Option<bool>, Fail> {
     let Some(device) = stopped_at(run, left_open(run)?, call)? else {
         return Ok(None);

@@ -44,7 +44,7 @@ pub struct Judge {
     is_failing: bool,
     /// Whether one has failed, as an answer said.
     has_failed: bool,
-    /// How many pages are in memory at once; None where all are.
+    /// How many pages are in memory at once; None if all are.
     frames: Option<u32>,
     /// Whether the log is known to have failed.
     is_stopped: bool,
@@ -196,8 +196,8 @@ impl Judge {
         (0..self.space.sessions).any(|session| self.is_vacuuming(session))
     }
 
-    /// What an action of the session's call, which left these pages, has done: it adds the call's entry, if that is there
-    /// now and wasn't before; a bulk delete removes what is there no more.
+    /// What an action of the session's call, which left these pages, has done: it adds the call's entry, if
+    /// that is there now and wasn't before; a bulk delete removes what is there no more.
     fn effect_of(&self, session: u32, pages: &[Page]) -> Result<PlainEffect, AllocError> {
         if self.is_deleting(session) {
             return Ok(PlainEffect::Removes(lost(self.alloc, &self.pages, pages)?));
@@ -211,8 +211,8 @@ impl Judge {
         })
     }
 
-    /// Keeps an action of the session's call, which left these pages with these entries. It is right if there is such a
-    /// call, and the entries are the contents then.
+    /// Keeps an action of the session's call, which left these pages with these entries. It is right if there
+    /// is such a call, and the entries are the contents then.
     pub fn acts(
         &mut self,
         session: u32,
@@ -240,7 +240,8 @@ impl Judge {
         !self.unique || entries.iter().all(|entry| has_key_once(entries, entry))
     }
 
-    /// Counts the last action, of the call of this number, by what it has done; false where there is no such call.
+    /// Counts the last action, of the call of this number, by what it has done; false if there is no such
+    /// call.
     fn counts(&mut self, by: usize, adds: bool, removes: bool, cleans: bool) -> bool {
         let Some(call) = self.calls.get_mut(by) else {
             return false;
@@ -364,8 +365,8 @@ impl Judge {
         }
     }
 
-    /// Whether a page may not be had for this: a device call has failed, or the pinned pages, two of each call, and the four
-    /// of an act may be more than the frames.
+    /// Whether a page may not be had for this: a device call has failed, or the pinned pages, two of each
+    /// call, and the four of an act may be more than the frames.
     fn may_lack_a_page(&self, fault: Fault) -> bool {
         match (fault, self.frames) {
             (Fault::Io, _) => self.is_failing,
@@ -446,8 +447,8 @@ impl Judge {
         }
     }
 
-    /// A failed checkpoint may have written some pages, and a page that is brought into few frames may have: then it isn't known
-    /// which page waits longest.
+    /// A failed checkpoint may have written some pages, and a page that is brought into few frames may have:
+    /// then it isn't known which page waits longest.
     fn flushes(&mut self, answer: &Answer) -> bool {
         match answer {
             Answer::Flushed(block) if self.is_in_memory => block.is_none(),
@@ -566,7 +567,8 @@ impl Judge {
         }
     }
 
-    /// Whether the last call is a bulk delete that tells how many entries there are now, or that found the log full.
+    /// Whether the last call is a bulk delete that tells how many entries there are now, or that found the
+    /// log full.
     pub fn tells_all(&self) -> bool {
         match self.calls.last() {
             Some(
@@ -609,8 +611,8 @@ impl Judge {
             })
     }
 
-    /// Keeps a crash after which this judge begins. It is right if what was there then are the contents after some first
-    /// part of the actions that holds every forced one.
+    /// Keeps a crash after which this judge begins. It is right if what was there then are the contents after
+    /// some first part of the actions that holds every forced one.
     pub fn crashes(&mut self, next: &Judge) -> bool {
         let entries = next.start.as_slice();
         let loses = !self.are_contents(entries, self.history.len());

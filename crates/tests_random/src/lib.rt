@@ -1,5 +1,5 @@
-//! Runs of an index, judged: tests alone. A run makes some thousands of random events of some sessions, and a judge
-//! keeps plainly what was asked and answered, and computes each word of the promises over it.
+//! Runs of an index, judged: tests alone. A run makes some thousands of random events of some sessions, and a
+//! judge keeps plainly what was asked and answered, and computes each word of the promises over it.
 #![tactic(auto)]
 
 #[cfg(test)]

@@ -8,7 +8,7 @@ use tests_reference::is_among;
 use tests_support::plain::page_in;
 use world::World;
 
-/// Copies of all pages; of fewer, where a page is refused.
+/// Copies of all pages; of fewer, if a page is refused.
 pub fn copies<S: PageStore, T: DeadRows + Drop>(
     alloc: Global,
     world: &mut World<S, T>,

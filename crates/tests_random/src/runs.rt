@@ -70,8 +70,8 @@ pub fn fault_of(answer: &Answer) -> Option<Fault> {
     }
 }
 
-/// Whether what the answer calls full is full: each block is used, or the log has no room for the images of an act, which are four
-/// at most.
+/// Whether what the answer calls full is full: each block is used, or the log has no room for the images of
+/// an act, which are four at most.
 pub fn is_full<S: PageStore>(world: &World<S, Blocks>, limits: Limits, answer: &Answer) -> bool {
     match fault_of(answer) {
         Some(Fault::IndexFull) => world.used() == limits.pages,
@@ -85,14 +85,15 @@ pub fn are_running<S: PageStore>(world: &World<S, Blocks>, judge: &Judge, sessio
     (0..sessions).all(|session| world.is_running(session) == judge.is_running(session))
 }
 
-/// Whether the world has made the actions and runs the calls that the judge knows, and what the answer calls full is full.
+/// Whether the world has made the actions and runs the calls that the judge knows, and what the answer calls
+/// full is full.
 fn agree<S: PageStore>(run: Run, world: &World<S, Blocks>, judge: &Judge, answer: &Answer) -> bool {
     world.actions() == judge.actions() as u64
         && are_running(world, judge, run.space.sessions)
         && is_full(world, run.limits, answer)
 }
 
-/// Does one event: its answer, or None where that is wrong, or what it has done.
+/// Does one event: its answer, or None if that is wrong, or what it has done.
 pub fn one<S: PageStore>(
     run: Run,
     world: &mut World<S, Blocks>,
@@ -137,7 +138,8 @@ pub fn are_right<S: PageStore>(
     Ok(true)
 }
 
-/// Takes what the call of session 0 has ready, and makes a step of it: whether both are right, and nothing blocks it.
+/// Takes what the call of session 0 has ready, and makes a step of it: whether both are right, and nothing
+/// blocks it.
 fn goes_on<S: PageStore>(
     run: Run,
     world: &mut World<S, Blocks>,
@@ -156,8 +158,8 @@ fn goes_on<S: PageStore>(
     })
 }
 
-/// Begins a call of session 0, which alone has one, and runs it to its end: whether all of it is right, and nothing
-/// blocks it.
+/// Begins a call of session 0, which alone has one, and runs it to its end: whether all of it is right, and
+/// nothing blocks it.
 pub fn runs_alone<S: PageStore>(
     run: Run,
     world: &mut World<S, Blocks>,
@@ -192,8 +194,9 @@ fn gives_all_up<S: PageStore>(
     Ok(true)
 }
 
-/// Gives each call up, and then inserts some entries, deletes those of one row and scans all, alone: whether that is right,
-/// nothing blocks it, the delete tells how many entries are left, and the scan gives exactly the contents.
+/// Gives each call up, and then inserts some entries, deletes those of one row and scans all, alone. Whether
+/// that is right: nothing blocks it, the delete tells how many entries are left, and the scan gives exactly
+/// the contents.
 pub fn ends_right<S: PageStore>(
     run: Run,
     world: &mut World<S, Blocks>,

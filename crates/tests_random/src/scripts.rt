@@ -85,7 +85,7 @@ pub const FROM_1: u32 = ROWS + 2;
 
 pub const FROM_9: u32 = ROWS + 3;
 
-/// The key of one byte, or of two where the number has more.
+/// The key of one byte, or of two if the number has more.
 fn key(number: u16) -> Key {
     let bytes = number.to_be_bytes();
     let from = if number < 256 { 1 } else { 0 };

@@ -100,7 +100,8 @@ impl Tally {
         count(&mut self.adds);
     }
 
-    /// Counts an action that changes the shape alone. It is of a split of others unless the call's entry is added.
+    /// Counts an action that changes the shape alone. It is of a split of others unless the call's entry is
+    /// added.
     pub fn reshape(&mut self, is_of_others: bool) {
         count(&mut self.shapes);
         if is_of_others {

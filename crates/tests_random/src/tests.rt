@@ -177,8 +177,8 @@ fn high_trees(rt: HostRuntime) -> Result<(), Fail> {
     Ok(())
 }
 
-/// Over a device, which crashes again and again: what is opened again has the contents after some prefix of the actions
-/// that holds every forced one.
+/// Over a device, which crashes again and again: what is opened again has the contents after some prefix of
+/// the actions that holds every forced one.
 #[test]
 fn trees_crash(rt: HostRuntime) -> Result<(), Fail> {
     let alloc = rt.alloc();

@@ -46,8 +46,8 @@ impl Waiting {
         Ok(())
     }
 
-    /// Takes the block that was written: whether it waited, and longest; None where nothing waits. Where others may have been
-    /// written unseen, it isn't known which waits longest, nor whether one does.
+    /// Takes the block that was written: whether it waited, and longest; None if nothing waits. If others may
+    /// have been written unseen, it isn't known which waits longest, nor whether one does.
     pub fn writes(&mut self, written: Option<u32>, are_others: bool) -> bool {
         let Some(block) = written else {
             return are_others || self.blocks.is_empty();

@@ -36,7 +36,7 @@ pub not_there : (answer there : Bool) → answer ≡ there → not answer ≡ tr
 not_there true there same is = absurd cc
 not_there false there same _ = sym same
 
--- where the action at the place is the one found, asking of it is asking of the place
+-- if the action at the place is the one found, asking of it is asking of the place
 pub at_place : (history : List Action) (k : ℕ) (a b : Action) (answer : Bool) → slice_get history k ≡ Some a → (IsTrue answer ↔ (a ≡ b))
     → IsTrue answer ↔ (slice_get history k ≡ Some b)
 at_place history k a b answer found test =

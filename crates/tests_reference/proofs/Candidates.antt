@@ -108,7 +108,8 @@ there_is_named start history k e h = by (last_said (take k history) e) refl
         inr (added_before k history e (said_is_added (take k history) e (is ∙ ap Some same)))
     by None is = inl (ap (λ (o : Option Bool). unwrap_or o (is_among start e)) (sym is) ∙ h)
 
--- what holds of the entries of the start and of those that are added holds of each that is there at some moment
+-- what holds of the entries of the start and of those that are added holds of each that is there at some
+-- moment
 pub all_of_there : (P : Entry → Type 0) (start : List Entry) (history : List Action) (k : ℕ) (e : Entry) → AllByRecursion P start
     → AllByRecursion P (added_by history) → is_there_after (is_among start) history k e ≡ true → P e
 all_of_there P start history k e first added there = by (there_is_named start history k e there)

@@ -48,7 +48,7 @@ side a zero = inr (omega arith)
 side zero (suc b) = inl (omega arith)
 side (suc a) (suc b) = next_side a b (side a b)
 
--- where each action of the list is owned, all are
+-- if each action of the list is owned, all are
 pub all_owned : (start : Entry → Bool) (history : List Action) (calls : List Call) (count : ℕ) → ((k : ℕ) → count ≤ k → slice_get history k ≡ None)
     → ((k : ℕ) → k < count → IsOwnedAt start history calls k) → ActionsAreOwned start history calls
 all_owned start history calls count behind owned before action is = by (side before count)

@@ -79,7 +79,7 @@ pub fn first_actions(history: &[PlainAction], k: usize) -> &[PlainAction]
     }
 }
 
-/// Whether the entry is there after the first `k` actions, or after all where there are fewer.
+/// Whether the entry is there after the first `k` actions, or after all if there are fewer.
 pub fn is_there_after(start: &[Entry], history: &[PlainAction], k: usize, entry: &Entry) -> bool
     ensures { result ≡ spec_is_there_after (spec_is_among start.now) (history_of history.now) k
         entry.now }

@@ -123,8 +123,8 @@ fn filled(alloc: Global, pages: u32, unique: bool, content: Content) -> Result<M
     }
 }
 
-/// What a crash keeps of an index of three levels, unique or not, after a checkpoint and a commit: the last inserts stand in
-/// the log alone.
+/// What a crash keeps of an index of three levels, unique or not, after a checkpoint and a commit: the last
+/// inserts stand in the log alone.
 pub fn sound(alloc: Global, unique: bool) -> Result<MemDevice, Fault> {
     filled(alloc, 32, unique, Content::All)
 }

@@ -68,7 +68,7 @@ fn open_already(rt: HostRuntime) -> Result<(), Fail> {
     remove(&rt, path)
 }
 
-/// Whether a device has so many bytes, zeros where they are read.
+/// Whether a device has this length, and a read of it gives zeros.
 fn is_empty(device: &mut FileDevice<impl Start>) -> bool {
     for at in [0, 4_094, 8_188, 99_996] {
         if four_at(device, at) != Ok([0; 4]) {
@@ -154,8 +154,9 @@ fn make_read_only(rt: &impl Files<File = File>, path: &str) -> Result<(), Fail> 
     Ok(())
 }
 
-/// A file that nobody may write is refused; its bytes stay. The gate runs tests as a user who may not write it, and there the
-/// refusal is asked for. The system's owner may write it all the same: where the tests run as that user it's opened.
+/// A file that nobody may write is refused; its bytes stay. The gate runs tests as a user who may not write
+/// it, and there the refusal is asked for. The system's owner may write it all the same: if the tests run as
+/// that user it's opened.
 #[test]
 fn read_only(rt: HostRuntime) -> Result<(), Fail> {
     let path = "files_read_only.bin";
@@ -200,8 +201,8 @@ fn goes_on<R: Abort + Files<File = File>>(
     Ok(())
 }
 
-/// A file that is cut while a device stands for it: what lies after its new end isn't read, what lies before is; a write there
-/// makes it longer again. No failed read stops the device.
+/// A file that is cut while a device stands for it: what lies after its new end isn't read, what lies before
+/// is; a write there makes it longer again. No failed read stops the device.
 #[test]
 fn cut(rt: HostRuntime) -> Result<(), Fail> {
     let path = "files_cut.bin";
@@ -248,7 +249,8 @@ fn stands_beside<R: Abort + Files<File = File>>(
     Ok(())
 }
 
-/// A file that is removed while a device stands for it is there for that device still, beside a new one at the same path.
+/// A file that is removed while a device stands for it is there for that device still, beside a new one at
+/// the same path.
 #[test]
 fn removed(rt: HostRuntime) -> Result<(), Fail> {
     let path = "files_removed.bin";

@@ -53,8 +53,8 @@ fn fill_empty<S: PageStore>(index: &mut Index<S>) -> Result<(u32, u64), Fault> {
     }
 }
 
-/// Fills the index at the path if it is empty, and closes it, which tells those actions. Answers how many entries it had, and
-/// the number of actions.
+/// Fills the index at the path if it is empty, and closes it, which tells those actions. Answers how many
+/// entries it had, and the number of actions.
 fn used(rt: &impl Files<File = File>, alloc: Global, path: &str) -> Result<(u32, u64), Fault> {
     let mut index = open_index(rt, alloc, path)?;
     let used = fill_empty(&mut index);
@@ -89,7 +89,8 @@ fn makes<R: Abort + AllocGlobal + Files<File = File>>(
     remove(rt, path)
 }
 
-/// A new index has its exact length, opens, and keeps what is put into it until it is opened again. No draft is left.
+/// A new index has its exact length, opens, and keeps what is put into it until it is opened again. No draft
+/// is left.
 #[test]
 fn made(rt: HostRuntime) -> Result<(), Fail> {
     makes(&rt, "drafts_made.idx", "drafts_made.idx.nardsill-draft")
@@ -140,8 +141,8 @@ fn refuses_what_is_there<R: Abort + AllocGlobal + Files<File = File>>(
     Ok(())
 }
 
-/// A path that is there is refused, and what is there stays: a file, a folder, a link that leads nowhere. Limits are tested
-/// first.
+/// A path that is there is refused, and what is there stays: a file, a folder, a link that leads nowhere.
+/// Limits are tested first.
 #[test]
 fn there_already(rt: HostRuntime) -> Result<(), Fail> {
     refuses_what_is_there(
@@ -152,7 +153,7 @@ fn there_already(rt: HostRuntime) -> Result<(), Fail> {
     )
 }
 
-/// Where no file can be made, none is: no folder, and names that are too long.
+/// If no file can be made, none is: no folder, and names that are too long.
 #[test]
 fn no_place(rt: HostRuntime) -> Result<(), Fail> {
     assert!(rt; create(&rt, "drafts_no_folder/a.idx") == Err(Fault::Io));
@@ -170,7 +171,7 @@ fn put_zeros(rt: &impl Files<File = File>, path: &str, len: u64) -> Result<(), F
     Ok(())
 }
 
-/// Makes an empty index at the path, where no draft is left: how many entries the verifier counts there.
+/// Makes an empty index at the path: how many entries the verifier counts there. None if a draft is left.
 fn taken_over(
     rt: &impl Files<File = File>,
     alloc: Global,
@@ -209,8 +210,8 @@ fn stale(rt: HostRuntime) -> Result<(), Fail> {
     takes_over(&rt, "drafts_stale.idx", "drafts_stale.idx.nardsill-draft")
 }
 
-/// While the index at the one path is open, and its file has the draft's name too, an empty one is made at the other path:
-/// whether that is so, no draft is left, and no action was done to the first.
+/// While the index at the one path is open, and its file has the draft's name too, an empty one is made at
+/// the other path: whether that is so, no draft is left, and no action was done to the first.
 fn is_made_beside(
     rt: &impl Files<File = File>,
     alloc: Global,
@@ -243,8 +244,8 @@ fn leaves_whole<R: Abort + AllocGlobal + Files<File = File>>(
     remove(rt, moved)
 }
 
-/// A making that was stopped between its last two steps left a whole index, which has since been moved elsewhere: it stays as it
-/// is, also while it is open.
+/// A making that was stopped between its last two steps left a whole index, which has since been moved
+/// elsewhere: it stays as it is, also while it is open.
 #[test]
 fn stale_and_whole(rt: HostRuntime) -> Result<(), Fail> {
     leaves_whole(
@@ -255,8 +256,8 @@ fn stale_and_whole(rt: HostRuntime) -> Result<(), Fail> {
     )
 }
 
-/// While the draft is locked, an index isn't made at the path: whether it is refused, nothing is there, and the draft's bytes
-/// stay.
+/// While the draft is locked, an index isn't made at the path: whether it is refused, nothing is there, and
+/// the draft's bytes stay.
 fn is_refused<R: Abort + Files<File = File>>(
     rt: &R,
     path: &str,
@@ -334,7 +335,8 @@ fn refuses_no_file<R: Abort + AllocGlobal + Files<File = File>>(
     remove(rt, other)
 }
 
-/// What is no file under the draft's name is refused: nothing is written through a link there, and none is removed.
+/// What is no file under the draft's name is refused: nothing is written through a link there, and none is
+/// removed.
 #[test]
 fn no_draft(rt: HostRuntime) -> Result<(), Fail> {
     refuses_no_file(

@@ -7,7 +7,7 @@ use tests_support::plain::{read, write};
 /// An edit.
 #[derive(Clone, Copy)]
 pub enum Edit {
-    /// One byte is set; where it is that already, to one beside it.
+    /// One byte is set; if it is that already, to one beside it.
     Alters(u64, u8),
     /// Four bytes are set.
     Sets(u64, [u8; 4]),

@@ -1,5 +1,5 @@
-//! Calls without their contracts. A test looks at the answers alone, and what a call promises would be carried, call by call, to
-//! the end of the test that makes it.
+//! Calls without their contracts. A test looks at the answers alone, and what a call promises would be
+//! carried, call by call, to the end of the test that makes it.
 
 use crate::plain::parents;
 use access_method::{Index, in_file};
@@ -18,7 +18,7 @@ use tests_support::plain::{begin_scan, end_scan, next, open as open_store};
 /// An index in a file.
 pub type InFile = Index<Store<FileDevice<Unknown>>>;
 
-/// A device, or the fault that the programs tell where a call of the file fails.
+/// A device, or the fault that the programs tell if a call of the file fails.
 fn or_io<S: Start>(device: io::Result<FileDevice<S>>) -> Result<FileDevice<S>, Fault> {
     match device {
         Ok(device) => Ok(device),
@@ -129,7 +129,8 @@ pub fn close(index: InFile) -> Result<u64, Fault> {
     in_file::close(index).written
 }
 
-/// The four bytes from there on. Refused with `DeviceTooSmall` where they lie after the length that the file had.
+/// The four bytes from there on. Refused with `DeviceTooSmall` if they lie after the length that the file
+/// had.
 pub fn four_at(device: &mut FileDevice<impl Start>, at: u64) -> Result<[u8; 4], Fault> {
     let mut bytes = [9; 4];
     if device.len() < 4 || at > device.len() - 4 {

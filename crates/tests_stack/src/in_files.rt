@@ -42,8 +42,8 @@ fn outcomes(
     Ok((tried(alloc, file(rt, path)?), in_memory))
 }
 
-/// Runs rows on copies of this index, each in the file of this path and in memory: each call of each row goes right, in both
-/// as in the other, and each kind of outcome comes.
+/// Runs rows on copies of this index, each in the file of this path and in memory: each call of each row goes
+/// right, in both as in the other, and each kind of outcome comes.
 fn run<R: Abort + Eprint + Files<File = File>>(
     rt: &R,
     alloc: Global,

@@ -86,7 +86,8 @@ fn does<S: PageStore, R: Abort + Files<File = File>>(
     }
 }
 
-/// Makes an index in a new file, does this with it, and lets it go. The one function that holds such an index.
+/// Makes an index in a new file, does this with it, and lets it go. The one function that holds such an
+/// index.
 fn with_new<R: Abort + Files<File = File>>(
     rt: &R,
     alloc: Global,
@@ -128,8 +129,8 @@ fn counted_in_cut<S: PageStore>(
     Ok(count(index))
 }
 
-/// The pages of an open index are cut off, more than there are frames: who comes to one that has no frame is refused with `Io`;
-/// with its old length the file holds zeros there, and no index.
+/// The pages of an open index are cut off, more than there are frames: who comes to one that has no frame is
+/// refused with `Io`; with its old length the file holds zeros there, and no index.
 #[test]
 fn cut(rt: HostRuntime) -> Result<(), Fail> {
     let path = "files_cut.idx";
@@ -169,7 +170,8 @@ fn removed(rt: HostRuntime) -> Result<(), Fail> {
     Ok(())
 }
 
-/// Fills an index, a commit after the first ten of its 20 entries. It is neither opened again nor verified. Answers 20.
+/// Fills an index, a commit after the first ten of its 20 entries. It is neither opened again nor verified.
+/// Answers 20.
 fn is_held<S: PageStore, R: Abort + Files<File = File>>(
     rt: &R,
     alloc: Global,
@@ -184,8 +186,8 @@ fn is_held<S: PageStore, R: Abort + Files<File = File>>(
     Ok(Ok(20))
 }
 
-/// An index that is open isn't opened again, nor verified, before it is closed: then it has what was committed, and no more than
-/// was inserted.
+/// An index that is open isn't opened again, nor verified, before it is closed: then it has what was
+/// committed, and no more than was inserted.
 #[test]
 fn open_already(rt: HostRuntime) -> Result<(), Fail> {
     let path = "files_open.idx";

@@ -134,8 +134,8 @@ const LONG: [(&str, &str); 2] = [
     ),
 ];
 
-/// Each kind of line, over a new file, and again over the same one, which holds what the first run left. The last line has no
-/// newline.
+/// Each kind of line, over a new file, and again over the same one, which holds what the first run left. The
+/// last line has no newline.
 #[test]
 fn session(rt: HostRuntime) -> Result<(), Fail> {
     let path = "ledger_session.idx";
@@ -265,8 +265,8 @@ fn lists(alloc: Global, device: MemDevice, wanted: &str) -> Result<bool, Fault> 
     Ok(prints(alloc, &mut index, b"list * *\n", wanted))
 }
 
-/// Answers two inserts with a commit each over a device that stops at this call: what is printed, and what a crash leaves; None
-/// where the index isn't opened.
+/// Answers two inserts with a commit each over a device that stops at this call: what is printed, and what a
+/// crash leaves; None if the index isn't opened.
 fn printed_and_left(
     alloc: Global,
     call: u64,
@@ -281,7 +281,8 @@ fn printed_and_left(
     Ok(Some((printed, left(alloc, index))))
 }
 
-/// The same, and opens what a crash leaves: how many commits were told of; 3 where what is told or left isn't right.
+/// The same, and opens what a crash leaves: how many commits were told of; 3 if what is told or left isn't
+/// right.
 fn stops_at(alloc: Global, call: u64) -> Result<Option<usize>, Fail> {
     let Some((printed, found)) = printed_and_left(alloc, call)? else {
         return Ok(None);
@@ -294,8 +295,8 @@ fn stops_at(alloc: Global, call: u64) -> Result<Option<usize>, Fail> {
     }))
 }
 
-/// The device stops at each call in turn. The lines before have their answers, those after are refused, but a commit that has
-/// nothing to make durable; and what was told to be committed is what a crash leaves.
+/// The device stops at each call in turn. The lines before have their answers, those after are refused, but a
+/// commit that has nothing to make durable; and what was told to be committed is what a crash leaves.
 #[test]
 fn stopped(rt: HostRuntime) -> Result<(), Fail> {
     let mut seen = [false; 3];

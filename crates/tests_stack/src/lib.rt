@@ -1,6 +1,7 @@
-//! Tests over a device, and nothing else: stores that are made, opened and crash; calls of a world and of an index of one user; files
-//! of strangers, which are altered, and files in times that are hard for them. They stand in one crate, because each crate with
-//! tests over the stack is proved with them, reads all that it stands on, and compiles it.
+//! Tests over a device, and nothing else: stores that are made, opened and crash; calls of a world and of an
+//! index of one user; files that were altered; files that are cut, removed or locked by others. They stand in
+//! one crate, because each crate with tests over the stack is proved with them, reads all that it stands on,
+//! and compiles it.
 #![tactic(auto)]
 
 #[cfg(test)]

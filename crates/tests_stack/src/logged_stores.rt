@@ -26,7 +26,7 @@ fn new_store(alloc: Global, limits: &Limits) -> Result<Store<MemDevice>, Fault> 
     opened(alloc, made_with(alloc, limits)?)
 }
 
-/// The cycle of these bytes' page, 0 where zeros stand, 99 where they are no page's.
+/// The cycle of these bytes' page, 0 if zeros stand, 99 if they are no page's.
 fn cycle_in(bytes: &[u8; 4096]) -> u32 {
     if is_unused(bytes) {
         return 0;
@@ -37,7 +37,7 @@ fn cycle_in(bytes: &[u8; 4096]) -> u32 {
     }
 }
 
-/// The cycle of the page at the block's place, 0 where zeros stand, 99 where no page does.
+/// The cycle of the page at the block's place, 0 if zeros stand, 99 if no page does.
 fn cycle_at(device: &mut MemDevice, block: u32) -> u32 {
     let mut bytes = [0; 4096];
     let at = 4096 + 65_536 + 4096 * u64::from(block);
@@ -93,7 +93,7 @@ enum Call {
     Used,
     Acts,
     Durable,
-    /// 1 where the log has failed.
+    /// 1 if the log has failed.
     IsStopped,
     /// One of all pages.
     All(CallOfAll),
@@ -104,15 +104,15 @@ enum Call {
 enum CallOfAll {
     /// Each gets a cycle, and is written.
     Write,
-    /// Each gets a cycle, and then another, which is forced: 1 where all have what they got last.
+    /// Each gets a cycle, and then another, which is forced: 1 if all have what they got last.
     ActTwice,
-    /// 1 where each has the cycle that it got first.
+    /// 1 if each has the cycle that it got first.
     Have,
-    /// Sessions pin 16 of them: 1 where these are those that they were.
+    /// Sessions pin 16 of them: 1 if these are those that they were.
     Pin,
     /// One is pinned, and 15 are changed, so that 16 are in memory.
     Crowd,
-    /// 1 where each has the cycle that it got last after that.
+    /// 1 if each has the cycle that it got last after that.
     HaveCrowd,
 }
 
@@ -135,7 +135,7 @@ fn fail_at(store: &mut Store<MemDevice>, n: u64) -> Result<u64, Fault> {
     Ok(0)
 }
 
-/// What the call answers; 0 where it answers nothing, and for one of the device.
+/// What the call answers; 0 if it answers nothing, and for one of the device.
 fn answer_of<S: PageStore>(store: &mut S, call: Call) -> Result<u64, Fault> {
     match call {
         Call::Act(block, cycle) => act(store, &[marked(block, cycle)]),
@@ -166,7 +166,7 @@ fn answer(store: &mut Store<MemDevice>, call: Call) -> Result<u64, Fault> {
 /// A call, and what it answers.
 type Row = (Call, Result<u64, Fault>);
 
-/// The first of these calls, counted from 1, that isn't answered so; 0 where all are.
+/// The first of these calls, counted from 1, that isn't answered so; 0 if all are.
 fn wrong(store: &mut Store<MemDevice>, rows: &[Row]) -> usize {
     let mut place = 0usize;
     for (call, wanted) in rows {
@@ -273,7 +273,7 @@ const STOPPED: [Row; 5] = [
     (Call::Begin, Err(Fault::Stopped)),
 ];
 
-/// The same where it can go on.
+/// The same if it can go on.
 const GOING: [Row; 2] = [(Call::IsStopped, Ok(0)), (Call::Checkpoint, Ok(1))];
 
 // Four calls force, one writes the page and one syncs it, two close the log; a ninth isn't made.
@@ -332,7 +332,8 @@ fn flushes_go_on_after_a_failed_checkpoint(rt: HostRuntime) -> Result<(), Fail> 
     Ok(())
 }
 
-/// Fifteen acts, each forced, fill the log: whether each has what is left of it. An act is refused then until a checkpoint is made.
+/// Fifteen acts, each forced, fill the log: whether each has what is left of it. An act is refused then until
+/// a checkpoint is made.
 fn fills(store: &mut Store<MemDevice>) -> bool {
     for n in 0..15u32 {
         let number = u64::from(n) + 1;
@@ -546,15 +547,16 @@ fn a_failed_fetch_is_made_again(rt: HostRuntime) -> Result<(), Fail> {
     Ok(())
 }
 
-/// A store of 40 pages, all written, of which 16 are in memory then: block 39, which is pinned, and the blocks 1 to 15, which were
-/// changed in this order.
+/// A store of 40 pages, all written, of which 16 are in memory then: block 39, which is pinned, and the
+/// blocks 1 to 15, which were changed in this order.
 const CROWDED: [Row; 2] = [
     (Call::All(CallOfAll::Write), Ok(0)),
     (Call::All(CallOfAll::Crowd), Ok(0)),
 ];
 
-// Block 20 comes for block 1, which is written before, and the next four of the changed ones after it: a quarter of the frames.
-// Then block 20 is read. What wasn't written by the call that failed is changed as before, and first in the order.
+// Block 20 comes for block 1, which is written before, and the next four of the changed ones after it: a
+// quarter of the frames. Then block 20 is read. What wasn't written by the call that failed is changed as
+// before, and first in the order.
 #[test]
 fn pages_that_cannot_be_written_stay(rt: HostRuntime) -> Result<(), Fail> {
     for n in 1..8u64 {
@@ -578,7 +580,8 @@ fn pages_that_cannot_be_written_stay(rt: HostRuntime) -> Result<(), Fail> {
     Ok(())
 }
 
-// The same where the acts aren't forced: that takes four calls before, and where one of these fails the log is stopped.
+// The same if the acts aren't forced: that takes four calls before, and if one of these fails the log is
+// stopped.
 #[test]
 fn pages_that_cannot_be_forced_stay(rt: HostRuntime) -> Result<(), Fail> {
     for n in 1..12u64 {

@@ -51,7 +51,7 @@ fn events_of(alloc: Global, rows: &[(Event, &str, u64)]) -> Result<Vec<Event>, F
     Ok(events)
 }
 
-// The first of these answers, counted from 1, that isn't so; 0 where all are, 99 where there are more or fewer.
+// The first of these answers, counted from 1, that isn't so; 0 if all are, 99 if there are more or fewer.
 fn wrong_answer(answers: &[Answer], rows: &[(Event, &str, u64)]) -> usize {
     let mut place = 0usize;
     for (_, word, number) in rows {
@@ -67,7 +67,7 @@ fn wrong_answer(answers: &[Answer], rows: &[(Event, &str, u64)]) -> usize {
     if answers.len() == rows.len() { 0 } else { 99 }
 }
 
-// The first of these events, counted from 1, that isn't answered so; 0 where all are, 99 where they can't be run.
+// The first of these events, counted from 1, that isn't answered so; 0 if all are, 99 if they can't be run.
 fn wrong<S: PageStore>(
     alloc: Global,
     world: &mut World<S, Blocks>,
@@ -139,8 +139,8 @@ fn each_event_once(rt: HostRuntime) -> Result<(), Fail> {
     Ok(())
 }
 
-// Leaves a world whose session 0 has just latched the leaf: the first event that isn't answered so, as `wrong` tells it, and the
-// store.
+// Leaves a world whose session 0 has just latched the leaf: the first event that isn't answered so, as
+// `wrong` tells it, and the store.
 fn left_latched(alloc: Global, mut world: World<MapStore, Blocks>) -> (usize, MapStore) {
     let rows = [
         (Event::Insert(0, entry(0x61, 1)), "begun", 0),
@@ -217,7 +217,8 @@ fn readers_and_abandon(rt: HostRuntime) -> Result<(), Fail> {
     Ok(())
 }
 
-// Why no world of so many sessions is made, and how many pages the store has that comes back; NoMemory where one is.
+// Why no world of so many sessions is made, and how many pages the store has that comes back; NoMemory if one
+// is.
 fn refused(alloc: Global, sessions: u32) -> Result<(Fault, u32), Fault> {
     let store = pages(alloc, LIMITS)?;
     let sets: Vec<Blocks> = Vec::new(alloc);
@@ -248,7 +249,7 @@ fn law<D: Device>(world: &World<Store<D>, Blocks>) {
     world.crash_law();
 }
 
-// How many entries the root has, which is a leaf; 99 where it is none.
+// How many entries the root has, which is a leaf; 99 if it is none.
 fn entries_in<S: PageStore>(world: &mut World<S, Blocks>) -> Result<usize, Fault> {
     match page_in(world, 1)?.items {
         Items::Entries(entries) => Ok(entries.len()),
@@ -289,7 +290,8 @@ fn called<S: PageStore>(world: &mut World<S, Blocks>, begin: Event) -> Answer {
     answer
 }
 
-// Scans all by session 1: how many entries, each of the key and the place of its number; or None for a wrong answer.
+// Scans all by session 1: how many entries, each of the key and the place of its number; or None for a wrong
+// answer.
 fn counted<S: PageStore>(world: &mut World<S, Blocks>) -> Option<u8> {
     let mut given = 0u8;
     let mut answer = one(world, Event::Scan(1, ALL));
@@ -362,7 +364,8 @@ fn goes_on<S: PageStore>(alloc: Global, again: &mut World<S, Blocks>) -> [bool; 
     ]
 }
 
-// Whether the index that is opened after a crash has what it should: five entries and then a sixth, after a split, or one.
+// Whether the index that is opened after a crash has what it should: five entries and then a sixth, after a
+// split, or one.
 fn has_all<S: PageStore>(alloc: Global, again: &mut World<S, Blocks>, is_split: bool) -> bool {
     if is_split {
         goes_on(alloc, again) == [true; 4]

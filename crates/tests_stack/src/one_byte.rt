@@ -11,7 +11,8 @@ use std::process::Abort;
 use std::test::{Fail, *};
 use tests_support::plain::open;
 
-/// Runs five parts of the table for the index of three levels, whose pages are of 17 blocks, and one after them.
+/// Runs five parts of the table for the index of three levels, whose pages are of 17 blocks, and one after
+/// them.
 fn of_three_levels<R: Abort + Eprint>(rt: &R, alloc: Global, from: u64) -> Result<(), Fail> {
     let parts = Parts {
         kind: Kind::OneByte,
@@ -22,7 +23,8 @@ fn of_three_levels<R: Abort + Eprint>(rt: &R, alloc: Global, from: u64) -> Resul
     run(rt, alloc, &sound(alloc, false)?, parts, 250)
 }
 
-/// Runs five parts of the table for the index of five entries, whose pages are of four blocks, and two after them.
+/// Runs five parts of the table for the index of five entries, whose pages are of four blocks, and two after
+/// them.
 fn of_five_entries<R: Abort + Eprint>(rt: &R, alloc: Global, from: u64) -> Result<(), Fail> {
     let parts = Parts {
         kind: Kind::OneByte,

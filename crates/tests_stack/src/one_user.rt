@@ -14,7 +14,7 @@ use tests_support::plain::{
 };
 use tests_support::small::{ALL, LEN, LIMITS, entry, keyed, limits, made, made_with, pages};
 
-// The number of the row that a scan gives, or 0 where it has given all; after 100 the number of a refusal.
+// The number of the row that a scan gives, or 0 if it has given all; after 100 the number of a refusal.
 fn given<S: PageStore>(index: &mut Index<S>, token: ScanToken) -> u64 {
     match next(index, token) {
         Ok(Some(entry)) => u64::from(entry.row.offset()),
@@ -33,7 +33,7 @@ fn of(key: u8) -> Entry {
     entry(key, u16::from(key))
 }
 
-// The action by which the entry was added; 0 where it was refused, or has left a split unfinished.
+// The action by which the entry was added; 0 if it was refused, or has left a split unfinished.
 fn added<S: PageStore>(index: &mut Index<S>, new: Entry) -> u64 {
     match insert(index, new) {
         Ok(
@@ -88,7 +88,8 @@ fn scans_again<S: PageStore>(index: &mut Index<S>) -> Result<bool, Fault> {
     Ok(all && second)
 }
 
-// Three inserts and one of an entry that is there, a commit, scans and a checkpoint: whether each answers what is right.
+// Three inserts and one of an entry that is there, a commit, scans and a checkpoint: whether each answers
+// what is right.
 fn answer_in_turn<S: PageStore>(index: &mut Index<S>) -> [bool; 7] {
     [
         added(index, of(0x63)) == 1,
@@ -153,7 +154,8 @@ fn begins_63_scans<S: PageStore>(index: &mut Index<S>) -> Result<[bool; 3], Faul
     ])
 }
 
-// What an index answers whose log has failed: to an insert, to a scan that begins again and to one that begins.
+// What an index answers whose log has failed: to an insert, to a scan that begins again and to one that
+// begins.
 fn refusals<S: PageStore>(index: &mut Index<S>, token: ScanToken) -> [Option<Fault>; 3] {
     [
         insert(index, of(0x63)).err(),
@@ -176,8 +178,8 @@ fn stops<S: PageStore>(index: &mut Index<S>) -> Result<[bool; 7], Fault> {
     ])
 }
 
-// To open makes 7 calls of the device, the first insert reads two pages, the first commit makes 4: the next is the first of the
-// second commit.
+// To open makes 7 calls of the device, the first insert reads two pages, the first commit makes 4: the next
+// is the first of the second commit.
 fn failing(alloc: Global) -> Result<MemDevice, Fault> {
     let mut device = made(alloc)?;
     device.fail_at(14);
@@ -194,7 +196,8 @@ fn deletes_all<S: PageStore>(index: &mut Index<S>) -> Result<(VacuumStats, Vacuu
     Ok((removed, cleaned))
 }
 
-// Deletes all, and inserts it again: whether what the deletes count is right, and what a cleanup counts after it.
+// Deletes all, and inserts it again: whether what the deletes count is right, and what a cleanup counts after
+// it.
 fn uses_again<S: PageStore>(index: &mut Index<S>) -> Result<[bool; 9], Fault> {
     let (removed, cleaned) = deletes_all(index)?;
     let (is_added, is_scanned) = (
@@ -234,7 +237,8 @@ fn gives_all<S: PageStore>(index: &mut Index<S>) -> Result<bool, Fault> {
     Ok(next(index, token)?.is_none())
 }
 
-// Inserts so many entries, not in order, into both: whether they answer the same, and leave no split unfinished.
+// Inserts so many entries, not in order, into both: whether they answer the same, and leave no split
+// unfinished.
 fn answer_alike<S: PageStore, T: PageStore>(
     few: &mut Index<S>,
     many: &mut Index<T>,
@@ -251,15 +255,15 @@ fn answer_alike<S: PageStore, T: PageStore>(
     Ok(gives_all(few)? && gives_all(many)?)
 }
 
-// An empty index over many pages with the smallest log, of which 1,024 are in memory at once, and one of which this one has few:
-// whether they answer alike.
+// An empty index over many pages with the smallest log, of which 1,024 are in memory at once, and one of
+// which this one has few: whether they answer alike.
 fn answers_as_many_do<S: PageStore>(alloc: Global, few: &mut Index<S>) -> Result<bool, Fault> {
     let mut many = open_index(alloc, made_with(alloc, &limits(4_096))?, 1_024)?;
     answer_alike(few, &mut many)
 }
 
-// Deletes the rows of block 1, which odd keys have, while even keys have rows of block 0: whether it counts and leaves what is
-// right.
+// Deletes the rows of block 1, which odd keys have, while even keys have rows of block 0: whether it counts
+// and leaves what is right.
 fn deletes_odd<S: PageStore>(index: &mut Index<S>) -> Result<[bool; 2], Fault> {
     for key in 1..8u8 {
         insert(index, keyed(&[key], u32::from(key) % 2, u16::from(key)))?;
@@ -339,7 +343,8 @@ fn a_split_leaf_is_scanned(rt: HostRuntime) -> Result<(), Fail> {
     Ok(())
 }
 
-// A new index keeps one entry, and what is opened on its device has it: and why that isn't opened with a frame less.
+// A new index keeps one entry, and what is opened on its device has it: and why that isn't opened with a
+// frame less.
 fn opened_again(alloc: Global) -> Result<([bool; 2], Option<Fault>), Fault> {
     let (is_kept, device) = opened_does(alloc, made(alloc)?, Deed::KeepsOne)?;
     let (is_given, device) = opened_does(alloc, device, Deed::GivesOne)?;

@@ -71,8 +71,8 @@ fn short_answers(alloc: Global) -> Result<[Result<(), Fault>; 2], Fault> {
     Ok([create(&mut short, &limits(64)), create(&mut short, &few)])
 }
 
-/// Each of the 70 calls of a create fails once, and a 71st isn't made: zeros, sync, gate, 62 blocks, two pages, sync, superblock,
-/// sync. The first call where the answer isn't that, or 0.
+/// Each of the 70 calls of a create fails once, and a 71st isn't made: zeros, sync, gate, 62 blocks, two
+/// pages, sync, superblock, sync. The first call whose answer isn't that, or 0.
 fn wrong_call(device: &mut MemDevice) -> u64 {
     for n in 1..72u64 {
         device.fail_at(n);
@@ -110,7 +110,7 @@ fn opened(alloc: Global, device: MemDevice, frames: u32) -> Result<Store<MemDevi
     }
 }
 
-/// The number of the fault that an open is refused with, 0 where it isn't.
+/// The number of the fault that an open is refused with, 0 if it isn't.
 fn refusal(alloc: Global, device: MemDevice, frames: u32) -> u8 {
     match opened(alloc, device, frames).err() {
         Some(fault) => fault.number(),
@@ -148,7 +148,8 @@ fn refusal_after(alloc: Global, device: MemDevice, at: u64, bytes: &[u8]) -> Res
     Ok(number)
 }
 
-/// Over a sound index: an open gate, and 16 images, which don't fit; another level of the root; another version.
+/// Over a sound index: an open gate, and 16 images, which don't fit; another level of the root; another
+/// version.
 #[test]
 fn hostile_indexes(rt: HostRuntime) -> Result<(), Fail> {
     for (at, bytes, number) in [
@@ -162,8 +163,8 @@ fn hostile_indexes(rt: HostRuntime) -> Result<(), Fail> {
     Ok(())
 }
 
-/// Superblocks of an index of 3 items a page, of 9 pages, which is longer than its device, and of one none of whose blocks is
-/// in use.
+/// Superblocks of an index of 3 items a page, of 9 pages, which is longer than its device, and of one none of
+/// whose blocks is in use.
 #[test]
 fn hostile_superblocks(rt: HostRuntime) -> Result<(), Fail> {
     for (items, pages, number) in [(3, 8, 18), (4, 9, 14), (4, 8, 17)] {
@@ -196,14 +197,14 @@ fn busy_device(alloc: Global) -> Result<MemDevice, Fault> {
     Ok(device)
 }
 
-/// How many pages a store has, and the cycles of the first two leaves; none where it refuses them.
+/// How many pages a store has, and the cycles of the first two leaves; none if it refuses them.
 fn cycles_in<S: PageStore>(store: &mut S) -> Option<(u32, u32, u32)> {
     let first = page(store, 1).ok()?;
     let second = page(store, 2).ok()?;
     Some((store.used(), first.cycle, second.cycle))
 }
 
-/// The same of the index that is opened on the device; none where it is refused.
+/// The same of the index that is opened on the device; none if it is refused.
 fn cycles(alloc: Global, device: MemDevice) -> Option<(u32, u32, u32)> {
     let mut store = opened(alloc, device, 1_024).ok()?;
     cycles_in(&mut store)
@@ -224,8 +225,8 @@ fn leaves_all(alloc: Global, device: &MemDevice) -> bool {
     true
 }
 
-/// Opens a device a call of which fails, the nth from now on: whether it's refused, up to the twelfth call, and what a crash leaves
-/// then has all that was forced. Answers also the device where it was refused.
+/// Opens a device a call of which fails, the nth from now on: whether it's refused, up to the twelfth call,
+/// and what a crash leaves then has all that was forced. Answers also the device if it was refused.
 fn fails_right(alloc: Global, found: MemDevice, n: u64) -> (bool, Option<MemDevice>) {
     match open(alloc, found, 16) {
         Ok(store) => ((n, store.used()) == (13, 3), None),
@@ -239,7 +240,7 @@ fn fails_right(alloc: Global, found: MemDevice, n: u64) -> (bool, Option<MemDevi
     }
 }
 
-/// Whether that is so where the nth call fails and each later one.
+/// Whether that is so if the nth call fails and each later one.
 fn stops_right(
     alloc: Global,
     device: &MemDevice,
@@ -251,7 +252,7 @@ fn stops_right(
     Ok(fails_right(alloc, stopping, n).0)
 }
 
-/// Whether that is so where the nth call alone fails, and the next opening is undisturbed.
+/// Whether that is so if the nth call alone fails, and the next opening is undisturbed.
 fn goes_on(alloc: Global, device: &MemDevice, image: CrashImage, n: u64) -> Result<bool, Fault> {
     let mut failing = left(alloc, device, image)?;
     failing.fail_at(n);
@@ -275,8 +276,8 @@ fn wrong_opening(alloc: Global, device: &MemDevice) -> u64 {
     0
 }
 
-// It reads the superblock, syncs, reads the log, writes two images and syncs them, closes the log by a write and a
-// sync, and reads three pages and the unused block after them.
+// It reads the superblock, syncs, reads the log, writes two images and syncs them, closes the log by a write
+// and a sync, and reads three pages and the unused block after them.
 #[test]
 fn each_call_of_an_open_fails(rt: HostRuntime) -> Result<(), Fail> {
     let device = busy_device(rt.alloc())?;
@@ -284,7 +285,7 @@ fn each_call_of_an_open_fails(rt: HostRuntime) -> Result<(), Fail> {
     Ok(())
 }
 
-/// What an open finds: how many pages are in use, and 0 where it is refused.
+/// What an open finds: how many pages are in use, and 0 if it is refused.
 fn used(alloc: Global, device: MemDevice) -> u32 {
     match opened(alloc, device, 16) {
         Ok(store) => store.used(),
@@ -292,8 +293,9 @@ fn used(alloc: Global, device: MemDevice) -> u32 {
     }
 }
 
-/// Whether so many pages may be in use where a create stopped at this call: zeros over the superblock, sync, gate, 6 blocks, two
-/// pages, sync, superblock, sync. A crash leaves the index of three pages that was there, none, or the new one of two.
+/// Whether so many pages may be in use if a create stopped at this call: zeros over the superblock, sync,
+/// gate, 6 blocks, two pages, sync, superblock, sync. A crash leaves the index of three pages that was there,
+/// none, or the new one of two.
 fn may_be_used(n: u64, found: u32) -> bool {
     match n {
         1..3 => found == 0 || found == 3,

@@ -1,5 +1,5 @@
-//! Calls without their contracts. A test looks at the answers alone, and what a call promises would be carried, call by call, to
-//! the end of the test that makes it.
+//! Calls without their contracts. A test looks at the answers alone, and what a call promises would be
+//! carried, call by call, to the end of the test that makes it.
 
 use access_method::Index;
 use amcheck::{CheckFault, Report, check_one, check_parents_one};

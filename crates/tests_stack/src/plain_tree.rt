@@ -1,5 +1,5 @@
-//! Whether pages are a B-link tree, and whether they are of a unique index, by the definition and as plainly as it is said: no
-//! mark is kept, and each chain is looked through again for each of its pages.
+//! Whether pages are a B-link tree, and whether they are of a unique index, by the definition and as plainly
+//! as it is said: no mark is kept, and each chain is looked through again for each of its pages.
 
 use index_model::{Bound, Entry, Key};
 use page_codec::{Downlink, Items, Page, PageState};
@@ -70,7 +70,8 @@ fn entries_ascend(low: Option<Bound>, entries: &[Entry], high: &Option<Bound>) -
     true
 }
 
-/// Whether there are downlinks, whose first bound is none and whose others ascend between the low and the high.
+/// Whether there are downlinks, whose first bound is none and whose others ascend between the low and the
+/// high.
 fn bounds_ascend(low: Option<Bound>, links: &[Downlink], high: &Option<Bound>) -> bool {
     let Some(first) = links.first() else {
         return false;
@@ -88,8 +89,9 @@ fn bounds_ascend(low: Option<Bound>, links: &[Downlink], high: &Option<Bound>) -
     first.bound.is_none()
 }
 
-/// Whether its state lets the page stand there: a live one has what its level has; a half-dead one is an empty leaf, neither
-/// with an incomplete split nor after a page with an incomplete split, and not the rightmost; a deleted one stands nowhere.
+/// Whether its state lets the page stand there. A live one has what its level has. A half-dead one is an
+/// empty leaf, and not the rightmost. Neither it nor the page before it has an incomplete split. A deleted
+/// one stands nowhere.
 fn fits_state(page: &Page, level: u32, here: &Here) -> bool {
     match page.state {
         PageState::Live => {
@@ -155,8 +157,8 @@ fn has(chain: &[Here], block: u32) -> bool {
     chain.iter().any(|here| here.block == block)
 }
 
-/// Puts the places of a level's chain after each other. Whether each page stands rightly, none is met twice, and the chain
-/// ends.
+/// Puts the places of a level's chain after each other. Whether each page stands rightly, none is met twice,
+/// and the chain ends.
 fn walk(pages: &[Page], level: u32, chain: &mut Vec<Here>) -> Result<bool, AllocError> {
     let mut next = leftmost(pages, level);
     for _ in 0..pages.len() {
@@ -189,8 +191,8 @@ fn are_all_on(pages: &[Page], level: u32, chain: &[Here]) -> bool {
     true
 }
 
-/// The downlinks that the pages of a chain are to have, in order: each with its low, but those that are half-dead or after a
-/// page with an incomplete split.
+/// The downlinks that the pages of a chain are to have, in order: each with its low, but those that are
+/// half-dead or after a page with an incomplete split.
 fn put_due(pages: &[Page], chain: &[Here], due: &mut Vec<Downlink>) -> Result<(), AllocError> {
     for here in chain {
         if let Some(page) = pages.get(here.block as usize) {
@@ -244,8 +246,8 @@ fn is_root_level(root: u32, chain: &[Here]) -> bool {
     }
 }
 
-/// Whether the levels from this one down are chains, each with the downlinks for the one below. The chain above is that of
-/// the level above.
+/// Whether the levels from this one down are chains, each with the downlinks for the one below. The chain
+/// above is that of the level above.
 fn are_levels(
     alloc: Global,
     pages: &[Page],

@@ -77,7 +77,8 @@ fn run_part<R: Abort>(
     Ok(())
 }
 
-/// Runs parts on copies of this index: each call of each row goes right, and each kind of outcome comes so often.
+/// Runs parts on copies of this index: each call of each row goes right, and each kind of outcome comes so
+/// often.
 pub fn run<R: Abort + Eprint>(
     rt: &R,
     alloc: Global,

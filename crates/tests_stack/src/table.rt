@@ -43,8 +43,8 @@ impl Table {
         }
     }
 
-    /// A place in a page: three eighths in its links, three in its high key and items, one in its kind, level, state and flags,
-    /// one anywhere in its first 416 bytes.
+    /// A place in a page: three eighths in its links, three in its high key and items, one in its kind,
+    /// level, state and flags, one anywhere in its first 416 bytes.
     fn in_a_page(&mut self) -> u64
         ensures { result < 4096 }
     {
@@ -66,8 +66,8 @@ impl Table {
         }
     }
 
-    /// The next row: one in sixteen in the superblock, three in the log, the others in pages. Half of the values are small, as
-    /// numbers of blocks are.
+    /// The next row: one in sixteen in the superblock, three in the log, the others in pages. Half of the
+    /// values are small, as numbers of blocks are.
     pub fn next(&mut self) -> Edit {
         let at = match self.number(16) {
             0 => self.number(40),

@@ -49,7 +49,7 @@ struct Given {
     ascend: bool,
 }
 
-/// An index that was opened, and how many entries it has, where the verifier found no damage.
+/// An index that was opened, and how many entries it has, if the verifier found no damage.
 #[derive(Drop)]
 struct Trial<S> {
     index: Index<S>,
@@ -99,8 +99,8 @@ impl<S: PageStore> Trial<S> {
         }
     }
 
-    /// Whether an insert goes right: into a sound index the entry is added, or there is no block for a split, or the altered
-    /// byte has made another entry of it.
+    /// Whether an insert goes right: into a sound index the entry is added, or there is no block for a split,
+    /// or the altered byte has made another entry of it.
     fn inserts_right(&mut self, new: Entry) -> bool {
         match insert(&mut self.index, new) {
             Ok(Inserted { unfinished, .. }) => {
@@ -136,8 +136,8 @@ impl<S: PageStore> Trial<S> {
         true
     }
 
-    /// Whether a bulk delete or a cleanup went right that answered this: of a sound index it tells how many entries it
-    /// removed and left.
+    /// Whether a bulk delete or a cleanup went right that answered this: of a sound index it tells how many
+    /// entries it removed and left.
     fn is_vacuum_right(&mut self, answer: Result<VacuumStats, Fault>) -> bool {
         match answer {
             Ok(stats) => match self.entries {
@@ -187,7 +187,7 @@ impl<S: PageStore> Trial<S> {
     }
 }
 
-/// Whether an open was refused as it may be where the device answers and there is memory.
+/// Whether an open was refused as it may be if the device answers and there is memory.
 fn is_open_fault(fault: Fault) -> bool {
     matches!(
         fault,
@@ -199,7 +199,8 @@ fn is_open_fault(fault: Fault) -> bool {
     )
 }
 
-/// Whether the pages of a store are a B-link tree by the definition, and, if the index is unique, of such an index.
+/// Whether the pages of a store are a B-link tree by the definition, and, if the index is unique, of such an
+/// index.
 fn is_sound_in<S: PageStore>(alloc: Global, store: &mut S) -> Result<bool, Fault> {
     let mut pages = Vec::new(alloc);
     for block in 0..store.used() {
@@ -231,8 +232,8 @@ fn damage_of(checked: &Result<Report, CheckFault>) -> Option<(u8, u32)> {
     }
 }
 
-/// What both checks answer: a report of the pages, or the number of a damage; None where one was refused, or where the check
-/// of levels alone answers another damage.
+/// What both checks answer: a report of the pages, or the number of a damage; None if one was refused, or if
+/// the check of levels alone answers another damage.
 fn checked<S: PageStore>(alloc: Global, store: &mut S) -> Option<Result<Report, u8>> {
     let first = levels(alloc, store);
     let second = parents(alloc, store);
@@ -251,7 +252,7 @@ fn checked<S: PageStore>(alloc: Global, store: &mut S) -> Option<Result<Report, 
     }
 }
 
-/// What both checks answer, where the definition says the same of the pages: None where something went wrong.
+/// What both checks answer, if the definition says the same of the pages: None if something went wrong.
 fn verified<S: PageStore>(alloc: Global, store: &mut S) -> Option<Result<Report, u8>> {
     let found = checked(alloc, store)?;
     match is_sound_in(alloc, store) {
@@ -260,7 +261,7 @@ fn verified<S: PageStore>(alloc: Global, store: &mut S) -> Option<Result<Report,
     }
 }
 
-/// What the verifier finds, as an outcome, and how many entries there are, where it finds no damage.
+/// What the verifier finds, as an outcome, and how many entries there are, if it finds no damage.
 fn begun<S: PageStore>(alloc: Global, store: &mut S) -> (Outcome, Option<u64>) {
     match verified(alloc, store) {
         Some(Ok(report)) => (Outcome::Sound, Some(u64::from(report.entries))),
@@ -278,8 +279,8 @@ fn is_found_again<S: PageStore>(alloc: Global, store: &mut S, entries: Option<u6
     }
 }
 
-/// Whether an index opens again from its device, sound where it was. It may have grown up to a block that wasn't in use and is
-/// altered.
+/// Whether an index opens again from its device, sound if it was. It may have grown up to a block that wasn't
+/// in use and is altered.
 fn opens_again<D: Device + Drop>(
     alloc: Global,
     device: D,

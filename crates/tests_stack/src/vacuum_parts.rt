@@ -51,7 +51,8 @@ fn gives<S: PageStore>(index: &mut Index<S>, token: ScanToken, keys: &[u8]) -> R
     Ok(next(index, token)?.is_none())
 }
 
-// Parts of one step, until it has finished: its statistics, and how many parts went before. More than 1,000 are too many.
+// Parts of one step, until it has finished: its statistics, and how many parts went before. More than 1,000
+// are too many.
 fn finish<S: PageStore>(index: &mut Index<S>) -> Result<(VacuumStats, u32), Fault> {
     for part in 0..1_000u32 {
         if let Some(stats) = vacuum(index, 1)? {
@@ -61,7 +62,8 @@ fn finish<S: PageStore>(index: &mut Index<S>) -> Result<(VacuumStats, u32), Faul
     Err(Fault::PageDamaged(0))
 }
 
-// Deletes three of seven entries in parts of one step, and cleans up so: whether each has what is right, in several parts.
+// Deletes three of seven entries in parts of one step, and cleans up so: whether each has what is right, in
+// several parts.
 fn goes_on<S: PageStore>(alloc: Global, index: &mut Index<S>) -> Result<[bool; 9], Fault> {
     add(index, 1, 8)?;
     begin_bulk_delete(index, rows(alloc, &[2, 4, 6])?)?;
@@ -105,7 +107,8 @@ fn goes_on_beside<S: PageStore>(alloc: Global, index: &mut Index<S>) -> Result<[
     ])
 }
 
-// One goes on already, or all sessions are taken: whether each other one is refused, and what is refused changes nothing.
+// One goes on already, or all sessions are taken: whether each other one is refused, and what is refused
+// changes nothing.
 fn refuses_others<S: PageStore>(alloc: Global, index: &mut Index<S>) -> Result<[bool; 8], Fault> {
     add(index, 1, 4)?;
     let none = [
@@ -151,8 +154,8 @@ fn takes_a_session<S: PageStore>(index: &mut Index<S>) -> Result<[bool; 5], Faul
     ])
 }
 
-// A scan stands on the leaf that a bulk delete needs: whether a part is refused and tried again, and it goes on once the scan is
-// over. One that is given up has removed nothing else.
+// A scan stands on the leaf that a bulk delete needs: whether a part is refused and tried again, and it goes
+// on once the scan is over. One that is given up has removed nothing else.
 fn waits_for_a_scan<S: PageStore>(alloc: Global, index: &mut Index<S>) -> Result<[bool; 7], Fault> {
     add(index, 1, 4)?;
     let token = begin_scan(index, ALL)?;

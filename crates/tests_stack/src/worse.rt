@@ -1,5 +1,5 @@
-//! Edits that alter more than one byte: links that make rings, levels, keys out of order, block numbers at their ends, pages that
-//! stand in the place of others, a log with more images or fewer, and limits that lie.
+//! Edits that alter more than one byte: links that make rings, levels, keys out of order, block numbers at
+//! their ends, pages that stand in the place of others, a log with more images or fewer, and limits that lie.
 
 use crate::edits::Edit;
 use crate::table::Table;
@@ -64,7 +64,8 @@ fn links(table: &mut Table) -> Edit {
     Edit::Sets(at, block.to_le_bytes())
 }
 
-/// A page links to itself, or to the right where it links to the left, or to the left where it links to the right.
+/// A page links to itself, or to the right where it links to the left, or to the left where it links to the
+/// right.
 fn rings(table: &mut Table) -> Edit {
     let page = page(table);
     let (from, to) = match table.number(4) {
@@ -82,7 +83,8 @@ fn levels(table: &mut Table) -> Edit {
     Edit::Alters(at, u8::try_from(table.number(4)).unwrap_or(0))
 }
 
-/// Two of the first four items of a leaf change places, or of an internal page; half of them with one of another page.
+/// Two of the first four items of a leaf change places, or of an internal page; half of them with one of
+/// another page.
 fn reorders(table: &mut Table) -> Edit {
     let one = page(table);
     let other = match table.number(2) {
@@ -107,7 +109,8 @@ fn copies(table: &mut Table) -> Edit {
     }
 }
 
-/// The first group of the log has another number of images, or a gate after some images, or at the beginning, is another.
+/// The first group of the log has another number of images, or a gate after some images, or at the beginning,
+/// is another.
 fn cuts_log(table: &mut Table) -> Edit {
     match table.number(3) {
         0 => Edit::Sets(4_097, small(table, 17).to_le_bytes()),
@@ -130,8 +133,8 @@ fn lies(table: &mut Table) -> Edit {
     }
 }
 
-/// The next edit: of sixteen four of links, two of rings, three of items, two of levels, two of pages, and one of the log, a
-/// byte and the limits each.
+/// The next edit: of sixteen four of links, two of rings, three of items, two of levels, two of pages, and
+/// one of the log, a byte and the limits each.
 pub fn edit(table: &mut Table) -> Edit {
     match table.number(16) {
         0..4 => links(table),

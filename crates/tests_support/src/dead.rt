@@ -1,4 +1,5 @@
-//! Sets of dead rows, of one type in the tests that share it: each type more is a copy more of what is compiled.
+//! Sets of dead rows, of one type in the tests that share it: each type more is a copy more of what is
+//! compiled.
 
 use index_model::{DeadRows, RowAddr};
 

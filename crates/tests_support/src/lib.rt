@@ -1,4 +1,5 @@
-//! What several crates of tests use: sets of dead rows, small indexes, and calls without their contracts. No product stands on it.
+//! What several crates of tests use: sets of dead rows, small indexes, and calls without their contracts. No
+//! product stands on it.
 #![tactic(auto)]
 
 pub mod dead;

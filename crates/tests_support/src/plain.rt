@@ -1,5 +1,5 @@
-//! Calls without their contracts. A test looks at the answers alone, and what a call promises would be carried, call by call, to
-//! the end of the test that makes it.
+//! Calls without their contracts. A test looks at the answers alone, and what a call promises would be
+//! carried, call by call, to the end of the test that makes it.
 
 use access_method::{Index, Inserted, RowSet, ScanToken};
 use device::{CrashImage, Device, MemDevice};
@@ -27,7 +27,7 @@ pub fn left(alloc: Global, device: &MemDevice, image: CrashImage) -> Result<MemD
     device.crash(alloc, image)
 }
 
-/// Reads from there on; nothing where that is after the end.
+/// Reads from there on; nothing if that is after the end.
 pub fn read(device: &mut MemDevice, at: u64, bytes: &mut [u8]) -> Result<(), Fault> {
     let len = bytes.len() as u64;
     if device.len() < len || at > device.len() - len {
@@ -36,7 +36,7 @@ pub fn read(device: &mut MemDevice, at: u64, bytes: &mut [u8]) -> Result<(), Fau
     device.read_at(at, bytes)
 }
 
-/// Writes there; nothing where that is after the end.
+/// Writes there; nothing if that is after the end.
 pub fn write(device: &mut MemDevice, at: u64, bytes: &[u8]) -> Result<(), Fault> {
     let len = bytes.len() as u64;
     if device.len() < len || at > device.len() - len {
@@ -66,7 +66,7 @@ pub fn device_of<D: Device>(store: Store<D>) -> D {
     store.into_device()
 }
 
-/// Changes these pages at once; `PageDamaged` where a store would not take them.
+/// Changes these pages at once; `PageDamaged` if a store would not take them.
 pub fn act<S: PageStore>(store: &mut S, pages: &[Page]) -> Result<u64, Fault> {
     if pages.is_empty()
         || pages.len() > 4
@@ -129,7 +129,7 @@ pub fn run<S: PageStore, T: DeadRows + Drop>(
     world.run(events, answers)
 }
 
-/// Room for so many images: where there is less, a checkpoint.
+/// Room for so many images: if there is less, a checkpoint.
 fn make_room<S: PageStore, T: DeadRows + Drop>(
     world: &mut World<S, T>,
     least_room: u32,
@@ -190,7 +190,7 @@ pub fn put<S: PageStore, T: DeadRows + Drop>(
     }
 }
 
-/// The next entry that a session's scan has ready; where none is, a step of it.
+/// The next entry that a session's scan has ready; if none is, a step of it.
 fn advance<S: PageStore, T: DeadRows + Drop>(
     world: &mut World<S, T>,
     session: u32,
@@ -219,7 +219,7 @@ fn seek<S: PageStore, T: DeadRows + Drop>(
     Err(Fault::PageDamaged(0))
 }
 
-/// The next entry of a session's scan, or None at its end. The scan is given up then, and where it is refused.
+/// The next entry of a session's scan, or None at its end. The scan is given up then, and if it is refused.
 pub fn give<S: PageStore, T: DeadRows + Drop>(
     world: &mut World<S, T>,
     session: u32,

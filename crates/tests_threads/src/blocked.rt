@@ -24,7 +24,8 @@ fn empty(alloc: Global, sessions: u32) -> Result<World<MapStore, Blocks>, Fail> 
     Ok(world(alloc, pages(alloc)?, sessions, sets)?)
 }
 
-// Of a record: the worker, the job, the interval, how many records there were as it began, and how many entries were given.
+// Of a record: the worker, the job, the interval, how many records there were as it began, and how many
+// entries were given.
 fn columns(record: &Record) -> [u64; 6] {
     [
         u64::from(record.worker),
@@ -80,8 +81,8 @@ const IN_ONE_LEAF: [Line; 25] = [
     (3, Act::Step, Told::Done, Some(3)),
 ];
 
-/// Three inserts into one leaf and a scan of it: one has the leaf's latch between two steps, and the others are blocked until it is
-/// over, as often as they come. Each that was blocked goes on, and has one record.
+/// Three inserts into one leaf and a scan of it: one has the leaf's latch between two steps, and the others
+/// are blocked until it is over, as often as they come. Each that was blocked goes on, and has one record.
 #[test]
 fn one_leaf(rt: HostRuntime) -> Result<(), Fail> {
     let jobs = [
@@ -131,8 +132,8 @@ const AT_A_PIN: [Line; 22] = [
     (1, Act::Begin(4), Told::Forced(3), Some(5)),
 ];
 
-/// A bulk delete is blocked by the pin of a scan until that is cut, which it is only where its room is full; a full room takes no
-/// more.
+/// A bulk delete is blocked by the pin of a scan until that is cut, which it is only if its room is full; a
+/// full room takes no more.
 #[test]
 fn pinned_leaf(rt: HostRuntime) -> Result<(), Fail> {
     let jobs = [

@@ -58,7 +58,8 @@ fn eight_workers_share_forces(rt: HostRuntime) -> Result<(), Fail> {
     Ok(())
 }
 
-/// More workers than jobs, commits after nothing, and commits beside a scan, a bulk delete, a cleanup and a checkpoint.
+/// More workers than jobs, commits after nothing, and commits beside a scan, a bulk delete, a cleanup and a
+/// checkpoint.
 #[test]
 fn no_commit_is_left_waiting(rt: HostRuntime) -> Result<(), Fail> {
     let lone = [Job::Insert(entry(1, 0)), Job::Commit];
@@ -125,7 +126,8 @@ fn tell_of_one(records: &[Record]) -> bool {
     false
 }
 
-/// Of two workers the one that commits doesn't wait for the other, whose gate waits until the first one takes its next job.
+/// Of two workers the one that commits doesn't wait for the other, whose gate waits until the first one takes
+/// its next job.
 #[test]
 fn commit_waits_for_no_gate(rt: HostRuntime) -> Result<(), Fail> {
     let jobs = [Job::Commit, Job::Insert(entry(1, 0)), Job::Commit];
@@ -147,8 +149,8 @@ const WIDE: Limits = Limits {
     unique: false,
 };
 
-/// How many commits were done, when the last of them was, and how many jobs ended before one though they were taken after it, at
-/// most. Jobs are taken in order.
+/// How many commits were done, when the last of them was, and how many jobs ended before one though they were
+/// taken after it, at most. Jobs are taken in order.
 fn commits_in(records: &[Record]) -> (usize, u64, usize) {
     let (mut count, mut last, mut most) = (0usize, 0u64, 0usize);
     for (place, record) in records.iter().enumerate() {

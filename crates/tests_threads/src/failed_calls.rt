@@ -90,8 +90,8 @@ fn last_forced(history: &[Record]) -> u64 {
     durable
 }
 
-/// The entries of an index are those that some prefix of the actions added, which holds the durable ones. Answers whether one
-/// is lacking.
+/// The entries of an index are those that some prefix of the actions added, which holds the durable ones.
+/// Answers whether one is lacking.
 fn has_prefix<S: PageStore>(
     rt: &(impl Abort + AllocGlobal + Print + Eprint),
     world: &mut World<S, Blocks>,
@@ -105,8 +105,8 @@ fn has_prefix<S: PageStore>(
     Ok(entries.len() < count(added))
 }
 
-/// Opens what a crash left: its entries are those that some prefix of the actions added, which holds the durable ones, and
-/// the verifier finds no damage.
+/// Opens what a crash left: its entries are those that some prefix of the actions added, which holds the
+/// durable ones, and the verifier finds no damage.
 fn opens_right(
     rt: &(impl Abort + AllocGlobal + Print + Eprint + Threads + Wait + Sync),
     found: MemDevice,
@@ -152,8 +152,8 @@ fn do_tell(history: &[Record]) -> bool {
     false
 }
 
-/// Runs the jobs on this index, and opens each image of a crash. Answers whether a record tells that a call of the device
-/// failed, and how many calls there are.
+/// Runs the jobs on this index, and opens each image of a crash. Answers whether a record tells that a call
+/// of the device failed, and how many calls there are.
 fn told_and_calls(
     rt: &(impl Abort + AllocGlobal + Print + Eprint + Threads + Wait + Sync),
     world: InMemory,
@@ -169,8 +169,8 @@ fn told_and_calls(
     Ok((has_told, calls))
 }
 
-/// Runs the jobs on a new index while the nth call of the device fails, if so many are made: exactly then a record tells of it.
-/// Then each image of a crash is opened. Answers whether it failed.
+/// Runs the jobs on a new index while the nth call of the device fails, if so many are made: exactly then a
+/// record tells of it. Then each image of a crash is opened. Answers whether it failed.
 fn fails_right(
     rt: &(impl Abort + AllocGlobal + Print + Eprint + Threads + Wait + Sync),
     jobs: &[Job],

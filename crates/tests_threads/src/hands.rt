@@ -1,4 +1,5 @@
-//! Workers whose events are done one by one, in an order that is picked: what `run_jobs` does with threads, done by hand.
+//! Workers whose events are done one by one, in an order that is picked: what `run_jobs` does with threads,
+//! done by hand.
 
 ghost use Rattle.std.specs.Prelude.{◌≡◌, ◌≤◌, ◌<◌, ◌+◌, ◌↔◌, [], ℕ, Bool, List, None, Some, true, length, slice_get, vec_len, vec_capacity};
 ghost use Rattle.index_model.specs.Actions.{Action};
@@ -328,7 +329,7 @@ struct ByHand<'a> {
     lines: &'a [Line],
 }
 
-// Does the events, where the type of what lies under the lock tells of the jobs. Answers the records.
+// Does the events, if the type of what lies under the lock tells of the jobs. Answers the records.
 fn act_named<
     S: PageStore + Drop,
     T: DeadRows + Drop,
@@ -382,8 +383,8 @@ fn act_named<
     Ok(history)
 }
 
-/// Does the events of so many workers on the world, each under no lock, as there is one thread; compares what each is told, and
-/// answers the records.
+/// Does the events of so many workers on the world, each under no lock, as there is one thread; compares what
+/// each is told, and answers the records.
 pub fn act_by_hand<
     S: PageStore + Drop,
     T: DeadRows + Drop,

@@ -63,7 +63,8 @@ fn told(history: &[Record]) -> usize {
         .count()
 }
 
-/// Whether each job has its one receipt and its one record, at a place of its own, and each worker's calls are its records.
+/// Whether each job has its one receipt and its one record, at a place of its own, and each worker's calls
+/// are its records.
 pub fn has_each_once(
     alloc: Global,
     count: usize,
@@ -146,7 +147,7 @@ struct Placed<'a> {
     behind: &'a [Record],
 }
 
-/// The record at a place; none where it says that it began after it.
+/// The record at a place; none if it says that it began after it.
 fn record_at<'a>(history: &'a [Record], place: usize) -> Option<Placed<'a>> {
     let record = history.get(place)?;
     let seen = record.seen as usize;
@@ -161,8 +162,8 @@ fn record_at<'a>(history: &'a [Record], place: usize) -> Option<Placed<'a>> {
     })
 }
 
-/// Whether its interval begins no earlier than what had ended before, and ends no earlier than what ended meanwhile, which was
-/// begun by other workers.
+/// Whether its interval begins no earlier than what had ended before, and ends no earlier than what ended
+/// meanwhile, which was begun by other workers.
 fn is_in_time(start: u64, at: &Placed<'_>) -> bool {
     let (from, to) = (at.record.from, at.record.to);
     let ended = match at.earlier.last() {
@@ -193,9 +194,9 @@ fn part_of<'a>(range: &Range, added: &'a [Option<Addition>]) -> &'a [Option<Addi
     }
 }
 
-/// Whether these are, in their order, some of the additions of this part of the table: of those by the first number each, up to the
-/// last of these unless they are to be all; and none after the second number. No set may name a row of the part, which might have
-/// been removed meanwhile.
+/// Whether these are, in their order, some of the additions of this part of the table, and none after the
+/// second number. Those by the first number are all among them: up to the last of these, or to the end if
+/// they are to be all. No set may name a row of the part, which might have been removed meanwhile.
 fn are_of(entries: &[Entry], part: &[Option<Addition>], from: u64, to: u64, are_all: bool) -> bool {
     let mut next = 0usize;
     for one in part {
@@ -216,7 +217,7 @@ fn are_of(entries: &[Entry], part: &[Option<Addition>], from: u64, to: u64, are_
     next == entries.len()
 }
 
-/// Whether a scan gave what it may. It was cut only where its room was full.
+/// Whether a scan gave what it may. It was cut only if its room was full.
 fn is_scan(run: &Run<'_>, range: &Range, room: u32, record: &Record) -> bool {
     let given = record.given.as_slice();
     let is_done = matches!(&record.answer, Answer::Done);
@@ -239,7 +240,8 @@ pub fn tells_of_failure(record: &Record) -> bool {
     )
 }
 
-/// Whether a bulk delete or a cleanup has its record among these, and began when there were so many records or fewer.
+/// Whether a bulk delete or a cleanup has its record among these, and began when there were so many records
+/// or fewer.
 fn has_vacuum(jobs: &[Job], records: &[Record], seen: u64) -> bool {
     records.iter().any(|record| {
         let job = jobs.get(record.job as usize);
@@ -313,7 +315,8 @@ fn is_right(run: &Run<'_>, place: usize) -> bool {
     gave && is_in_time(run.start, &at) && is_answer(run, &at, job)
 }
 
-/// The first place whose record is wrong, if there is one. The length where each is right, but two tell of one addition.
+/// The first place whose record is wrong, if there is one. The length if each is right, but two tell of one
+/// addition.
 pub fn first_wrong(run: &Run<'_>) -> Option<usize> {
     for place in 0..run.history.len() {
         if !is_right(run, place) {
@@ -356,8 +359,8 @@ fn is_removed(jobs: &[Job], history: &[Record], one: &Addition) -> bool {
         })
 }
 
-/// Whether these are, in their order, the entries that were added, except for as many rows of the sets as the bulk deletes say that
-/// they removed.
+/// Whether these are, in their order, the entries that were added, except for as many rows of the sets as the
+/// bulk deletes say that they removed.
 pub fn are_those_left(
     entries: &[Entry],
     jobs: &[Job],

@@ -27,7 +27,8 @@ const KEYS: usize = 4_096;
 /// What a run leaves of an index in memory.
 pub type Done = Finished<Store<MemDevice>, Blocks>;
 
-/// What a plain judge says of a run of these jobs, and what was added. Pages of the index are full where so many are used.
+/// What a plain judge says of a run of these jobs, and what was added. Pages of the index are full if so many
+/// are used.
 fn judged<S: PageStore, T: DeadRows + Drop>(
     rt: &(impl Abort + AllocGlobal + Print + Eprint),
     done: &Finished<S, T>,
@@ -77,7 +78,8 @@ fn finished<
     }
 }
 
-/// Runs these jobs on an index of so many pages at most, and looks at all that they told. Answers what was added, too.
+/// Runs these jobs on an index of so many pages at most, and looks at all that they told. Answers what was
+/// added, too.
 pub fn ran<
     R: Abort + AllocGlobal + Print + Eprint + Threads + Wait + Sync,
     S: PageStore + Drop + Send,
@@ -212,8 +214,8 @@ fn four_thousand_jobs(rt: HostRuntime) -> Result<(), Fail> {
     Ok(())
 }
 
-/// Eight workers that insert into one leaf wait for each other's latches. Each entry is inserted twice, and one of the two is
-/// refused.
+/// Eight workers that insert into one leaf wait for each other's latches. Each entry is inserted twice, and
+/// one of the two is refused.
 #[test]
 fn one_leaf(rt: HostRuntime) -> Result<(), Fail> {
     let limits = Limits {
@@ -232,8 +234,8 @@ fn one_leaf(rt: HostRuntime) -> Result<(), Fail> {
     Ok(())
 }
 
-/// Eight workers insert four rows of each of 500 keys into a unique index: one of each four is added, and the others are refused
-/// with its row.
+/// Eight workers insert four rows of each of 500 keys into a unique index: one of each four is added, and the
+/// others are refused with its row.
 #[test]
 fn one_entry_a_key(rt: HostRuntime) -> Result<(), Fail> {
     let limits = Limits {
@@ -250,7 +252,8 @@ fn one_entry_a_key(rt: HostRuntime) -> Result<(), Fail> {
     Ok(())
 }
 
-/// Four workers fill an index of eight pages: inserts are refused once it is full, and the verifier finds no damage.
+/// Four workers fill an index of eight pages: inserts are refused once it is full, and the verifier finds no
+/// damage.
 #[test]
 fn full_index(rt: HostRuntime) -> Result<(), Fail> {
     let limits = Limits {
@@ -306,7 +309,8 @@ fn are_refused<
     Ok((are, world))
 }
 
-/// What isn't run beside a call that runs: whether that begins, each is refused as is right, and the call ends.
+/// What isn't run beside a call that runs: whether that begins, each is refused as is right, and the call
+/// ends.
 fn refuses_beside<
     R: Abort + AllocGlobal + Threads + Wait + Sync,
     S: PageStore + Drop + Send,
@@ -354,8 +358,8 @@ fn records_after<
     Ok(done.history.len())
 }
 
-/// Whether what isn't run is refused as is right, before a call that runs and beside it, and how many records these jobs make
-/// after that.
+/// Whether what isn't run is refused as is right, before a call that runs and beside it, and how many records
+/// these jobs make after that.
 fn refuses_and_runs<
     R: Abort + AllocGlobal + Print + Eprint + Threads + Wait + Sync,
     S: PageStore + Drop + Send,
@@ -371,8 +375,8 @@ fn refuses_and_runs<
     Ok((first, others, records_after(rt, world, jobs)?))
 }
 
-/// What isn't run: too many workers and too wide a scan before a call that runs; the world comes back as it was. Without a job
-/// nothing is recorded.
+/// What isn't run: too many workers and too wide a scan before a call that runs; the world comes back as it
+/// was. Without a job nothing is recorded.
 #[test]
 fn not_run(rt: HostRuntime) -> Result<(), Fail> {
     let jobs = [Job::Insert(entry(1, 0))];

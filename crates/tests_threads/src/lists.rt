@@ -65,7 +65,8 @@ pub fn ascending(alloc: Global, count: u16) -> Result<Vec<u16>, AllocError> {
     Ok(numbers)
 }
 
-/// So many inserts of each of these keys, with rows of the blocks from 0 on up to the last; then scans of them with these rooms.
+/// So many inserts of each of these keys, with rows of the blocks from 0 on up to the last; then scans of
+/// them with these rooms.
 pub fn inserts_and_scans(
     alloc: Global,
     numbers: &[u16],
@@ -88,7 +89,8 @@ pub fn inserts_and_scans(
     Ok(jobs)
 }
 
-/// A scan, and two thousand inserts in no order, with a commit behind each whose place has this rest by so many.
+/// A scan, and two thousand inserts in no order, with a commit behind each whose place has this rest by so
+/// many.
 pub fn spread_commits(alloc: Global, rest: u32, each: u32) -> Result<Vec<Job>, AllocError> {
     let mut jobs = Vec::new(alloc);
     jobs.push(Job::Scan {
@@ -109,7 +111,8 @@ pub fn spread_commits(alloc: Global, rest: u32, each: u32) -> Result<Vec<Job>, A
 /// Keys below this have rows that the two sets name; scans lie above.
 pub const DEAD_BELOW: u16 = 200;
 
-/// Inserts of so many entries in random order; a scan after each nine of them; two bulk deletes and a cleanup among them.
+/// Inserts of so many entries in random order; a scan after each nine of them; two bulk deletes and a cleanup
+/// among them.
 pub fn mixed(alloc: Global, inserts: u16, dice: &mut Dice) -> Result<Vec<Job>, AllocError> {
     let numbers = shuffled(alloc, inserts, dice.roll(1_000))?;
     let mut jobs = Vec::new(alloc);

@@ -44,7 +44,7 @@ pub fn run<
     run_jobs(rt, alloc, world, jobs, workers, gate)
 }
 
-/// How many hands told a gate of these jobs. None where the run is refused.
+/// How many hands told a gate of these jobs. None if the run is refused.
 pub fn hands_of<
     S: PageStore + Drop + Send,
     T: DeadRows + Drop + Send,

@@ -77,7 +77,8 @@ abbrev pub HaveRowForms : List (List ℕ) → Type 0
 HaveRowForms [] = ⊤
 HaveRowForms (word ∷ words) = HasRowForm word × HaveRowForms words
 
--- what two words of the forms of a key and a row are refused with: first that there is no such key, then that there is no such row
+-- what two words of the forms of a key and a row are refused with: first that there is no such key, then that
+-- there is no such row
 abbrev pub IsNoEntry : Fault → List ℕ → List ℕ → Type 0
 IsNoEntry KeyTooLong key row = IsLongKeyText key × HasRowForm row
 IsNoEntry BadRow key row = IsKeyWord key × IsNoRowWord row

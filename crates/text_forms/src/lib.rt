@@ -1,4 +1,5 @@
-//! The forms of what users write and read: words, numbers, keys, rows, entries, ranges, answers and pages as text.
+//! The forms of what users write and read: words, numbers, keys, rows, entries, ranges, answers and pages as
+//! text.
 #![tactic(auto)]
 
 mod answer;

@@ -140,7 +140,7 @@ fn comma(text: &[u8]) -> Option<usize>
     text.iter().position(|byte| *byte == b',')
 }
 
-/// The row of the text `(block,offset)`. None where it isn't such a text; `BadRow` where there is no such row.
+/// The row of the text `(block,offset)`. None if it isn't such a text; `BadRow` if there is no such row.
 pub fn row(text: &[u8]) -> Option<Result<RowAddr, Fault>>
     ensures found { IfSome result
         (λ read. (row : Row) × (text.now ≡ row_text row) × IsNarrow row × ReadsRow row read) }
@@ -151,8 +151,8 @@ pub fn row(text: &[u8]) -> Option<Result<RowAddr, Fault>>
     Some(RowAddr::new(block, offset))
 }
 
-/// The key of a text of lower-case hex digits, or `-` for the empty key. None where it isn't such a text;
-/// `KeyTooLong` where it has more than 64 bytes.
+/// The key of a text of lower-case hex digits, or `-` for the empty key. None if it isn't such a text;
+/// `KeyTooLong` if it has more than 64 bytes.
 pub fn key(text: &[u8]) -> Option<Result<Key, Fault>>
     ensures found { (key : List ℕ) → result ≡ Some (Ok key) → text.now ≡ key_text key }
     ensures only { (key : List ℕ) → IsBytes key → length key ≤ 64 → text.now ≡ key_text key

@@ -75,7 +75,7 @@ impl fmt::Display for ShownEntry {
     }
 }
 
-/// A bound as text: an entry, or `before` after the key where it is the place before all rows of the key.
+/// A bound as text: an entry, or `before` after the key if it is the place before all rows of the key.
 #[derive(Clone, Copy)]
 pub struct ShownBound {
     pub bound: Bound,
@@ -121,7 +121,7 @@ impl fmt::Display for ShownLink {
     }
 }
 
-/// What a fault names, with a space in front: the block of a page, or a row. Nothing, where it names neither.
+/// What a fault names, with a space in front: the block of a page, or a row. Nothing, if it names neither.
 #[derive(Clone, Copy)]
 pub struct ShownNamed {
     pub fault: Fault,

@@ -43,8 +43,8 @@ impl<'a> Rows<'a> {
     }
 }
 
-/// A key and a row, the next two words. None where these have no such form; `KeyTooLong` (6) where they have, but there is no such
-/// key, and else `BadRow` (7) where there is no such row.
+/// A key and a row, the next two words. None if these have no such form; `KeyTooLong` (6) if they have, but
+/// there is no such key, and else `BadRow` (7) if there is no such row.
 pub fn entry(words: &mut Words<'_>) -> Option<Result<Entry, Fault>>
     ensures ok { IfSome result (λ read. IfOk read
         (λ entry. words.old ≡ entry_words entry ++ words.new)) }
@@ -73,8 +73,8 @@ fn entry_of(key: Result<Key, Fault>, row: Result<RowAddr, Fault>) -> Result<Entr
     Ok(Entry { key, row })
 }
 
-/// Two ends of a range, the next two words. None where these have no such form; `KeyTooLong` (6) where they have, but there is no
-/// such key.
+/// Two ends of a range, the next two words. None if these have no such form; `KeyTooLong` (6) if they have,
+/// but there is no such key.
 pub fn range(words: &mut Words<'_>) -> Option<Result<Range, Fault>>
     ensures ok { IfSome result (λ read. IfOk read
         (λ range. words.old ≡ range_words range ++ words.new)) }
@@ -106,7 +106,8 @@ fn range_of(
     Ok(Range { from, below })
 }
 
-/// A key, or `*` for an open end. None where it isn't such a text; `KeyTooLong` (6) where it has more than 64 bytes.
+/// A key, or `*` for an open end. None if it isn't such a text; `KeyTooLong` (6) if it has more than 64
+/// bytes.
 pub fn end(text: &[u8]) -> Option<Result<Option<Key>, Fault>>
     ensures ok { IfSome result (λ read. IfOk read (λ key. text.now ≡ end_text key)) }
     ensures valid { IfSome result (λ read. IfOk read IsRangeEnd) }
@@ -125,8 +126,8 @@ pub fn end(text: &[u8]) -> Option<Result<Option<Key>, Fault>>
     }
 }
 
-/// All words that are left, each a row. None where one has no such form; `BadRow` (7) where all have, but there is no such row for
-/// one of them.
+/// All words that are left, each a row. None if one has no such form; `BadRow` (7) if all have, but there is
+/// no such row for one of them.
 pub fn all_rows<'a>(words: &mut Words<'a>) -> Option<Result<Rows<'a>, Fault>>
     ensures ok { IfSome result (λ read. IfOk read (λ rows. words.old ≡ rows ++ words.new)) }
     ensures valid { IfSome result (λ read. IfOk read AreRows) }

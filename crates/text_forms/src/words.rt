@@ -4,8 +4,8 @@ ghost use Rattle.std.specs.Prelude.{◌≡◌, [], ◌∷◌, ◌↔◌, IsTrue,
 
 use std::marker::Model;
 
-/// The words of a line that are left, which single spaces part: two spaces part an empty word. Contracts see the
-/// list of them.
+/// The words of a line that are left, which single spaces part: two spaces part an empty word. Contracts see
+/// the list of them.
 #[derive(Drop)]
 pub struct Words<'a> {
     rest: Option<&'a [u8]>,
@@ -47,7 +47,7 @@ impl<'a> Words<'a> {
         }
     }
 
-    /// The next word, or None where the line has ended.
+    /// The next word, or None if the line has ended.
     pub fn next(&mut self) -> Option<&'a [u8]>
         ensures { MatchOption result ((self.old ≡ []) × (self.new ≡ []))
             (λ word. self.old ≡ word.now ∷ self.new) }

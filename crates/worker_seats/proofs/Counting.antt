@@ -69,7 +69,7 @@ jobs_long (x ∷ xs) = omega (arith, jobs_long xs)
 abbrev counted : ℕ → ℕ → List (ℕ × ℕ) → ℕ
 counted n k log = sum_below n (λ w. weigh (λ _. 1) (jobs_in (notes_from k w log)))
 
--- where the workers below n have every note, the first is of one of them, and they have the others
+-- if the workers below n have every note, the first is of one of them, and they have the others
 first_seated : (n k : ℕ) (x : ℕ × ℕ) (xs : List (ℕ × ℕ)) → counted n k (x ∷ xs) ≡ suc (length xs) → (x.0 < n) × (counted n (suc k) xs ≡ length xs)
 first_seated n k x xs e =
     let a = sum_same n (λ w. weigh (λ _. 1) (jobs_in (notes_from k w (x ∷ xs))))
@@ -101,7 +101,7 @@ shares_whole h n k (x ∷ xs) e =
     let b = sum_add n (λ w. if x.0 == w then h x.1 else 0) (λ w. weigh h (jobs_in (notes_from (suc k) w xs))) in
     omega (arith, a, b, sum_own n x.0 (h x.1) f.0, shares_whole h n (suc k) xs f.1)
 
--- where a list of n numbers has each number below n, it has each once
+-- if a list of n numbers has each number below n, it has each once
 at_most : (n : ℕ) (xs : List ℕ) → sum_below n (λ j. weigh (at_alone j) xs) ≤ length xs
 at_most n [] = omega (arith, none n)
   where
@@ -134,7 +134,8 @@ pressed (suc n) f g le sum k l =
     lower zero f g le = omega arith
     lower (suc n) f g le = omega (arith, lower n f g (λ j m. le j (omega (arith, m))), le n (omega arith))
 
--- Where the shares sum to the log's length, and together are what was drawn of n numbers, each number below n stands in the log once.
+-- If the shares sum to the log's length, and together are what was drawn of n numbers, each number below n
+-- stands in the log once.
 pub each_once : (n workers : ℕ) (log : List (ℕ × ℕ)) → length log ≡ n
     → ((h : ℕ → ℕ) → weigh h (below n) ≡ sum_below workers (λ w. weigh h (jobs_in (notes_by w log))))
     → (j : ℕ) → j < n → weigh (at_alone j) (jobs_in log) ≡ 1
@@ -181,8 +182,8 @@ pub map_snoc : {A B : Type 0} (f : A → B) (xs : List A) (x : A) → map f (xs 
 map_snoc f [] x = refl
 map_snoc f (y ∷ xs) x = ap (λ l. f y ∷ l) (map_snoc f xs x)
 
--- Where every number below n was popped, all popped numbers are those of the workers' notes, and these are all that the log has,
--- each number below n stands in the log once.
+-- If every number below n was popped, all popped numbers are those of the workers' notes, and these are all
+-- that the log has, each number below n stands in the log once.
 pub noted_once : (n workers : ℕ) (popped : List ℕ) (log : List (ℕ × ℕ)) → ((h : ℕ → ℕ) → weigh h (below n) ≡ weigh h popped + weigh h [])
     → ((h : ℕ → ℕ) → weigh h popped ≡ sum_below workers (λ w. weigh h (jobs_in (notes_by w log))))
     → sum_below workers (λ w. length (notes_by w log)) ≡ length log

@@ -48,7 +48,7 @@ under (suc n) x h = ⊎_elim
     (λ (ne : n ≢ x). (let r = under n x (omega (arith, h, weigh-append (at_alone x) (below n) (n ∷ []), is_else x n ne)) in omega (arith, r)))
     (nat_cases n x)
 
--- where one pass has all that counts, the total is its own
+-- if one pass has all that counts, the total is its own
 pub total_one : (f g : QueueView → ℕ) (views : List QueueView) (pass : ℕ) (v : QueueView) → get_elem? views pass ≡ some v → total g views ≡ g v
     → ((j : ℕ) (u : QueueView) → get_elem? views j ≡ some u → g u ≡ 0 → f u ≡ 0) → total f views ≡ f v
 total_one f g [] pass v e all idle = absurd (some-ne-none v (sym e))
@@ -207,7 +207,7 @@ merges pass v other u some_part items views b at apart there =
       idle = idle_set vs other none (λ _. refl) (idle_set views pass w (λ z. absurd (omega (arith, some_part, z))) b.idle);
     }
 
--- ... where the queue holds tickets, each of a job
+-- ... if the queue holds tickets, each of a job
 abbrev pub EachOnceOf : {T : Type 0} → (T → ℕ) → List T → List QueueView → Type 0
 EachOnceOf job tickets views = EachOnce (map job tickets) views
 

@@ -19,7 +19,8 @@ abbrev pub below : ℕ → List ℕ
 below zero = []
 below (suc n) = below n ++ n ∷ []
 
--- the view of a pass with so many parts of the right to know all, which knows how many numbers were pushed, and has popped these
+-- the view of a pass with so many parts of the right to know all, which knows how many numbers were pushed,
+-- and has popped these
 abbrev pub queue_view : ℕ → ℕ → List ℕ → QueueView
 queue_view parts pushed popped = record { parts = parts; pushed = pushed; popped = popped }
 
@@ -31,8 +32,8 @@ IdleIsEmpty views = (pass : ℕ) (v : QueueView) → get_elem? views pass ≡ so
 abbrev pub AllKnowPushed : ℕ → List QueueView → Type 0
 AllKnowPushed n views = (pass : ℕ) (v : QueueView) → get_elem? views pass ≡ some v → 0 < v.parts → v.pushed ≡ n
 
--- The rule: the numbers below n were pushed, in order, and are, however they are weighed, those that the passes have popped and
--- those that the queue holds. All passes together have 1,024 parts.
+-- The rule: the numbers below n were pushed, in order, and are, however they are weighed, those that the
+-- passes have popped and those that the queue holds. All passes together have 1,024 parts.
 pub record EachOnce (items : List ℕ) (views : List QueueView) : Type 0 where
   pub n : ℕ
   pub parts : total (λ v. v.parts) views ≡ 1024

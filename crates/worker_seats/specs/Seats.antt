@@ -1,5 +1,6 @@
--- What passes outlive the lock with. The keeper's lies under the lock, and knows the log of all notes and what each session runs;
--- a worker's seat knows what its own session runs, and its own notes. A note is of a call that is over: its worker and its job.
+-- What passes outlive the lock with. The keeper's lies under the lock, and knows the log of all notes and
+-- what each session runs; a worker's seat knows what its own session runs, and its own notes. A note is of a
+-- call that is over: its worker and its job.
 use Rattle.std.specs.Prelude.{◌≡◌, ◌==◌, ◌<◌, ℕ, suc, List, [], ◌∷◌, ◌++◌, length, Option, Some, None, slice_get, slice_set, Bool, true, false, if◌then◌else◌}
 use mathlib.Core.Option.{some}
 use lib.ListN.{get_elem?}

@@ -18,8 +18,8 @@ pub trait Ticket {
     ghost job: { Self → ℕ };
 }
 
-/// What a pass of the queue knows: its parts of the right to know all, how many numbers were pushed, and which it has popped.
-/// No value of it is made.
+/// What a pass of the queue knows: its parts of the right to know all, how many numbers were pushed, and
+/// which it has popped. No value of it is made.
 pub struct QueueView {
     pub parts: u64,
     pub pushed: u64,
@@ -97,7 +97,7 @@ pub type JobQueue<T> = RuledArrayQueue<T, QueueView, QueueRule>;
 /// A pass of the queue.
 pub type QueuePass<T> = Pass<T, QueueView>;
 
-/// An empty queue for so many tickets, with the pass that has every part. None where there is no memory for it.
+/// An empty queue for so many tickets, with the pass that has every part. None if there is no memory for it.
 pub fn make_queue<T: Ticket>(alloc: Global, room: usize) -> Option<(JobQueue<T>, QueuePass<T>)>
     requires some { 0 < room }
     ensures room { IfSome result (λ q. ruled_capacity q.0 ≡ room) }

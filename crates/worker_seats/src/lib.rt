@@ -1,9 +1,10 @@
-//! What the workers of a run of jobs know outside of the lock: which jobs were handed out to them, and which calls each has
-//! recorded. It knows no index and no lock.
+//! What the workers of a run of jobs know outside of the lock: which jobs were handed out to them, and which
+//! calls each has recorded. It knows no index and no lock.
 //!
-//! Each job number is handed out by a queue, whose rule says that what was pushed is what was popped and what it holds. Each
-//! worker has a seat, which says what its session runs and which notes of the log are its own; the keeper, which lies beside
-//! the log, says the whole. With the workers' shares of a ledger, these give that each job stands in the log once.
+//! Each job number is handed out by a queue, whose rule says that what was pushed is what was popped and what
+//! it holds. Each worker has a seat, which says what its session runs and which notes of the log are its own;
+//! the keeper, which lies beside the log, says the whole. With the workers' shares of a ledger, these give
+//! that each job stands in the log once.
 #![tactic(auto)]
 
 mod desk;

@@ -120,8 +120,8 @@ pub fn end<J: Run>(desk: &mut Desk<J>, book: &mut Book<J>, seat: Seat<J>, job: u
     }
 }
 
-// Brings a seat beside the keeper. (Each call of the cell is in a function of its own: three in one cost the prover six times
-// as much.)
+// Brings a seat beside the keeper. (Each call of the cell is in a function of its own: three in one cost the
+// prover six times as much.)
 fn sit_down(cell: &SeatCell, keeper: &mut SeatPass, seat: SeatPass)
     requires word { 0 < cell.now.shared.table_id.words }
     requires of { keeper.old.table_id ≡ cell.now.shared.table_id }

@@ -7,8 +7,8 @@ use atomic_table::{Join, Play, Seat, Split, Table, TableRule};
 use std::alloc::Global;
 use std::collections::LinkedList;
 
-/// What a pass of the cell knows. A keeper: the log of all notes, and which job each session runs. A seat: its session, which
-/// job that runs, and the places and jobs of its notes. No value of it is made.
+/// What a pass of the cell knows. A keeper: the log of all notes, and which job each session runs. A seat:
+/// its session, which job that runs, and the places and jobs of its notes. No value of it is made.
 pub struct SeatView {
     pub keeps: bool,
     pub log: LinkedList<(u64, u64)>,
@@ -94,7 +94,8 @@ pub type SeatCell = Table<(), SeatView, (), SeatRule, Global>;
 /// A pass of the cell: a worker's, or the keeper's.
 pub type SeatPass = Seat<(), SeatView>;
 
-/// A cell of seats, with the keeper's pass, which knows of no note and no session. None where there is no memory for it.
+/// A cell of seats, with the keeper's pass, which knows of no note and no session. None if there is no memory
+/// for it.
 pub fn make_cell(alloc: Global) -> Option<(SeatCell, SeatPass)>
     ensures cell { IfSome result (λ c. c.1.table_id ≡ c.0.shared.table_id) }
     ensures word { IfSome result (λ c. c.0.shared.table_id.words ≡ 1) }

@@ -11,8 +11,8 @@ use crate::run::Run;
 use crate::seat::{Seat, check};
 use std::sync::ledger::{Book, Share};
 
-/// With all seats, and every part of the ledger and of the queue: the workers' notes are all that there are, no session runs a
-/// call, and the log has the jobs that were handed out, each once.
+/// With all seats, and every part of the ledger and of the queue: the workers' notes are all that there are,
+/// no session runs a call, and the log has the jobs that were handed out, each once.
 pub fn tally_up<J: Run, T>(
     desk: &mut Desk<J>,
     book: &mut Book<J>,

@@ -10,8 +10,8 @@ use crate::job_queue::{JobQueue, Parts, QueuePass, Ticket};
 use crate::run::Run;
 use crate::seat::Seat;
 
-/// A worker that rests: its seat, its pass of the queue, which has popped the jobs of its notes, and its hand, which has told of
-/// them.
+/// A worker that rests: its seat, its pass of the queue, which has popped the jobs of its notes, and its
+/// hand, which has told of them.
 #[derive(Drop)]
 pub struct Worker<J: Run, T, H: Telling> {
     pub seat: Seat<J>,
@@ -25,7 +25,8 @@ pub struct Worker<J: Run, T, H: Telling> {
     pub ghost told: { H.told hand ≡ jobs_in (known_by seat.pass).notes },
 }
 
-/// Takes the passes of these workers into one, and puts their seats and their hands after those that are there.
+/// Takes the passes of these workers into one, and puts their seats and their hands after those that are
+/// there.
 pub fn gather<J: Run, T: Ticket, H: Telling + Drop>(
     queue: &JobQueue<T>,
     pass: &mut QueuePass<T>,

@@ -54,7 +54,7 @@ beyond [] session le = refl
 beyond (slot ∷ slots) zero le = absurd (omega arith)
 beyond (slot ∷ slots) (suc session) le = beyond slots session (omega arith)
 
--- where none of the first so many has a call, and these are all, none has
+-- if none of the first so many has a call, and these are all, none has
 pub none_runs : (slots : List (Option Op)) (count : ℕ) → length slots ≤ count → ((session : ℕ) → session < count → has_call slots session ≡ false)
     → (session : ℕ) → has_call slots session ≡ false
 none_runs slots count all over session = elim (cases_lt session count) [
@@ -62,7 +62,7 @@ none_runs slots count all over session = elim (cases_lt session count) [
   | inr le ↦ beyond slots session (omega (arith, all, le))
 ]
 
--- where one more session's call is over, the first so many and it have none
+-- if one more session's call is over, the first so many and it have none
 pub over_next : (old new : List (Option Op)) (next : ℕ) → OthersStay next old new → has_call new next ≡ false → ((session : ℕ) → session < next → has_call old session ≡ false)
     → (session : ℕ) → session < next + 1 → has_call new session ≡ false
 over_next old new next others over before session lt = elim (cases_eq session next) [

@@ -72,7 +72,7 @@ fresh_empty meta leaf m l e =
     let on_leaf : is_on leaf e ≡ false = none_on_empty leaf.state leaf.items e l.empty in
     ap (λ b. b || (is_on leaf e || false)) on_meta ∙ ap (λ b. b || false) on_leaf
 
--- where there is no bound, none has a row
+-- if there is no bound, none has a row
 no_bound : (o : Option Bound) → IsNone o → IfSome o (λ s. s.row ≡ None)
 no_bound None none = tt
 no_bound (Some bound) none = absurd (let clash : true ≡ false = none in cc)

@@ -14,7 +14,8 @@ use Rattle.schedule.specs.TheoremCrashes.{ArePagesAfter}
 use Rattle.world.specs.Reopening.{IsIndexAfterPrefix}
 use Rattle.world.proofs.Opened.{tree_has_pages}
 
--- where the pages after each prefix of the acts are those after that part of the history, it is an index after one
+-- if the pages after each prefix of the acts are those after that part of the history, it is an index after
+-- one
 pub left_index : {D : Type 0} (d : DeviceGhosts D) (first now : Store D d) → IsOwnStore d first → Follows (held_by d first) (held_by d now)
     → (start : Entry → Bool) (history : List Action) → (held_by d now).acts ≡ length history
     → ((part : ℕ) → part ≤ length history → ArePagesAfter (state_of d now).limits.unique start (take part history) (pages_after (store_history d now) part))

@@ -62,12 +62,12 @@ opened_unused limits frames pages counted last_cycle tree stored count none = re
   idle = λ session. record { holds = held_by_none session; number = all_same 64 session None };
 }
 
--- a state as it is opened is unused, where its pages are a tree
+-- a state as it is opened is unused, if its pages are a tree
 pub freshly_unused : (frames : ℕ) (st : State) → IsFreshlyOpened frames st → IsTreeFor st.limits st.pages → IsUnused st
 freshly_unused frames st opened tree =
     subst IsUnused (sym opened.is) (opened_unused st.limits frames st.pages _ _ tree opened.stored (length-replicate (length st.pages) 0) (none_counts (length st.pages)))
 
--- what was opened is a tree, where it was one
+-- what was opened is a tree, if it was one
 pub tree_opened : (limits found : Format) (pages read : List Page) → found ≡ limits → read ≡ pages → IsTreeFor limits pages → IsTreeFor found read
 tree_opened limits found pages read format same tree =
     subst (λ (f : Format). IsTreeFor f read) (sym format) (subst (λ (ps : List Page). IsTreeFor limits ps) (sym same) tree)

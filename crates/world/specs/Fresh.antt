@@ -9,7 +9,8 @@ use Rattle.recovery.specs.Fresh.{CrashesToEmpty}
 use Rattle.recovery.specs.Index.{HasIndex}
 use Rattle.tree_acts.specs.TheoremKeys.{IsTreeFor}
 
--- what is seen now, and whatever a crash leaves, is an index of the same pages: a B-link tree, keyed if it is unique, with no entry on it
+-- what is seen now, and whatever a crash leaves, is an index of the same pages: a B-link tree, keyed if it is
+-- unique, with no entry on it
 pub record CrashesToEmptyTree (limits : Format) (m : DiskMoment) : Type 0 where
   pub pages : List Page
   pub now : HasIndex limits pages m.seen

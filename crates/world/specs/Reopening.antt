@@ -16,8 +16,8 @@ use Rattle.world.specs.Worlds.{WorldFits, WorldKeeps}
 use Rattle.world.specs.declared.opening.NotOpened.{NotOpened}
 use Rattle.world.specs.declared.world.World.{World}
 
--- these bytes are an index whose pages are a B-link tree, with the contents after a prefix of the history of at least
--- so many actions
+-- these bytes are an index whose pages are a B-link tree, with the contents after a prefix of the history of
+-- at least so many actions
 pub record IsIndexAfterPrefix (limits : Format) (start : Entry → Bool) (history : List Action) (least : ℕ) (image : List ℕ) : Type 0 where
   pub part : ℕ
   pub from : least ≤ part
@@ -26,7 +26,8 @@ pub record IsIndexAfterPrefix (limits : Format) (start : Entry → Bool) (histor
   pub index : HasIndex limits pages image
   pub are : ArePagesAfter limits.unique start (take part history) pages
 
--- a world of these limits, fitted by the contents of these pages, no action and no call, which keeps that history
+-- a world of these limits, fitted by the contents of these pages, no action and no call, which keeps that
+-- history
 pub record BeginsWith {D T : Type 0} (d : DeviceGhosts D) (g : Ghosts (Store D d)) (rows : SetGhosts T) (limits : Format) (pages : List Page) (world : World (Store D d) T) : Type 0 where
   pub limits_are : (state_of d world.store).limits ≡ limits
   pub fits : WorldFits g rows world (entry_on_live_leaf pages) [] []
@@ -37,8 +38,8 @@ abbrev pub world_device : {D T : Type 0} (d : DeviceGhosts D) → Result (World 
 world_device d (Ok world) = device_of d world.store
 world_device d (Err not_opened) = not_opened.device
 
--- the world begins with the pages of an index that hold the contents after a prefix of the history, of at least so
--- many actions
+-- the world begins with the pages of an index that hold the contents after a prefix of the history, of at
+-- least so many actions
 pub record BeginsAfterPrefix {D T : Type 0} (d : DeviceGhosts D) (g : Ghosts (Store D d)) (rows : SetGhosts T) (limits : Format)
     (start : Entry → Bool) (history : List Action) (least : ℕ) (world : World (Store D d) T) : Type 0 where
   pub part : ℕ

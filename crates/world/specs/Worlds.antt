@@ -29,20 +29,21 @@ WorldFits g rows world start history calls = Fits g start (snapshot_in rows worl
 abbrev pub WorldKeeps : {S T : Type 0} → Ghosts S → SetGhosts T → World S T → (Entry → Bool) → List Action → List Call → Type 0
 WorldKeeps g rows world start history calls = KeepsHistory g start (snapshot_in rows world history calls)
 
--- where the history was kept, it is so still, and a crash in between leaves a prefix of it
+-- if the history was kept, it is so still, and a crash in between leaves a prefix of it
 abbrev pub WorldIsSafe : {S T : Type 0} → Ghosts S → SetGhosts T → World S T → World S T → (Entry → Bool) → List Action → List Call → Type 0
 WorldIsSafe g rows old new start history calls = WorldKeeps g rows old start history calls → IsCrashSafe g start (snapshot_in rows old history calls) (snapshot_in rows new history calls)
 
--- where the device has kept its model up to now, this holds of whatever fitted the world before
+-- if the device has kept its model up to now, this holds of whatever fitted the world before
 abbrev pub ForEachWorldHistory : {S T : Type 0} → Ghosts S → SetGhosts T → World S T → World S T → ((Entry → Bool) → List Action → List Call → Type 0) → Type 0
 ForEachWorldHistory g rows old new goes = ForEachHistory g (inside rows old) (inside rows new) goes
 
--- there is a continuation of the history and of the calls that fits the world now, by this event with this answer
+-- there is a continuation of the history and of the calls that fits the world now, by this event with this
+-- answer
 abbrev pub WorldIsRun : {S T : Type 0} → Ghosts S → SetGhosts T → World S T → World S T → Event → Answer → (Entry → Bool) → List Action → List Call → Type 0
 WorldIsRun g rows old new event answer start history calls = EventFollows g (inside rows old) (inside rows new) event answer start history calls
 
--- there is a continuation of the history and of the calls that fits the world now, by a run of these events with these
--- answers
+-- there is a continuation of the history and of the calls that fits the world now, by a run of these events
+-- with these answers
 abbrev pub WorldRuns : {S T : Type 0} → Ghosts S → SetGhosts T → World S T → World S T → List Event → List Answer → (Entry → Bool) → List Action → List Call → Type 0
 WorldRuns g rows old new events answers start history calls = Runs g (inside rows old) (inside rows new) events answers start history calls
 

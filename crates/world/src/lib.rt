@@ -1,4 +1,5 @@
-//! A store of pages with its sessions and sets of dead rows; and one on a device, which is opened again after a crash.
+//! A store of pages with its sessions and sets of dead rows; and one on a device, which is opened again after
+//! a crash.
 #![tactic(auto)]
 
 mod laws;

@@ -19,8 +19,8 @@ use page_store::Store;
 use std::alloc::Global;
 
 impl<T: DeadRows + Drop> World<Store<MemDevice>, T> {
-    /// The nth device call from now, of reads, writes and syncs, fails once; 0: none does. A write that fails so is kept.
-    /// An earlier such plan is dropped; one of `stop_at` stands beside it. What fits is kept.
+    /// The nth device call from now, of reads, writes and syncs, fails once; 0: none does. A write that fails
+    /// so is kept. An earlier such plan is dropped; one of `stop_at` stands beside it. What fits is kept.
     pub fn fail_at(&mut self, n: u64)
         ensures plan { plan_of (device_of ⟦<MemDevice as Device>⟧ self.new.store)
             ≡ failing_at n (plan_of (device_of ⟦<MemDevice as Device>⟧ self.old.store)) }
@@ -39,9 +39,9 @@ impl<T: DeadRows + Drop> World<Store<MemDevice>, T> {
         self.store.fail_at(n);
     }
 
-    /// The nth device call from now, of reads, writes and syncs, fails, and so does each later one; 0: none does. If the
-    /// nth is a write it is kept; the later calls do nothing. An earlier such plan is dropped; one of `fail_at` stands
-    /// beside it. What fits is kept.
+    /// The nth device call from now, of reads, writes and syncs, fails, and so does each later one; 0: none
+    /// does. If the nth is a write it is kept; the later calls do nothing. An earlier such plan is dropped;
+    /// one of `fail_at` stands beside it. What fits is kept.
     pub fn stop_at(&mut self, n: u64)
         ensures plan { plan_of (device_of ⟦<MemDevice as Device>⟧ self.new.store)
             ≡ stopping_at n (plan_of (device_of ⟦<MemDevice as Device>⟧ self.old.store)) }
@@ -60,8 +60,8 @@ impl<T: DeadRows + Drop> World<Store<MemDevice>, T> {
         self.store.stop_at(n);
     }
 
-    /// What a crash now leaves, as a device of its own: its bytes are synced, and no call of it is made to fail. Without
-    /// memory for it the call is refused with `NoMemory`.
+    /// What a crash now leaves, as a device of its own: its bytes are synced, and no call of it is made to
+    /// fail. Without memory for it the call is refused with `NoMemory`.
     pub fn crash(&self, alloc: Global, image: CrashImage) -> Result<MemDevice, Fault>
         ensures bytes { IfOk result (λ d.
             trace_of d ≡ first (left_by image (device_of ⟦<MemDevice as Device>⟧ self.now.store))) }

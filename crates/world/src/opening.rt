@@ -28,10 +28,11 @@ pub struct NotOpened<D, T> {
 }
 
 impl<D: Device, T: DeadRows + Drop> World<Store<D>, T> {
-    /// Opens the index on the device, after any crash, for so many pages in memory at once (16 to 1,024), with so many
-    /// sessions (1 to 64), none of which has a call, and these sets of dead rows. Refused with `BadLimits` (18) for another
-    /// number of sessions, before the device is read; as `open` of `recovery` is; and with `NoMemory` (1). The device and
-    /// the sets are given back. It may be called again after any refusal, and after a crash at any moment.
+    /// Opens the index on the device, after any crash. `frames` is how many pages are in memory at once, 16
+    /// to 1,024. There are 1 to 64 sessions, none of which has a call, and these sets of dead rows. Refused
+    /// with `BadLimits` (18) for another number of sessions, before the device is read; as `open` of
+    /// `recovery` is; and with `NoMemory` (1). The device and the sets are given back. It may be called again
+    /// after any refusal, and after a crash at any moment.
     pub fn open(
         alloc: Global,
         device: D,
@@ -45,8 +46,8 @@ impl<D: Device, T: DeadRows + Drop> World<Store<D>, T> {
         ensures asked { OnOk result (AreFrames frames × (1 ≤ sessions) × (sessions ≤ 64)) }
         ensures sets { IfOk result (λ world. world.sets ≡ sets) }
         ensures sets_back { IfErr result (λ not_opened. not_opened.sets ≡ sets) }
-        // An index whose pages are a B-link tree, of a unique one keyed, is opened with them, or refused for want of memory or of
-        // the device.
+        // An index whose pages are a B-link tree, of a unique one keyed, is opened with them, or refused for
+        // want of memory or of the device.
         ensures begins { IsTrue (D.is_honest (world_device D.Device result))
             → AreFrames frames → 1 ≤ sessions → sessions ≤ 64
             → (limits : Format) (pages : List Page)

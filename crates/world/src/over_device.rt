@@ -22,10 +22,10 @@ impl<D: Device, T: DeadRows + Drop> World<Store<D>, T> {
     ghost use Rattle.page_store.specs.Stores.{state_of, held_by, device_of, IsOwnStore};
     ghost use Rattle.page_store.specs.declared.store.Store.{Store};
 
-    /// Does nothing: what the words of crashes are for a store over a device (a store is its own where nobody else wrote
-    /// to the device; a crash leaves what the device may have left at some moment from the first store to the second; and
-    /// bytes restart to pages as an open reads them), and what every crash leaves, at any moment between an earlier store and
-    /// this one.
+    /// Does nothing. Its clauses say what the words of crashes are for a store over a device. A store is own
+    /// if nobody else wrote to the device. A crash leaves what the device may have left at some moment from
+    /// the first store to the second. Bytes restart to pages as an open reads them. And they say what every
+    /// crash leaves, at any moment between an earlier store and this one.
     pub fn crash_law(&self)
         ensures own { (s : Store D D.Device)
             → IsOwnStore D.Device s → ⟦<Store<D> as PageStore>⟧.own s }
@@ -35,8 +35,8 @@ impl<D: Device, T: DeadRows + Drop> World<Store<D>, T> {
         ensures restarts { (s : Store D D.Device) (image : List ℕ) (pages : List Page)
             → ⟦<Store<D> as PageStore>⟧.restarts s image pages
             → RestartsTo (state_of D.Device s).limits image pages }
-        // What a crash at some moment since an own store has left of a world that is fitted and keeps its history is an
-        // index that can be opened again, with all that was durable in that store.
+        // What a crash at some moment since an own store has left of a world that is fitted and keeps its
+        // history is an index that can be opened again, with all that was durable in that store.
         ensures index { (first : Store D D.Device)
             → IsOwnStore D.Device first → ⟦<Store<D> as PageStore>⟧.follows first self.now.store
             → (start : Entry → Bool) (history : List Action) (calls : List Call)
@@ -57,7 +57,8 @@ impl<D: Device, T: DeadRows + Drop> World<Store<D>, T> {
             (backing_of (held_by D.Device self.now.store)).durable image }
     {}
 
-    /// What the system said of the last call of the device that failed, if the device is of a system. No clause tells of it.
+    /// What the system said of the last call of the device that failed, if the device is of a system. No
+    /// clause tells of it.
     pub fn error(&self) -> Option<Error> {
         self.store.error()
     }

@@ -7,19 +7,26 @@ use schedule::Event;
 use session_calls::{Answer, Calls};
 use std::alloc::Global;
 
-/// A store of pages with 1 to 64 sessions, of which each runs one call at most. After it is made, nothing takes memory.
+/// A store of pages with 1 to 64 sessions, of which each runs one call at most. After it is made, nothing
+/// takes memory.
 ///
-/// A world stores no history. Its promise is one of each run: whatever history and calls fitted it before, there is a
-/// continuation that fits it afterwards, by events with exactly these answers. Where nobody else writes to the store's
-/// device, a crash at any moment leaves the contents after some prefix of that history, with all that was durable.
+/// A world stores no history. Its promise is one of each run: whatever history and calls fitted it before,
+/// there is a continuation that fits it afterwards, by events with exactly these answers. If nobody else
+/// writes to the store's device, a crash at any moment leaves the contents after some prefix of that history,
+/// with all that was durable.
 ///
-/// Of what its clauses name: `steps`, that what its store followed it follows still; `same`, that the sessions and the sets
-/// stay; `always`, of each event, what holds of it whatever the pages are (what it may answer; that a refusal changes nothing; that
-/// a stopped log refuses first; that a step that goes on leaves less to do, over a device that keeps its model, unless it
-/// does an act; that an event does one act at most, and only a step does one; that no other session is touched; what an end
-/// leaves; which pages wait to be written after a force, a flush and a checkpoint; and why a beginning is refused); `goes` of
-/// one event and `runs` of a list, the continuation, in which each event also says this, how many steps its call takes, which
-/// pages it leaves with incomplete splits, that no low of a page rises, and what it leaves as it was.
+/// Its clauses have these names:
+///
+/// - `steps`: its store follows still what it followed before.
+/// - `same`: the sessions and the sets stay.
+/// - `always`: what holds of each event, whatever the pages are. It answers what it may. A refusal changes
+///   nothing, and a stopped log refuses first. A beginning that is refused has its cause. One act at most is
+///   done, and only by a step. A step that goes on without one leaves less to do, over a device that keeps
+///   its model. No other session is touched. It is told what an end leaves, and which pages wait to be
+///   written after a force, a flush and a checkpoint.
+/// - `goes` of one event, `runs` of a list: the continuation. There each event also tells how many steps its
+///   call takes, which pages it leaves with incomplete splits, that no low of a page rises, and what it
+///   leaves as it was.
 #[derive(Drop)]
 pub struct World<S, T> {
     pub(crate) store: S,
@@ -57,12 +64,13 @@ impl<S: PageStore, T: DeadRows + Drop> World<S, T> {
     ghost use Rattle.whole_calls.specs.OneStep.{IsMadeAsStep, OneStepAlways, OneStepComesTo, OneStepIsRun};
     ghost use Rattle.world.specs.Worlds.{WorldFits, WorldStillFits, WorldKeeps, WorldIsSafe, WorldIsRun, ForEachWorldHistory, OnlyLetsGo, SameSessions, inside};
 
-    /// A world over the store with so many sessions, none of which has a call, and the sets of dead rows that its events
-    /// may name. Refused with `BadLimits` unless it is 1 to 64 sessions, and with `NoMemory`; the store and the sets are
-    /// given back.
+    /// A world over the store. None of its sessions has a call, and its events may name these sets of dead
+    /// rows. Refused with `BadLimits` unless it is 1 to 64 sessions, and with `NoMemory`; the store and the
+    /// sets are given back.
     ///
-    /// Where the store's pages are in order and it has made no act, the world is fitted by the contents of its pages, no
-    /// actions and no calls. Where nobody else wrote to its device, it keeps this history over crashes.
+    /// If the store's pages are in order and it has made no act, the world is fitted by the contents of its
+    /// pages, no actions and no calls. If nobody else wrote to its device, it keeps this history over
+    /// crashes.
     pub fn new(
         alloc: Global,
         store: S,
@@ -94,9 +102,9 @@ impl<S: PageStore, T: DeadRows + Drop> World<S, T> {
         }
     }
 
-    /// Does one event and answers what it gave, a refusal among the answers. Where several refusals apply, the first of
-    /// `Stopped`, `NoSession`, `SessionBusy`, `VacuumRunning` is answered; a count of calls at its end is refused with
-    /// `Stopped` too.
+    /// Does one event and answers what it gave, a refusal among the answers. If several refusals apply, the
+    /// first of `Stopped`, `NoSession`, `SessionBusy`, `VacuumRunning` is answered; a count of calls at its
+    /// end is refused with `Stopped` too.
     pub fn one(&mut self, event: Event) -> Answer
         ensures steps { Continues S.follows self.old.store self.new.store }
         ensures same { SameSessions self.old self.new }
@@ -108,10 +116,10 @@ impl<S: PageStore, T: DeadRows + Drop> World<S, T> {
         schedule::one(&mut self.store, &mut self.calls, &self.sets, event)
     }
 
-    /// Makes one step of the session's call, as the event `Step` does, and answers what it gave. Where the log has room for
-    /// fewer than `least_room` images, a checkpoint is made before. Where that is refused, with `Io` or `Stopped`, the call is
-    /// given up and answers this fault: an insert whose entry is added leaves it unfinished, any other call is refused with it.
-    /// With 5 it never answers `LogFull`.
+    /// Makes one step of the session's call, as the event `Step` does, and answers what it gave. If the log
+    /// has room for fewer than `least_room` images, a checkpoint is made before. If that is refused, with
+    /// `Io` or `Stopped`, the call is given up and answers this fault: an insert whose entry is added leaves
+    /// it unfinished, any other call is refused with it. With 5 it never answers `LogFull`.
     pub fn take_step(&mut self, session: u32, least_room: u32) -> Answer
         ensures steps { Continues S.follows self.old.store self.new.store }
         ensures same { SameSessions self.old self.new }
@@ -134,8 +142,8 @@ impl<S: PageStore, T: DeadRows + Drop> World<S, T> {
         )
     }
 
-    /// Does these events one after the other, and puts an answer for each after the answers that are there. Refused
-    /// with `NoMemory` where there is no room for the answers: nothing is done then.
+    /// Does these events one after the other, and puts an answer for each after the answers that are there.
+    /// Refused with `NoMemory` if there is no room for the answers: nothing is done then.
     pub fn run(&mut self, events: &[Event], answers: &mut Vec<Answer>) -> Result<(), Fault>
         ensures steps { Continues S.follows self.old.store self.new.store }
         ensures same { SameSessions self.old self.new }
@@ -164,9 +172,9 @@ impl<S: PageStore, T: DeadRows + Drop> World<S, T> {
         )
     }
 
-    /// A copy of the page of this block, as it was acted last. Refused with `Io`, `Stopped`, `NoFrame`, and with
-    /// `PageDamaged` for a block that is not in use. Nothing of the pages, the calls and the sessions is changed, whatever it
-    /// answers; what fits is kept.
+    /// A copy of the page of this block, as it was acted last. Refused with `Io`, `Stopped`, `NoFrame`, and
+    /// with `PageDamaged` for a block that is not in use. Nothing of the pages, the calls and the sessions is
+    /// changed, whatever it answers; what fits is kept.
     pub fn page(&mut self, block: u32) -> Result<Page, Fault>
         ensures steps { Continues S.follows self.old.store self.new.store }
         ensures sets { self.new.sets ≡ self.old.sets }
@@ -184,7 +192,8 @@ impl<S: PageStore, T: DeadRows + Drop> World<S, T> {
         self.store.page(block)
     }
 
-    /// Gives the session's call up, as an `End` of it does: nothing is logged, and what the session held is let go.
+    /// Gives the session's call up, as an `End` of it does: nothing is logged, and what the session held is
+    /// let go.
     pub fn abandon(&mut self, session: u32) -> Answer
         ensures steps { Continues S.follows self.old.store self.new.store }
         ensures same { SameSessions self.old self.new }
@@ -196,16 +205,17 @@ impl<S: PageStore, T: DeadRows + Drop> World<S, T> {
         self.one(Event::End(session))
     }
 
-    /// The store. Each call that a session runs is given up before, as [`World::abandon`] does it: nothing is logged, and what the
-    /// session held is let go. So a world that is made over the store isn't blocked by calls that are gone.
+    /// The store. Each call that a session runs is given up before, as [`World::abandon`] does it: nothing is
+    /// logged, and what the session held is let go. So a world that is made over the store isn't blocked by
+    /// calls that are gone.
     pub fn into_store(self) -> S
         ensures steps { Continues S.follows self.store result }
-        // Where no session has a call, it is the very store.
+        // If no session has a call, it is the very store.
         ensures same { ((session : ℕ) → has_call self.calls.slots.items session ≡ false)
             → result ≡ self.store }
         ensures backing { S.backing result ≡ S.backing self.store }
         ensures kept { OnlyLetsGo (S.state self.store) (S.state result) }
-        // Where something fits the world, no session holds anything of the store.
+        // If something fits the world, no session holds anything of the store.
         ensures idle { (S.backing self.store).honest ≡ true
             → (start : IndexEntry → Bool) (history : List Action) (calls : List Call)
             → WorldFits S.PageStore T.DeadRows self start history calls
@@ -259,7 +269,8 @@ impl<S: PageStore, T: DeadRows + Drop> World<S, T> {
         self.store.room()
     }
 
-    /// How many acts the store has made since opening: of a world that is fitted, how many actions its history has.
+    /// How many acts the store has made since opening: of a world that is fitted, how many actions its
+    /// history has.
     pub fn actions(&self) -> u64
         ensures { result ≡ (S.state self.now.store).acts }
     {
@@ -280,7 +291,7 @@ impl<S: PageStore, T: DeadRows + Drop> World<S, T> {
         self.calls.sessions()
     }
 
-    /// How many entries the session's scan has ready to be given. Where it runs none, there are none.
+    /// How many entries the session's scan has ready to be given. If it runs none, there are none.
     pub fn ready(&self, session: u32) -> u32
         ensures { result ≡ ready_count (slot_of self.now.calls.slots.items session) }
     {

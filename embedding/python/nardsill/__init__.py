@@ -63,7 +63,7 @@ def create(path: Any, items: int = 50, pages: int = 4096, log_bytes: int = 1 << 
     """Makes an empty index in a new file, which is there only once it is whole.
 
     It has so many items a page (4 to 50), pages (8 to 65,536), and bytes of the log (65,536 to 16,777,216, a multiple of 4,096). In a
-    unique one no two entries have the same key. Raises `BadLimits`, `FileIsThere` and other `Io`, and `Locked` where another makes it.
+    unique one no two entries have the same key. Raises `BadLimits`, `FileIsThere` and other `Io`, and `Locked` if another makes it.
     """
     name, given = path_bytes(path), os.fspath(path)
     items, pages, log_bytes = operator.index(items), operator.index(pages), operator.index(log_bytes)
@@ -74,9 +74,9 @@ def create(path: Any, items: int = 50, pages: int = 4096, log_bytes: int = 1 << 
 
 
 def open(path: Any, frames: int = 64, patience: float = 0.0) -> Index:
-    """Opens the index in a file, after any crash, with so many pages in memory (16 to 1,024); makes an empty one where no file is.
+    """Opens the index in a file, after any crash, with so many pages in memory (16 to 1,024); makes an empty one if there is no file.
 
-    With a `patience` a bulk delete waits so many seconds for an open scan. Raises what `Index` and `create` raise. Where two make it at
+    With a `patience` a bulk delete waits so many seconds for an open scan. Raises what `Index` and `create` raise. If two make it at
     once, one does, and both go on to the opening.
     """
     try:
@@ -97,7 +97,7 @@ def open(path: Any, frames: int = 64, patience: float = 0.0) -> Index:
 
 
 def check(path: Any, frames: int = 64) -> Report:
-    """Judges the index in a file that nobody has open. Raises what `Index` raises, where the file can't be judged."""
+    """Judges the index in a file that nobody has open. Raises what `Index` raises, if the file can't be judged."""
     name, given = path_bytes(path), os.fspath(path)
     report = _library.ReportStruct()
     Held(given).ask(_library.check, name, frames_in_range(frames, given), byref(report))

@@ -68,7 +68,7 @@ def _read(fault: FaultStruct, before: Optional[bytes]) -> FaultStruct:
 class Held:
     """A pointer of the library, with its callers: the threads that call with it now.
 
-    The library is told the pointer as a call begins, and null once it was withdrawn. So where a signal handler closes the index in the
+    The library is told the pointer as a call begins, and null once it was withdrawn. So if a signal handler closes the index in the
     middle of a call, this call reaches no memory that is free.
     """
 
@@ -124,7 +124,7 @@ class Held:
         return bool(self._to_free) and bool(self.number or self.at)
 
     def free(self, function: Callable[[int], Any]) -> Any:
-        """Frees the pointer by a call, of which the answer is answered; 0 where that was done before."""
+        """Frees the pointer by a call, of which the answer is answered; 0 if that was done before."""
         self.withdraw()
         try:
             self._to_free.pop()

@@ -92,7 +92,7 @@ def path_bytes(path: Any) -> bytes:
 
 
 def _behind_all(prefix: bytes) -> Optional[bytes]:
-    """The first key behind those that begin so; None where no key is."""
+    """The first key behind those that begin so; None if there is none."""
     few = prefix.rstrip(b"\xff")
     return few[:-1] + bytes([few[-1] + 1]) if few else None
 
@@ -130,7 +130,7 @@ class _Reading(Held):
         return status
 
     def restart(self, start: Optional[bytes], stop: Optional[bytes]) -> bool:
-        """Begins the open scan anew; or answers False where it was closed meanwhile."""
+        """Begins the open scan anew; or answers False if it was closed meanwhile."""
         status = self.ask(_library.scan_restart, self.at, start, len(start or b""), stop, len(stop or b""))
         self.count.value = 0
         self.few.clear()
@@ -220,7 +220,7 @@ class Scan:
         except Error as refusal:
             self._fault = refusal.with_traceback(None)
         else:
-            # It is null where it was closed meanwhile.
+            # It is null if it was closed meanwhile.
             self._is_last = status == DONE or status == MISUSE
         if self._is_last or self._fault:
             self._index._close_reading(self._reading)
@@ -231,7 +231,7 @@ class Scan:
         """Begins anew from `start` on, up to the end that the scan was opened with; None leaves the start open. A scan of a prefix stays
         with it. A scan that has ended, or was closed, is opened again.
 
-        Raises `KeyTooLong`, `NoSession` where 63 scans are open, and ValueError where the index is closed.
+        Raises `KeyTooLong`, `NoSession` if 63 scans are open, and ValueError if the index is closed.
         """
         key, stop = _end(start), self._stop
         if self._least is not None:
@@ -245,7 +245,7 @@ class Scan:
                 self._begin(key)
 
     def close(self) -> None:
-        """Ends the scan: `next` raises StopIteration. Where another thread reads from it, the read's entries are dropped."""
+        """Ends the scan: `next` raises StopIteration. If another thread reads from it, the read's entries are dropped."""
         self._is_over = True
         self._few.clear()
         self._index._close_reading(self._reading)
@@ -277,8 +277,8 @@ class Index:
     def __init__(self, path: Any, frames: int = 64, patience: float = 0.0) -> None:
         """Opens the index in a file, after any crash, with so many pages in memory (16 to 1,024), and this patience.
 
-        Raises `NoFile` and other `Io`, `Locked` where another has the file, `BadLimits` for the frames, and `BadSuper`, `BadVersion`,
-        `LogDamaged`, `PageDamaged` or `DeviceTooSmall` where the file holds no sound index.
+        Raises `NoFile` and other `Io`, `Locked` if another has the file, `BadLimits` for the frames, and `BadSuper`, `BadVersion`,
+        `LogDamaged`, `PageDamaged` or `DeviceTooSmall` if the file holds no sound index.
         """
         name, self.path = path_bytes(path), os.fspath(path)
         milliseconds = _milliseconds(patience)
@@ -297,7 +297,7 @@ class Index:
     @property
     def patience(self) -> float:
         """How many seconds `delete_rows` and `vacuum` wait for open scans at most, at each page on which one stands. At first it is 0, and
-        they raise `Blocked` at once. It may be set at any time, also for those that wait. Raises ValueError where it is below 0."""
+        they raise `Blocked` at once. It may be set at any time, also for those that wait. Raises ValueError if it is below 0."""
         return self._patience
 
     @patience.setter
@@ -329,15 +329,15 @@ class Index:
     def insert(self, key: Key, row: AnyRow) -> int:
         """Adds an entry, and answers its number: a commit tells up to which number all are durable.
 
-        Raises `Exists` where the entry is there, in a unique index `KeyExists` where its key is there with another row, and `IndexFull`
-        or `TooTall` where no page is left.
+        Raises `Exists` if the entry is there, in a unique index `KeyExists` if its key is there with another row, and `IndexFull`
+        or `TooTall` if no page is left.
         """
         name, action = _key(key), _u64()
         self._ask(_library.insert, name, len(name), RowStruct(*_numbers(row, self.path)), _byref(action))
         return action.value
 
     def add(self, key: Key, row: AnyRow) -> bool:
-        """Adds an entry: True; or False where it is there. Raises what `insert` raises, but `Exists`."""
+        """Adds an entry: True; or False if it is there. Raises what `insert` raises, but `Exists`."""
         try:
             self.insert(key, row)
         except Exists:
@@ -365,7 +365,7 @@ class Index:
         ...
 
     def get(self, key: Key, default: Any = None) -> Any:
-        """The row of the first entry with this key, else the default. Raises `NoSession` where 63 scans are open (62 beside a vacuum)."""
+        """The row of the first entry with this key, else the default. Raises `NoSession` if 63 scans are open (62 beside a vacuum)."""
         name, row = _key(key), RowStruct()
         if self._ask(_library.get, name, len(name), _byref(row)) == NOT_FOUND:
             return default
@@ -375,7 +375,7 @@ class Index:
         return self.get(key) is not None
 
     def __getitem__(self, key: Key) -> Row:
-        """The row of a key in a unique index; raises KeyError where there is none, and TypeError in an index that isn't unique."""
+        """The row of a key in a unique index; raises KeyError if there is none, and TypeError in an index that isn't unique."""
         if self._is_unique is None:
             self._is_unique = self.info().unique
         if not self._is_unique:
@@ -395,7 +395,7 @@ class Index:
 
     def scan(self, start: Optional[Key] = None, stop: Optional[Key] = None, *, prefix: Optional[Key] = None) -> Scan:
         """The entries from `start` on and below `stop`, where None leaves an end open; or those whose keys begin with `prefix`. Raises
-        `NoSession` where 63 scans are open."""
+        `NoSession` if 63 scans are open."""
         if prefix is None:
             return Scan(self, _end(start), _end(stop))
         if start is not None or stop is not None:
@@ -414,14 +414,14 @@ class Index:
     def delete_rows(self, rows: Iterable[AnyRow]) -> Stats:
         """Deletes each entry with one of these rows. It reads the whole index: name many rows in one call.
 
-        Calls of other threads go on meanwhile, but for another `delete_rows` or `vacuum`. Raises `Blocked` where an open scan stands on a
-        page of entries for longer than the index's `patience`. Where it is refused some may be gone, and no other entry is.
+        Calls of other threads go on meanwhile, but for another `delete_rows` or `vacuum`. Raises `Blocked` if an open scan stands on a
+        page of entries for longer than the index's `patience`. If it is refused some may be gone, and no other entry is.
         """
         few = [ROW_BYTES.pack(*_numbers(row, self.path)) for row in rows]
         return self._counted(_library.delete_rows, b"".join(few), len(few))
 
     def vacuum(self) -> Stats:
-        """Deletes empty pages, and counts what is there. Calls of other threads go on meanwhile. Raises `Blocked` where an open scan stands
+        """Deletes empty pages, and counts what is there. Calls of other threads go on meanwhile. Raises `Blocked` if an open scan stands
         on a page that it needs for longer than the index's `patience`."""
         return self._counted(_library.vacuum)
 
@@ -472,7 +472,7 @@ class Index:
             pass  # another thread did
 
     def close(self) -> None:
-        """Makes a checkpoint and closes the file, also where the checkpoint is refused: then it raises `Io` or `Stopped`.
+        """Makes a checkpoint and closes the file, also if the checkpoint is refused: then it raises `Io` or `Stopped`.
 
         It waits for calls of other threads. It may be called from a finalizer or a signal handler, and again. In a forked child it does
         nothing to the file.

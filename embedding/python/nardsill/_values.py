@@ -47,7 +47,7 @@ class Info(NamedTuple):
     """What an open index is.
 
     `items`, `pages`, `log_bytes` and `unique` are its limits, as `create` takes them. `pages_used` are in use, and `pages_free` of these
-    may be used again. `frames` pages are in memory at most, and `scans` are open. Where it has `stopped`, each call raises `Stopped` until
+    may be used again. `frames` pages are in memory at most, and `scans` are open. If it has `stopped`, each call raises `Stopped` until
     it is opened again.
     """
 

@@ -81,7 +81,7 @@ class _Database(MutableMapping):
 
 
 def open(file, flag="r", mode=0o666):
-    """Opens a database: 'r' and 'w' one that is there, 'c' makes one where none is, 'n' always makes a new one."""
+    """Opens a database: 'r' and 'w' one that is there, 'c' makes one if there is none, 'n' always makes a new one."""
     file = os.fsdecode(file)
     if flag == "n":
         for end in (".idx", ".values"):
@@ -93,5 +93,5 @@ def open(file, flag="r", mode=0o666):
 
 
 def whichdb(file):
-    """What `dbm.whichdb` answers, where this module is the only one."""
+    """What `dbm.whichdb` answers, if this module is the only one."""
     return "dbm.nardsill" if os.path.exists(os.fsdecode(file) + ".idx") else None

@@ -115,7 +115,7 @@ class Judge:
             time.sleep(0.0005)
 
     def until_over(self, work: Callable[[], None]) -> Callable[[], None]:
-        """The work of a thread, which ends that of all where it finds something."""
+        """The work of a thread, which ends that of all if it finds something."""
 
         def guarded() -> None:
             try:

@@ -1,4 +1,4 @@
-"""Faults as exceptions: their classes, fields, texts and pickles, and what is said where the library isn't there."""
+"""Faults as exceptions: their classes, fields, texts and pickles, and what is said if the library isn't there."""
 import copy
 import errno
 import multiprocessing

@@ -13,7 +13,7 @@ from room import Room, listed, nardsill
 
 
 def child_of(work):
-    """Works in a forked child, and answers its id. It ends with 0 where the work raises nothing, within a minute."""
+    """Works in a forked child, and answers its id. It ends with 0 if the work raises nothing, within a minute."""
     with warnings.catch_warnings():
         warnings.simplefilter("ignore", DeprecationWarning)
         child = os.fork()

@@ -103,7 +103,8 @@ fn is_job(
     Ok(is_right && number < JOBS)
 }
 
-/// Marks the jobs of the help's table. Answers the first that isn't read, or ends otherwise; nothing where there is none.
+/// Marks the jobs of the help's table. Answers the first that isn't read, or ends otherwise; nothing if there
+/// is none.
 fn mark_jobs<'a>(
     rt: &(impl Abort + AllocGlobal + Print + Eprint + Files<File = File> + Threads + Wait + Sync),
     help: &'a str,
@@ -129,7 +130,8 @@ fn jobs_are_shown(rt: HostRuntime) -> Result<(), Fail> {
     Ok(())
 }
 
-/// How many lines have the form of their place, up to the first that hasn't, and whether all have that are shown and no more.
+/// How many lines have the form of their place, up to the first that hasn't, and whether all have that are
+/// shown and no more.
 fn form_of_each(forms: &str, lines: &str) -> (u32, bool) {
     let mut count = 0u32;
     let mut lines = lines.lines();
@@ -149,7 +151,8 @@ fn first_line(lines: &str) -> (&str, &str) {
     lines.split_once("\n").unwrap_or((lines, ""))
 }
 
-/// What is told of the run of one job, and of the lines after it: how many have the forms that are shown, and whether these are all.
+/// What is told of the run of one job, and of the lines after it: how many have the forms that are shown, and
+/// whether these are all.
 fn told<'a>(help: &str, out: &'a str) -> (&'a str, (u32, bool)) {
     let forms = part(help, "the checkpoint behind them:");
     let (first, rest) = first_line(out);

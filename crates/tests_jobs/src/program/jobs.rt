@@ -79,7 +79,8 @@ checkpointed 2
     prints(&rt, ["btidx_cut.idx", "btidx_cut.jobs"], lines, printed)
 }
 
-/// Bulk deletes, each with its own set, and a cleanup: what they answer is what the same calls of a script answer.
+/// Bulk deletes, each with its own set, and a cleanup: what they answer is what the same calls of a script
+/// answer.
 #[test]
 fn sets_are_in_order(rt: HostRuntime) -> Result<(), Fail> {
     let lines = "insert 61 (0,1)\ninsert 62 (0,2)\ninsert 63 (0,3)\ninsert 64 (0,4)\ninsert 65 (0,5)
@@ -112,7 +113,8 @@ fn damage_in(
     (text(&checked.out).starts_with("damage "), checked.status)
 }
 
-/// A page whose right link leads to itself: the scan that meets it tells so, and the lines after it stand as ever.
+/// A page whose right link leads to itself: the scan that meets it tells so, and the lines after it stand as
+/// ever.
 #[test]
 fn a_damaged_page(rt: HostRuntime) -> Result<(), Fail> {
     let [path, jobs] = ["btidx_damaged_run.idx", "btidx_damaged_run.jobs"];
@@ -167,7 +169,8 @@ fn is_no_job(
 const LONG: &str =
     "insert 6161616161616161616161616161616161616161616161616161616161616161616161616161616161616161616161616161616161616161616161616161616161 (0,1)";
 
-/// A line that is no job is told, and nothing is run: also one whose key is too long, or whose row there isn't.
+/// A line that is no job is told, and nothing is run: also one whose key is too long, or whose row there
+/// isn't.
 #[test]
 fn lines_that_are_no_jobs(rt: HostRuntime) -> Result<(), Fail> {
     for line in [
@@ -272,8 +275,8 @@ fn count_of(lines: &str, part: &str) -> usize {
     lines.lines().filter(|line| line.contains(part)).count()
 }
 
-/// What eight workers tell of their jobs, and how that ends: the lines of inserts and of commits, those of workers, and whether the
-/// history has all.
+/// What eight workers tell of their jobs, and how that ends: the lines of inserts and of commits, those of
+/// workers, and whether the history has all.
 fn run_of_eight(
     rt: &(impl AllocGlobal + Files<File = File> + Threads + Wait + Sync),
     path: &str,

@@ -1,5 +1,5 @@
-//! Four thousand jobs over indexes in files, a thousand on each, in runs of 1, 2, 4 and 8 workers. After each run the file is opened
-//! again, checked, and listed; what it lists is what the runs told of their jobs.
+//! Four thousand jobs over indexes in files, a thousand on each, in runs of 1, 2, 4 and 8 workers. After each
+//! run the file is opened again, checked, and listed; what it lists is what the runs told of their jobs.
 
 use super::{clear, remove, runs, write};
 use std::alloc::{AllocError, Global};
@@ -11,8 +11,8 @@ use std::test::*;
 use std::thread::Threads;
 use tests_player::{Printed, played, text};
 
-/// An index, and the file of its jobs; the stride from key to key, which has no divisor with the number of keys; and how many pages
-/// are held in memory.
+/// An index, and the file of its jobs; the stride from key to key, which has no divisor with the number of
+/// keys; and how many pages are held in memory.
 #[derive(Clone, Copy)]
 struct Plan<'a> {
     path: &'a str,
@@ -49,14 +49,16 @@ fn add(jobs: &mut JobLines, asked: Asked, line: &str) -> Result<(), AllocError> 
     Ok(())
 }
 
-/// The entry of a key, as a line of a job file and a list name it. Each run has a block of its own, and three rows in it.
+/// The entry of a key, as a line of a job file and a list name it. Each run has a block of its own, and three
+/// rows in it.
 fn entry(alloc: Global, key: u16) -> Result<String, AllocError> {
     let run = key / KEYS;
     let row = key % 3 + 1;
     format!(in alloc; "{key:04x} ({run},{row})")
 }
 
-/// Whether the bulk delete of a run names the row of the key: the second or the third row of the run before. The last run has none.
+/// Whether the bulk delete of a run names the row of the key: the second or the third row of the run before.
+/// The last run has none.
 fn is_dead_after(run: u16, key: u16) -> bool {
     key / KEYS + 1 == run && key % 3 != 0 && run < 3
 }
@@ -114,8 +116,9 @@ fn add_all(alloc: Global, jobs: &mut JobLines, run: u16, stride: u16) -> Result<
     Ok(())
 }
 
-/// The jobs of a run: each of its keys is inserted, each eighth twice; a scan after each tenth, a commit after each twenty-fifth;
-/// in the middle a bulk delete of rows of the run before, or in the last run a cleanup.
+/// The jobs of a run: each of its keys is inserted, each eighth twice; a scan after each tenth, a commit
+/// after each twenty-fifth; in the middle a bulk delete of rows of the run before, or in the last run a
+/// cleanup.
 fn jobs_of(alloc: Global, run: u16, stride: u16) -> Result<JobLines, AllocError> {
     let mut jobs = JobLines {
         text: String::new(alloc),
@@ -131,7 +134,8 @@ fn numbered(line: &str) -> Option<(usize, &str)> {
     Some((number.parse::<usize>().ok()?, rest))
 }
 
-/// Notes what a job's line tells. Whether it may: an insert adds an entry that isn't there, or is refused since it is.
+/// Notes what a job's line tells. Whether it may: an insert adds an entry that isn't there, or is refused
+/// since it is.
 fn note(present: &mut [bool], asked: Asked, told: &str) -> bool {
     let Asked::Insert(key) = asked else {
         return !told.contains(" refused ");
@@ -147,8 +151,8 @@ fn note(present: &mut [bool], asked: Asked, told: &str) -> bool {
     told.ends_with(" refused 5")
 }
 
-/// Notes what the lines of a run tell. Answers the number of the first job whose line is missing or tells what can't be, or that of
-/// the jobs.
+/// Notes what the lines of a run tell. Answers the number of the first job whose line is missing or tells
+/// what can't be, or that of the jobs.
 fn note_all(present: &mut [bool], asked: &[Asked], printed: &str) -> usize {
     let mut next = 0usize;
     for line in printed.lines() {
@@ -186,7 +190,8 @@ fn ran(
     Ok(played(rt, words.as_slice(), ""))
 }
 
-/// Notes what a run tells. Whether it says nothing else, ends well, tells of each job what can be, and of as many in its history.
+/// Notes what a run tells. Whether it says nothing else, ends well, tells of each job what can be, and of as
+/// many in its history.
 fn is_right(
     alloc: Global,
     ran: &Printed,
@@ -253,7 +258,7 @@ fn list_all(alloc: Global, lines: &mut String, present: &[bool]) -> Result<(), A
     lines.push_str("worker 0 calls 1\nhistory 1\ncheckpointed 0\n")
 }
 
-/// What a scan of everything prints, where these keys are there.
+/// What a scan of everything prints, if these keys are there.
 fn listed(alloc: Global, present: &[bool]) -> Result<String, AllocError> {
     let count = count_of(present);
     let mut lines = format!(in alloc; "job 0 worker 0 from 0 to 0 scanned {count} finished\n")?;

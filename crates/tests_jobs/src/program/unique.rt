@@ -1,4 +1,5 @@
-//! Jobs over unique indexes in files: an insert of a key that is there; the superblock says at 24 that an index is one.
+//! Jobs over unique indexes in files: an insert of a key that is there; the superblock says at 24 that an
+//! index is one.
 
 use super::jobs::{made, unmake};
 use super::{clear, runs};
@@ -26,7 +27,8 @@ fn create(
     runs(rt, words.as_slice(), "", "created\n", "", 0)
 }
 
-/// Makes the file of any index, with one of the jobs, and then that of a unique one: whether they differ in the number at 24 alone.
+/// Makes the file of any index, with one of the jobs, and then that of a unique one: whether they differ in
+/// the number at 24 alone.
 fn differs_at_24(
     rt: &(impl Abort + AllocGlobal + Print + Eprint + Files<File = File> + Threads + Wait + Sync),
     path: &str,
@@ -55,7 +57,8 @@ fn is_sound(
     runs(rt, words.as_slice(), "", printed, "", 0)
 }
 
-/// A fresh file differs from that of any index in the number at 24 alone. What is run over it learns from there that it is unique.
+/// A fresh file differs from that of any index in the number at 24 alone. What is run over it learns from
+/// there that it is unique.
 #[test]
 fn in_a_file(rt: HostRuntime) -> Result<(), Fail> {
     let (path, jobs) = ("btidx_unique.idx", "btidx_unique.jobs");
@@ -101,7 +104,7 @@ fn count(lines: &str, part: &str) -> usize {
     lines.lines().filter(|line| line.contains(part)).count()
 }
 
-/// How many keys eight workers add and refuse where each is inserted four times, and how that ends.
+/// How many keys eight workers add and refuse if each is inserted four times, and how that ends.
 fn run_of_eight(
     rt: &(impl AllocGlobal + Files<File = File> + Threads + Wait + Sync),
     path: &str,

@@ -1,5 +1,5 @@
-//! Files of which a check says the same in many threads and in one: those that are refused, and one whose index has a split half
-//! done.
+//! Files of which a check says the same in many threads and in one: those that are refused, and one whose
+//! index has a split half done.
 
 use super::files::{checks, create, is_refused};
 use super::{plain, remove};
@@ -68,7 +68,7 @@ fn left_split(alloc: Global) -> Result<MemDevice, Fault> {
     }
 }
 
-/// Reads a page's length of bytes. Refused with `DeviceTooSmall` where they lie after the end.
+/// Reads a page's length of bytes. Refused with `DeviceTooSmall` if they lie after the end.
 fn read(device: &mut MemDevice, at: u64, bytes: &mut [u8; 4_096]) -> Result<(), Fault> {
     if device.len() < 4_096 || at > device.len() - 4_096 {
         return Err(Fault::DeviceTooSmall);

@@ -1,5 +1,6 @@
-//! Each damage that the verifier finds, by its number, in an index of two levels in a file, some of whose bytes are altered:
-//! with parents and children and without, in many threads and in one. The page of block b stands at 69632 + 4096 b.
+//! Each damage that the verifier finds, by its number, in an index of two levels in a file, some of whose
+//! bytes are altered: with parents and children and without, in many threads and in one. The page of block b
+//! stands at 69632 + 4096 b.
 
 use super::files::{check_ends, checks, create, fill};
 use super::{Patch, remove};
@@ -111,7 +112,8 @@ fn parents(rt: HostRuntime) -> Result<(), Fail> {
     is_found_of_parents(&rt, path, &FIVE, &gone, FIVE_ARE, "damage 8 block 2\n")
 }
 
-/// Downlinks too many: to the page right after one with an incomplete split, to a half-dead page, and to one on no chain.
+/// Downlinks too many: to the page right after one with an incomplete split, to a half-dead page, and to one
+/// on no chain.
 #[test]
 fn downlinks(rt: HostRuntime) -> Result<(), Fail> {
     let path = "btidx_damage_9.idx";
@@ -165,8 +167,9 @@ fn number_at(bytes: &[u8], at: usize) -> u32 {
     }
 }
 
-/// The metapage names the first page of level 1 as the root, which has a right sibling: that is a page too many. An index of
-/// fourteen entries has five leaves, and two pages above them, the first of which is block 3, the root of fewer.
+/// The metapage names the first page of level 1 as the root, which has a right sibling: that is a page too
+/// many. An index of fourteen entries has five leaves, and two pages above them, the first of which is block
+/// 3, the root of fewer.
 #[test]
 fn a_root_too_many(rt: HostRuntime) -> Result<(), Fail> {
     let path = "btidx_damage_10.idx";

@@ -61,7 +61,8 @@ fn does<S: PageStore>(alloc: Global, index: &mut Index<S>, work: Work<'_>) -> Re
     }
 }
 
-/// Opens the index in a file, has this done, and closes it. Answers whether it is done right, and what the closing does.
+/// Opens the index in a file, has this done, and closes it. Answers whether it is done right, and what the
+/// closing does.
 pub fn opened(
     rt: &(impl AllocGlobal + Files<File = File>),
     path: &str,
@@ -73,7 +74,8 @@ pub fn opened(
     Ok((done?, closed?))
 }
 
-/// Inserts entries into the index in a file, with keys of one byte, and makes a checkpoint. Answers the number of actions.
+/// Inserts entries into the index in a file, with keys of one byte, and makes a checkpoint. Answers the
+/// number of actions.
 pub fn fill(
     rt: &(impl AllocGlobal + Files<File = File>),
     path: &str,
@@ -82,7 +84,8 @@ pub fn fill(
     Ok(opened(rt, path, Work::Insert(keys))?.1)
 }
 
-/// A check of the file, with parents or without, prints this line and ends with this status, in many threads and in one.
+/// A check of the file, with parents or without, prints this line and ends with this status, in many threads
+/// and in one.
 pub fn check_ends(
     rt: &(impl Abort + AllocGlobal + Print + Eprint + Files<File = File> + Threads + Wait + Sync),
     path: &str,
@@ -109,7 +112,8 @@ pub fn checks(
     check_ends(rt, path, true, printed, status)
 }
 
-/// A check of the file is refused, and prints this, with parents and children and without, in many threads and in one.
+/// A check of the file is refused, and prints this, with parents and children and without, in many threads
+/// and in one.
 pub fn is_refused(
     rt: &(impl Abort + AllocGlobal + Print + Eprint + Files<File = File> + Threads + Wait + Sync),
     path: &str,

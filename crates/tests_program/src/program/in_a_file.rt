@@ -22,7 +22,8 @@ fn entry(key: u8) -> Entry {
     }
 }
 
-/// Adds entries, one of them twice: whether each is told with the number of the actions that are durable then.
+/// Adds entries, one of them twice: whether each is told with the number of the actions that are durable
+/// then.
 pub fn adds<S: PageStore>(index: &mut Index<S>) -> bool {
     for (key, durable) in [(0x62, 1), (0x61, 2), (0x61, 2), (0x63, 3)] {
         if add(index, entry(key)) != Ok(durable) {

@@ -1,5 +1,5 @@
-//! Damages of a long chain, which is judged in pieces: an index of 5,000 leaves, or 1,250, in a file, whose pages are written by
-//! their bytes. The leaf at place k is block k + 1, and has one entry.
+//! Damages of a long chain, which is judged in pieces: an index of 5,000 leaves, or 1,250, in a file, whose
+//! pages are written by their bytes. The leaf at place k is block k + 1, and has one entry.
 
 use super::files::check_ends;
 use super::{clear, patches, remove, runs};
@@ -63,7 +63,8 @@ fn put_head(page: &mut [u8; 4_096], block: u32, kind: u8, level: u8, left: u32, 
     put(page, 16, &right.to_le_bytes());
 }
 
-/// Writes the items of an internal page: the bound of each, but of the first, is the entry of the last leaf before its child.
+/// Writes the items of an internal page: the bound of each, but of the first, is the entry of the last leaf
+/// before its child.
 fn put_items(page: &mut [u8; 4_096], below: Level, place: u32) {
     let mut count = 0u8;
     for item in 0..50u32 {
@@ -210,7 +211,8 @@ fn make_short(
     damage(rt, path, first)
 }
 
-/// Makes a file of 1,250 leaves. Those at two places are damaged: the first is found, and after it, mended, the second.
+/// Makes a file of 1,250 leaves. Those at two places are damaged: the first is found, and after it, mended,
+/// the second.
 fn are_found(
     rt: &(impl Abort + AllocGlobal + Print + Eprint + Files<File = File> + Threads + Wait + Sync),
     path: &str,
@@ -223,8 +225,8 @@ fn are_found(
     remove(rt, path)
 }
 
-/// Makes a file of 5,000 leaves. Those at two places are damaged, and the root's second bound, the last byte of whose key is
-/// another.
+/// Makes a file of 5,000 leaves. Those at two places are damaged, and the root's second bound, the last byte
+/// of whose key is another.
 fn make_damaged(
     rt: &(impl Abort + AllocGlobal + Print + Eprint + Files<File = File> + Threads + Wait + Sync),
     path: &str,
@@ -265,8 +267,8 @@ fn both_mended(rt: HostRuntime) -> Result<(), Fail> {
     remove(&rt, path)
 }
 
-/// Damages on both sides of places 255 and 256, and of borders of the pieces, of at least 256 places, into which the chain may
-/// be halved.
+/// Damages on both sides of places 255 and 256, and of borders of the pieces, of at least 256 places, into
+/// which the chain may be halved.
 #[test]
 fn places_255_and_256(rt: HostRuntime) -> Result<(), Fail> {
     are_found(&rt, "btidx_256.idx", 255, 256)
@@ -282,8 +284,8 @@ fn border_of_the_halves(rt: HostRuntime) -> Result<(), Fail> {
     are_found(&rt, "btidx_625.idx", 624, 625)
 }
 
-/// Damages at both ends of the chain. The first leaf's left link, which leads to the leaf itself, lies on the way to it. After
-/// both, mended, the index is sound.
+/// Damages at both ends of the chain. The first leaf's left link, which leads to the leaf itself, lies on the
+/// way to it. After both, mended, the index is sound.
 #[test]
 fn both_ends(rt: HostRuntime) -> Result<(), Fail> {
     let path = "btidx_ends.idx";

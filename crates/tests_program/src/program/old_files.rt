@@ -1,6 +1,6 @@
-//! Indexes of the first layout: a file of it is worked on and stays of it, page by page written in the second; and pages that an
-//! index of the second may not have. The superblock's layout stands at 8, the page of block b at 69632 + 4096 b, its own in the
-//! fourth byte.
+//! Indexes of the first layout: a file of it is worked on and stays of it, page by page written in the
+//! second; and pages that an index of the second may not have. The superblock's layout stands at 8, the page
+//! of block b at 69632 + 4096 b, its own in the fourth byte.
 
 use super::files::{checks, create, fill};
 use super::{Patch, patches, plain, remove, runs};
@@ -23,7 +23,8 @@ const LAYOUTS: [(u64, &[u8]); 3] = [(8, &[1]), (69_635, b"1"), (73_731, b"1")];
 /// Where block 0 stands.
 const PAGES: usize = 69_632;
 
-/// Makes a file with an empty index of the first layout: it differs from one of the second in these bytes alone.
+/// Makes a file with an empty index of the first layout: it differs from one of the second in these bytes
+/// alone.
 fn create_old(
     rt: &(impl Abort + AllocGlobal + Print + Eprint + Files<File = File> + Threads + Wait + Sync),
     path: &str,
@@ -99,8 +100,8 @@ fn work(
     Ok(())
 }
 
-/// An insert writes its leaf in the second layout, and leaves the metapage and the superblock as they were; a split writes all that
-/// it changes; a bulk delete and a cleanup do too.
+/// An insert writes its leaf in the second layout, and leaves the metapage and the superblock as they were; a
+/// split writes all that it changes; a bulk delete and a cleanup do too.
 #[test]
 fn an_old_file_is_worked_on(rt: HostRuntime) -> Result<(), Fail> {
     let path = "btidx_old.idx";
@@ -136,7 +137,8 @@ worker 0 calls 1\nhistory 1\ncheckpointed 2\n",
     remove(&rt, path)
 }
 
-/// Makes a file with five rows of one key on two leaves, whose pages are of the first layout then, as the file is.
+/// Makes a file with five rows of one key on two leaves, whose pages are of the first layout then, as the
+/// file is.
 fn create_old_five(
     rt: &(impl Abort + AllocGlobal + Print + Eprint + Files<File = File> + Threads + Wait + Sync),
     path: &str,
@@ -155,8 +157,8 @@ worker 0 calls 5\nhistory 5\ncheckpointed 6\n";
     patches(rt, path, &[(77_827, b"1"), (81_923, b"1")])
 }
 
-/// Five rows of one key on two leaves, as the first layout has them too, in a file of it. What an insert changes is of the second
-/// then, and the rest stays.
+/// Five rows of one key on two leaves, as the first layout has them too, in a file of it. What an insert
+/// changes is of the second then, and the rest stays.
 #[test]
 fn a_file_has_pages_of_both_layouts(rt: HostRuntime) -> Result<(), Fail> {
     let path = "btidx_both_layouts.idx";
@@ -182,7 +184,7 @@ fn a_file_has_pages_of_both_layouts(rt: HostRuntime) -> Result<(), Fail> {
     remove(&rt, path)
 }
 
-/// Writes bytes over those of a device. Refused with `DeviceTooSmall` where they lie after the end.
+/// Writes bytes over those of a device. Refused with `DeviceTooSmall` if they lie after the end.
 fn write(device: &mut MemDevice, at: u64, bytes: &[u8]) -> Result<(), Fault> {
     let len = bytes.len() as u64;
     if device.len() < len || at > device.len() - len {
@@ -258,7 +260,8 @@ fn are_left(alloc: Global, world: &plain::Memory) -> bool {
     true
 }
 
-/// A crash leaves an index of the first layout, whatever it keeps of the writes: with what was made durable, and perhaps more.
+/// A crash leaves an index of the first layout, whatever it keeps of the writes: with what was made durable,
+/// and perhaps more.
 #[test]
 fn an_old_index_outlives_a_crash(rt: HostRuntime) -> Result<(), Fail> {
     let mut world = plain::in_memory(rt.alloc(), made_old(rt.alloc())?)?;
@@ -299,8 +302,8 @@ fn image_is_refused(
     runs(rt, ["btidx", "check", path].as_slice(), "", "", said, 2)
 }
 
-/// An index of the second layout has no page of the first: refused at the page's place and in the log. Nor is there a bound before
-/// all rows of the empty key, or one with a block and no offset.
+/// An index of the second layout has no page of the first: refused at the page's place and in the log. Nor is
+/// there a bound before all rows of the empty key, or one with a block and no offset.
 #[test]
 fn pages_that_the_second_layout_has_not(rt: HostRuntime) -> Result<(), Fail> {
     let path = "btidx_wrong_layouts.idx";

@@ -20,7 +20,8 @@ fn create(
     runs(rt, words.as_slice(), "", "created\n", "", 0)
 }
 
-/// Any other number than 0 and 1 is refused, and 1 too where the layout is the first: after a layout and sizes that there aren't.
+/// Any other number than 0 and 1 is refused, and 1 too if the layout is the first: after a layout and sizes
+/// that there aren't.
 #[test]
 fn other_numbers(rt: HostRuntime) -> Result<(), Fail> {
     let path = "btidx_unique_altered.idx";

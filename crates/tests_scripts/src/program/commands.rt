@@ -44,7 +44,7 @@ impl Write for Narrow {
     }
 }
 
-/// What the program prints where the output takes 12 bytes.
+/// What the program prints if the output takes 12 bytes.
 fn into_narrow(
     rt: &(impl AllocGlobal + Files<File = File> + Threads + Wait + Sync),
     script: &str,
@@ -79,7 +79,7 @@ fn repeated(alloc: Global, text: &str, last: &str) -> Result<String, AllocError>
     Ok(all)
 }
 
-/// Very many lines come out whole, also where a line is no event.
+/// Very many lines come out whole, also if a line is no event.
 #[test]
 fn long_output(rt: HostRuntime) -> Result<(), Fail> {
     let script = repeated(rt.alloc(), "end 0\nforce\n", "ends 0\n")?;

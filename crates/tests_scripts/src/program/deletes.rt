@@ -83,7 +83,8 @@ done 6
     )
 }
 
-/// Each bulk delete has its own line's rows, after a crash too; one runs at a time; the empty set removes nothing.
+/// Each bulk delete has its own line's rows, after a crash too; one runs at a time; the empty set removes
+/// nothing.
 #[test]
 fn sets_of_bulk_deletes(rt: HostRuntime) -> Result<(), Fail> {
     runs(

@@ -160,7 +160,8 @@ fn mark(forms: &str, seen: &mut [bool], line: &str) -> bool {
     count == 1
 }
 
-/// Marks the forms of the answers, and what kinds of them there are. Answers the first kind whose line has no form of its own.
+/// Marks the forms of the answers, and what kinds of them there are. Answers the first kind whose line has no
+/// form of its own.
 fn mark_answers(
     alloc: Global,
     forms: &str,
@@ -340,7 +341,7 @@ fn behind(fault: &Option<Fault>) -> Option<Fault> {
     }
 }
 
-/// What the line of a fault begins with; nothing where there is none.
+/// What the line of a fault begins with; nothing if there is none.
 fn head_of(alloc: Global, fault: &Option<Fault>) -> Result<String, AllocError> {
     match fault {
         Some(fault) => {

@@ -220,7 +220,8 @@ forced 18
     )
 }
 
-/// A split that was given up before its downlink: a scan passes it by its link, and the next insert finishes it.
+/// A split that was given up before its downlink: a scan passes it by its link, and the next insert finishes
+/// it.
 #[test]
 fn unfinished_split(rt: HostRuntime) -> Result<(), Fail> {
     runs(

@@ -29,7 +29,8 @@ begun
 finished pages=5 tuples=5 removed=3 new=0 deleted=0 free=0
 ";
 
-/// A cleanup is given up between its two actions on an empty leaf, which stays half-dead: the next cleanup deletes it.
+/// A cleanup is given up between its two actions on an empty leaf, which stays half-dead: the next cleanup
+/// deletes it.
 const GIVEN_UP: &str = "> cleanup 2
 begun
 > step 2
@@ -92,8 +93,8 @@ entry 68 (0,8)
 done 6
 ";
 
-/// A scan stands on leaf 1, which is then emptied and deleted, as leaf 2 is. It has stepped to leaf 2 already. An entry is
-/// added after it, on leaf 4.
+/// A scan stands on leaf 1, which is then emptied and deleted, as leaf 2 is. It has stepped to leaf 2
+/// already. An entry is added after it, on leaf 4.
 const PASSED: &str = "> scan 1 * *
 begun
 > run 1
@@ -222,7 +223,8 @@ entry 6b (0,11)
 done 6
 ";
 
-/// Keys that differ at the cut are parted by the shortest beginning of the right one that is greater than the left one.
+/// Keys that differ at the cut are parted by the shortest beginning of the right one that is greater than the
+/// left one.
 const SHORTENED: &str = "> put 0 6161 (0,1)
 added 1
 > put 0 6162 (0,2)
