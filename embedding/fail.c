@@ -19,6 +19,8 @@ static int is_placed_before;
 static int folder_syncs, nameless_syncs, wrong_closes, was_locked;
 /* Openings that a started program would have too, and locks of a number that is a standard stream's. */
 static int shared_opens, low_locks;
+/* The descriptor that was locked last. */
+static int locked;
 static ino_t synced_folder;
 
 int __real_fdatasync(int fd);
@@ -68,6 +70,7 @@ int __wrap_open(const char *path, int flags, ...) {
 
 int __wrap_flock(int fd, int how) {
     if (fd <= 2) low_locks++;
+    if (how & LOCK_EX) locked = fd;
     if (is_placed_before) {
         is_placed_before = 0;
         __real_link(DRAFT, "fail-other.idx");
@@ -176,6 +179,37 @@ static void reads_and_writes(void) {
     FAILS(EIO, (int)count(index, &entries));
     HOLDS(nardsill_close(index) != 77);
     IS(NARDSILL_BAD_SUPER, nardsill_open(PATH, 16, &index));
+    unlink(PATH);
+}
+
+/* A handle whose lock is lost, as on a file system that lost its servers for a while. Another that has it by then is found by a commit,
+   which writes nothing; where nobody has it, it is taken again. */
+static void lost_locks(void) {
+    nardsill *index, *other;
+    int entries;
+    uint64_t actions;
+    unlink(PATH);
+    index = made(PATH, 0);
+    IS(0, insert(index, "a", 1, 1));
+    IS(0, nardsill_commit(index, &actions));
+    IS(0, insert(index, "b", 1, 1));
+    /* The commit has asked for it. */
+    int own = locked;
+    IS(0, __real_flock(own, LOCK_UN));
+    IS(0, nardsill_commit(index, &actions));
+    IS(NARDSILL_LOCKED, nardsill_open(PATH, 16, &other));
+    IS(0, insert(index, "c", 1, 1));
+    IS(0, __real_flock(own, LOCK_UN));
+    IS(0, nardsill_open(PATH, 16, &other));
+    FAILS(EAGAIN, nardsill_commit(index, &actions));
+    IS(0, insert(other, "d", 1, 1));
+    IS(0, nardsill_close(other));
+    IS(NARDSILL_STOPPED, nardsill_commit(index, &actions));
+    IS(NARDSILL_STOPPED, nardsill_close(index));
+    IS(0, nardsill_open(PATH, 16, &index));
+    IS(NARDSILL_DONE, count(index, &entries));
+    IS(3, entries);
+    IS(0, nardsill_close(index));
     unlink(PATH);
 }
 
@@ -319,6 +353,7 @@ int main(void) {
     closed_streams();
     syncs();
     reads_and_writes();
+    lost_locks();
     folders();
     names();
     drafts();

@@ -83,6 +83,24 @@ fn lock_draft<R: Files<File = File>>(rt: &R, draft: &str, file: &File) -> io::Re
     }
 }
 
+/// Refused unless the draft's name leads to this very file, and no other name does.
+fn want_draft<R: Files<File = File>>(rt: &R, draft: &str, file: &File) -> io::Result<()> {
+    let held = file.metadata()?;
+    let named = fs::symlink_metadata(rt, draft)?;
+    if is_draft(&held, &named) {
+        Ok(())
+    } else {
+        Err(Error::from_raw_os_error(WOULD_BLOCK))
+    }
+}
+
+/// Lets go of a file's lock by a call, closes the file, and hands back why.
+fn unlocked(file: File, error: Error) -> Error {
+    // If it fails, the closing lets the lock go.
+    let _ = file.unlock();
+    error
+}
+
 /// The file of a draft with its lock, a new one or what a stopped making left there. Refused if another has its lock, or the
 /// name leads elsewhere by now: nothing is changed then.
 fn take_draft<R: Files<File = File>>(rt: &R, draft: &str) -> io::Result<File> {
@@ -93,17 +111,25 @@ fn take_draft<R: Files<File = File>>(rt: &R, draft: &str) -> io::Result<File> {
         .create(true)
         .open(rt, draft)?;
     lock_draft(rt, draft, &file)?;
-    let held = file.metadata()?;
-    let named = fs::symlink_metadata(rt, draft)?;
-    if is_draft(&held, &named) {
-        Ok(file)
-    } else {
-        Err(Error::from_raw_os_error(WOULD_BLOCK))
+    match want_draft(rt, draft, &file) {
+        Ok(()) => Ok(file),
+        Err(error) => Err(unlocked(file, error)),
     }
 }
 
+<<<<<<< HEAD
 /// A device over the draft, of `len` zeros, of which the first `filled` are written. Refused with what the system said. If it took
 /// the draft by then, that is removed.
+=======
+/// Removes the draft while its file has the lock, lets the lock go by a call, closes the file, and hands back why.
+fn removed<R: Files<File = File>>(rt: &R, draft: &str, file: File, error: Error) -> Error {
+    let _ = fs::remove_file(rt, draft);
+    unlocked(file, error)
+}
+
+/// A device over the draft, of so many bytes, all zero, of which so many in front are written. Refused with what the system said:
+/// where it took the draft by then, it is removed.
+>>>>>>> f9483688fce61bccee279db63987fb1b69c0a571
 pub(crate) fn make_draft<R: Files<File = File>>(
     rt: &R,
     draft: &str,
@@ -115,16 +141,23 @@ pub(crate) fn make_draft<R: Files<File = File>>(
     ensures honest { IfOk result (λ d. are_right (replicate d.len 0) d.events.list ≡ true) }
 {
     let file = take_draft(rt, draft)?;
+<<<<<<< HEAD
     // It keeps the lock until the name is gone, if the making is refused.
     let locked = file.try_clone();
     let made = match &locked {
         Ok(_) => FileDevice::made(file, len, filled),
         Err(error) => Err(*error),
+=======
+    // It keeps the lock until the name is gone, where the making is refused.
+    let locked = match file.try_clone() {
+        Ok(locked) => locked,
+        Err(error) => return Err(removed(rt, draft, file, error)),
+>>>>>>> f9483688fce61bccee279db63987fb1b69c0a571
     };
-    if made.is_err() {
-        let _ = fs::remove_file(rt, draft);
+    match FileDevice::made(file, len, filled) {
+        Ok(device) => Ok(device.into_owner()),
+        Err(error) => Err(removed(rt, draft, locked, error)),
     }
-    made
 }
 
 /// Gives a draft that is whole its own name, which it has after a crash too, and takes the draft's from it. Refused with what the

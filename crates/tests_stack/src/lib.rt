@@ -27,6 +27,8 @@ mod ledger_sessions;
 #[cfg(test)]
 mod logged_stores;
 #[cfg(test)]
+mod lost_locks;
+#[cfg(test)]
 mod many_sessions;
 #[cfg(test)]
 mod one_byte;
