@@ -117,19 +117,14 @@ fn take_draft<R: Files<File = File>>(rt: &R, draft: &str) -> io::Result<File> {
     }
 }
 
-<<<<<<< HEAD
-/// A device over the draft, of `len` zeros, of which the first `filled` are written. Refused with what the system said. If it took
-/// the draft by then, that is removed.
-=======
 /// Removes the draft while its file has the lock, lets the lock go by a call, closes the file, and hands back why.
 fn removed<R: Files<File = File>>(rt: &R, draft: &str, file: File, error: Error) -> Error {
     let _ = fs::remove_file(rt, draft);
     unlocked(file, error)
 }
 
-/// A device over the draft, of so many bytes, all zero, of which so many in front are written. Refused with what the system said:
-/// where it took the draft by then, it is removed.
->>>>>>> f9483688fce61bccee279db63987fb1b69c0a571
+/// A device over the draft, of `len` zeros, of which the first `filled` are written. Refused with what the system said. If it took
+/// the draft by then, that is removed.
 pub(crate) fn make_draft<R: Files<File = File>>(
     rt: &R,
     draft: &str,
@@ -141,18 +136,10 @@ pub(crate) fn make_draft<R: Files<File = File>>(
     ensures honest { IfOk result (λ d. are_right (replicate d.len 0) d.events.list ≡ true) }
 {
     let file = take_draft(rt, draft)?;
-<<<<<<< HEAD
     // It keeps the lock until the name is gone, if the making is refused.
-    let locked = file.try_clone();
-    let made = match &locked {
-        Ok(_) => FileDevice::made(file, len, filled),
-        Err(error) => Err(*error),
-=======
-    // It keeps the lock until the name is gone, where the making is refused.
     let locked = match file.try_clone() {
         Ok(locked) => locked,
         Err(error) => return Err(removed(rt, draft, file, error)),
->>>>>>> f9483688fce61bccee279db63987fb1b69c0a571
     };
     match FileDevice::made(file, len, filled) {
         Ok(device) => Ok(device.into_owner()),
