@@ -31,7 +31,7 @@ use Rattle.whole_calls.specs.Stepping.{BeginIsRun}
 use Rattle.access_method.proofs.BulkDeletions.{says_none, says_nothing}
 use Rattle.access_method.proofs.Cleanups.{cleans_nothing}
 use Rattle.access_method.specs.Indexes.{LosesDeadRows}
-use Rattle.access_method.specs.Parts.{PartCountsOn, IsPartAnswer, PartCounts, PartIsCaused, VacuumIsEnded, causes_of_part, part_answer}
+use Rattle.access_method.specs.Parts.{IsPartAnswer, PartCounts, PartCountsOn, PartIsCaused, VacuumIsEnded, causes_of_part, part_answer}
 
 -- where no vacuum is open none vacuums
 pub calm_open : (slots : List (Option Op)) (seats : List (Option Sitter)) → SeatsAgree slots seats → NoVacuumIsOpen seats → one_vacuums slots ≡ false

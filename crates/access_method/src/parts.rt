@@ -31,7 +31,7 @@ impl<S: PageStore> Index<S> {
     ghost use Rattle.whole_calls.specs.Vacuuming.{Followed};
     ghost use Rattle.access_method.specs.Indexes.{ForEachIndexHistory, IndexIsRun, IndexMakes, SameTokens, cannot_begin};
     ghost use Rattle.access_method.specs.Tokens.{NoVacuumIsOpen, IsFreeSeat, IsVacuumSeat};
-    ghost use Rattle.access_method.specs.Parts.{BulkDeleteIsOpened, CleanupIsOpened, PartCountsOn, FindsNoVacuum, NotBegunFor, PartCounts, PartIsCaused, PartKeeps, VacuumIsEnded, part_answer};
+    ghost use Rattle.access_method.specs.Parts.{BulkDeleteIsOpened, CleanupIsOpened, FindsNoVacuum, NotBegunFor, PartCounts, PartCountsOn, PartIsCaused, PartKeeps, VacuumIsEnded, part_answer};
 
     // A session for a bulk delete or a cleanup that goes on in parts. Refused with `Stopped` (3), `NoSession` (12) and `VacuumRunning`
     // (11), in this order.

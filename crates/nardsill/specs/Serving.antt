@@ -2,7 +2,7 @@
 use Rattle.std.specs.Prelude.{◌≡◌, ◌≢◌, ◌⊎◌, ◌||◌, ℕ, true, false, Option, Some, None, IsSome, Result, Ok, Err, IfOk, IfErr, OnOk, OnErr, ⊤}
 use Rattle.access_method.specs.Counted.{upkeep_outcome}
 use Rattle.access_method.specs.Indexes.{ForEachIndexHistory, IndexIsRun, IndexInserts, IndexMakes, InsertsOrKeeps, IsCleanedUp, IsNewToken, IsBulkDeletedOrLess, IndexStays, SameTokens, NotOpenedFor, NotRescannedFor, RescanMeans, SeatBecomes, BulkDeleteRuns, seat_with, slots_with}
-use Rattle.access_method.specs.Parts.{BulkDeleteIsOpened, CleanupIsOpened, PartCountsOn, FindsNoVacuum, NotBegunFor, PartCounts, PartIsCaused, PartKeeps, VacuumIsEnded, part_answer}
+use Rattle.access_method.specs.Parts.{BulkDeleteIsOpened, CleanupIsOpened, FindsNoVacuum, NotBegunFor, PartCounts, PartCountsOn, PartIsCaused, PartKeeps, VacuumIsEnded, part_answer}
 use Rattle.access_method.specs.Refusals.{InsertHasCause, causes_of_vacuum}
 use Rattle.access_method.specs.Tokens.{IsVacuumSeat, NoVacuumIsOpen, seat_of}
 use Rattle.access_method.specs.declared.index.Index.{Index}
@@ -90,7 +90,7 @@ pub record ClosesHandle {S : Type 0} (g : Ghosts S) (ask : Ask) (answer : Answer
   pub runs : OnOk outcome (IndexIsRun g ask.session (EndMeans ask.session) None old new)
   pub tokens : OnOk outcome (SeatBecomes (token_asked ask) None old new)
   pub refused : OnErr outcome (seat_of old.seats (token_asked ask) ≡ None)
-  pub closed : seat_of old.seats (token_asked ask) ≡ None → FindsNoVacuum outcome old new
+  pub closed : seat_of old.seats (token_asked ask) ≡ None → (outcome ≡ Err NoSession) × (new ≡ old)
 
 -- a row was named beside those that were; or none is named any more, as it is no row, or there is no memory
 abbrev pub Names : Ask → Answer → RowSet → RowSet → Type 0
