@@ -29,12 +29,16 @@ static atomic_uint syncs;
 static unsigned failing;
 static int why;
 static unsigned slowness;
-/* The waits that calls made, those that wait now, and the longest that one was ready to wait. */
+/* How long a write takes beside, and on which sync one waits until it is let go; 0 for none. */
+static unsigned write_slowness;
+static atomic_uint held_sync;
+/* The waits that calls made, those that wait now, and the longest that one was ready to wait. Threads of no committer aren't counted. */
 static atomic_uint waits, waiting;
 static uint64_t longest;
+static _Thread_local int is_beside;
 /* Whether waits with an end last until they are rung. */
 static atomic_int is_held;
-/* Whether a sync runs. A thread that finds the lock taken is kept from it, and whether it is there. */
+/* Whether a sync runs, or a slow write. A thread that finds the lock taken is kept from it, and whether it is there. */
 static atomic_int is_syncing, is_kept, is_there;
 static pthread_t kept;
 
@@ -72,10 +76,17 @@ static void crash(const char *path) {
     forget_unsynced();
 }
 
+/* A tenth of a millisecond: none of the tests waits for 100,000 of them. */
+static void tick(unsigned *ticks) {
+    HOLDS(++*ticks < 100000);
+    usleep(100);
+}
+
 static int sync_by(int (*real)(int), int fd) {
-    unsigned number = ++syncs;
+    unsigned number = ++syncs, ticks = 0;
     is_syncing = 1;
     if (slowness) usleep(slowness);
+    while (held_sync == number) tick(&ticks);
     is_syncing = 0;
     if (failing && number >= failing) {
         errno = why;
@@ -99,6 +110,11 @@ ssize_t __wrap_pwrite(int fd, const void *from, size_t count, off_t at) {
         HOLDS(pread(fd, one->was, count, at) >= 0);
         unsynced = one;
     }
+    if (write_slowness) {
+        is_syncing = 1;
+        usleep(write_slowness);
+        is_syncing = 0;
+    }
     return __real_pwrite(fd, from, count, at);
 }
 
@@ -111,6 +127,7 @@ int __wrap_pthread_mutex_lock(pthread_mutex_t *lock) {
 }
 
 int __wrap_pthread_cond_wait(pthread_cond_t *bell, pthread_mutex_t *lock) {
+    if (is_beside) return __real_pthread_cond_wait(bell, lock);
     waits++;
     waiting++;
     int status = __real_pthread_cond_wait(bell, lock);
@@ -135,12 +152,6 @@ int __wrap_pthread_cond_timedwait(pthread_cond_t *bell, pthread_mutex_t *lock, c
     int status = __real_pthread_cond_timedwait(bell, lock, &end);
     waiting--;
     return status;
-}
-
-/* A tenth of a millisecond: none of the tests waits for 100,000 of them. */
-static void tick(unsigned *ticks) {
-    HOLDS(++*ticks < 100000);
-    usleep(100);
 }
 
 static void wait_until(unsigned waiters) {
@@ -243,16 +254,17 @@ static void share(struct committer *all, unsigned count) {
     is_held = 0;
 }
 
-/* Who commits alone waits for nobody: not for threads that insert and scan, and not on either of two indexes. */
+/* Who commits alone waits for nobody: not for a thread that scans, and not on either of two indexes. */
 struct beside {
     nardsill *index;
     atomic_int is_over;
-    unsigned who;
+    unsigned who, count;
 };
 
 static void *inserts(void *at) {
     struct beside *me = at;
-    for (unsigned i = 0; !me->is_over && i < MOST_ACTIONS; i++) IS(0, insert_next(me->index, me->who, i, 0));
+    is_beside = 1;
+    for (; !me->is_over && me->count < MOST_ACTIONS; me->count++) IS(0, insert_next(me->index, me->who, me->count, 0));
     return 0;
 }
 
@@ -260,6 +272,15 @@ static void *scans(void *at) {
     struct beside *me = at;
     while (!me->is_over) counted(me->index);
     return 0;
+}
+
+static void commits_a_hundred(nardsill *index, unsigned from) {
+    uint64_t action, told;
+    for (unsigned i = from; i < from + 100; i++) {
+        IS(0, insert_next(index, 0, i, &action));
+        IS(0, nardsill_commit(index, &told));
+        HOLDS(told >= action);
+    }
 }
 
 static void alone(void) {
@@ -279,16 +300,15 @@ static void alone(void) {
     IS(400, syncs);
     struct beside beside[2] = {{.index = indexes[0], .who = 1}, {.index = indexes[0], .who = 2}};
     pthread_t threads[2];
-    IS(0, pthread_create(threads, 0, inserts, beside));
-    IS(0, pthread_create(threads + 1, 0, scans, beside + 1));
-    for (unsigned i = 100; i < 200; i++) {
-        IS(0, insert_next(indexes[0], 0, i, &action));
-        IS(0, nardsill_commit(indexes[0], &told));
-        HOLDS(told >= action);
-    }
+    IS(0, pthread_create(threads, 0, scans, beside));
+    commits_a_hundred(indexes[0], 100);
+    IS(0, waits);
+    /* One that inserts beside waits for the syncs, and goes on before the next ones. */
+    IS(0, pthread_create(threads + 1, 0, inserts, beside + 1));
+    commits_a_hundred(indexes[0], 200);
     for (int k = 0; k < 2; k++) beside[k].is_over = 1;
     for (int k = 0; k < 2; k++) pthread_join(threads[k], 0);
-    IS(0, waits);
+    HOLDS(beside[1].count > 50 || IS_WATCHED);
     for (int k = 0; k < 2; k++) IS(0, nardsill_close(indexes[k]));
     unlink(OTHER);
 }
@@ -304,6 +324,39 @@ static void fork_one(nardsill *index) {
     }
     waitpid(child, &status, 0);
     IS(0, status);
+}
+
+/* While a commit makes its first sync, or its second one, calls that read go on. One that inserts waits for its end. */
+static void beside_a_sync(unsigned held) {
+    nardsill *index = made(PATH, &limits);
+    struct committer all[2];
+    nardsill_details details = NARDSILL_DETAILS;
+    nardsill_row row;
+    unsigned char key[16];
+    unsigned ticks = 0;
+    start(all, 2, index);
+    send(all);
+    succeeded(all);
+    key_of(0, key);
+    held_sync = syncs + held;
+    send(all);
+    while (!is_syncing || syncs != held_sync) tick(&ticks);
+    for (int i = 0; i < 100; i++) {
+        IS(0, nardsill_get(index, key, 16, &row));
+        IS(2, counted(index));
+        IS(0, nardsill_info(index, &details));
+    }
+    send(all + 1);
+    wait_until(1);
+    IS(2, counted(index));
+    HOLDS(sem_trywait(&all[0].done) && sem_trywait(&all[1].done));
+    fork_one(index);
+    held_sync = 0;
+    succeeded(all);
+    succeeded(all + 1);
+    IS(3, counted(index));
+    stop(all, 2);
+    IS(0, nardsill_close(index));
 }
 
 /* A commit waits for those of the last call, and meanwhile other calls go on, and forks. */
@@ -415,7 +468,7 @@ static void at_the_lock(void) {
         send(all + i);
         succeeded(all + i);
     }
-    slowness = 100000;
+    write_slowness = 100000;
     send(all);
     while (!is_syncing) tick(&ticks);
     kept = all[1].thread;
@@ -423,7 +476,7 @@ static void at_the_lock(void) {
     send(all + 1);
     while (!is_there) tick(&ticks);
     succeeded(all);
-    slowness = 0;
+    write_slowness = 0;
     waits = 0;
     send(all);
     wait_until(1);
@@ -596,6 +649,8 @@ static void forks_beside_commits(void) {
 int main(void) {
     alarm(60);
     alone();
+    beside_a_sync(1);
+    beside_a_sync(2);
     meanwhile();
     stopped();
     in_turn();

@@ -35,6 +35,7 @@ struct gathering {
     pthread_cond_t bell;    /* rung when a call has told its commits */
     pthread_cond_t forced;  /* rung then too, for calls that may log an action */
     int is_forcing;         /* a commit syncs the file, with the lock let go between its parts */
+    unsigned held, passing; /* calls that wait for its end; and those that waited for that of the last one, and haven't gone on yet */
     struct commit *commits; /* those that wait for the next call, the last that came first */
     unsigned expected;      /* committers of the last call that haven't come again */
     atomic_uint at_lock;    /* threads that have committed before, and wait for the handle's lock */
@@ -548,11 +549,21 @@ static void take_lock(nardsill *index) {
     if (committer) index->gathering.at_lock--;
 }
 
-/* Takes the handle's lock for a call that may log an action. While a commit syncs it waits: the parts of the commit would have to be
-   done again, under the lock. */
+/* Before a call that may log an action: while a commit syncs it waits, else the parts of the commit would have to be done again, under
+   the lock. It goes before the next commit, else one thread that commits again and again would keep it out. */
+static void wait_for_force(nardsill *index) {
+    struct gathering *all = &index->gathering;
+    if (!all->is_forcing) return;
+    uint64_t call = all->call;
+    all->held++;
+    while (all->call == call) pthread_cond_wait(&all->forced, &index->lock);
+    if (!--all->passing) pthread_cond_broadcast(&all->bell);
+}
+
+/* Takes the handle's lock for such a call. */
 static void take_lock_to_log(nardsill *index) {
     take_lock(index);
-    while (index->gathering.is_forcing) pthread_cond_wait(&index->gathering.forced, &index->lock);
+    wait_for_force(index);
 }
 
 /* A scan may have left its leaf, or the index has stopped: a vacuum that waits for that goes before each call that comes. */
@@ -915,18 +926,18 @@ static void end_vacuum(nardsill *index) {
 }
 
 /* Waits for a commit that syncs. Calls that come needn't stand aside meanwhile. */
-static void wait_for_force(nardsill *index) {
-    while (index->gathering.is_forcing) {
-        index->turns.due = 0;
-        pthread_cond_broadcast(&index->turns.through);
-        pthread_cond_wait(&index->gathering.forced, &index->lock);
-    }
+static void wait_before_part(nardsill *index) {
+    if (!index->gathering.is_forcing) return;
+    index->turns.parts++;
+    index->turns.due = 0;
+    pthread_cond_broadcast(&index->turns.through);
+    wait_for_force(index);
 }
 
 /* Makes it, part by part, and ends it, also where a part is refused. */
 static struct outcome vacuum_locked(nardsill *index, struct vacuum *me, nardsill_stats *stats) {
     for (;;) {
-        wait_for_force(index);
+        wait_before_part(index);
         struct nardsill_answer answer = make_part(index, me);
         struct outcome outcome = told_by(answer);
         if (outcome.status == NARDSILL_BLOCKED && wait_for_scans(index, me)) continue;
@@ -1040,9 +1051,9 @@ static void gather(nardsill *index, const struct commit *mine) {
     }
 }
 
-/* Keeps the number of the system's answer, if this call of the library failed by it. */
+/* Keeps the number of the system's answer, if this call of the library is the first that failed by it. */
 static void keep_error(struct nardsill_answer answer, int *error) {
-    if (answer.status == NARDSILL_IO) *error = errno ? errno : EIO;
+    if (answer.status == NARDSILL_IO && !*error) *error = errno ? errno : EIO;
 }
 
 /* Syncs the file with the lock let go: calls that read go on. */
@@ -1076,6 +1087,8 @@ static void commit_all(nardsill *index) {
     /* A sync or a part that failed stops the index, and the commit is told that alone. */
     if (outcome.status && error) outcome = (struct outcome){.status = NARDSILL_IO, .error = error};
     all->is_forcing = 0;
+    all->passing = all->held;
+    all->held = 0;
     pthread_cond_broadcast(&all->forced);
     all->took = nanoseconds() - begun;
     for (struct commit *one = all->commits; one; one = one->next) {
@@ -1091,6 +1104,12 @@ static void commit_all(nardsill *index) {
     pthread_cond_broadcast(&all->bell);
 }
 
+/* One commit syncs at a time; and those go before it that have waited for the last one. */
+static void wait_for_turn(nardsill *index, const struct commit *mine) {
+    struct gathering *all = &index->gathering;
+    while ((all->is_forcing || all->passing) && !mine->is_over) pthread_cond_wait(&all->bell, &index->lock);
+}
+
 int nardsill_commit(nardsill *index, uint64_t *actions) {
     int status = refusal_of(index);
     if (status) return refused(status);
@@ -1100,7 +1119,7 @@ int nardsill_commit(nardsill *index, uint64_t *actions) {
     take_lock(index);
     join(&index->gathering, &mine);
     gather(index, &mine);
-    while (index->gathering.is_forcing && !mine.is_over) pthread_cond_wait(&index->gathering.bell, &index->lock);
+    wait_for_turn(index, &mine);
     if (!mine.is_over) commit_all(index);
     arrive(&index->turns);
     pthread_mutex_unlock(&index->lock);
