@@ -141,7 +141,8 @@ NARDSILL_LOOK int nardsill_vacuum(nardsill *index, nardsill_stats *stats);
 NARDSILL_LOOK int nardsill_set_patience(nardsill *index, uint32_t milliseconds);
 
 /* Makes all that was done durable; `actions` is how many were since the opening. A checkpoint writes the pages home too. Commits of
-   threads share a sync: one may wait for those that it shared the last one with, 20 ms at most. */
+   threads share a sync: one may wait for those that it shared the last one with, 20 ms at most. While a commit syncs, calls that only
+   read go on, and the others wait. */
 NARDSILL_LOOK int nardsill_commit(nardsill *index, uint64_t *actions);
 NARDSILL_LOOK int nardsill_checkpoint(nardsill *index, uint64_t *actions);
 
