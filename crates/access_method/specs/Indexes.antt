@@ -50,7 +50,8 @@ abbrev pub is_named_row : {T : Type 0} → (T → Row → Bool) → NamedRows T 
 is_named_row is_in (Own rows) = is_row_in rows.now
 is_named_row is_in (Lent rows) = is_in rows.now
 
--- the store of an index, and what its sessions run; the one set of dead rows is that of the bulk delete that goes on in parts
+-- the store of an index, and what its sessions run; the one set of dead rows is that of the bulk delete that
+-- goes on in parts
 abbrev pub slots_within : {S : Type 0} → Index S → StoreAndSlots S
 slots_within index = record { store = index.store; slots = index.calls.slots.items; sets = is_row_in index.rows ∷ [] }
 
@@ -62,8 +63,8 @@ IndexFits g index start history calls = Fits g start (snapshot_of (slots_within 
 abbrev pub IndexKeeps : {S : Type 0} → Ghosts S → Index S → (Entry → Bool) → List Action → List Call → Type 0
 IndexKeeps g index start history calls = KeepsHistory g start (snapshot_of (slots_within index) history calls)
 
--- for whatever fitted the index before there is a run of events of this session, of which one answered what the call came
--- to, and this is told
+-- for whatever fitted the index before there is a run of events of this session, of which one answered what
+-- the call came to, and this is told
 abbrev pub IndexIsRun : {S : Type 0} → Ghosts S → ℕ → (Moment S → Moment S → Type 0) → Option Answer → Index S → Index S → Type 0
 IndexIsRun g session Tells came old new = CallIsRun g session Tells came (slots_within old) (slots_within new)
 
@@ -71,8 +72,9 @@ IndexIsRun g session Tells came old new = CallIsRun g session Tells came (slots_
 abbrev pub IndexInserts : {S : Type 0} → Ghosts S → ℕ → Entry → Result Inserted Fault → Index S → Index S → Type 0
 IndexInserts g session entry result old new = InsertIsRun g session entry result (slots_within old) (slots_within new)
 
--- Whatever the pages are, the call is made of events of this session and of checkpoints. A checkpoint is made only if the log has room for
--- fewer than five images, a step only if it has room for five, or its whole room. What it came to, it came to by their answers.
+-- Whatever the pages are, the call is made of events of this session and of checkpoints. A checkpoint is made
+-- only if the log has room for fewer than five images, a step only if it has room for five, or its whole
+-- room. What it came to, it came to by their answers.
 abbrev pub IndexMakes : {S : Type 0} → Ghosts S → ℕ → (List Answer → Type 0) → Index S → Index S → Type 0
 IndexMakes g session CallOutcome old new = IsMadeOf g session 5 CallOutcome (slots_within old) (slots_within new)
 
@@ -82,7 +84,8 @@ pub record IndexIsKept {S : Type 0} (g : Ghosts S) (upkeep : Upkeep) (result : R
   pub handed_on : counted answer ≡ result
   pub made : EventEffect g (MaintainsStore upkeep) answer (slots_within old) (slots_within new)
 
--- The pages and the calls are as they were. What fitted the index fits it, and a history that was kept is kept, over crashes in between too.
+-- The pages and the calls are as they were. What fitted the index fits it, and a history that was kept is
+-- kept, over crashes in between too.
 pub record IndexStays {S : Type 0} (g : Ghosts S) (old new : Index S) : Type 0 where
   pub state_is : g.state new.store ≡ g.state old.store
   pub calls_is : new.calls ≡ old.calls
@@ -103,9 +106,9 @@ slots_with dead index = record { store = index.store; slots = index.calls.slots.
 abbrev pub slots_naming : {S : Type 0} → (Row → Bool) → Index S → StoreAndSlots S
 slots_naming dead index = record { store = index.store; slots = index.calls.slots.items; sets = dead ∷ [] }
 
--- A bulk delete of this set goes, run to its end: there is a run of events over the index with this set beside its own, of which one
--- answered what the call came to. The index is fitted by what comes after it; if the history was kept, it is so still, and a crash in
--- between leaves a prefix of it.
+-- A bulk delete of this set goes, run to its end: there is a run of events over the index with this set
+-- beside its own, of which one answered what the call came to. The index is fitted by what comes after it; if
+-- the history was kept, it is so still, and a crash in between leaves a prefix of it.
 pub record BulkDeleteRuns {S : Type 0} (g : Ghosts S) (dead : Row → Bool) (result : Result VacuumStats Fault) (old new : Index S) (start : Entry → Bool)
     (history : List Action) (calls : List Call) : Type 0 where
   pub deletions : CallRuns g 63 (VacuumMeans 63 (ToBulk 1) result) (vacuum_outcome result) (slots_with dead old) (slots_with dead new) start history calls
@@ -165,7 +168,8 @@ TokenAfter token (Err fault) old new = SeatBecomes token (seat_with token true) 
 abbrev pub has_entry : {S : Type 0} → Ghosts S → S → Entry → Bool
 has_entry g store e = entry_on_live_leaf (g.state store).pages e
 
--- the entry wasn't there, and on a unique index no entry of its key; the contents are those before and the entry; and the action that added it is one since
+-- the entry wasn't there, and on a unique index no entry of its key; the contents are those before and the
+-- entry; and the action that added it is one since
 pub record IsInserted {S : Type 0} (g : Ghosts S) (entry : Entry) (inserted : Inserted) (old new : S) : Type 0 where
   pub was_absent : has_entry g old entry ≡ false
   pub key_was_absent : (g.state old).limits.unique ≡ true → (row : Row) → has_entry g old (with_row entry row) ≡ false
@@ -173,8 +177,8 @@ pub record IsInserted {S : Type 0} (g : Ghosts S) (entry : Entry) (inserted : In
   pub since : (g.state old).acts < inserted.action
   pub until : inserted.action ≤ (g.state new).acts
 
--- the contents are those before; and if an insert was refused because the entry was there, it was; if because its key was
--- there with a row, that was another row, and its entry was there
+-- the contents are those before; and if an insert was refused because the entry was there, it was; if because
+-- its key was there with a row, that was another row, and its entry was there
 pub record SameContents {S : Type 0} (g : Ghosts S) (entry : Entry) (fault : Fault) (old new : S) : Type 0 where
   pub contents : (e : Entry) → has_entry g new e ≡ has_entry g old e
   pub was_there : fault ≡ Exists → has_entry g old entry ≡ true
@@ -192,8 +196,8 @@ pub record AreSoMany (is_such : Entry → Bool) (count : ℕ) : Type 0 where
   pub such : (e : Entry) → is_among listed e ≡ is_such e
   pub many : count ≡ length listed
 
--- The entries of dead rows are gone, and no others. It is told how many they were, how many entries are left, how many pages are in use, and
--- how many of them are deleted. It has deleted none.
+-- The entries of dead rows are gone, and no others. It is told how many they were, how many entries are left,
+-- how many pages are in use, and how many of them are deleted. It has deleted none.
 pub record IsBulkDeleted {S : Type 0} (g : Ghosts S) (dead : Row → Bool) (stats : VacuumStats) (old new : S) : Type 0 where
   pub contents : (e : Entry) → has_entry g new e ≡ (has_entry g old e && not (dead e.row))
   pub removed : AreSoMany (λ e. has_entry g old e && dead e.row) stats.tuples_removed
@@ -211,15 +215,17 @@ abbrev pub IsBulkDeletedOrLess : {S : Type 0} → Ghosts S → (Row → Bool) �
 IsBulkDeletedOrLess g dead (Ok stats) old new = IsBulkDeleted g dead stats old new
 IsBulkDeletedOrLess g dead (Err fault) old new = LosesDeadRows g dead old new
 
--- The contents are those before a cleanup. If it answers, no half-dead page is left. It tells how many entries there are, that it has removed
--- none, how many pages are in use, how many of them are deleted, and how many of these were not before.
+-- The contents are those before a cleanup. If it answers, no half-dead page is left. It tells how many
+-- entries there are, that it has removed none, how many pages are in use, how many of them are deleted, and
+-- how many of these were not before.
 pub record IsCleanedUp {S : Type 0} (g : Ghosts S) (result : Result VacuumStats Fault) (old new : S) : Type 0 where
   pub contents : (e : Entry) → has_entry g new e ≡ has_entry g old e
   pub told : StatsCountCleaned (g.state new) result
   pub deleted : StatsCountDeleted (deleted_in (g.state old)) (g.state new) result
   pub stats : IfOk result (λ stats. StatsCountPages (g.state new) stats × (stats.tuples_removed ≡ 0))
 
--- what a scan has given with this entry is right so far; or all that it gave is the right answer since it was begun
+-- what a scan has given with this entry is right so far; or all that it gave is the right answer since it was
+-- begun
 abbrev pub GivesRight : (Entry → Bool) → List Action → Range → Call → Result (Option Entry) Fault → Type 0
 GivesRight start history range call (Ok (Some entry)) = IsScanAnswerSoFar start history range call.began (length history) (call.given ++ entry ∷ [])
 GivesRight start history range call (Ok None) = IsScanAnswer start history range call.began (length history) call.given
@@ -230,8 +236,8 @@ abbrev pub AnswersScan : ℕ → Result (Option Entry) Fault → (Entry → Bool
 AnswersScan session result start history calls = (number : ℕ) (call : Call) (range : Range) → IsRunningCall calls session number call → call.ask ≡ AskScan range
     → GivesRight start history range call result
 
--- an index of these limits, fitted by the contents of these pages, no action and no call, which keeps that history; no token
--- is open
+-- an index of these limits, fitted by the contents of these pages, no action and no call, which keeps that
+-- history; no token is open
 pub record IndexBegins {D : Type 0} (d : DeviceGhosts D) (g : Ghosts (Store D d)) (limits : Format) (pages : List Page) (index : Index (Store D d)) : Type 0 where
   pub limits_are : (state_of d index.store).limits ≡ limits
   pub fits : IndexFits g index (entry_on_live_leaf pages) [] []

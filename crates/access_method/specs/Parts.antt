@@ -46,8 +46,8 @@ abbrev pub BeginsToFollow : {S : Type 0} → Ghosts S → ℕ → Request → In
 BeginsToFollow g session request old new =
     (what : Followed) → FollowsFrom what request (g.state old.store) session → ForEachIndexHistory g old new (λ start history calls. HasCounted g what session new)
 
--- A bulk delete of this set is begun, in place of the index's own, which no call names: for whatever fitted the index before, the event
--- that begins it fits; where the history was kept, it is so still.
+-- A bulk delete of this set is begun, in place of the index's own, which no call names: for whatever fitted
+-- the index before, the event that begins it fits; where the history was kept, it is so still.
 pub record BulkDeleteBegins {S : Type 0} (g : Ghosts S) (session : ℕ) (dead : Row → Bool) (old new : Index S) (start : Entry → Bool) (history : List Action) (calls : List Call) : Type 0 where
   pub begun : CallRuns g session (HasBegun session (ToBulk 0)) (Some Begun) (slots_naming dead old) (slots_within new) start history calls
   pub safe : IndexKeeps g old start history calls → IsCrashSafe g start (snapshot_of (slots_within old) history calls) (snapshot_of (slots_within new) begun.then_history begun.then_calls)
@@ -70,14 +70,16 @@ pub record CleanupIsOpened {S : Type 0} (g : Ghosts S) (old new : Index S) : Typ
   pub made : IndexMakes g session (ComesTo (Some Begun)) old new
   pub follows : BeginsToFollow g session ToCleanup old new
 
--- why no bulk delete or cleanup is begun that goes on in parts: no call can begin; no session is left; or one goes on
+-- why no bulk delete or cleanup is begun that goes on in parts: no call can begin; no session is left; or one
+-- goes on
 abbrev pub NotBegunFor : {S : Type 0} → Ghosts S → Index S → Fault → Type 0
 NotBegunFor g index Stopped = cannot_begin g index ≡ true
 NotBegunFor g index NoSession = AreTaken index.seats
 NotBegunFor g index VacuumRunning = (session : ℕ) × IsVacuumSeat index.seats session
 NotBegunFor g index fault = ⊥
 
--- the call finds no vacuum that it could go on with or end: it is refused with `NoSession`, and changes nothing
+-- the call finds no vacuum that it could go on with or end: it is refused with `NoSession`, and changes
+-- nothing
 abbrev pub FindsNoVacuum : {S A : Type 0} → Result A Fault → Index S → Index S → Type 0
 FindsNoVacuum result old new = (result ≡ Err NoSession) × (new ≡ old)
 
@@ -122,14 +124,15 @@ abbrev pub PartCounts : {S : Type 0} → Ghosts S → ℕ → Result (Option Vac
 PartCounts g session result new calls =
     (number : ℕ) (call : Call) → IsRunningCall calls session number call → (stats : VacuumStats) → result ≡ Ok (Some stats) → StatsCountFor call.ask (g.state new) stats
 
--- while nobody else changes pages, a part counts on: what was right before it is so after it, and at its end it is told
+-- while nobody else changes pages, a part counts on: what was right before it is so after it, and at its end
+-- it is told
 abbrev pub PartCountsOn : {S : Type 0} → Ghosts S → Followed → ℕ → Result (Option VacuumStats) Fault → Index S → Index S → Type 0
 PartCountsOn g what session result old new =
     CountsThrough what (is_row_in old.rows ∷ []) (g.state old.store) (g.state new.store) (slot_of old.calls.slots.items session) (slot_of new.calls.slots.items session)
     (part_answer result)
 
--- The vacuum is over: its call is given up, if it still ran, its session is free, and its rows are no one's. The index is fitted by what
--- comes after that; where the history was kept, it is so still.
+-- The vacuum is over: its call is given up, if it still ran, its session is free, and its rows are no one's.
+-- The index is fitted by what comes after that; where the history was kept, it is so still.
 pub record VacuumEnds {S : Type 0} (g : Ghosts S) (session : ℕ) (old new : Index S) (start : Entry → Bool) (history : List Action) (calls : List Call) : Type 0 where
   pub ended : CallRuns g session (EndMeans session) None (slots_within old) (slots_naming (is_row_in old.rows) new) start history calls
   pub fits : IndexFits g new start ended.then_history ended.then_calls

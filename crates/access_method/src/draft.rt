@@ -11,16 +11,16 @@ use std::io::{self, Error, ErrorKind};
 use std::os::unix::fs::MetadataExt;
 use std::rt::Files;
 
-/// The numbers of the system's answers that a name is there, that a name is too long, and that another has a file's lock: `EEXIST`,
-/// `ENAMETOOLONG`, `EWOULDBLOCK`.
+/// The numbers of the system's answers that a name is there, that a name is too long, and that another has a
+/// file's lock: `EEXIST`, `ENAMETOOLONG`, `EWOULDBLOCK`.
 const IS_THERE: i32 = 17;
 
 const NAME_TOO_LONG: i32 = 36;
 
 const WOULD_BLOCK: i32 = 11;
 
-/// A path with `.nardsill-draft` after it: the name that a file has there before it is whole. Refused if that has more than
-/// 4,096 bytes.
+/// A path with `.nardsill-draft` after it: the name that a file has there before it is whole. Refused if that
+/// has more than 4,096 bytes.
 pub(crate) fn draft_of(path: &str) -> io::Result<ArrayString<4_096>>
     ensures name { IfOk result (λ draft. draft.bytes ≡ path.now ++ codes ".nardsill-draft") }
 {
@@ -49,8 +49,8 @@ pub(crate) fn want_free<R: Files<File = File>>(rt: &R, path: &str) -> io::Result
     }
 }
 
-/// Takes the draft's name from a file that has another one too: a whole one, whose making was stopped before its end. It is left
-/// as it is under its own name. Refused for what is no file.
+/// Takes the draft's name from a file that has another one too: a whole one, whose making was stopped before
+/// its end. It is left as it is under its own name. Refused for what is no file.
 fn let_whole_go<R: Files<File = File>>(rt: &R, draft: &str) -> io::Result<()> {
     if is_free(rt, draft)? {
         return Ok(());
@@ -70,8 +70,8 @@ fn is_draft(file: &Metadata, named: &Metadata) -> bool {
     file.is_file() && file.nlink() == 1 && file.dev() == named.dev() && file.ino() == named.ino()
 }
 
-/// Takes the lock of the draft's file. Refused if another has it, and if the file system has no locks: nobody else has it
-/// then, and the draft is removed.
+/// Takes the lock of the draft's file. Refused if another has it, and if the file system has no locks: nobody
+/// else has it then, and the draft is removed.
 fn lock_draft<R: Files<File = File>>(rt: &R, draft: &str, file: &File) -> io::Result<()> {
     match file.try_lock() {
         Ok(()) => Ok(()),
@@ -101,8 +101,8 @@ fn unlocked(file: File, error: Error) -> Error {
     error
 }
 
-/// The file of a draft with its lock, a new one or what a stopped making left there. Refused if another has its lock, or the
-/// name leads elsewhere by now: nothing is changed then.
+/// The file of a draft with its lock, a new one or what a stopped making left there. Refused if another has
+/// its lock, or the name leads elsewhere by now: nothing is changed then.
 fn take_draft<R: Files<File = File>>(rt: &R, draft: &str) -> io::Result<File> {
     let_whole_go(rt, draft)?;
     let file = OpenOptions::new()
@@ -117,14 +117,15 @@ fn take_draft<R: Files<File = File>>(rt: &R, draft: &str) -> io::Result<File> {
     }
 }
 
-/// Removes the draft while its file has the lock, lets the lock go by a call, closes the file, and hands back why.
+/// Removes the draft while its file has the lock, lets the lock go by a call, closes the file, and hands back
+/// why.
 fn removed<R: Files<File = File>>(rt: &R, draft: &str, file: File, error: Error) -> Error {
     let _ = fs::remove_file(rt, draft);
     unlocked(file, error)
 }
 
-/// A device over the draft, of `len` zeros, of which the first `filled` are written. Refused with what the system said. If it took
-/// the draft by then, that is removed.
+/// A device over the draft, of `len` zeros, of which the first `filled` are written. Refused with what the
+/// system said. If it took the draft by then, that is removed.
 pub(crate) fn make_draft<R: Files<File = File>>(
     rt: &R,
     draft: &str,
@@ -147,13 +148,13 @@ pub(crate) fn make_draft<R: Files<File = File>>(
     }
 }
 
-/// Gives a draft that is whole its own name, which it has after a crash too, and takes the draft's from it. Refused with what the
-/// system said if that name is there, the file system has no links, or a call fails: the file has neither name then, if the
-/// system lets them be removed.
+/// Gives a draft that is whole its own name, which it has after a crash too, and takes the draft's from it.
+/// Refused with what the system said if that name is there, the file system has no links, or a call fails:
+/// the file has neither name then, if the system lets them be removed.
 ///
-/// A crash may leave the file both names: also one soon after this, as the folder isn't synced again. A crash before its own name
-/// is synced may leave one of them. The next making at this path takes the draft's name away, and one that leads to a file with
-/// another name too is left alone.
+/// A crash may leave the file both names: also one soon after this, as the folder isn't synced again. A crash
+/// before its own name is synced may leave one of them. The next making at this path takes the draft's name
+/// away, and one that leads to a file with another name too is left alone.
 pub(crate) fn place_draft<R: Files<File = File>>(
     rt: &R,
     draft: &str,

@@ -22,12 +22,13 @@ use std::io::Error;
 use vacuum::count_deleted;
 use whole_calls::{Inserted, bulk_delete, clean_up, give, give_up, insert, open};
 
-// How many images of pages the log has room for before a step: an act takes four at most, and a force that it makes one more.
+// How many images of pages the log has room for before a step: an act takes four at most, and a force that it
+// makes one more.
 pub(crate) const LEAST_ROOM: u32 = 5;
 
-/// The index of one user over a store of pages. Session 63 runs its inserts, and the bulk deletes and cleanups that are run to their
-/// ends by one call. Sessions 0 to 62 run its open scans, and a bulk delete or cleanup that goes on in parts, one at most. Nothing
-/// takes memory.
+/// The index of one user over a store of pages. Session 63 runs its inserts, and the bulk deletes and
+/// cleanups that are run to their ends by one call. Sessions 0 to 62 run its open scans, and a bulk delete or
+/// cleanup that goes on in parts, one at most. Nothing takes memory.
 #[derive(Drop)]
 pub struct Index<S> {
     pub(crate) store: S,
@@ -159,9 +160,9 @@ impl<S: PageStore> Index<S> {
     ghost use Rattle.access_method.specs.Counted.{upkeep_outcome};
     ghost use Rattle.access_method.specs.Refusals.{causes_of_vacuum, InsertHasCause, NothingHinders, NothingIsOpen, InsertsUnhindered, GiveHasCause, GivesUnhindered};
 
-    /// An index over the store, with no call and no open scan. Where the store's pages are in order and it has made no
-    /// act, the index is fitted by the contents of its pages, no actions and no calls; over an own device it keeps them
-    /// over crashes. Refused with `NoMemory` (1), with the store given back.
+    /// An index over the store, with no call and no open scan. Where the store's pages are in order and it
+    /// has made no act, the index is fitted by the contents of its pages, no actions and no calls; over an
+    /// own device it keeps them over crashes. Refused with `NoMemory` (1), with the store given back.
     pub fn new(alloc: Global, store: S) -> Result<Index<S>, NotMade<S>>
         ensures store { IfOk result (λ index. index.store ≡ store) }
         ensures fits { IsUnused (S.state store) → IfOk result (λ index.
@@ -185,12 +186,13 @@ impl<S: PageStore> Index<S> {
         }
     }
 
-    /// Inserts an entry: begins an insert and runs its steps to the end. Refused with `Exists` (5) where the entry is there;
-    /// on a unique index with `KeyExists` (21), which names the row, where an entry of its key and another row is there;
-    /// with `IndexFull` (8) where a page is full and no block is left, with `TooTall` (19) where the root is full on level 31;
-    /// with `Io` (2), `Stopped` (3), and with `Blocked` (4) or `NoFrame` (10) where open scans hold what it needs; with
-    /// `PageDamaged` (17) on pages that are no tree: no entry is added then. Once the entry is added, a fault that
-    /// keeps a split from being finished stands in `unfinished`. Open scans stay as they are.
+    /// Inserts an entry: begins an insert and runs its steps to the end. Refused with `Exists` (5) where the
+    /// entry is there; on a unique index with `KeyExists` (21), which names the row, where an entry of its
+    /// key and another row is there; with `IndexFull` (8) where a page is full and no block is left, with
+    /// `TooTall` (19) where the root is full on level 31; with `Io` (2), `Stopped` (3), and with `Blocked`
+    /// (4) or `NoFrame` (10) where open scans hold what it needs; with `PageDamaged` (17) on pages that are
+    /// no tree: no entry is added then. Once the entry is added, a fault that keeps a split from being
+    /// finished stands in `unfinished`. Open scans stay as they are.
     pub fn aminsert(&mut self, entry: Entry) -> Result<Inserted, Fault>
         ensures steps { Continues S.follows self.old.store self.new.store }
         ensures runs { IndexInserts S.PageStore 63 entry result self.old self.new }
@@ -217,11 +219,12 @@ impl<S: PageStore> Index<S> {
         )
     }
 
-    /// Deletes every entry whose row is in the set, and answers statistics: what it removed, how many entries are left, how
-    /// many pages are in use and deleted then, and how many of these may be used again. Open scans stay as they are. Refused
-    /// with `VacuumRunning` (11) where one goes on in parts, with `Blocked` (4) where an open scan stands on a leaf, with `Io`
-    /// (2), `Stopped` (3) and `NoFrame` (10), and with `PageDamaged` (17) on pages that are no tree: what it has removed stays
-    /// removed, and no other entry is gone.
+    /// Deletes every entry whose row is in the set, and answers statistics: what it removed, how many entries
+    /// are left, how many pages are in use and deleted then, and how many of these may be used again. Open
+    /// scans stay as they are. Refused with `VacuumRunning` (11) where one goes on in parts, with `Blocked`
+    /// (4) where an open scan stands on a leaf, with `Io` (2), `Stopped` (3) and `NoFrame` (10), and with
+    /// `PageDamaged` (17) on pages that are no tree: what it has removed stays removed, and no other entry is
+    /// gone.
     pub fn ambulkdelete<T: DeadRows>(&mut self, dead: &T) -> Result<VacuumStats, Fault>
         ensures steps { Continues S.follows self.old.store self.new.store }
         ensures deletions { ForEachIndexHistory S.PageStore self.old self.new
@@ -249,12 +252,13 @@ impl<S: PageStore> Index<S> {
         )
     }
 
-    /// Deletes empty leaves and counts the entries: begins a cleanup and runs its steps to the end. The contents stay,
-    /// whatever it answers, and so do open scans; a leaf on which one stands is passed. Where it answers, no half-dead page
-    /// is left, `num_index_tuples` is the number of entries, and of the pages that are deleted then (`pages_deleted`) it
-    /// tells how many it deleted and how many may be used again. Refused with `VacuumRunning` (11) where one goes on in parts,
-    /// with `Io` (2) and `Stopped` (3), with `Blocked` (4) or `NoFrame` (10) where open scans hold what it needs, and with
-    /// `PageDamaged` (17) on pages that are no tree.
+    /// Deletes empty leaves and counts the entries: begins a cleanup and runs its steps to the end. The
+    /// contents stay, whatever it answers, and so do open scans; a leaf on which one stands is passed. Where
+    /// it answers, no half-dead page is left, `num_index_tuples` is the number of entries, and of the pages
+    /// that are deleted then (`pages_deleted`) it tells how many it deleted and how many may be used again.
+    /// Refused with `VacuumRunning` (11) where one goes on in parts, with `Io` (2) and `Stopped` (3), with
+    /// `Blocked` (4) or `NoFrame` (10) where open scans hold what it needs, and with `PageDamaged` (17) on
+    /// pages that are no tree.
     pub fn amvacuumcleanup(&mut self) -> Result<VacuumStats, Fault>
         ensures steps { Continues S.follows self.old.store self.new.store }
         ensures runs { IndexIsRun S.PageStore 63 (VacuumMeans 63 ToCleanup result)
@@ -264,8 +268,8 @@ impl<S: PageStore> Index<S> {
         ensures cleans { ForEachIndexHistory S.PageStore self.old self.new
             (λ start history calls. IsCleanedUp S.PageStore result self.old.store
             self.new.store) }
-        // The empty leaves that are left then are the rightmost one, those with an incomplete split, those right after one with an
-        // incomplete split, and last children of their parents.
+        // The empty leaves that are left then are the rightmost one, those with an incomplete split, those
+        // right after one with an incomplete split, and last children of their parents.
         ensures spares { ForEachIndexHistory S.PageStore self.old self.new
             (λ start history calls. NothingIsOpen S.PageStore self.old
             → ResultLeavesNeeded (S.state self.new.store) result) }
@@ -302,8 +306,8 @@ impl<S: PageStore> Index<S> {
         count(force(&mut self.store))
     }
 
-    /// Makes all actions durable, writes each changed page to its place and closes the log; answers the number of
-    /// actions. Refused with `Stopped` (3) and `Io` (2).
+    /// Makes all actions durable, writes each changed page to its place and closes the log; answers the
+    /// number of actions. Refused with `Stopped` (3) and `Io` (2).
     pub fn checkpoint(&mut self) -> Result<u64, Fault>
         ensures steps { Continues S.follows self.old.store self.new.store }
         ensures runs { IndexIsRun S.PageStore 0 IsSameHistory
@@ -323,8 +327,8 @@ impl<S: PageStore> Index<S> {
         count(checkpoint(&mut self.store))
     }
 
-    /// What the index is: its sizes, its pages, and whether it has stopped. It makes no call of the device, and goes over the
-    /// numbers of the blocks in use.
+    /// What the index is: its sizes, its pages, and whether it has stopped. It makes no call of the device,
+    /// and goes over the numbers of the blocks in use.
     pub fn info(&self) -> IndexInfo
         ensures limits { result.limits ≡ sizes_of (S.state self.now.store).limits }
         ensures used { result.pages_used ≡ length (S.state self.now.store).pages }
@@ -360,10 +364,10 @@ impl<S: PageStore> Index<S> {
         }
     }
 
-    /// The next entry of an open scan, in ascending order, or None where it has given all. Refused with `NoSession` (12)
-    /// where the token is not open, or a fault was answered since the scan was begun; with `Io` (2) and `Stopped` (3), with
-    /// `Blocked` (4) or `NoFrame` (10), and with `PageDamaged` (17) on pages that are no tree: the scan is over then. Once it
-    /// has answered None it answers None again.
+    /// The next entry of an open scan, in ascending order, or None where it has given all. Refused with
+    /// `NoSession` (12) where the token is not open, or a fault was answered since the scan was begun; with
+    /// `Io` (2) and `Stopped` (3), with `Blocked` (4) or `NoFrame` (10), and with `PageDamaged` (17) on pages
+    /// that are no tree: the scan is over then. Once it has answered None it answers None again.
     pub fn amgettuple(&mut self, token: ScanToken) -> Result<Option<Entry>, Fault>
         ensures steps { Continues S.follows self.old.store self.new.store }
         ensures runs { seat_of self.old.seats token ≡ seat_with token false
@@ -422,8 +426,8 @@ impl<S: PageStore> Index<S> {
         }
     }
 
-    /// Closes an open scan: its call is given up, and the token is not open any more. Refused with `NoSession` where the
-    /// token is not open.
+    /// Closes an open scan: its call is given up, and the token is not open any more. Refused with
+    /// `NoSession` where the token is not open.
     pub fn amendscan(&mut self, token: ScanToken) -> Result<(), Fault>
         ensures steps { Continues S.follows self.old.store self.new.store }
         ensures runs { OnOk result (IndexIsRun S.PageStore token.session
@@ -458,8 +462,9 @@ impl<S: PageStore> Index<S> {
         self.store.is_stopped() || self.store.begun() == u64::MAX || self.given == u64::MAX
     }
 
-    /// Opens a scan of the entries of a range, and answers its token, a new one. Refused with `Stopped` (3) where the log
-    /// has failed or a counter is at its end, and then with `NoSession` (12) where 63 scans are open: nothing is changed.
+    /// Opens a scan of the entries of a range, and answers its token, a new one. Refused with `Stopped` (3)
+    /// where the log has failed or a counter is at its end, and then with `NoSession` (12) where 63 scans are
+    /// open: nothing is changed.
     pub fn ambeginscan(&mut self, range: Range) -> Result<ScanToken, Fault>
         ensures steps { Continues S.follows self.old.store self.new.store }
         ensures runs { IfOk result (λ token.
@@ -499,8 +504,9 @@ impl<S: PageStore> Index<S> {
         Ok(ScanToken { number, session })
     }
 
-    /// Begins a scan of a range anew under an open token; the old call is given up. Refused with `NoSession` (12) where the
-    /// token is not open, then with `Stopped` (3) where the log has failed or a counter is at its end: nothing is changed.
+    /// Begins a scan of a range anew under an open token; the old call is given up. Refused with `NoSession`
+    /// (12) where the token is not open, then with `Stopped` (3) where the log has failed or a counter is at
+    /// its end: nothing is changed.
     pub fn amrescan(&mut self, token: ScanToken, range: Range) -> Result<(), Fault>
         ensures steps { Continues S.follows self.old.store self.new.store }
         ensures runs { OnOk result
@@ -547,8 +553,9 @@ impl<S: PageStore> Index<S> {
         Ok(())
     }
 
-    /// Does nothing: what a scan gives, where between its beginning and now nothing was done but asking for its next entry. These are
-    /// the first of the sorted matches, of what was there when it was begun; and all of them, once it has answered None.
+    /// Does nothing: what a scan gives, where between its beginning and now nothing was done but asking for
+    /// its next entry. These are the first of the sorted matches, of what was there when it was begun; and
+    /// all of them, once it has answered None.
     pub fn scan_law(&self)
         ensures first { (session : ℕ) (range : TheRange) (before begun : Index S) (given : List IndexEntry)
             → ScanBegins S.PageStore session range before begun
@@ -588,11 +595,12 @@ impl<D: Device> Index<Store<D>> {
     ghost use Rattle.access_method.specs.Files.{IsOpenFault};
     ghost use Rattle.access_method.specs.Indexes.{IndexFits, IndexKeeps, IndexBegins, IndexStays, SameTokens, index_device};
 
-    /// Opens the index on the device, after any crash, for so many pages in memory at once (16 to 1,024). Refused as `open` of
-    /// `recovery` is, with the device given back. It may be called again after any refusal, and after a crash at any moment.
+    /// Opens the index on the device, after any crash, for so many pages in memory at once (16 to 1,024).
+    /// Refused as `open` of `recovery` is, with the device given back. It may be called again after any
+    /// refusal, and after a crash at any moment.
     pub fn open(alloc: Global, device: D, frames: u32) -> Result<Index<Store<D>>, Refused<D>>
-        // An index whose pages are a B-link tree, of a unique one keyed, is opened with them, or refused for want of memory or of
-        // the device.
+        // An index whose pages are a B-link tree, of a unique one keyed, is opened with them, or refused for
+        // want of memory or of the device.
         ensures begins { IsTrue (D.is_honest (index_device D.Device result)) → AreFrames frames
             → (limits : Format) (pages : List Page)
             → HasIndex limits pages (D.trace device).now.seen → IsTreeFor limits pages
@@ -626,8 +634,9 @@ impl<D: Device> Index<Store<D>> {
         }
     }
 
-    /// Does nothing: what every crash leaves, at any moment between an earlier store of the index and now. It is an index that
-    /// can be opened, with the contents after a prefix of the history, and all that was durable at that earlier moment.
+    /// Does nothing: what every crash leaves, at any moment between an earlier store of the index and now. It
+    /// is an index that can be opened, with the contents after a prefix of the history, and all that was
+    /// durable at that earlier moment.
     pub fn crash_law(&self)
         ensures { (first : Store D D.Device)
             → IsOwnStore D.Device first → ⟦<Store<D> as PageStore>⟧.follows first self.now.store
@@ -640,12 +649,13 @@ impl<D: Device> Index<Store<D>> {
             (backing_of (held_by D.Device first)).durable image }
     {}
 
-    /// Does the next part of a commit but for its last sync: writes what waits in the log, or syncs that and opens its gate. A
-    /// sync of the device between two parts makes the next one fast, and so the commit at their end, which alone tells what is
-    /// durable. So readers need not wait for the disk: see [`device::Syncer`]. If an insert or a vacuum logs an action between two
-    /// parts, what waits is written again.
+    /// Does the next part of a commit but for its last sync: writes what waits in the log, or syncs that and
+    /// opens its gate. A sync of the device between two parts (`device::Syncer`) makes the next one fast, and
+    /// so the commit at their end, which alone tells what is durable. So readers need not wait for the disk.
+    /// If an action is logged between two parts, what waits is written again.
     ///
-    /// Contents, calls and open scans stay as they are, and so does what is durable. Refused with `Stopped` (3) and `Io` (2).
+    /// Contents, calls and open scans stay as they are, and so does what is durable. Refused with `Stopped`
+    /// (3) and `Io` (2).
     pub fn advance_commit(&mut self) -> Result<Advance, Fault>
         ensures steps { Continues ⟦<Store<D> as PageStore>⟧.follows self.old.store self.new.store }
         ensures stays { IndexStays ⟦<Store<D> as PageStore>⟧ self.old self.new }
@@ -662,7 +672,8 @@ impl<D: Device> Index<Store<D>> {
         self.store.advance()
     }
 
-    /// What the system said of the last call of the device that failed, if the device is of a system. No clause tells of it.
+    /// What the system said of the last call of the device that failed, if the device is of a system. No
+    /// clause tells of it.
     pub fn error(&self) -> Option<Error> {
         self.store.error()
     }

@@ -33,8 +33,8 @@ impl<S: PageStore> Index<S> {
     ghost use Rattle.access_method.specs.Tokens.{NoVacuumIsOpen, IsFreeSeat, IsVacuumSeat};
     ghost use Rattle.access_method.specs.Parts.{BulkDeleteIsOpened, CleanupIsOpened, FindsNoVacuum, NotBegunFor, PartCounts, PartCountsOn, PartIsCaused, PartKeeps, VacuumIsEnded, part_answer};
 
-    // A session for a bulk delete or a cleanup that goes on in parts. Refused with `Stopped` (3), `NoSession` (12) and `VacuumRunning`
-    // (11), in this order.
+    // A session for a bulk delete or a cleanup that goes on in parts. Refused with `Stopped` (3), `NoSession`
+    // (12) and `VacuumRunning` (11), in this order.
     fn place_for_vacuum(&self) -> Result<usize, Fault>
         ensures low { IfOk result (λ at. at < length self.now.seats) }
         ensures free { IfOk result (λ at. IsFreeSeat self.now.seats (Some at)) }
@@ -54,11 +54,12 @@ impl<S: PageStore> Index<S> {
         }
     }
 
-    /// Begins a bulk delete of these rows, which goes on in parts: by [`Index::vacuum`], between other calls, until
-    /// [`Index::end_vacuum`]. It has one of the sessions of open scans meanwhile. It takes the entries that are there now, and of
-    /// those that are inserted meanwhile any. Refused with `Stopped` (3) where the log has failed or a counter is at its end, then
-    /// with `NoSession` (12) where all 63 sessions are taken, then with `VacuumRunning` (11) where one goes on already: nothing is
-    /// changed, and the rows are dropped.
+    /// Begins a bulk delete of these rows, which goes on in parts: by [`Index::vacuum`], between other calls,
+    /// until [`Index::end_vacuum`]. It has one of the sessions of open scans meanwhile. It takes the entries
+    /// that are there now, and of those that are inserted meanwhile any. Refused with `Stopped` (3) where the
+    /// log has failed or a counter is at its end, then with `NoSession` (12) where all 63 sessions are taken,
+    /// then with `VacuumRunning` (11) where one goes on already: nothing is changed, and the rows are
+    /// dropped.
     pub fn begin_bulk_delete(&mut self, rows: RowSet) -> Result<(), Fault>
         ensures steps { Continues S.follows self.old.store self.new.store }
         ensures opened { OnOk result (BulkDeleteIsOpened S.PageStore rows self.old self.new) }
@@ -79,7 +80,8 @@ impl<S: PageStore> Index<S> {
         Ok(())
     }
 
-    /// Begins a cleanup that goes on in parts, as [`Index::begin_bulk_delete`] begins a bulk delete, and refused as that is.
+    /// Begins a cleanup that goes on in parts, as [`Index::begin_bulk_delete`] begins a bulk delete, and
+    /// refused as that is.
     pub fn begin_cleanup(&mut self) -> Result<(), Fault>
         ensures steps { Continues S.follows self.old.store self.new.store }
         ensures opened { OnOk result (CleanupIsOpened S.PageStore self.old self.new) }
@@ -98,11 +100,13 @@ impl<S: PageStore> Index<S> {
         Ok(())
     }
 
-    /// So many steps more of the bulk delete or cleanup that goes on in parts: each does one act at most, so a few pages. Answers
-    /// None where it goes on after all of them, and its statistics once it has finished. Refused with `NoSession` (12) where none is
-    /// open, or its call is over. Refused with `Blocked` (4) where an open scan stands on a leaf that it needs: its next part tries
-    /// that step again, and so where a checkpoint before a step is refused. A step that is refused with `Io` (2), `Stopped` (3),
-    /// `NoFrame` (10), or with `PageDamaged` (17) on pages that are no tree, ends its call. It stays open, with what it has done.
+    /// So many steps more of the bulk delete or cleanup that goes on in parts: each does one act at most, so
+    /// a few pages. Answers None where it goes on after all of them, and its statistics once it has finished.
+    /// Refused with `NoSession` (12) where none is open, or its call is over. Refused with `Blocked` (4)
+    /// where an open scan stands on a leaf that it needs: its next part tries that step again, and so where a
+    /// checkpoint before a step is refused. A step that is refused with `Io` (2), `Stopped` (3), `NoFrame`
+    /// (10), or with `PageDamaged` (17) on pages that are no tree, ends its call. It stays open, with what it
+    /// has done.
     pub fn vacuum(&mut self, steps: u32) -> Result<Option<VacuumStats>, Fault>
         ensures steps { Continues S.follows self.old.store self.new.store }
         ensures none { NoVacuumIsOpen self.old.seats → FindsNoVacuum result self.old self.new }
@@ -154,8 +158,9 @@ impl<S: PageStore> Index<S> {
         ))
     }
 
-    /// Ends the bulk delete or cleanup that goes on in parts: one that hasn't finished is given up, and what it has removed stays
-    /// removed. Its session is free then, and its rows are dropped. Refused with `NoSession` (12) where none is open.
+    /// Ends the bulk delete or cleanup that goes on in parts: one that hasn't finished is given up, and what
+    /// it has removed stays removed. Its session is free then, and its rows are dropped. Refused with
+    /// `NoSession` (12) where none is open.
     pub fn end_vacuum(&mut self) -> Result<(), Fault>
         ensures steps { Continues S.follows self.old.store self.new.store }
         ensures none { NoVacuumIsOpen self.old.seats → FindsNoVacuum result self.old self.new }

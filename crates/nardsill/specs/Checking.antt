@@ -52,7 +52,8 @@ abbrev pub IsOpenedForCheck : {D : Type 0} (d : DeviceGhosts D) → (ℕ → Lis
 IsOpenedForCheck d held store = IsTrue (d.is_honest (device_of d store)) → (limits : Format) (pages : List Page)
     → HasIndex limits pages (bytes_before held (d.trace (device_of d store))) → IsSameIndex d limits pages store
 
--- The index in the file was opened and judged, and what the verifier answered is told: of its pages, which it has left as they were.
+-- The index in the file was opened and judged, and what the verifier answered is told: of its pages, which it
+-- has left as they were.
 pub record IsJudged {D : Type 0} (d : DeviceGhosts D) (g : Ghosts (Store D d)) (held : ℕ → List ℕ) (checked : Checked) : Type 0 where
   pub store : Store D d
   pub opened : IsOpenedForCheck d held store

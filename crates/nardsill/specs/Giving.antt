@@ -17,8 +17,8 @@ use Rattle.nardsill.specs.Serving.{OfBoth}
 use Rattle.nardsill.specs.Meanings.{GivesNone, SpellsGiven}
 use Rattle.nardsill.specs.declared.answer.Given.{Given}
 
--- What is given is what the scan of this token answers, with all that the index promises of that: an entry is right, and so is that none
--- is left.
+-- What is given is what the scan of this token answers, with all that the index promises of that: an entry is
+-- right, and so is that none is left.
 pub record Gives {S : Type 0} (g : Ghosts S) (token : ScanToken) (given : Given) (old new : Index S) : Type 0 where
   pub outcome : Result (Option Entry) Fault
   pub told : SpellsGiven outcome given

@@ -7,7 +7,8 @@ use Rattle.page_action.specs.declared.page_store.PageStore.{Ghosts}
 use Rattle.vacuum.specs.Counts.{free_count}
 use Rattle.nardsill.specs.declared.facts.Facts.{Facts}
 
--- the sizes that the index was made with, its pages in use and those that may be used again, and whether its log has failed
+-- the sizes that the index was made with, its pages in use and those that may be used again, and whether its
+-- log has failed
 pub record TellsIndex {S : Type 0} (g : Ghosts S) (facts : Facts) (index : Index S) : Type 0 where
   pub status : facts.status ≡ 0
   pub items : facts.items ≡ (g.state index.store).limits.items

@@ -60,10 +60,10 @@ AnswersPart None answer = answer.session ≡ 0
 AnswersPart (Some stats) answer = (answer.session ≡ 1) × SpellsStats stats answer
 
 -- nothing waits for a commit; or its first sync is the next one, or its last one
-abbrev pub AnswersAdvance : Advance → Answer → Type 0
-AnswersAdvance Nothing answer = answer.number ≡ 0
-AnswersAdvance Written answer = answer.number ≡ 1
-AnswersAdvance Opened answer = answer.number ≡ 2
+abbrev pub AnswersPartOfCommit : Advance → Answer → Type 0
+AnswersPartOfCommit Nothing answer = answer.number ≡ 0
+AnswersPartOfCommit Written answer = answer.number ≡ 1
+AnswersPartOfCommit Opened answer = answer.number ≡ 2
 
 -- so many actions are durable
 pub record AnswersDurable (actions : ℕ) (answer : Answer) : Type 0 where

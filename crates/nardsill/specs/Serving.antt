@@ -31,7 +31,7 @@ use Rattle.whole_calls.specs.Meanings.{HasBegun, IsSameHistory, EndMeans}
 use Rattle.whole_calls.specs.declared.inserted.Inserted.{Inserted}
 use Rattle.nardsill.specs.Asking.{SpellsNoEntry, SpellsNoRange, SpellsEntry, SpellsRange, row_asked, token_asked}
 use Rattle.access_method.specs.Rows.{is_row_in, same_row}
-use Rattle.nardsill.specs.Meanings.{AnswersFault, Tells, AnswersAdvance, AnswersDurable, AnswersInserted, AnswersPart, SpellsStats, AnswersToken}
+use Rattle.nardsill.specs.Meanings.{AnswersFault, Tells, AnswersPartOfCommit, AnswersDurable, AnswersInserted, AnswersPart, SpellsStats, AnswersToken}
 use Rattle.nardsill.specs.declared.answer.Answer.{Answer}
 use Rattle.nardsill.specs.declared.ask.Ask.{Ask}
 use Rattle.access_method.specs.declared.rows.RowSet.{RowSet}
@@ -162,10 +162,11 @@ pub record EndsVacuum {S : Type 0} (g : Ghosts S) (answer : Answer) (old new : I
   pub none : NoVacuumIsOpen old.seats → FindsNoVacuum outcome old new
   pub ended : (session : ℕ) → IsVacuumSeat old.seats session → (outcome ≡ Ok tt) × VacuumIsEnded g session old new
 
--- The next part of a commit was to be done. It leaves contents, calls and open scans as they are, and what is durable.
+-- The next part of a commit was to be done. It leaves contents, calls and open scans as they are, and what is
+-- durable.
 pub record Advances {S : Type 0} (g : Ghosts S) (answer : Answer) (old new : Index S) : Type 0 where
   pub outcome : Result Advance Fault
-  pub told : Tells AnswersAdvance outcome answer
+  pub told : Tells AnswersPartOfCommit outcome answer
   pub stays : IndexStays g old new
   pub kept : IsAdvanced (g.backing old.store) (g.backing new.store)
   pub failed : OnErr outcome ((g.backing new.store).stopped ≡ true)
@@ -187,9 +188,10 @@ abbrev pub IsUnknown : ℕ → Type 0
 IsUnknown what =
     (what ≢ 1) × (what ≢ 2) × (what ≢ 3) × (what ≢ 4) × (what ≢ 5) × (what ≢ 6) × (what ≢ 7) × (what ≢ 8) × (what ≢ 9) × (what ≢ 11) × (what ≢ 12) × (what ≢ 13) × (what ≢ 14) × (what ≢ 15)
 
--- What is answered to a call of an open index, and what has become of it and of the rows that were named. 1 inserts, 2 opens a scan, 3
--- begins one anew, 4 closes one, 5 names a row, 6 deletes the entries of the rows that were named, 7 cleans up, 8 commits, 9 makes a
--- checkpoint. In parts, 11 begins to delete, 12 to clean up, 13 goes on and 14 ends. 15 does the next part of a commit.
+-- What is answered to a call of an open index, and what has become of it and of the rows that were named. 1
+-- inserts, 2 opens a scan, 3 begins one anew, 4 closes one, 5 names a row, 6 deletes the entries of the rows
+-- that were named, 7 cleans up, 8 commits, 9 makes a checkpoint. In parts, 11 begins to delete, 12 to clean
+-- up, 13 goes on and 14 ends. 15 does the next part of a commit.
 pub record ServesCall {S : Type 0} (g : Ghosts S) (ask : Ask) (answer : Answer) (old new : Index S) (dead left : RowSet) : Type 0 where
   pub inserted : ask.what ≡ 1 → Inserts g ask answer old new ⊎ IsMisspelled (SpellsNoEntry ask) answer old new
   pub began : ask.what ≡ 2 → BeginsScan g ask answer old new ⊎ IsMisspelled (SpellsNoRange ask) answer old new
@@ -219,13 +221,14 @@ OfBoth P (Some old) None = ⊥
 OfBoth P None new = ⊥
 
 -- the file was synced; or the system refused that, or the handle has none to sync
-abbrev pub IsSynced : Answer → Type 0
-IsSynced answer = (answer.status ≡ 0) ⊎ AnswersFault Io answer ⊎ AnswersFault NoSession answer
+abbrev pub AnswersSync : Answer → Type 0
+AnswersSync answer = (answer.status ≡ 0) ⊎ AnswersFault Io answer ⊎ AnswersFault NoSession answer
 
--- What is answered to a call of a handle. 10 lets it go: what is left of it owns no file, and no memory but its own block, which is
--- C's to free. 16 syncs the file that the handle was given to sync. A handle without an index answers no other call.
+-- What is answered to a call of a handle. 10 lets it go: what is left of it owns no file, and no memory but
+-- its own block, which is C's to free. 16 syncs the file that the handle was given to sync. A handle without
+-- an index answers no other call.
 pub record IsServed {S : Type 0} (g : Ghosts S) (ask : Ask) (answer : Answer) (old new : Option (Index S)) (dead left : RowSet) : Type 0 where
   pub let_go : ask.what ≡ 10 → (new ≡ None) × (left.rows ≡ None) × (answer.status ≡ 0)
-  pub synced : ask.what ≡ 16 → IsSynced answer × (new ≡ old) × (left ≡ dead)
+  pub synced : ask.what ≡ 16 → AnswersSync answer × (new ≡ old) × (left ≡ dead)
   pub empty : ask.what ≢ 10 → ask.what ≢ 16 → old ≡ None → AnswersFault NoSession answer × (new ≡ None) × (left ≡ dead)
   pub served : ask.what ≢ 10 → ask.what ≢ 16 → IsSome old → OfBoth (λ before after. ServesCall g ask answer before after dead left) old new

@@ -5,14 +5,15 @@ ghost use Rattle.nardsill.specs.Meanings.{GivesNone, AnswersFault, SpellsStats, 
 
 use index_model::{Fault, VacuumStats};
 
-/// An answer: 0, or the number of a fault with the page or the row that it names, and what the call tells. `nardsill_proved.h`
-/// says which fields each call tells.
+/// An answer: 0, or the number of a fault with the page or the row that it names, and what the call tells.
+/// `nardsill_proved.h` says which fields each call tells.
 #[repr(C)]
 #[derive(Clone, Copy)]
 pub struct Answer {
     pub status: u32,
     pub page: u32,
-    /// The number of an insert's action; how many entries were removed; how many actions are durable; a token's number.
+    /// The number of an insert's action; how many entries were removed; how many actions are durable; a
+    /// token's number.
     pub number: u64,
     /// The fault that left an insert unfinished, or 0; how many entries are left.
     pub other: u64,
@@ -32,7 +33,8 @@ pub struct Answer {
     pub descriptor: i32,
 }
 
-/// What a scan gives: an entry, or none where it has given all; or the number of a fault with the page that it names.
+/// What a scan gives: an entry, or none where it has given all; or the number of a fault with the page that
+/// it names.
 #[repr(C)]
 #[derive(Drop)]
 pub struct Given {

@@ -7,8 +7,8 @@ ghost use Rattle.nardsill.specs.Asking.{SpellsNoEntry, SpellsNoRange, SpellsEntr
 use access_method::ScanToken;
 use index_model::{Entry, Fault, Key, Limits, Range, RowAddr};
 
-/// A call, as plain data: which it is, and what it needs. The numbers of calls, and which fields each reads, stand in
-/// `nardsill_proved.h`.
+/// A call, as plain data: which it is, and what it needs. The numbers of calls, and which fields each reads,
+/// stand in `nardsill_proved.h`.
 #[repr(C)]
 #[derive(Drop)]
 pub struct Ask {
@@ -57,7 +57,8 @@ pub struct MakeAsk {
 }
 
 impl Ask {
-    /// The entry that is spelled. Refused with `KeyTooLong` (6) for a key of more than 64 bytes, and then with `BadRow` (7).
+    /// The entry that is spelled. Refused with `KeyTooLong` (6) for a key of more than 64 bytes, and then
+    /// with `BadRow` (7).
     pub fn entry(&self) -> Result<Entry, Fault>
         ensures ok { IfOk result (SpellsEntry self.now) }
         ensures refused { IfErr result (SpellsNoEntry self.now) }

@@ -4,8 +4,8 @@ ghost use Rattle.std.specs.Prelude.{◌≡◌, ◌⊎◌, ◌≢◌, None, false
 ghost use Rattle.page_action.specs.States.{Continues};
 ghost use Rattle.schedule.specs.TheoremKinds.{Forces, Checkpoints};
 ghost use Rattle.nardsill.specs.Asking.{SpellsNoEntry, SpellsNoRange};
-ghost use Rattle.nardsill.specs.Serving.{Advances, IsSynced, BeginsCleanup, BeginsDelete, BeginsScan, BeginsAgain, CleansIndex, ClosesHandle, Deletes, EndsVacuum, GoesOn, Inserts, IsMisspelled, IsServed, IsUnknown, MakesDurable, Names, ServesCall, AnswersNothing};
-ghost use Rattle.nardsill.specs.Meanings.{AnswersFault, Tells, AnswersAdvance, AnswersDurable, AnswersInserted, AnswersPart, SpellsStats, AnswersToken};
+ghost use Rattle.nardsill.specs.Serving.{Advances, AnswersSync, BeginsCleanup, BeginsDelete, BeginsScan, BeginsAgain, CleansIndex, ClosesHandle, Deletes, EndsVacuum, GoesOn, Inserts, IsMisspelled, IsServed, IsUnknown, MakesDurable, Names, ServesCall, AnswersNothing};
+ghost use Rattle.nardsill.specs.Meanings.{AnswersFault, Tells, AnswersPartOfCommit, AnswersDurable, AnswersInserted, AnswersPart, SpellsStats, AnswersToken};
 
 use crate::answer::{Answer, DONE, counted, refused, unfinished};
 use crate::ask::Ask;
@@ -41,7 +41,7 @@ pub fn serve(handle: &mut Handle, ask: Ask) -> Answer
 
 // Syncs the file that another handle's index writes.
 fn sync(syncer: &Option<Syncer>) -> Answer
-    ensures { IsSynced result }
+    ensures { AnswersSync result }
 {
     match syncer {
         None => refused(Fault::NoSession),
@@ -153,7 +153,7 @@ fn advance<D: Device>(index: &mut Index<Store<D>>) -> Answer
 }
 
 fn advanced(outcome: Result<Advance, Fault>) -> Answer
-    ensures told { Tells AnswersAdvance outcome result }
+    ensures told { Tells AnswersPartOfCommit outcome result }
     ensures quiet { result.is_durable ≡ false }
 {
     let number = match outcome {

@@ -23,8 +23,8 @@ pub struct CheckAsk {
     pub frames: u32,
 }
 
-/// What a check tells: 0 and the report; 0 and a damage, by its number and block; or the number of a fault with the page that it
-/// names.
+/// What a check tells: 0 and the report; 0 and a damage, by its number and block; or the number of a fault
+/// with the page that it names.
 #[repr(C)]
 #[derive(Clone, Copy)]
 pub struct Checked {
@@ -54,9 +54,9 @@ const NOTHING: Checked = Checked {
     unfinished: 0,
 };
 
-/// Judges the index in a file that C has open, by another handle of the open file: its levels and links, its parents and children,
-/// in this thread. Refused with `BadVersion` (15) where the file isn't stored as the number that C told; and else as the opening
-/// and `check_parents_one` are. What the handle has stays.
+/// Judges the index in a file that C has open, by another handle of the open file: its levels and links, its
+/// parents and children, in this thread. Refused with `BadVersion` (15) where the file isn't stored as the
+/// number that C told; and else as the opening and `check_parents_one` are. What the handle has stays.
 pub fn check(handle: &mut Handle, file: &mut File, ask: CheckAsk) -> Checked
     ensures { (file.new ≡ file.old) × (handle.new ≡ handle.old)
         × IsChecked ⟦<FileDevice<Unknown> as Device>⟧ ⟦<Store<FileDevice<Unknown>> as PageStore>⟧

@@ -10,8 +10,9 @@ use index_model::Fault;
 use page_action::PageStore;
 use page_store::Store;
 
-/// What an index is: 0, the sizes that it was made with, and whether it is unique; pages in use, and of these those that may be
-/// used again; and whether its log has failed. Or the number of a fault, where the handle has no index.
+/// What an index is: 0, the sizes that it was made with, and whether it is unique; pages in use, and of these
+/// those that may be used again; and whether its log has failed. Or the number of a fault, where the handle
+/// has no index.
 #[repr(C)]
 #[derive(Clone, Copy)]
 pub struct Facts {

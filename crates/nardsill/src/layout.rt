@@ -1,4 +1,5 @@
-//! How large what C shares is: `embedding/nardsill.c` states the same numbers, and where the last field of each lies.
+//! How large what C shares is: `embedding/nardsill.c` states the same numbers, and where the last field of
+//! each lies.
 
 use crate::answer::{Answer, Given};
 use crate::ask::{Ask, MakeAsk, OpenAsk, Token};

@@ -1,8 +1,9 @@
 //! An index in a file that C has open, by calls of C.
 //!
-//! Eight functions are called from C, and from nowhere else. C gives a handle that `nardsill_proved_new` has made, to one call at
-//! a time. For a making, an opening and a check it gives a pointer to the number of a file that it has open for reading and
-//! writing. `embedding/` has the header and the wrapper that programs use.
+//! Eight functions are called from C, and from nowhere else. C gives a handle that `nardsill_proved_new` has
+//! made, to one call at a time. For a making, an opening and a check it gives a pointer to the number of a
+//! file that it has open for reading and writing. `embedding/` has the header and the wrapper that programs
+//! use.
 #![tactic(auto)]
 
 ghost use types.Logic.{sem};
@@ -119,7 +120,8 @@ pub unsafe extern "C" fn nardsill_proved_take(
     )
 }
 
-/// Gives a handle what syncs the file of another's index: then the one may sync it, by a call 16, while the other answers calls.
+/// Gives a handle what syncs the file of another's index: then the one may sync it, by a call 16, while the
+/// other answers calls.
 #[unsafe(no_mangle)]
 pub unsafe extern "C" fn nardsill_proved_share(
     at: *mut Shell,

@@ -14,10 +14,10 @@ use recovery::create;
 use std::fs::File;
 use std::os::fd::AsRawFd;
 
-/// Makes an empty index in a file that C has open, by another handle of the open file; what it held is gone. Refused with
-/// `BadVersion` (15) where the file isn't stored as the number that C told: this library and that C don't fit. Refused with
-/// `BadLimits` (18), and then nothing is changed; and with `Io` (2), and then it isn't known what the file holds. What the handle
-/// has stays.
+/// Makes an empty index in a file that C has open, by another handle of the open file; what it held is gone.
+/// Refused with `BadVersion` (15) where the file isn't stored as the number that C told: this library and
+/// that C don't fit. Refused with `BadLimits` (18), and then nothing is changed; and with `Io` (2), and then
+/// it isn't known what the file holds. What the handle has stays.
 pub fn make(handle: &mut Handle, file: &mut File, ask: MakeAsk) -> Answer
     ensures { (file.new ≡ file.old) × (handle.new ≡ handle.old)
         × IsMade ⟦<FileDevice<Zeros> as Device>⟧ ask result }

@@ -16,9 +16,10 @@ use std::alloc::Global;
 use std::fs::File;
 use std::os::fd::AsRawFd;
 
-/// Takes another handle of the open file, and opens the index in it. Tells the descriptor of that handle, for a forked child to
-/// close. Refused with `BadVersion` (15) where the file isn't stored as the number that C told: this library and that C don't fit.
-/// Refused else as the opening is; what is opened already stays then.
+/// Takes another handle of the open file, and opens the index in it. Tells the descriptor of that handle, for
+/// a forked child to close. Refused with `BadVersion` (15) where the file isn't stored as the number that C
+/// told: this library and that C don't fit. Refused else as the opening is; what is opened already stays
+/// then.
 pub fn take(handle: &mut Handle, file: &mut File, ask: OpenAsk) -> Answer
     ensures { (file.new ≡ file.old)
         × IsTaken ⟦<FileDevice<Unknown> as Device>⟧ ⟦<Store<FileDevice<Unknown>> as PageStore>⟧

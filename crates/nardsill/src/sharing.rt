@@ -8,9 +8,9 @@ use crate::ask::OpenAsk;
 use crate::handle::Handle;
 use index_model::Fault;
 
-/// Gives `handle` what syncs the file of the index that `from` has, so that a thread may sync it while another makes calls of
-/// `from`. Nothing of what is asked is read. Refused with `NoSession` (12) where `from` has no index, and with `NoMemory` (1):
-/// nothing is changed then.
+/// Gives `handle` what syncs the file of the index that `from` has. So a thread may sync it while another
+/// makes calls of `from`. Nothing of what is asked is read. Refused with `NoSession` (12) if `from` has no
+/// index, and with `NoMemory` (1): nothing is changed then.
 pub fn share(handle: &mut Handle, from: &mut Handle, _ask: OpenAsk) -> Answer
     ensures { (from.new ≡ from.old)
         × IsShared result handle.old.index handle.new.index handle.old.dead handle.new.dead }

@@ -35,7 +35,8 @@ fn force(log: &mut Log, device: &mut MemDevice) -> Result<u64, Fault> {
     log.force(device)
 }
 
-// The next part of a force: 0 where nothing waits, 1 where the group was written, 2 where its gate was opened.
+// The next part of a force: 0 where nothing waits, 1 where the group was written, 2 where its gate was
+// opened.
 fn advance(log: &mut Log, device: &mut MemDevice) -> Result<u32, Fault> {
     if device.len() < LOG_START + u64::from(log.limits().log_bytes) {
         return Err(Fault::DeviceTooSmall);

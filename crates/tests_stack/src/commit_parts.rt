@@ -46,8 +46,9 @@ fn left(alloc: Global, device: &MemDevice, image: CrashImage) -> Result<u32, Fau
     count(&mut index)
 }
 
-// An entry is inserted, so many parts of a commit are done, with a scan after each, and the commit if that is asked for. How many entries
-// two crashes leave then: one that drops what wasn't synced, and one that keeps it. None where a part or a scan isn't right.
+// An entry is inserted, so many parts of a commit are done, with a scan after each, and the commit if that is
+// asked for. How many entries two crashes leave then: one that drops what wasn't synced, and one that keeps
+// it. None if a part or a scan isn't right.
 fn left_after(alloc: Global, parts: u32, commits: bool) -> Result<Option<[u32; 2]>, Fault> {
     let mut index = open_index(alloc, made(alloc)?, 16)?;
     let mut is_right = part(&mut index)? == 0;
@@ -90,7 +91,14 @@ fn inserts_between(alloc: Global) -> Result<[u32; 6], Fault> {
     let all = count(&mut index)?;
     commit(&mut index)?;
     let device = index.into_device();
-    Ok([first, second, third, fourth, all, left(alloc, &device, CrashImage::Drop)?])
+    Ok([
+        first,
+        second,
+        third,
+        fourth,
+        all,
+        left(alloc, &device, CrashImage::Drop)?,
+    ])
 }
 
 #[test]

@@ -53,7 +53,8 @@ fn gives_way<R: Abort + Files<File = File>>(
     Ok(())
 }
 
-/// A device whose lock another has by now finds that at its first write behind a sync. It writes nothing, then and later.
+/// A device whose lock another has by now finds that at its first write behind a sync. It writes nothing,
+/// then and later.
 #[test]
 fn lost_to_another(rt: HostRuntime) -> Result<(), Fail> {
     let path = "files_lost_to_another.bin";
@@ -68,7 +69,8 @@ fn lost_to_another(rt: HostRuntime) -> Result<(), Fail> {
     remove(&rt, path)
 }
 
-/// A device whose lock nobody has by now takes it at its first write behind a sync, so that no other one is opened.
+/// A device whose lock nobody has by now takes it at its first write behind a sync, so that no other one is
+/// opened.
 #[test]
 fn taken_again(rt: HostRuntime) -> Result<(), Fail> {
     let path = "files_taken_again.bin";
