@@ -7,9 +7,6 @@ use Rattle.recovery.proofs.Outside.{named_inside, log_inside, after_on, same_ins
 use Rattle.redo_log.proofs.Keeping.{none_ajar}
 use Rattle.recovery.proofs.opening.restore_log.Goals as goal
 
-pub reset-requires-clause-shut : goal.reset-requires-clause-shut
-reset-requires-clause-shut g c = none_ajar c.in-Ok.found.log c.in-Ok.ensures.opened.waiting
-
 pub returns-in-Err-clause-same : goal.returns-in-Err-clause-same
 returns-in-Err-clause-same g c = λ honest firm pages restarts.
     replay_refuses c.args.limits (g.D.Device.trace c.args.device.now).now pages c.in-Err.fault _ _ c.in-Err.ensures.cause (λ is. c.replay.ensures.damaged (c.in-Err.is ∙ ap Err is) honest) restarts
@@ -52,7 +49,7 @@ returns-in_err-bring_home-clause-moments g c = λ honest firm pages restarts.
 pub reset-requires : goal.reset-requires
 reset-requires g c =
     let is = c.in-Ok.ensures.opened.limits_are in
-    record { range = omega (arith, ap (λ (l : Format). l.log_bytes) is, c.bring_home.ensures.calls.len, ap (λ (t : Trace). length t.now.seen) c.replay.ensures.trace, c.requires.inside) }
+    record { range = omega (arith, ap (λ (l : Format). l.log_bytes) is, c.bring_home.ensures.calls.len, ap (λ (t : Trace). length t.now.seen) c.replay.ensures.trace, c.requires.inside); shut = none_ajar c.in-Ok.found.log c.in-Ok.ensures.opened.waiting }
 
 -- the same while the log is closed, and it stands then
 module _ (g : Over) (c : After-reset g) where
