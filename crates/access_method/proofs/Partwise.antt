@@ -1,7 +1,7 @@
 -- A bulk delete or a cleanup that goes on in parts: what a part does, what it counts, and why it is refused.
 use Rattle.std.proofs.Common.{◌≡◌, ◌≢◌, ◌||◌, ℕ, Bool, true, false, Option, Some, None, unwrap_or, Result, Ok, Err, List, [], ◌∷◌, ◌++◌, length, slice_get, refl, sym, ap, subst, inl, inr, ◌∙◌, IfErr}
 use Rattle.access_method.proofs.Imports.{Effect, Action, Ask, AskBulkDelete, AskCleanup, Call, Row, Entry, Fault, VacuumStats, Stopped, HasCause, contents_after, contents_after-append, last_said, Ghosts, Op, Insert, Scan, Bulk, Cleanup}
-use Rattle.access_method.proofs.Imports.{Answer, Begun, one_vacuums, Going, Finished, Refused, DeadSets, StoreAndSlots, Moment, snapshot_of, here_with, Fits, AreOwnEffects, acts_by, slot_of, slot_vacuums, CallRuns, has_failed, is_at_end, true_false}
+use Rattle.access_method.proofs.Imports.{Answer, State, Begun, one_vacuums, Going, Finished, Refused, DeadSets, StoreAndSlots, Moment, snapshot_of, here_with, Fits, AreOwnEffects, acts_by, slot_of, slot_vacuums, CallRuns, has_failed, is_at_end, true_false}
 use Rattle.access_method.proofs.Imports.{causes_of_run, causes_of_gone, another_runs, or_cases, or_left, or_right, has_entry, slots_within, Index}
 use Rattle.std.specs.Prelude.{nat_le}
 use Rattle.schedule.proofs.Keeping.{Laws}
@@ -31,7 +31,7 @@ use Rattle.whole_calls.specs.Stepping.{BeginIsRun}
 use Rattle.access_method.proofs.BulkDeletions.{says_none, says_nothing}
 use Rattle.access_method.proofs.Cleanups.{cleans_nothing}
 use Rattle.access_method.specs.Indexes.{LosesDeadRows}
-use Rattle.access_method.specs.Parts.{IsPartAnswer, PartCounts, PartCountsOn, PartIsCaused, VacuumIsEnded, causes_of_part, part_answer}
+use Rattle.access_method.specs.Parts.{IsPartAnswer, PartCounts, PartIsCaused, VacuumIsEnded, causes_of_part, part_answer}
 
 -- where no vacuum is open none vacuums
 pub calm_open : (slots : List (Option Op)) (seats : List (Option Sitter)) → SeatsAgree slots seats → NoVacuumIsOpen seats → one_vacuums slots ≡ false
@@ -82,13 +82,11 @@ pub part_made : {S : Type 0} {g : Ghosts S} (count session at : ℕ) → session
 part_made {g = g} count session at there {answer} {a} {b} result same made =
     subst (λ (n : ℕ). IsMadeOf g n 5 (PartComesTo count (part_answer result)) a b) (sym there) (subst (λ (x : Answer). IsMadeOf g at 5 (PartComesTo count x) a b) (sym same) made)
 
-pub counts_on : {S : Type 0} (g : Ghosts S) (what : Followed) (session at : ℕ) → session ≡ at → (result : Result (Option VacuumStats) Fault) (answer : Answer) (old new : Index S)
-    → part_answer result ≡ answer
-    → CountsThrough what (is_row_in old.rows ∷ []) (g.state old.store) (g.state new.store) (slot_of old.calls.slots.items at) (slot_of new.calls.slots.items at) answer
-    → PartCountsOn g what session result old new
-counts_on g what session at there result answer old new same counts =
-    subst (λ (n : ℕ). PartCountsOn g what n result old new) (sym there)
-    (subst (λ (a : Answer). CountsThrough what (is_row_in old.rows ∷ []) (g.state old.store) (g.state new.store) (slot_of old.calls.slots.items at) (slot_of new.calls.slots.items at) a) (sym same) counts)
+pub counts_on : (what : Followed) (sets : DeadSets) (old new : State) (session at : ℕ) → session ≡ at → (before after : ℕ → Option Op) (result : Result (Option VacuumStats) Fault) (answer : Answer)
+    → part_answer result ≡ answer → CountsThrough what sets old new (before at) (after at) answer → CountsThrough what sets old new (before session) (after session) (part_answer result)
+counts_on what sets old new session at there before after result answer same counts =
+    subst (λ (n : ℕ). CountsThrough what sets old new (before n) (after n) (part_answer result)) (sym there)
+    (subst (λ (a : Answer). CountsThrough what sets old new (before at) (after at) a) (sym same) counts)
 
 -- ... and its call lasts
 pub lasts_at : (session at : ℕ) → session ≡ at → (before after : ℕ → Option Op) (result : Result (Option VacuumStats) Fault) (answer : Answer) → part_answer result ≡ answer

@@ -112,7 +112,8 @@ impl<S: PageStore> Index<S> {
         ensures none { NoVacuumIsOpen self.old.seats → FindsNoVacuum result self.old self.new }
         ensures over { (session : ℕ) → IsVacuumSeat self.old.seats session
             → op_of self.old.calls session ≡ None → FindsNoVacuum result self.old self.new }
-        ensures idle { steps ≡ 0 → self.new ≡ self.old }
+        ensures idle { steps ≡ 0
+            → (self.new.store ≡ self.old.store) × (self.new.calls ≡ self.old.calls) }
         ensures runs { (session : ℕ) → IsVacuumSeat self.old.seats session
             → op_of self.old.calls session ≢ None
             → IndexIsRun S.PageStore session (PartMeans session (part_answer result))

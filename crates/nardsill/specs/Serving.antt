@@ -151,7 +151,7 @@ pub record GoesOn {S : Type 0} (g : Ghosts S) (steps : ℕ) (answer : Answer) (o
   pub told : Tells AnswersPart outcome answer
   pub none : NoVacuumIsOpen old.seats → FindsNoVacuum outcome old new
   pub part : (session : ℕ) → IsVacuumSeat old.seats session → PartOf g steps outcome session old new
-  pub idle : steps ≡ 0 → new ≡ old
+  pub idle : steps ≡ 0 → (new.store ≡ old.store) × (new.calls ≡ old.calls)
   pub tokens : SameTokens old new
   pub rows : new.rows ≡ old.rows
 

@@ -53,7 +53,7 @@ returns-clause-counts g c session seat honest start history calls fits number ca
     (c.told.ensures (part_may (is_row_in self.rows ∷ []) (slot_of self.calls.slots.items c.in-Some.at) vacuums c.take_steps.result c.take_steps.ensures.kind)) number call here stats finished
 
 pub returns-clause-idle : goal.returns-clause-idle
-returns-clause-idle g c none = (let same = c.take_steps.ensures.idle none in rw (same.0, same.1) refl)
+returns-clause-idle g c none = c.take_steps.ensures.idle none
 
 pub returns-clause-lasts : goal.returns-clause-lasts
 returns-clause-lasts g c session seat last runs =
@@ -71,7 +71,8 @@ returns-clause-entries g c session seat what honest start history calls fits =
     let busy = runs_some self.calls.slots.items c.in-Some.at (sym c.is_running.ensures.value ∙ c.if-not-is_running.false) in
     let vacuums = self.agree.sits c.in-Some.at c.in-Some.ensures.seat busy in
     let r = c.take_steps.ensures.goes honest start history calls fits in
-    counts_on g.S.PageStore what session c.in-Some.at same c.told.result c.take_steps.result self _
+    counts_on what (is_row_in self.rows ∷ []) (g.S.PageStore.state self.store) (g.S.PageStore.state c.take_steps.new.store) session c.in-Some.at same
+    (slot_of self.calls.slots.items) (slot_of c.take_steps.new.calls.slots.items) c.told.result c.take_steps.result
     (c.told.ensures (part_may (is_row_in self.rows ∷ []) (slot_of self.calls.slots.items c.in-Some.at) vacuums c.take_steps.result c.take_steps.ensures.kind)) (r.tells.counts what)
 
 pub returns-clause-cause : goal.returns-clause-cause
