@@ -125,7 +125,7 @@ pub unsafe extern "C" fn nardsill_proved_take(
 #[unsafe(no_mangle)]
 pub unsafe extern "C" fn nardsill_proved_share(
     at: *mut Shell,
-    from: *mut Handle,
+    from: *mut Shell,
     ask: OpenAsk,
 ) -> Answer
     ghost both: { Handle × Handle }
@@ -137,7 +137,7 @@ pub unsafe extern "C" fn nardsill_proved_share(
 {
     share(
         unsafe { &mut *(at as *mut Handle) },
-        unsafe { &mut *from },
+        unsafe { &mut *(from as *mut Handle) },
         ask,
     )
 }

@@ -86,7 +86,8 @@ nardsill_proved_share_spec 𝓤 𝓛 𝓜 𝓡 wired =
     first ! $ blocks ! $ sets ! (of_opd ! (get ! refl)) refl (tt, tt) $ sets ! (of_opd ! (get ! refl)) refl (tt, tt) $ sets_last !
     (addr ! (through ! refl (stop !))) refl (tt, tt) $ exec ! 𝓣.C 𝓣.Λ Ev steps.t-2 (at_ret Ev Post) $
     sets ! (of_opd ! (get ! refl)) refl (tt, tt) $
-    first ! $ blocks ! $ sets_last ! (addr ! (through ! refl (stop !))) refl (tt, tt) $ exec ! 𝓣.C 𝓣.Λ Ev steps.t-4 (at_ret Ev Post) $
+    first ! $ blocks ! $ sets ! (of_opd ! (get ! refl)) refl (tt, tt) $ sets ! (of_opd ! (get ! refl)) refl (tt, tt) $ sets_last !
+    (addr ! (through ! refl (stop !))) refl (tt, tt) $ exec ! 𝓣.C 𝓣.Λ Ev steps.t-4 (at_ret Ev Post) $
     sets ! (of_opd ! (get ! refl)) refl (tt, tt) $ sets ! (of_opd ! (get ! refl)) refl typed $
     let k = triple_of 𝓛 callee.signature (callee.spec 𝓛 𝓜.mem 𝓡.returns) in let x : MutBor R.Denot = record { ref_ptr = (b, o); ghost_name = γ; now = h } in
     let x' : MutBor Q.Denot = record { ref_ptr = (b', o'); ghost_name = δ; now = g } in
