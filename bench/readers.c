@@ -63,11 +63,12 @@ static void *reads(void *at) {
 }
 
 static void *commits(void *at) {
+    static uint32_t next = ENTRIES;
     struct thread *me = at;
     unsigned char key[KEY];
     while (!is_over) {
-        key_of(ENTRIES + (uint32_t)me->calls, key);
-        need(nardsill_insert(index_of_all, key, KEY, (nardsill_row){(uint32_t)me->calls, 2}, 0), "insert");
+        key_of(next, key);
+        need(nardsill_insert(index_of_all, key, KEY, (nardsill_row){next++, 2}, 0), "insert");
         need(nardsill_commit(index_of_all, 0), "commit");
         me->calls++;
     }

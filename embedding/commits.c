@@ -270,6 +270,7 @@ static void *inserts(void *at) {
 
 static void *scans(void *at) {
     struct beside *me = at;
+    is_beside = 1;
     while (!me->is_over) counted(me->index);
     return 0;
 }

@@ -35,6 +35,8 @@ struct gathering {
     pthread_cond_t bell;    /* rung when a call has told its commits */
     pthread_cond_t forced;  /* rung then too, for calls that may log an action */
     int is_forcing;         /* a commit syncs the file, with the lock let go between its parts */
+    pthread_cond_t back;    /* rung when it has the lock back */
+    atomic_int returns;     /* it has synced, and waits for the lock */
     unsigned held, passing; /* calls that wait for its end; and those that waited for that of the last one, and haven't gone on yet */
     struct commit *commits; /* those that wait for the next call, the last that came first */
     unsigned expected;      /* committers of the last call that haven't come again */
@@ -337,16 +339,16 @@ int nardsill_create(const char *path, const nardsill_limits *limits) {
                                                                      .log_bytes = limits->log_bytes, .unique = limits->unique}));
 }
 
-enum { BELLS = 4 };
+enum { BELLS = 5 };
 
 static void free_bells(nardsill *index, int count) {
-    pthread_cond_t *const bells[] = {&index->gathering.bell, &index->gathering.forced, &index->turns.bell, &index->turns.through};
+    pthread_cond_t *const bells[] = {&index->gathering.bell, &index->gathering.forced, &index->gathering.back, &index->turns.bell, &index->turns.through};
     while (count--) pthread_cond_destroy(bells[count]);
 }
 
 /* Makes a handle's bells. 0, or 1 where the system has no room for them. */
 static int make_bells(nardsill *index) {
-    pthread_cond_t *const bells[] = {&index->gathering.bell, &index->gathering.forced, &index->turns.bell, &index->turns.through};
+    pthread_cond_t *const bells[] = {&index->gathering.bell, &index->gathering.forced, &index->gathering.back, &index->turns.bell, &index->turns.through};
     pthread_condattr_t clock;
     int count = 0;
     if (pthread_condattr_init(&clock)) return 1;
@@ -537,10 +539,11 @@ static void arrive(struct turns *turns) {
 static void take_lock(nardsill *index) {
     struct turns *turns = &index->turns;
     int has_it = !pthread_mutex_trylock(&index->lock);
-    if (has_it && !is_vacuums_turn(turns)) return;
+    if (has_it && !is_vacuums_turn(turns) && !index->gathering.returns) return;
     if (committer) index->gathering.at_lock++;
     turns->waiting++;
     if (!has_it) pthread_mutex_lock(&index->lock);
+    while (index->gathering.returns) pthread_cond_wait(&index->gathering.back, &index->lock);
     if (is_vacuums_turn(turns)) {
         uint64_t parts = turns->parts;
         while (turns->parts == parts) pthread_cond_wait(&turns->through, &index->lock);
@@ -1061,7 +1064,11 @@ static void sync_unlocked(nardsill *index, int *error) {
     pthread_mutex_unlock(&index->lock);
     errno = 0;
     keep_error(nardsill_proved_call(index->syncer, (struct nardsill_ask){.what = NARDSILL_SYNC}), error);
+    /* Calls that come stand aside, else many that read would keep it from the lock. */
+    index->gathering.returns = 1;
     pthread_mutex_lock(&index->lock);
+    index->gathering.returns = 0;
+    pthread_cond_broadcast(&index->gathering.back);
 }
 
 /* Does the parts of a commit, each behind a sync with the lock let go. Whatever of it isn't done, the commit at its end does. */
