@@ -7,8 +7,6 @@
 #[cfg(test)]
 mod base;
 #[cfg(test)]
-mod commit_parts;
-#[cfg(test)]
 mod dead;
 #[cfg(test)]
 mod devices;
