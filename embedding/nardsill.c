@@ -1092,7 +1092,7 @@ static void commit_all(nardsill *index) {
     struct nardsill_answer answer = ask_locked(index, (struct nardsill_ask){.what = NARDSILL_COMMIT});
     struct outcome outcome = told_by(answer);
     /* A sync or a part that failed stops the index, and the commit is told that alone. */
-    if (outcome.status && error) outcome = (struct outcome){.status = NARDSILL_IO, .error = error};
+    if (error) outcome = (struct outcome){.status = NARDSILL_IO, .error = error};
     all->is_forcing = 0;
     all->passing = all->held;
     all->held = 0;

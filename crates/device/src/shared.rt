@@ -72,7 +72,8 @@ impl Opened {
                 alloc,
                 Shared {
                     file,
-                    written: AtomicU64::new(0),
+                    // The device may have written before: its first sync isn't left out.
+                    written: AtomicU64::new(1),
                     synced: AtomicU64::new(0),
                     failed: AtomicI32::new(0),
                 },
