@@ -83,8 +83,8 @@ written_parts (suc k) bytes [] = refl
 written_parts (suc k) bytes (Write at piece ∷ calls) = written_parts k (put bytes at piece) calls
 written_parts (suc k) bytes (Sync ∷ calls) = written_parts k bytes calls
 
--- what a device in memory keeps: its bytes are those of the calls, which lie inside of as many; those at the last sync, and the
--- writes since
+-- what a device in memory keeps: its bytes are those of the calls, which lie inside of as many; those at the
+-- last sync, and the writes since
 abbrev pub AreDone : List ℕ → List DeviceCall → List ℕ → List ℕ → List DeviceCall → Type 0
 AreDone start calls firm bytes since = record {
   replayed : bytes ≡ (done (first start) calls).now.seen;

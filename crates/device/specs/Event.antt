@@ -2,13 +2,13 @@
 use Rattle.std.specs.Prelude.{ℕ, suc, ◌+◌, ◌==◌, ◌&&◌, Bool, true, false, if◌then◌else◌, List, [], ◌∷◌, length, slice_range}
 use Rattle.device.specs.Disk.{Trace, first, next, wrote, synced}
 
--- A call with its answer: which call (0 a read, 1 a write, 2 a sync, 3 one that was not made, since an earlier write or sync
--- had failed), where, how many bytes went, whether it succeeded, and its bytes.
+-- A call with its answer: which call (0 a read, 1 a write, 2 a sync, 3 one that was not made, since an
+-- earlier write or sync had failed), where, how many bytes went, whether it succeeded, and its bytes.
 abbrev pub Event : Type 0
 Event = ℕ × ℕ × ℕ × Bool × List ℕ
 
--- The device after the call. A write has its effect, also where it failed: a crash may leave any bytes in its range, and no read
--- that follows is made. A sync has its effect where it succeeded.
+-- The device after the call. A write has its effect, also where it failed: a crash may leave any bytes in its
+-- range, and no read that follows is made. A sync has its effect where it succeeded.
 abbrev pub behind_call : Event → Trace → Trace
 behind_call e t =
     if e.0 == 1 then next (wrote e.1 e.4 t.now) t

@@ -27,7 +27,8 @@ pub trait Device {
     fn len(&self) -> u64
         ensures { result ≡ length (trace self.now).now.seen };
 
-    /// What the system said of the last call that failed and was made, if the device is of a system. No clause tells of it.
+    /// What the system said of the last call that failed and was made, if the device is of a system. No
+    /// clause tells of it.
     fn error(&self) -> Option<Error> {
         None
     }
@@ -53,9 +54,9 @@ pub trait Device {
         ensures honest { is_honest self.new ≡ is_honest self.old }
         ensures failures { CountsFailures result (failures self.old) (failures self.new) };
 
-    /// Makes all that was written stand through a crash, also what an earlier sync that failed did not. At `Io` the device is as
-    /// it was. A device whose later syncs may pass over what a failed one lost, as those of a file do, refuses each call from
-    /// that failure on.
+    /// Makes all that was written stand through a crash, also what an earlier sync that failed did not. At
+    /// `Io` the device is as it was. A device whose later syncs may pass over what a failed one lost, as
+    /// those of a file do, refuses each call from that failure on.
     fn sync(&mut self) -> Result<(), Fault>
         ensures trace { Syncs result (trace self.old) (trace self.new) }
         ensures len { length (trace self.new).now.seen ≡ length (trace self.old).now.seen }

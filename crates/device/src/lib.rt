@@ -10,9 +10,9 @@ mod memory;
 mod past;
 mod plan;
 mod record;
-mod shared;
+mod syncer;
 
 pub use device::Device;
 pub use file::{FileDevice, Start, Unknown, Zeros, sync_folder};
 pub use memory::{CrashImage, MemDevice};
-pub use shared::Syncer;
+pub use syncer::Syncer;

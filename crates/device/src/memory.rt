@@ -92,8 +92,8 @@ impl MemDevice {
         self.plan.stopped = false;
     }
 
-    /// How many calls, of reads, writes and syncs, were made since it was made, the failed ones among them, but none
-    /// after a stop. From 2^64 - 1 on it says that number.
+    /// How many calls, of reads, writes and syncs, were made since it was made, the failed ones among them,
+    /// but none after a stop. From 2^64 - 1 on it says that number.
     pub fn calls(&self) -> u64
         ensures { result ≡ calls_of self.now }
     {

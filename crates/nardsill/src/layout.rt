@@ -5,10 +5,13 @@ use crate::answer::{Answer, Given};
 use crate::ask::{Ask, MakeAsk, OpenAsk, Token};
 use crate::checking::{CheckAsk, Checked};
 use crate::facts::Facts;
+use crate::opening::OpenFiles;
 
 const _: () = prove!(size_of::<Ask>() == 160);
 
 const _: () = prove!(size_of::<OpenAsk>() == 8);
+
+const _: () = prove!(size_of::<OpenFiles>() == 8);
 
 const _: () = prove!(size_of::<MakeAsk>() == 20);
 

@@ -21,6 +21,7 @@ ghost use Rattle.nardsill.specs.Serving.{IsServed};
 ghost use Rattle.nardsill.specs.Sharing.{IsShared};
 ghost use Rattle.nardsill.specs.Taking.{IsTaken};
 ghost use Rattle.nardsill.specs.contracts.handle.Handle.{the_row};
+ghost use Rattle.nardsill.specs.contracts.opening.OpenFiles.{the_row as files_row};
 ghost use Rattle.std.specs.contracts.fs.File.{the_row as file_row};
 
 mod answer;
@@ -45,7 +46,7 @@ use crate::giving::give;
 use crate::handle::{Handle, made};
 use crate::loose::Loose;
 use crate::making::make;
-use crate::opening::take;
+use crate::opening::{OpenFiles, take};
 use crate::sharing::share;
 use device::{Device, FileDevice, Start, Unknown, Zeros};
 use page_action::PageStore;
@@ -98,24 +99,24 @@ pub unsafe extern "C" fn nardsill_proved_make(
     )
 }
 
-/// Opens the index in a file that C has open, by another handle of the same open file; C closes its own.
+/// Opens the index in a file that C has open, by other handles of the same open files; C closes its own.
 #[unsafe(no_mangle)]
 pub unsafe extern "C" fn nardsill_proved_take(
     at: *mut Shell,
-    file: *mut File,
+    files: *mut OpenFiles,
     ask: OpenAsk,
 ) -> Answer
-    ghost both: { Handle × File }
+    ghost both: { Handle × OpenFiles }
     requires* handle { sem 𝓛 (lies_at the_row full_share at both.0) }
-    requires* file { sem 𝓛 (lies_at file_row full_share file both.1) }
+    requires* files { sem 𝓛 (lies_at files_row full_share files both.1) }
     ensures* handle { ∃ₛ (λ (v : Handle). sem 𝓛 (lies_at the_row full_share at v) ∗ ⌜ IsTaken
         ⟦<FileDevice<Unknown> as Device>⟧ ⟦<Store<FileDevice<Unknown>> as PageStore>⟧
         ⟦<Unknown as Start>⟧.bytes result both.0.index v.index both.0.dead v.dead ⌝) }
-    ensures* file { sem 𝓛 (lies_at file_row full_share file both.1) }
+    ensures* files { sem 𝓛 (lies_at files_row full_share files both.1) }
 {
     take(
         unsafe { &mut *(at as *mut Handle) },
-        unsafe { &mut *file },
+        unsafe { &mut *files },
         ask,
     )
 }

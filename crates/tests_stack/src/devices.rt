@@ -320,16 +320,56 @@ fn syncs_in_turn<R: Abort>(
     Ok(())
 }
 
+/// The device at the path with a syncer of its file.
+fn open_with_syncer(
+    rt: &(impl Files<File = File> + AllocGlobal),
+    path: &str,
+) -> Result<(FileDevice<Unknown>, Syncer), Fail> {
+    let (device, syncer) = with_syncer(rt.alloc(), open(rt, path)?, file(rt, path)?)?;
+    match syncer {
+        Some(syncer) => Ok((device, syncer)),
+        None => Err(Fail::from(Fault::NoSession)),
+    }
+}
+
 /// A syncer syncs beside its device, and when that is gone; it keeps no lock.
 #[test]
 fn syncer(rt: HostRuntime) -> Result<(), Fail> {
     let path = "files_syncer.bin";
     put_sevens(&rt, path)?;
-    let (mut device, syncer) = with_syncer(rt.alloc(), open(&rt, path)?)?;
+    let (mut device, syncer) = open_with_syncer(&rt, path)?;
     let in_turn = syncs_in_turn(&rt, &mut device, &syncer);
     close_file(device);
     in_turn?;
     assert!(rt; does_sync(&syncer));
     assert!(rt; opened(&rt, path) == Ok(8_192));
     remove(&rt, path)
+}
+
+/// Whether a device gets no syncer by this open file, and keeps its own lock.
+fn gets_no_syncer(
+    rt: &(impl Files<File = File> + AllocGlobal),
+    path: &str,
+    device: FileDevice<Unknown>,
+    beside: File,
+) -> Result<bool, Fail> {
+    let (device, syncer) = with_syncer(rt.alloc(), device, beside)?;
+    let is_held = is_not_held(file(rt, path)?);
+    close_file(device);
+    Ok(syncer.is_none() && is_held)
+}
+
+/// A duplicate of the device's descriptor and another file make no syncer.
+#[test]
+fn no_syncer(rt: HostRuntime) -> Result<(), Fail> {
+    let path = "files_no_syncer.bin";
+    let other = "files_no_syncer_other.bin";
+    put_sevens(&rt, path)?;
+    put_sevens(&rt, other)?;
+    let own = file(&rt, path)?;
+    let twin = own.try_clone()?;
+    assert!(rt; gets_no_syncer(&rt, path, held(own)?, twin)?);
+    assert!(rt; gets_no_syncer(&rt, path, open(&rt, path)?, file(&rt, other)?)?);
+    remove(&rt, path)?;
+    remove(&rt, other)
 }

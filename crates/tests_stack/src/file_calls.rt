@@ -64,12 +64,13 @@ pub fn made(file: File, len: u64, filled: u64) -> Result<FileDevice<Zeros>, Faul
     or_io(FileDevice::made(file, len, filled))
 }
 
-/// A device with a syncer of its file.
+/// A device with a syncer of its file, by another open file of it, if it is one.
 pub fn with_syncer<S: Start>(
     alloc: Global,
     device: FileDevice<S>,
-) -> Result<(FileDevice<S>, Syncer), Fault> {
-    match device.with_syncer(alloc) {
+    beside: File,
+) -> Result<(FileDevice<S>, Option<Syncer>), Fault> {
+    match device.with_syncer(alloc, beside) {
         Ok(both) => Ok(both),
         Err(_) => Err(Fault::NoMemory),
     }

@@ -7,6 +7,8 @@
 #[cfg(test)]
 mod base;
 #[cfg(test)]
+mod commit_parts;
+#[cfg(test)]
 mod dead;
 #[cfg(test)]
 mod devices;

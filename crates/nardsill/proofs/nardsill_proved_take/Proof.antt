@@ -35,7 +35,7 @@ use mir.Val.{has_ty, WT}
 use Rattle.nardsill.proofs.nardsill_proved_take.Code.Mir as steps
 use Rattle.std.proofs.raw_atomic.Walks.{proved_at, leaves}
 use Rattle.nardsill.specs.contracts.handle.Handle as inner
-use Rattle.std.specs.contracts.fs.File as file
+use Rattle.nardsill.specs.contracts.opening.OpenFiles as file
 use Rattle.nardsill.specs.contracts.ask.OpenAsk as ask
 use Rattle.nardsill.specs.contracts.answer.Answer as answer
 use Rattle.nardsill.proofs.ask.OpenAsk.TheLaws as ask_laws
