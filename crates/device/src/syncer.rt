@@ -3,6 +3,7 @@
 use std::alloc::{AllocError, Global};
 use std::fs::{File, TryLockError};
 use std::io::{self, Error};
+use std::os::fd::AsRawFd;
 use std::sync::Arc;
 use std::sync::atomic::{AtomicBool, AtomicI32, AtomicU64, Ordering};
 
@@ -86,6 +87,11 @@ impl Syncer {
     /// One of them.
     pub(crate) fn of(notes: Arc<SyncNotes, Global>) -> Syncer {
         Syncer { notes }
+    }
+
+    /// The descriptor of its open file. Whoever closes it takes the file from the syncer.
+    pub fn descriptor(&self) -> i32 {
+        self.notes.file.as_raw_fd()
     }
 
     /// Another syncer of the same file. Refused where memory is refused.

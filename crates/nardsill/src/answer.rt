@@ -29,7 +29,7 @@ pub struct Answer {
     /// The row that a fault names.
     pub block: u32,
     pub offset: u16,
-    /// The descriptor that an opening has of the file.
+    /// The descriptor that an opening, or what syncs, has of the file.
     pub descriptor: i32,
 }
 
