@@ -82,12 +82,32 @@ static void tick(unsigned *ticks) {
     usleep(100);
 }
 
+/* A write has come to nothing. The system tells each open file of it once: descriptors that were told. The first is held until it is let
+   go. (Each open file has one descriptor that syncs.) */
+enum { MOST_FILES = 1024 };
+static atomic_int is_lost, is_told_held, is_told[MOST_FILES];
+
+/* Whether a sync is told now of the write that came to nothing. */
+static int is_told_now(int fd) {
+    unsigned ticks = 0;
+    HOLDS(fd < MOST_FILES);
+    if (!is_lost || is_told[fd]++) return 0;
+    if (is_lost++ == 1) {
+        while (is_told_held) tick(&ticks);
+    }
+    return 1;
+}
+
 static int sync_by(int (*real)(int), int fd) {
     unsigned number = ++syncs, ticks = 0;
     is_syncing = 1;
     if (slowness) usleep(slowness);
     while (held_sync == number) tick(&ticks);
     is_syncing = 0;
+    if (is_told_now(fd)) {
+        errno = EIO;
+        return -1;
+    }
     if (failing && number >= failing) {
         errno = why;
         return -1;
@@ -358,6 +378,40 @@ static void beside_a_sync(unsigned held) {
     IS(3, counted(index));
     stop(all, 2);
     IS(0, nardsill_close(index));
+}
+
+/* A write came to nothing, and a commit's sync is told of it. Before the commit knows, one that reads must force: it is told too, by an
+   open file of its own. No commit succeeds behind that. */
+static void told_apart(void) {
+    nardsill *index = made(PATH, &limits);
+    struct committer one;
+    nardsill_scan *scan;
+    nardsill_entry few[100];
+    size_t n;
+    int status;
+    for (unsigned i = 0; i < 6000; i++) IS(0, insert_next(index, 9, i, 0));
+    IS(0, nardsill_commit(index, 0));
+    start(&one, 1, index);
+    is_told_held = is_lost = 1;
+    send(&one);
+    for (unsigned ticks = 0; is_lost < 2;) tick(&ticks);
+    /* It wants more pages than there are frames, so that the one that changed has to leave its frame. */
+    IS(0, nardsill_scan_open(index, 0, 0, 0, 0, &scan));
+    do status = nardsill_scan_read(scan, few, 100, &n);
+    while (!status);
+    nardsill_scan_close(scan);
+    IS(NARDSILL_IO, status);
+    is_told_held = 0;
+    wait_for(&one.done);
+    IS(0, one.inserted);
+    IS(NARDSILL_IO, one.status);
+    IS(EIO, one.error);
+    IS(NARDSILL_IO, nardsill_commit(index, 0));
+    IS(NARDSILL_IO, nardsill_checkpoint(index, 0));
+    stop(&one, 1);
+    IS(NARDSILL_IO, nardsill_close(index));
+    is_lost = 0;
+    memset(is_told, 0, sizeof is_told);
 }
 
 /* A commit waits for those of the last call, and meanwhile other calls go on, and forks. */
@@ -652,6 +706,7 @@ int main(void) {
     alone();
     beside_a_sync(1);
     beside_a_sync(2);
+    told_apart();
     meanwhile();
     stopped();
     in_turn();

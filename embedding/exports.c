@@ -24,11 +24,11 @@ static void let_go(struct nardsill_shell *shell) {
 
 static struct nardsill_shell *opened(int fd) {
     struct nardsill_shell *shell = handle();
-    int file = fd;
-    struct nardsill_answer answer = nardsill_proved_take(shell, &file, (struct nardsill_open_ask){fd, 16});
+    struct nardsill_files files = {fd, fd};
+    struct nardsill_answer answer = nardsill_proved_take(shell, &files, (struct nardsill_open_ask){fd, 16});
     IS(0, answer.status);
     HOLDS(answer.descriptor > 2 && answer.descriptor != fd && fcntl(answer.descriptor, F_GETFD) == FD_CLOEXEC);
-    IS(fd, file);
+    HOLDS(files.file == fd && files.beside == fd);
     return shell;
 }
 

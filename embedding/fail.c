@@ -13,6 +13,8 @@
 
 /* Which calls fail now, and with which number. */
 static int no_sync, no_folder_sync, no_read, no_write, no_link, no_rename;
+/* A file isn't opened a second time. */
+static int no_second;
 /* Another maker places the draft just before its lock is asked for. */
 static int is_placed_before;
 /* The folders that were synced, each with whether the file had its name then; closings of what isn't open. */
@@ -65,18 +67,20 @@ int __wrap_close(int fd) {
 
 int __wrap_open(const char *path, int flags, ...) {
     if (!(flags & O_CLOEXEC)) shared_opens++;
+    if (no_second && !strncmp(path, "/proc/", 6)) return refuse(no_second);
     return __real_open(path, flags, 0666);
 }
 
 int __wrap_flock(int fd, int how) {
     if (fd <= 2) low_locks++;
-    if (how & LOCK_EX) locked = fd;
     if (is_placed_before) {
         is_placed_before = 0;
         __real_link(DRAFT, "fail-other.idx");
         unlink(DRAFT);
     }
-    return __real_flock(fd, how);
+    int status = __real_flock(fd, how);
+    if (!status && how & LOCK_EX) locked = fd;
+    return status;
 }
 
 int __wrap_link(const char *from, const char *to) {
@@ -316,6 +320,28 @@ static void drafts(void) {
     unlink("fail-moved.idx");
 }
 
+/* If the system opens a file only once, commits sync with the lock held. */
+static void one_open_file(void) {
+    nardsill *index;
+    uint64_t actions;
+    int entries;
+    no_second = ENOENT;
+    index = made(PATH, 0);
+    IS(0, insert(index, "a", 1, 1));
+    IS(0, nardsill_commit(index, &actions));
+    IS(1, actions);
+    no_sync = EIO;
+    IS(0, insert(index, "b", 1, 2));
+    FAILS(EIO, nardsill_commit(index, &actions));
+    no_sync = 0;
+    IS(NARDSILL_IO, nardsill_close(index));
+    IS(0, nardsill_open(PATH, 16, &index));
+    IS(NARDSILL_DONE, count(index, &entries));
+    HOLDS(entries >= 1);
+    IS(0, nardsill_close(index));
+    no_second = 0;
+}
+
 /* What is refused at its beginning says why. */
 static void refusals(void) {
     nardsill *index;
@@ -358,6 +384,7 @@ int main(void) {
     names();
     drafts();
     refusals();
+    one_open_file();
     IS(0, wrong_closes);
     IS(0, shared_opens);
     IS(descriptors, open_descriptors());

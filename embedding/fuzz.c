@@ -36,7 +36,8 @@ static struct nardsill_ask random_ask(void) {
 /* A file that isn't the number that is told is refused, and nothing is touched. */
 static int refuses_another_number(struct nardsill_shell *shell) {
     int file = 0;
-    return nardsill_proved_take(shell, &file, (struct nardsill_open_ask){1, 16}).status == NARDSILL_BAD_VERSION
+    struct nardsill_files files = {0, 0};
+    return nardsill_proved_take(shell, &files, (struct nardsill_open_ask){1, 16}).status == NARDSILL_BAD_VERSION
         && nardsill_proved_make(shell, &file, (struct nardsill_make_ask){1, 4, 8, 65536, 0}).status == NARDSILL_BAD_VERSION
         && nardsill_proved_check(shell, &file, (struct nardsill_check_ask){1, 16}).status == NARDSILL_BAD_VERSION;
 }

@@ -18,6 +18,7 @@
 /* What C and the proved library share is laid out alike: crates/nardsill has the same numbers. */
 #define IS_LAID_OUT(type, size, last, at) _Static_assert(sizeof(struct type) == (size) && offsetof(struct type, last) == (at), #type)
 IS_LAID_OUT(nardsill_ask, 160, below, 92);
+IS_LAID_OUT(nardsill_files, 8, beside, 4);
 IS_LAID_OUT(nardsill_open_ask, 8, frames, 4);
 IS_LAID_OUT(nardsill_make_ask, 20, unique, 16);
 IS_LAID_OUT(nardsill_answer, 64, descriptor, 56);
@@ -65,12 +66,12 @@ struct turns {
 struct nardsill {
     pthread_mutex_t lock;
     struct nardsill_shell *shell; /* embedding/fuzz.c knows its place */
-    struct nardsill_shell *syncer; /* syncs the file without the lock; whoever commits has it */
+    struct nardsill_shell *syncer; /* syncs the file without the lock; whoever commits has it; null where there is none */
     struct gathering gathering;
     struct turns turns;
     nardsill_scan *scans; /* those that are open */
     uint32_t frames, count;
-    int descriptor;       /* the library's own, for a forked child to close */
+    int descriptor, beside; /* the library's own, for a forked child to close; the second syncs, and is -1 where there is no syncer */
     int is_parents;       /* this process is a child of the one that opened it */
     nardsill *next;       /* of the process's handles */
 };
@@ -157,6 +158,7 @@ static void behind_fork(void) {
 static void in_child(void) {
     for (nardsill *index = all; index; index = index->next) {
         close(index->descriptor);
+        if (index->beside >= 0) close(index->beside);
         index->is_parents = 1;
     }
     all = 0;
@@ -378,23 +380,40 @@ static void free_locks(nardsill *index) {
     free_bells(index, BELLS);
 }
 
-/* Makes what syncs the index's file while the index answers calls. */
+static void let_syncer_go(nardsill *index) {
+    if (index->syncer) let_go(index->syncer);
+    index->syncer = 0;
+    index->beside = -1;
+}
+
+/* Makes what syncs the index's file while the index answers calls. Without it a commit syncs with the lock held. */
 static struct outcome share(nardsill *index) {
     if (nardsill_proved_new(&index->syncer)) return only(NARDSILL_NO_MEMORY);
-    struct outcome outcome = told_by(nardsill_proved_share(index->syncer, index->shell, (struct nardsill_open_ask){0, 0}));
-    if (outcome.status) let_go(index->syncer);
-    return outcome;
+    struct nardsill_answer answer = nardsill_proved_share(index->syncer, index->shell, (struct nardsill_open_ask){0, 0});
+    if (!answer.status) index->beside = answer.descriptor;
+    else let_syncer_go(index);
+    return only(answer.status == NARDSILL_NO_MEMORY ? NARDSILL_NO_MEMORY : 0);
+}
+
+/* Another open file of the same file, which syncs; or the same one, where the system opens none. Of a write that came to nothing the
+   system tells each open file once: so the index's own syncs are told of it too, whoever was told first. */
+static int open_beside(int fd) {
+    char path[32];
+    int beside;
+    snprintf(path, sizeof path, "/proc/self/fd/%d", fd);
+    return open_file(path, 0, &beside).status ? fd : beside;
 }
 
 /* Opens the index in a file of this library's own, in a handle that has no index yet. */
 static struct outcome take(nardsill *index, int fd) {
-    int file = fd;
     struct outcome outcome = lock(fd);
     if (outcome.status) return outcome;
     if (nardsill_proved_new(&index->shell)) return only(NARDSILL_NO_MEMORY);
+    struct nardsill_files files = {fd, open_beside(fd)};
     errno = 0;
-    struct nardsill_answer answer = nardsill_proved_take(index->shell, &file, (struct nardsill_open_ask){fd, index->frames});
+    struct nardsill_answer answer = nardsill_proved_take(index->shell, &files, (struct nardsill_open_ask){fd, index->frames});
     outcome = told_by(answer);
+    if (files.beside != fd) close(files.beside);
     index->descriptor = answer.descriptor;
     if (!outcome.status) outcome = share(index);
     if (outcome.status) let_go(index->shell);
@@ -404,6 +423,7 @@ static struct outcome take(nardsill *index, int fd) {
 static struct outcome start(int fd, uint32_t frames, nardsill **out) {
     nardsill *index = calloc(1, sizeof *index);
     if (!index) return only(NARDSILL_NO_MEMORY);
+    index->beside = -1;
     index->frames = frames ? frames : 64;
     index->gathering.call = 1;
     index->turns.came = 1;
@@ -468,7 +488,7 @@ static void free_index(nardsill *index) {
     pthread_mutex_lock(&all_lock);
     forget_locked(index);
     flock(index->descriptor, LOCK_UN);
-    let_go(index->syncer);
+    let_syncer_go(index);
     let_go(index->shell);
     pthread_mutex_unlock(&all_lock);
     free_locks(index);
@@ -1073,6 +1093,7 @@ static void sync_unlocked(nardsill *index, int *error) {
 
 /* Does the parts of a commit, each behind a sync with the lock let go. Whatever of it isn't done, the commit at its end does. */
 static void advance(nardsill *index, int *error) {
+    if (!index->syncer) return;
     for (uint64_t part = 1; part < 3; part++) {
         struct nardsill_answer answer = ask_locked(index, (struct nardsill_ask){.what = NARDSILL_ADVANCE});
         keep_error(answer, error);

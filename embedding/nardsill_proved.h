@@ -34,6 +34,11 @@ struct nardsill_ask {
     uint8_t key[64], below[64];
 };
 
+/* A file that is open, and another open file of it, by which it is synced; or its descriptor twice, where there is none. */
+struct nardsill_files {
+    int file, beside;
+};
+
 struct nardsill_open_ask {
     int32_t descriptor;
     uint32_t frames;
@@ -52,7 +57,7 @@ struct nardsill_answer {
     uint32_t num_pages, pages_newly_deleted, pages_deleted, pages_free;
     uint32_t block; /* the row that a fault names */
     uint16_t offset;
-    int32_t descriptor; /* that of the library, where an index was opened */
+    int32_t descriptor; /* that of the library, where an index was opened, and that of what syncs its file */
 };
 
 struct nardsill_token {
@@ -90,13 +95,14 @@ struct nardsill_shell;
 uint32_t nardsill_proved_new(struct nardsill_shell **out);
 
 /* Each of these three is given a file that is open: file points to its descriptor, which stays the caller's. The first makes an
-   empty index there, and what the file held is gone; the second opens the index in it; the third judges it. */
+   empty index there, and what the file held is gone; the second opens the index in it; the third judges it. The second is given two
+   open files of one file. */
 struct nardsill_answer nardsill_proved_make(struct nardsill_shell *at, int *file, struct nardsill_make_ask ask);
-struct nardsill_answer nardsill_proved_take(struct nardsill_shell *at, int *file, struct nardsill_open_ask ask);
+struct nardsill_answer nardsill_proved_take(struct nardsill_shell *at, struct nardsill_files *files, struct nardsill_open_ask ask);
 struct nardsill_checked nardsill_proved_check(struct nardsill_shell *at, int *file, struct nardsill_check_ask ask);
 
 /* Gives a handle, which has no index, what syncs the file of another's index. Then NARDSILL_SYNC may be called of the one while a call
-   of the other goes on. Nothing of what is asked is read. */
+   of the other goes on. NARDSILL_NO_SESSION if that index was opened with one open file alone. Nothing of what is asked is read. */
 struct nardsill_answer nardsill_proved_share(struct nardsill_shell *at, struct nardsill_shell *from, struct nardsill_open_ask ask);
 
 /* One call at a time, on a handle that was not let go. */
