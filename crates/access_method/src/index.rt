@@ -151,7 +151,7 @@ impl<S: PageStore> Index<S> {
     ghost use Rattle.whole_calls.specs.Made.{IsMadeOf, ComesTo, InsertComesTo};
     ghost use Rattle.whole_calls.specs.Meanings.{IsSameHistory, HasBegun, EndMeans};
     ghost use Rattle.whole_calls.specs.Vacuuming.{VacuumMeans, vacuum_outcome, ResultLeavesNeeded};
-    ghost use Rattle.whole_calls.specs.Giving.{SessionGivenMeans, EndsUnlessGiven, given_outcome};
+    ghost use Rattle.whole_calls.specs.Giving.{SessionGivenMeans, EndsUnlessGiven, RunsIfGiven, given_outcome};
     ghost use Rattle.access_method.specs.Tokens.{seat_of};
     ghost use Rattle.access_method.specs.Indexes.{IndexFits, IndexKeeps, IndexIsRun, IndexInserts, IndexMakes, IndexIsKept, slots_with, ForEachIndexHistory, BulkDeleteRuns, SameTokens, IsNewToken, SeatBecomes, seat_with, RescanMeans, TokenAfter, InsertsOrKeeps, IsBulkDeletedOrLess, IsCleanedUp, AnswersScan, has_entry, NotOpenedFor, NotRescannedFor, cannot_begin};
     ghost use Rattle.access_method.specs.Scans.{AreTheMatches, BeginTheMatches, NextIs, NextsAre, ScanBegins};
@@ -396,6 +396,8 @@ impl<S: PageStore> Index<S> {
             → (result ≡ Ok None) × (self.new ≡ self.old) }
         ensures ends { seat_of self.old.seats token ≡ seat_with token false
             → EndsUnlessGiven result (op_of self.new.calls token.session) }
+        ensures lasts { RunsIfGiven result (op_of self.old.calls token.session)
+            (op_of self.new.calls token.session) }
         ensures tokens { seat_of self.old.seats token ≡ seat_with token false
             → TokenAfter token result self.old self.new }
     {

@@ -1,6 +1,6 @@
 -- What a scan gives tells.
-use Rattle.std.proofs.Common.{◌≡◌, ◌⊎◌, ℕ, ◌<◌, ◌≤◌, arith, Bool, Option, Some, None, Result, Ok, List, [], ◌∷◌, ◌++◌, length, slice_get, slice_set, refl, sym, ap, subst, inl, inr, ◌∙◌, IfErr}
-use Rattle.whole_calls.proofs.Imports.{append-nil, cases_eq, EndsFinished, Range, Bulks, Cleanups, get_set_same, get_set_other, get_within, Effect, Add, Remove, Shape, Action, AskScan, Running}
+use Rattle.std.proofs.Common.{◌≡◌, ◌⊎◌, ℕ, ◌<◌, ◌≤◌, arith, Bool, false, Option, Some, None, Result, Ok, List, [], ◌∷◌, ◌++◌, length, slice_get, slice_set, refl, sym, ap, subst, inl, inr, ◌∙◌, IfErr}
+use Rattle.whole_calls.proofs.Imports.{append-nil, is_last, cases_eq, EndsFinished, Range, Bulks, Cleanups, get_set_same, get_set_other, get_within, Effect, Add, Remove, Shape, Action, AskScan, Running}
 use Rattle.whole_calls.proofs.Imports.{Call, Circumstances, HasCause, Entry, Fault, State, Ghosts, IsCaused, OwesLess, work_in, noted, given_one, ended, Answer, Going, Ready, Done, Gave, Refused}
 use Rattle.whole_calls.proofs.Imports.{Op, StoreAndSlots, Moment, IsRunningCall, Fits, IsOutcomeOf, IsMadeOf, Answered, ComesTo, LessIsLeft, AnswersSeek, given_of, given_outcome, Becomes}
 use Rattle.whole_calls.proofs.Imports.{GivenMeans, SessionScanMeans, ScanIsUnanswered, SessionGivenMeans, IsSameHistory, acts_by, noted_after, AreOwnEffects, IsOwnEffect, CallAnswers, StepMeans}
@@ -33,6 +33,13 @@ give_answered came answers kind h = absurd kind
 pub give_made : {S : Type 0} {g : Ghosts S} {session least_room : ℕ} (came : Answer) (given : Result (Option Entry) Fault) {a b : StoreAndSlots S} → AnswersSeek came → given_of came ≡ given
     → IsMadeOf g session least_room (Answered came) a b → IsMadeOf g session least_room (ComesTo (given_outcome given)) a b
 give_made came given kind is made = made_told made (λ xs so. rw is at (give_answered came xs kind so))
+
+-- what came to an entry isn't the last answer
+pub gives_goes : (came : Answer) (entry : Entry) → AnswersSeek came → given_of came ≡ Ok (Some entry) → is_last came ≡ false
+gives_goes (Gave (Some e)) entry kind is = refl
+gives_goes Done entry kind is = absurd cc
+gives_goes (Refused f) entry kind is = absurd cc
+gives_goes came entry kind is = absurd kind
 
 -- why it gives nothing
 pub given_caused : (at : Circumstances) (came : Answer) → AnswersSeek came → IsCaused at came → IfErr (given_of came) (HasCause at)

@@ -1,5 +1,5 @@
 -- What a scan gives, and what is told of it then.
-use Rattle.std.specs.Prelude.{◌≡◌, ℕ, ◌<◌, Option, Some, None, Result, Ok, Err, length, slice_set}
+use Rattle.std.specs.Prelude.{◌≡◌, ◌≢◌, ℕ, ◌<◌, Option, Some, None, Result, Ok, Err, length, slice_set}
 use Rattle.index_model.specs.Calls.{AskScan, Call, Finished as EndsFinished}
 use Rattle.index_model.specs.declared.entry.Entry.{Entry}
 use Rattle.index_model.specs.declared.fault.Fault.{Fault}
@@ -67,6 +67,11 @@ abbrev pub EndsUnlessGiven : Result (Option Entry) Fault → Option Op → Type 
 EndsUnlessGiven (Ok (Some entry)) slot = Unit {0}
 EndsUnlessGiven (Ok None) slot = slot ≡ None
 EndsUnlessGiven (Err fault) slot = slot ≡ None
+
+-- a session that ran a scan, and gives an entry, runs it on
+abbrev pub RunsIfGiven : Result (Option Entry) Fault → Option Op → Option Op → Type 0
+RunsIfGiven (Ok (Some entry)) before after = before ≢ None → after ≢ None
+RunsIfGiven result before after = Unit {0}
 
 -- no action is appended, and the call of this number has become this one; no other is changed
 pub record Becomes {S : Type 0} (number : ℕ) (after : Call) (old new : Moment S) : Type 0 where

@@ -10,9 +10,10 @@ ghost use Rattle.session_calls.specs.Slots.{one_vacuums};
 ghost use Rattle.schedule.specs.Events.{IsSameStore, causes_of_begun_at};
 ghost use Rattle.schedule.specs.TheoremRuns.{ForEachHistory};
 ghost use Rattle.whole_calls.specs.Meanings.{BeginMeans, begin_outcome};
-ghost use Rattle.whole_calls.specs.Giving.{LessIsLeft, AnswersAdvance, AnswersSeek, EndsUnlessGiven, GiveHasLessLeft, SessionGivenMeans, given_of, given_outcome};
+ghost use Rattle.whole_calls.specs.Giving.{LessIsLeft, AnswersAdvance, AnswersSeek, EndsUnlessGiven, GiveHasLessLeft, RunsIfGiven, SessionGivenMeans, given_of, given_outcome};
 ghost use Rattle.whole_calls.specs.Going.{IsAmong, CallIsRun};
 ghost use Rattle.whole_calls.specs.Made.{IsMadeOf, Answered, ComesTo};
+ghost use Rattle.whole_calls.specs.Parts.{RunsUnlessLast};
 ghost use Rattle.whole_calls.specs.Refusing.{GiveIsCaused};
 ghost use Rattle.whole_calls.specs.Stepping.{ScanIsRun};
 
@@ -43,6 +44,7 @@ fn advance<S: PageStore, T: DeadRows>(
         (op_of calls.new session) result }
     ensures kind { AnswersAdvance result }
     ensures runs_on { RunsOn (op_of calls.old session) (op_of calls.new session) }
+    ensures lasts { RunsUnlessLast (op_of calls.old session) (op_of calls.new session) result }
 {
     let answer = next(store, calls, sets, session);
     if let Answer::Gave(None) = answer {
@@ -69,6 +71,7 @@ fn seek<S: PageStore, T: DeadRows>(
         (here T.DeadRows store.new calls.new sets.now) }
     ensures kind { AnswersSeek result }
     ensures runs_on { RunsOn (op_of calls.old session) (op_of calls.new session) }
+    ensures lasts { RunsUnlessLast (op_of calls.old session) (op_of calls.new session) result }
     ensures less { (S.backing store.new).honest ≡ true
         → LessIsLeft (S.state store.old) (S.state store.new) (op_of calls.old session)
         (op_of calls.new session) result }
@@ -112,6 +115,7 @@ pub fn give<S: PageStore, T: DeadRows>(
     ensures steps { Continues S.follows store.old store.new }
     ensures others { SameOthers session calls.old calls.new }
     ensures over { EndsUnlessGiven result (op_of calls.new session) }
+    ensures lasts { RunsIfGiven result (op_of calls.old session) (op_of calls.new session) }
     ensures runs_on { RunsOn (op_of calls.old session) (op_of calls.new session) }
     ensures less { (S.backing store.new).honest ≡ true
         → GiveHasLessLeft (S.state store.old) (S.state store.new)

@@ -2,7 +2,7 @@ use Rattle.std.proofs.Common.{◌≡◌, false, Ok, Err, Option, None, Some, sym
 use Rattle.whole_calls.proofs.Imports.{here, Entry, given_of, given_outcome}
 use Rattle.whole_calls.proofs.Composing.{is_later}
 use Rattle.whole_calls.proofs.Made.{made_first}
-use Rattle.whole_calls.proofs.Given.{give_made, given_caused}
+use Rattle.whole_calls.proofs.Given.{give_made, given_caused, gives_goes}
 use Rattle.whole_calls.proofs.Lasting.{scan_caused, scan_gives, scan_ends}
 use Rattle.whole_calls.proofs.Refusing.{gone_behind}
 use Rattle.whole_calls.proofs.giving.give.Given.{Over}
@@ -57,3 +57,6 @@ returns-in-Err-clause-made g c =
     made_first (given_outcome (Err c.in-Err.fault))
     (give_made c.seek-came.result (Err c.in-Err.fault) c.seek-came.ensures.kind (refuses g ((goal.at.returns-in-Err-clause-made g c).In-Err)) c.seek-came.ensures.made)
     (c.give_up-in-Err.ensures.made c.args.least_room)
+
+pub returns-in-Ok-Some-clause-lasts : goal.returns-in-Ok-Some-clause-lasts
+returns-in-Ok-Some-clause-lasts g c = c.seek-came.ensures.lasts (gives_goes c.seek-came.result c.in-Ok-Some.entry c.seek-came.ensures.kind (gives_some g c))

@@ -1,5 +1,5 @@
-use Rattle.std.proofs.Common.{arith, refl, inl, inr, ◌∙◌}
-use Rattle.whole_calls.proofs.Imports.{runs_on_same, runs_on_then, work_bounded, snapshot_of, slot_of}
+use Rattle.std.proofs.Common.{arith, refl, ap, inl, inr, ◌∙◌}
+use Rattle.whole_calls.proofs.Imports.{is_last, runs_on_same, runs_on_then, work_bounded, snapshot_of, slot_of}
 use Rattle.whole_calls.proofs.Composing.{is_later, joined, joined_second, goes_nowhere}
 use Rattle.whole_calls.proofs.Made.{made_nowhere, made_last, made_more, made_told}
 use Rattle.whole_calls.proofs.Given.{down_after, down_on}
@@ -12,6 +12,7 @@ loop-left-init g c = record {
   sessions = refl;
   others = λ o ne. refl;
   runs_on = runs_on_same (slot_of c.args.calls.now.slots.items c.args.session);
+  lasts = λ runs. runs;
   goes = goes_nowhere g.met.S.PageStore.laws waits_here;
   made = made_nowhere (omega arith);
   budget = λ honest. omega arith;
@@ -35,6 +36,7 @@ loop-left-preserved g c =
       others = λ o ne. went.others.others o ne ∙ so_far.others o ne;
       runs_on = runs_on_then (slot_of c.args.calls.now.slots.items session) (slot_of c.loop-left.calls.slots.items session) (slot_of c.advance.new.calls.slots.items session)
           so_far.runs_on went.runs_on;
+      lasts = λ runs. went.lasts (ap is_last c.in-Going.is) (so_far.lasts runs);
       goes = joined g.met.S.PageStore.laws _ so_far.steps went.steps so_far.goes went.goes (λ xs ys none so. tt)
           (λ start h hc k kc l lc fx fy fz one two. waits_then one (waits_on c.in-Going.is two));
       made = made_more _ _ so_far.made went.made;
@@ -65,3 +67,9 @@ returns-in_default-clause-made g c = made_told (made_last c.loop-left.invariant.
 
 pub returns-clause-made : goal.returns-clause-made
 returns-clause-made g c = made_told c.loop-left.invariant.made (λ xs many. inr (refl, omega (arith, many, c.loop-left-test.false)))
+
+pub returns-in_default-clause-lasts : goal.returns-in_default-clause-lasts
+returns-in_default-clause-lasts g c last runs = c.advance.ensures.lasts last (c.loop-left.invariant.lasts runs)
+
+pub returns-clause-lasts : goal.returns-clause-lasts
+returns-clause-lasts g c last runs = c.loop-left.invariant.lasts runs
