@@ -123,6 +123,19 @@ static int in_child(int (*does)(nardsill *, nardsill_scan *), nardsill *index, n
     return WIFEXITED(status) ? WEXITSTATUS(status) : -1;
 }
 
+/* Whether this process has a descriptor of such a file. */
+static int has_file(const char *name) {
+    char path[40], target[400];
+    for (int fd = 3; fd < 100; fd++) {
+        sprintf(path, "/proc/self/fd/%d", fd);
+        ssize_t len = readlink(path, target, sizeof target - 1);
+        if (len < 0) continue;
+        target[len] = 0;
+        if (strstr(target, name)) return 1;
+    }
+    return 0;
+}
+
 /* Each call of a handle of the parent's is refused, and a file of its own is opened. */
 static int uses_all(nardsill *index, nardsill_scan *scan) {
     nardsill_entry entry;
@@ -130,6 +143,7 @@ static int uses_all(nardsill *index, nardsill_scan *scan) {
     nardsill_details details = NARDSILL_DETAILS;
     nardsill_scan *other;
     nardsill *own;
+    HOLDS(!has_file(PATH));
     IS(NARDSILL_FORKED, insert(index, "child", 1, 1));
     IS(NARDSILL_FORKED, nardsill_insert_many(index, &entry, 1, 0));
     IS(NARDSILL_FORKED, nardsill_get(index, "a", 1, &row));
@@ -205,19 +219,6 @@ static void orphans(void) {
     kill(child, SIGKILL);
     close(ends[0]);
     close(ends[1]);
-}
-
-/* Whether this process has a descriptor of such a file. */
-static int has_file(const char *name) {
-    char path[40], target[400];
-    for (int fd = 3; fd < 100; fd++) {
-        sprintf(path, "/proc/self/fd/%d", fd);
-        ssize_t len = readlink(path, target, sizeof target - 1);
-        if (len < 0) continue;
-        target[len] = 0;
-        if (strstr(target, name)) return 1;
-    }
-    return 0;
 }
 
 static void *works(void *is_over) {

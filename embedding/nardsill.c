@@ -395,13 +395,16 @@ static struct outcome share(nardsill *index) {
     return only(answer.status == NARDSILL_NO_MEMORY ? NARDSILL_NO_MEMORY : 0);
 }
 
+/* A path by which the file of a descriptor is opened anew. */
+static void spell_path(int fd, char path[32]) { snprintf(path, 32, "/proc/self/fd/%d", fd); }
+
 /* Another open file of the same file, which syncs; or the same one, where the system opens none. Of a write that came to nothing the
    system tells each open file once: so the index's own syncs are told of it too, whoever was told first. */
 static int open_beside(int fd) {
-    char path[32];
+    char anew[32];
     int beside;
-    snprintf(path, sizeof path, "/proc/self/fd/%d", fd);
-    return open_file(path, 0, &beside).status ? fd : beside;
+    spell_path(fd, anew);
+    return open_file(anew, 0, &beside).status ? fd : beside;
 }
 
 /* Opens the index in a file of this library's own, in a handle that has no index yet. */
@@ -518,7 +521,7 @@ int nardsill_open_fd(int fd, uint32_t frames, nardsill **out) {
     if (!out || flags < 0 || (flags & O_ACCMODE) != O_RDWR || flags & (O_APPEND | O_PATH)) return misused();
     /* The file is opened anew: a lock doesn't part two handles of one open file, and the caller's may be closed, or append. */
     char path[32];
-    snprintf(path, sizeof path, "/proc/self/fd/%d", fd);
+    spell_path(fd, path);
     return open_and_leave(path, 0, frames, out);
 }
 
