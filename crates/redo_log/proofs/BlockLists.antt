@@ -113,8 +113,9 @@ distinct-with_block blocks block distinct = ⊎_elim
     (λ new. subst AreDistinct (sym (with_block-new blocks block new)) (distinct-push blocks block distinct new))
     (cases_Bool (is_among_blocks blocks block))
 
--- the step of the next lemma but one, in tests: a, whether the block of an image is among those that wait; e, whether
--- it is the block that waits too now; n and m, whether these two are among the blocks of the later images
+-- the step of the next lemma but one, in tests: a, whether the block of an image is among those that wait; e,
+-- whether it is the block that waits too now; n and m, whether these two are among the blocks of the later
+-- images
 one_less : (a e n m : Bool) (before after : ℕ) → before ≡ after + cond m 1 0 → (e ≡ true → (a ≡ false) × (n ≡ m))
     → cond (a || n) before (suc before) ≡ cond ((a || e) || n) after (suc after) + cond (e || m) 1 0
 one_less true false n m before after is same = is

@@ -77,7 +77,8 @@ pub record IsSettled (limits : Format) (start at : ℕ) (groups : List (List Pag
   pub closed : gate ≢ 1
   pub on_disk : OnDisk start (spelled_groups groups ++ gate ∷ []) m
 
--- Its groups stand on the disk. A group stands behind them, and no crash changes that. The gate between may be open or not.
+-- Its groups stand on the disk. A group stands behind them, and no crash changes that. The gate between may
+-- be open or not.
 pub record IsAjar (limits : Format) (start at : ℕ) (groups : List (List Page)) (group : List Page) (m : DiskMoment)
     : Type 0 where
   pub good : AreGroups limits groups
@@ -91,8 +92,9 @@ pub record IsAjar (limits : Format) (start at : ℕ) (groups : List (List Page))
 abbrev pub Waits : Log → List Page → Type 0
 Waits log waiting = AreLaid log.limits (waiting_blocks log) log.buffer.items waiting
 
--- A group stands behind a gate that may be open. Its images and those of the groups are the last ones of a part of the actions, which
--- has every one that was forced. Where nothing was appended since, it is all that waits, and a read finds its gate open.
+-- A group stands behind a gate that may be open. Its images and those of the groups are the last ones of a
+-- part of the actions, which has every one that was forced. Where nothing was appended since, it is all that
+-- waits, and a read finds its gate open.
 pub record MayBeLetIn (log : Log) (m : DiskMoment) (acts : List (List Page)) (forced : ℕ) (groups : List (List Page)) (waiting : List Page)
     : Type 0 where
   pub group : List Page

@@ -102,8 +102,8 @@ impl Log {
         Ok(())
     }
 
-    // Writes the group that waits behind its gate, which stays closed, if that isn't done. Answers whether it stands there: none
-    // waits else.
+    // Writes the group that waits behind its gate, which stays closed, if that isn't done. Answers whether it
+    // stands there: none waits else.
     fn write_group<D: Device>(&mut self, device: &mut D) -> Result<bool, Fault>
         requires range { log_end (limits_of self.old) ≤ length (D.trace device.old).now.seen }
         ensures keeps { OnOk result
@@ -139,8 +139,8 @@ impl Log {
         Ok(true)
     }
 
-    // Syncs the group that was written, and opens its gate, if that isn't done and nothing was appended since. Answers whether
-    // that is so.
+    // Syncs the group that was written, and opens its gate, if that isn't done and nothing was appended
+    // since. Answers whether that is so.
     fn open_gate<D: Device>(&mut self, device: &mut D) -> Result<bool, Fault>
         requires range { log_end (limits_of self.old) ≤ length (D.trace device.old).now.seen }
         ensures keeps { OnOk result
@@ -178,9 +178,9 @@ impl Log {
         Ok(true)
     }
 
-    /// Does the next part of a force but for its last sync, which is `force`'s: it writes the group that waits, or syncs that and
-    /// opens its gate. A sync of the device between two parts makes the next one's fast. What is appended between two parts makes
-    /// the next one write the group again.
+    /// Does the next part of a force but for its last sync, which is `force`'s: it writes the group that
+    /// waits, or syncs that and opens its gate. A sync of the device between two parts makes the next one's
+    /// fast. What is appended between two parts makes the next one write the group again.
     ///
     /// At `Io` the log is stopped; a stopped log answers `Stopped`.
     pub fn advance<D: Device>(&mut self, device: &mut D) -> Result<Advance, Fault>
@@ -249,9 +249,9 @@ impl Log {
         Ok(self.actions)
     }
 
-    /// Makes every action durable that was appended, and answers how many were since the log was
-    /// opened. It writes one image of each block that waits; with none the device isn't called. What `advance` has done of it
-    /// isn't done again.
+    /// Makes every action durable that was appended, and answers how many were since the log was opened. It
+    /// writes one image of each block that waits; with none the device isn't called. What `advance` has done
+    /// of it isn't done again.
     ///
     /// At `Io` the log is stopped; a stopped log answers `Stopped`.
     pub fn force<D: Device>(&mut self, device: &mut D) -> Result<u64, Fault>

@@ -145,9 +145,9 @@ impl Log {
         ensures restarts { WhatItKeepsRestarts self.now }
     {}
 
-    /// Closes the log, in which no gate is ajar: its groups no longer count, and what waits still waits. Where no group is open
-    /// the device isn't called, since a crash could leave a gate that is written as an open one, in
-    /// front of old bytes.
+    /// Closes the log, in which no gate is ajar: its groups no longer count, and what waits still waits.
+    /// Where no group is open the device isn't called, since a crash could leave a gate that is written as an
+    /// open one, in front of old bytes.
     ///
     /// At `Io` the log is stopped; a stopped log answers `Stopped`.
     pub fn reset<D: Device>(&mut self, device: &mut D) -> Result<(), Fault>
