@@ -10,7 +10,8 @@ use Rattle.redo_log.specs.Kept.{limits_of}
 use Rattle.page_store.specs.Restart.{CrashesToPart}
 use Rattle.page_store.specs.Logged.{Held, backing_of, IsOwn}
 
--- with some acts more, and at each moment in between a crash left a prefix of all acts, with all that were durable
+-- with some acts more, and at each moment in between a crash left a prefix of all acts, with all that were
+-- durable
 pub record GrowsTo (old new : Held) : Type 0 where
   pub own : IsOwn new
   pub limits : limits_of new.log ≡ limits_of old.log

@@ -18,8 +18,8 @@ pub record StandsAtHome (limits : Format) (images : List Page) (block : ℕ) (by
   pub unnamed : last_image images block ≡ None
   pub has : Has (place limits block) bytes image
 
--- the bytes restart to these pages: of each block in use the last image in the log is the page, or there is none, and
--- the page stands at its place; no later block has an image, and zeros stand at its place
+-- the bytes restart to these pages: of each block in use the last image in the log is the page, or there is
+-- none, and the page stands at its place; no later block has an image, and zeros stand at its place
 pub record RestartsTo (limits : Format) (image : List ℕ) (pages : List Page) : Type 0 where
   pub superblock_is : Has 0 (superblock limits) image
   pub groups : List (List Page)

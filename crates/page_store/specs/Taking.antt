@@ -17,7 +17,8 @@ pub record SameFrames (pinned : List ℕ) (old new : Pool) : Type 0 where
   pub kept : (block : ℕ) → has_block pinned block ≡ true → IsSome (frame_of old block)
       → IsSome (frame_of new block)
 
--- The changed page at this place of the order was written, which isn't pinned, and whose acts were durable already.
+-- The changed page at this place of the order was written, which isn't pinned, and whose acts were durable
+-- already.
 pub record IsWrittenNext (pinned : List ℕ) (durable place : ℕ) (old new : Pool) : Type 0 where
   pub block : ℕ
   pub at : slice_get (changed_of old) place ≡ Some block
@@ -26,8 +27,8 @@ pub record IsWrittenNext (pinned : List ℕ) (durable place : ℕ) (old new : Po
   pub written : IsWritten old new place
   pub others : (b : ℕ) → has_block (changed_of new) b ≡ true → act_of new b ≡ act_of old b
 
--- Of the changed pages some right after so many were written, of which none is pinned, and whose acts were durable already: at most
--- a quarter of what there are frames.
+-- Of the changed pages some right after so many were written, of which none is pinned, and whose acts were
+-- durable already: at most a quarter of what there are frames.
 pub record AreWrittenAhead (pinned : List ℕ) (durable place : ℕ) (old new : Pool) : Type 0 where
   pub front : List ℕ
   pub more : List ℕ
