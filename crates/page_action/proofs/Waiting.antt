@@ -1,4 +1,5 @@
--- The deletion numbers that wait: they stay those of the deleted pages, and tell which of these may be reused.
+-- The deletion numbers that wait: they stay those of the deleted pages, and tell which of these may be
+-- reused.
 use Rattle.std.proofs.Common.{◌≡◌, ◌≢◌, ◌≤◌, ◌<◌, ℕ, zero, suc, Bool, true, false, ◌&&◌, nat_le, if◌then◌else◌, min, Option, Some, None, List, [], ◌∷◌, ◌++◌, length, slice_get, slice_set, slice_index, unwrap_or, replicate, refl, sym, ap, subst, ◌∙◌, inl, inr, arith, length-set}
 use Rattle.std.proofs.lemmas.List.{get_or-set_same, get_or-set_other}
 use Rattle.page_codec.specs.declared.page.PageState.{PageState}

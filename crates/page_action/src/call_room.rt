@@ -15,8 +15,8 @@ pub(crate) struct Sessions {
     pub(crate) table: LatchTable,
 }
 
-/// The room for the calls and the holds of 64 sessions, none of which has any yet. It is some 6,500 bytes on the heap, so a
-/// store that has it is moved quickly.
+/// The room for the calls and the holds of 64 sessions, none of which has any yet. It is some 6,500 bytes on
+/// the heap, so a store that has it is moved quickly.
 #[derive(Drop)]
 pub struct CallRoom {
     pub(crate) sessions: Box<Sessions>,
