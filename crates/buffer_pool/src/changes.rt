@@ -56,8 +56,8 @@ impl Pool {
         self.changed.len()
     }
 
-    /// The block at this place, from 0 on, of the order in which the changed pages were first changed, and the act that
-    /// changed it last.
+    /// The block at this place, from 0 on, of the order in which the changed pages were first changed, and
+    /// the act that changed it last.
     pub fn changed_at(&self, place: usize) -> Option<(u32, u64)>
         ensures block { option_map (λ c. c.0) result ≡ slice_get (changed_of self.now) place }
         ensures act { IfSome result (λ c. c.1 ≡ act_of self.now c.0) }
@@ -70,7 +70,8 @@ impl Pool {
         Some((block, self.act(block)))
     }
 
-    /// The block of the page that was changed first, and the act that changed it last; none where no page is changed.
+    /// The block of the page that was changed first, and the act that changed it last; none where no page is
+    /// changed.
     pub fn oldest(&self) -> Option<(u32, u64)>
         ensures block { option_map (λ c. c.0) result ≡ slice_get (changed_of self.now) 0 }
         ensures act { IfSome result (λ c. c.1 ≡ act_of self.now c.0) }
@@ -97,8 +98,8 @@ impl Pool {
         self.acts[self.frame(block)]
     }
 
-    /// Takes a copy of the page for the one of its block that is held, as this act, counted from 1, has changed it. Its
-    /// block comes last in the order of the changed ones, unless it stands there.
+    /// Takes a copy of the page for the one of its block that is held, as this act, counted from 1, has
+    /// changed it. Its block comes last in the order of the changed ones, unless it stands there.
     pub fn change(&mut self, page: &Page, act: u64)
         requires held { IsSome (frame_of self.old page.now.block) }
         requires act { 0 < act }
@@ -121,7 +122,8 @@ impl Pool {
         self.acts[at] = 0;
     }
 
-    /// The first so many changed pages of the order were written: they are clean, and the others keep their order.
+    /// The first so many changed pages of the order were written: they are clean, and the others keep their
+    /// order.
     #[tactic(auto, unfolding(crate::specs::Pools::changed_of))]
     pub fn note_first_written(&mut self, count: usize)
         requires count { count ≤ length (changed_of self.old) }

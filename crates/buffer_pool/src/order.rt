@@ -7,8 +7,8 @@ use index_model::Fault;
 use indexmap::IndexSet;
 use std::alloc::Global;
 
-/// Some of the blocks below a number, in an order. It takes no memory once it is made, since its set never loses a key: those
-/// that wait stand side by side somewhere in it.
+/// Some of the blocks below a number, in an order. It takes no memory once it is made, since its set never
+/// loses a key: those that wait stand side by side somewhere in it.
 #[derive(Drop)]
 pub(crate) struct Order {
     // Each block, once.
@@ -26,7 +26,8 @@ impl Order {
     ghost use Rattle.buffer_pool.specs.Frames.{has_block};
     ghost use Rattle.buffer_pool.specs.Orders.{waiting_in, width_of};
 
-    /// Room for the blocks below this number, of which none waits. Refused with `NoMemory` where it cannot be had.
+    /// Room for the blocks below this number, of which none waits. Refused with `NoMemory` where it cannot be
+    /// had.
     pub fn new(alloc: Global, width: u32) -> Result<Order, Fault>
         ensures none { IfOk result (λ order. waiting_in order ≡ []) }
         ensures width { IfOk result (λ order. width_of order ≡ width) }
