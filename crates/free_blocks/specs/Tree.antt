@@ -1,4 +1,5 @@
--- A winner tree in one array: nodes 2n and 2n + 1 stand under node n, and each inner node has the least number below it.
+-- A winner tree in one array: nodes 2n and 2n + 1 stand under node n, and each inner node has the least
+-- number below it.
 use Rattle.std.specs.Prelude.{◌≡◌, ℕ, zero, suc, ◌+◌, ◌*◌, ◌≤◌, ◌<◌, Option, List, length}
 use Rattle.free_blocks.specs.Numbers.{number_at, lesser}
 

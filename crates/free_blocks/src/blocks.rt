@@ -6,8 +6,8 @@ use crate::tree::{self, Shape};
 use std::alloc::{AllocError, Global};
 use std::marker::Model;
 
-/// For each block a number since when it is free, or none. It has a fixed size and never allocates after `new`.
-/// Contracts see a list of the numbers by block.
+/// For each block a number since when it is free, or none. It has a fixed size and never allocates after
+/// `new`. Contracts see a list of the numbers by block.
 #[derive(Drop)]
 pub struct FreeBlocks {
     // The winner tree.
@@ -40,8 +40,8 @@ impl FreeBlocks {
         Ok(FreeBlocks { tree, shape })
     }
 
-    /// Says since when a block is free, or, with none, that it isn't: in at most 17 writes, and in one look where none is to
-    /// be and none is.
+    /// Says since when a block is free, or, with none, that it isn't: in at most 17 writes, and in one look
+    /// where none is to be and none is.
     pub fn set(&mut self, block: u32, number: Option<u64>)
         requires place { block < length self.old }
         ensures { self.new ≡ slice_set self.old block number }
@@ -59,7 +59,8 @@ impl FreeBlocks {
         tree::number_at(&self.tree, self.shape.size as usize + block as usize)
     }
 
-    /// The lowest block whose number is at most this, in at most 17 looks. Where `most` is none, each number is.
+    /// The lowest block whose number is at most this, in at most 17 looks. Where `most` is none, each number
+    /// is.
     pub fn lowest(&self, most: Option<u64>) -> Option<u32>
         ensures found { IfSome result (IsLowest most self.now) }
         ensures none { IfNone result (AreBeyond most self.now) }
