@@ -1,5 +1,5 @@
--- What bytes are read as, field by field, where each field is tested as little as it can be: with it, two pages of the same
--- bytes are one.
+-- What bytes are read as, field by field, where each field is tested as little as it can be: with it, two
+-- pages of the same bytes are one.
 use Rattle.std.specs.Prelude.{ℕ, zero, suc, ◌%◌, ◌==◌, if◌then◌else◌, nat_lt, Option, Some, None, List, [], ◌∷◌, take, drop, slice_index}
 use Rattle.page_codec.proofs.Imports.{little_number, Entry, Bound, Layout, One, Two, PageState, Live, HalfDead, Deleted, Downlink, Items, Meta, Entries, Downlinks, Page}
 
@@ -9,7 +9,8 @@ abbrev pub ◌>>=◌ : {A B : Type 0} → Option A → (A → Option B) → Opti
 None >>= f = None
 (Some x) >>= f = f x
 
--- no bound, where the offset and the length of the key are 0; the place before all rows of a key, where the offset alone is
+-- no bound, where the offset and the length of the key are 0; the place before all rows of a key, where the
+-- offset alone is
 abbrev pub slot_from : ℕ → ℕ → ℕ → List ℕ → Option (Option Bound)
 slot_from len block offset key =
     if nat_lt 64 len then None

@@ -20,8 +20,8 @@ use Rattle.page_codec.specs.declared.page.Page.{Page}
 abbrev pub IsBlock : ℕ → Type 0
 IsBlock n = (0 < n) × (n < 65536)
 
--- what may stand after the key of a bound in this layout: a valid row; in layout 2 also none, after a key that isn't
--- empty, for the place before all its rows
+-- what may stand after the key of a bound in this layout: a valid row; in layout 2 also none, after a key
+-- that isn't empty, for the place before all its rows
 abbrev pub IsRowIn : Layout → List ℕ → Option Row → Type 0
 IsRowIn One key None = ⊥
 IsRowIn Two key None = 0 < length key
@@ -67,7 +67,8 @@ abbrev pub EntryInPlace : Option Bound → Entry → List Entry → Type 0
 EntryInPlace high e [] = IsUpTo high e
 EntryInPlace high e (x ∷ xs) = EntryBefore e x
 
--- the downlink's bound is less than that of the first of those after it, or, where it is the last, than the high key
+-- the downlink's bound is less than that of the first of those after it, or, where it is the last, than the
+-- high key
 abbrev pub LinkInPlace : Option Bound → Downlink → List Downlink → Type 0
 LinkInPlace high d [] = Below high d
 LinkInPlace high d (x ∷ xs) = LinkBefore d x

@@ -96,7 +96,8 @@ fn is_below(high: &Option<Bound>, link: &Downlink) -> bool
     }
 }
 
-// Whether its bound is less than that of the first of those after it, or, where it is the last, than the high key.
+// Whether its bound is less than that of the first of those after it, or, where it is the last, than the high
+// key.
 fn is_link_in_place(link: &Downlink, tail: &[Downlink], high: &Option<Bound>) -> bool
     ensures { IsTrue result ↔ LinkInPlace high.now link.now tail.now }
 {
