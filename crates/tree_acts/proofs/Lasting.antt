@@ -245,7 +245,8 @@ lasts st changed h may one_a_key live Ok one ok running root' top' taller meta g
       is = rw (meta.level_is) ((goes least good).tree);
     }
 
--- ... also where a page of a chain is deleted, later than each running call began; lows are as they are whichever numbers count
+-- ... also where a page of a chain is deleted, later than each running call began; lows are as they are
+-- whichever numbers count
 pub lasts_without : (st : State) (changed : List Page) (h : HasTree st) → AreActable st.limits (length st.pages) changed
     → (st.limits.unique ≡ true → AreUnique changed) → CountUpTo st.begun changed → KeptDeletedLeadOn (after_act changed st)
     → (late : ℕ) → ((start : ℕ) → IsStart st.running start → start < late)
