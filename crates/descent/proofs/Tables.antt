@@ -42,7 +42,8 @@ any_excluded (l ∷ latches) block asked h =
 true_false : true ≡ false → ⊥
 true_false h = cc
 
--- no two sessions hold what excludes each other, where only one session's holding is another, and that keeps apart from the others'
+-- no two sessions hold what excludes each other, where only one session's holding is another, and that keeps
+-- apart from the others'
 pub apart_with : (table : Table) (session : ℕ) (holding : Holding) → session < length table → AreApart table
     → ((other block : ℕ) → other ≢ session → latches_exclude holding.latches block Shared ≡ true → latches_exclude (holding_of table other).latches block Exclusive ≡ false)
     → ((other block : ℕ) → other ≢ session → HoldsAlone table other block → latches_exclude holding.latches block Exclusive ≡ false)

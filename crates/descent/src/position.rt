@@ -109,9 +109,10 @@ fn go_down(page: &Page, position: &Position, aim: &SearchKey) -> Option<Position
     }
 }
 
-/// Where the page of this way leads a call on its way to the level `to`: right, where it is not live or what is looked for
-/// lies beyond its high key; else down, to a page that is one level lower; or it is the page sought. None where the page is
-/// on another level than it is to be, where a link or a child is missing, or where `most` moves right were made.
+/// Where the page of this way leads a call on its way to the level `to`: right, where it is not live or what
+/// is looked for lies beyond its high key; else down, to a page that is one level lower; or it is the page
+/// sought. None where the page is on another level than it is to be, where a link or a child is missing, or
+/// where `most` moves right were made.
 pub fn lead(
     page: &Page,
     position: &Position,
