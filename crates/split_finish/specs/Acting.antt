@@ -81,7 +81,8 @@ pub record MeetsParent (st : State) (honest : Bool) (op : FinishOp) (page parent
   pub read_parent : IsReadToChange st honest op.session position.block parent
   pub ready : IsReadyToLink page parent op op
 
--- the first two of three pages are the parent, block `above`, and the page of the other block, as they were read
+-- the first two of three pages are the parent, block `above`, and the page of the other block, as they were
+-- read
 pub record AreRead (st : State) (honest : Bool) (session block above : ℕ) (pages : List Page)
     : Type 0 where
   pub parent : Page

@@ -33,8 +33,8 @@ pub fn half_to_finish(left: &Page) -> Option<Target>
     }
 }
 
-// Acts on the halves of the parent, the page to the right of them, whose left link is mended, and the page whose split is
-// finished.
+// Acts on the halves of the parent, the page to the right of them, whose left link is mended, and the page
+// whose split is finished.
 fn act_on_halves<S: PageStore>(
     store: &mut S,
     left: Page,

@@ -17,8 +17,8 @@ use page_codec::{Items, Page, PageState};
 use std::cmp::Ordering;
 use tree_shape::SearchKey;
 
-// Whether a downlink for the separator may be put on the page: it is live, without an incomplete split, one level above this one,
-// and the separator lies within its high key.
+// Whether a downlink for the separator may be put on the page: it is live, without an incomplete split, one
+// level above this one, and the separator lies within its high key.
 fn is_ready(page: &Page, below: u8, separator: Bound) -> bool
     ensures { result ≡ is_ready (node_of page.now) (suc below) separator }
 {
