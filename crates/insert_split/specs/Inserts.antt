@@ -39,7 +39,8 @@ leaf_held block = record {
   pins = block ∷ [];
 }
 
--- the block is the live leaf that covers the entry, without an incomplete split nor right after one with an incomplete split
+-- the block is the live leaf that covers the entry, without an incomplete split nor right after one with an
+-- incomplete split
 pub record IsLeafFor (st : State) (start : ℕ) (e : Entry) (block : ℕ) : Type 0 where
   pub page : Page
   pub found : slice_get st.pages block ≡ Some page
@@ -49,7 +50,8 @@ pub record IsLeafFor (st : State) (start : ℕ) (e : Entry) (block : ℕ) : Type
   pub place : LeadsTo st start 0 (entry_aim e) true block
   pub within : is_within (entry_aim e) page.high ≡ true
 
--- what it holds, and where it stands: before its first step, on its way to its leaf, with its leaf, or with splits to finish
+-- what it holds, and where it stands: before its first step, on its way to its leaf, with its leaf, or with
+-- splits to finish
 abbrev pub InsertStands : State → ℕ → ℕ → Entry → InsertAt → Type 0
 InsertStands st session start e (Coming Start) = holding_of st.table session ≡ nothing_held
 InsertStands st session start e (Coming (At position)) =
@@ -88,7 +90,8 @@ abbrev pub is_full_page : ℕ → Option Page → Bool
 is_full_page items None = false
 is_full_page items (Some page) = nat_le items (length (entries_of page.items))
 
--- the blocks that are written beside a leaf with this right sibling that is split: its right half, and the sibling
+-- the blocks that are written beside a leaf with this right sibling that is split: its right half, and the
+-- sibling
 abbrev pub blocks_halved : State → Option ℕ → List ℕ
 blocks_halved st right = fresh_block st ∷ sibling right
 
@@ -134,8 +137,8 @@ causes_of_inserting st old new session e at =
       key_was_there = other_row_is_there st e;
     }
 
--- ... and why it leaves splits unfinished, once its entry is logged: never that its entry or its key was there, nor that another session
--- holds a page
+-- ... and why it leaves splits unfinished, once its entry is logged: never that its entry or its key was
+-- there, nor that another session holds a page
 abbrev pub causes_of_left : State → Backing → Backing → ℕ → Entry → InsertAt → Circumstances
 causes_of_left st old new session e at = record (causes_of_inserting st old new session e at) {
   is_held_by_another = λ b. false;
@@ -143,8 +146,8 @@ causes_of_left st old new session e at = record (causes_of_inserting st old new 
   key_was_there = λ r. false;
 }
 
--- what may be so where a step of an insert of this entry is refused, whatever the pages are: its key only on a unique index, and there only
--- with another row
+-- what may be so where a step of an insert of this entry is refused, whatever the pages are: its key only on
+-- a unique index, and there only with another row
 abbrev pub causes_of_inserting_any : Bool → Entry → Circumstances
 causes_of_inserting_any unique e = record causes_of_splitting_any {
   entry_was_there = true;
@@ -179,8 +182,8 @@ pub record InsertContinues (old new : State) (before after : InsertOp) : Type 0 
   pub flags : OnlyTargetsAreIncomplete old (targets_at before.at)
       → OnlyTargetsAreIncomplete new (targets_at after.at)
 
--- what the end of an insert leaves unfinished: nothing, and then no page has an incomplete split if only those were that it was to finish;
--- or a fault, which has its cause
+-- what the end of an insert leaves unfinished: nothing, and then no page has an incomplete split if only
+-- those were that it was to finish; or a fault, which has its cause
 abbrev pub IsLeft : State → Backing → State → Backing → InsertOp → Option Effect → Option Fault
     → Type 0
 IsLeft old old_backing new new_backing before effect None =
@@ -217,9 +220,9 @@ abbrev pub AnswersStopped : Option ℕ → Result InsertStep Fault → Type 0
 AnswersStopped None result = result ≡ Err Stopped
 AnswersStopped (Some action) result = result ≡ Ok (Added action (Some Stopped))
 
--- A step of an insert. On any pages: it does one act at most, a refused one changes nothing, and a stopped log refuses it.
--- On any pages, over a device that keeps its model: one that goes on without an act leaves less to do. On pages in order:
--- what it does, and why it is refused.
+-- A step of an insert. On any pages: it does one act at most, a refused one changes nothing, and a stopped
+-- log refuses it. On any pages, over a device that keeps its model: one that goes on without an act leaves
+-- less to do. On pages in order: what it does, and why it is refused.
 pub record InsertSteps {S : Type 0} (g : Ghosts S) (before after : InsertOp) (old new : S)
     (result : Result InsertStep Fault) : Type 0 where
   pub steps : Continues g.follows old new
