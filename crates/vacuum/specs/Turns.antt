@@ -15,7 +15,8 @@ pub record LeadsBack (cycle from : ℕ) (page : Page) (block : ℕ) : Type 0 whe
   pub right_is : page.right ≡ Some block
   pub below : block < from
 
--- after a leaf the bulk delete goes back to the sibling to which it leads, by one move more; or it leads to none
+-- after a leaf the bulk delete goes back to the sibling to which it leads, by one move more; or it leads to
+-- none
 abbrev pub TurnsTo : ℕ → ℕ → ℕ → ℕ → Page → Option Backtrack → Type 0
 TurnsTo cycle most from moves page None = (block : ℕ) → LeadsBack cycle from page block → ⊥
 TurnsTo cycle most from moves page (Some backtrack) = LeadsBack cycle from page backtrack.block

@@ -69,13 +69,14 @@ impl BulkDeleteOp {
         }
     }
 
-    /// Makes one step, which reads one page; the dead entries of a live leaf go in one act. After `Finished` and after each
-    /// fault but `Blocked` the call is over, and its store's `end` is due. The store's cycle number is to be that of this
-    /// call from its beginning to its end.
+    /// Makes one step, which reads one page; the dead entries of a live leaf go in one act. After `Finished`
+    /// and after each fault but `Blocked` the call is over, and its store's `end` is due. The store's cycle
+    /// number is to be that of this call from its beginning to its end.
     ///
-    /// Refused with `Blocked` (4) where another session holds any latch or pin of the leaf, and the same step may be made
-    /// again; with `Io` (2), `Stopped` (3), `LogFull` (9), `NoFrame` (10); with `PageDamaged` (17) on pages that are no tree:
-    /// where it would go back more often than there may be pages. A refused step changes nothing.
+    /// Refused with `Blocked` (4) where another session holds any latch or pin of the leaf, and the same step
+    /// may be made again; with `Io` (2), `Stopped` (3), `LogFull` (9), `NoFrame` (10); with `PageDamaged`
+    /// (17) on pages that are no tree: where it would go back more often than there may be pages. A refused
+    /// step changes nothing.
     pub fn step<S: PageStore, T: DeadRows>(
         &mut self,
         store: &mut S,
@@ -141,8 +142,8 @@ impl BulkDeleteOp {
         Ok(BulkDeleteStep::Going)
     }
 
-    // Where it goes back after a leaf, if it does: to the right sibling, below the last leaf read in block order, of one
-    // that carries the cycle number.
+    // Where it goes back after a leaf, if it does: to the right sibling, below the last leaf read in block
+    // order, of one that carries the cycle number.
     fn turn(&self, page: &Page, cycle: u32, most: u32) -> Result<Option<Backtrack>, Fault>
         ensures turns { IfOk result (TurnsTo cycle most (last_read self.now.cursor self.now.backtrack)
             (moves_of self.now.backtrack) page.now) }
@@ -169,7 +170,8 @@ impl BulkDeleteOp {
         }
     }
 
-    // Latches a leaf for cleanup, and writes it, if it is changed. The latch is let go again: the step is one moment.
+    // Latches a leaf for cleanup, and writes it, if it is changed. The latch is let go again: the step is one
+    // moment.
     fn take<S: PageStore>(&self, store: &mut S, page: &Page, changed: bool) -> Result<(), Fault>
         requires may { AreActable (S.state store.old).limits (length (S.state store.old).pages)
             (page.now ∷ []) }
