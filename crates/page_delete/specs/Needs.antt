@@ -9,7 +9,8 @@ use Rattle.tree_acts.specs.StepEffects.{sibling, frames_for, causes_of_working}
 use Rattle.page_delete.specs.declared.steps.CleanupAt.{CleanupAt}
 use Rattle.page_delete.specs.declared.steps.CleanupAt.TheVariants.{Look, Start, Down, Judge, Unlink}
 
--- the blocks that are written where a half-dead page of this block is unlinked from these siblings: its own and theirs
+-- the blocks that are written where a half-dead page of this block is unlinked from these siblings: its own
+-- and theirs
 abbrev pub blocks_unlinked : PageState → ℕ → Option ℕ → Option ℕ → List ℕ
 blocks_unlinked Live block left right = []
 blocks_unlinked HalfDead block left right = sibling left ++ block ∷ sibling right

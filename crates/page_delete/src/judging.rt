@@ -51,8 +51,8 @@ fn candidate<S: PageStore>(
     }
 }
 
-// Whether the page to the left of a leaf, if there is one, has no incomplete split. Refused with `PageDamaged` for one that does
-// not link to the leaf.
+// Whether the page to the left of a leaf, if there is one, has no incomplete split. Refused with
+// `PageDamaged` for one that does not link to the leaf.
 fn left_is_whole<S: PageStore>(store: &mut S, session: Session, leaf: &Page) -> Result<bool, Fault>
     ensures steps { Continues S.follows store.old store.new }
     ensures state { S.state store.new ≡ S.state store.old }
@@ -86,7 +86,8 @@ fn is_live(state: PageState) -> bool
     matches!(state, PageState::Live)
 }
 
-// Whether the page to the right of a leaf is live. Refused with `PageDamaged` for one that does not link to the leaf.
+// Whether the page to the right of a leaf is live. Refused with `PageDamaged` for one that does not link to
+// the leaf.
 fn right_is_live<S: PageStore>(
     store: &mut S,
     session: Session,

@@ -26,8 +26,8 @@ fn right_of_dead(page: &Page) -> Option<u32>
     if is_half_dead(page) { page.right } else { None }
 }
 
-// Reads the page to the left of one that is unlinked, if there is one, to change it. Refused with `PageDamaged` for one that
-// does not link to it.
+// Reads the page to the left of one that is unlinked, if there is one, to change it. Refused with
+// `PageDamaged` for one that does not link to it.
 fn take_left<S: PageStore>(
     store: &mut S,
     session: Session,
