@@ -1,4 +1,5 @@
--- Whether an entry or a bound of a page of the format isn't beyond its low: the first entry and the second bound tell.
+-- Whether an entry or a bound of a page of the format isn't beyond its low: the first entry and the second
+-- bound tell.
 use Rattle.std.proofs.Common.{◌≡◌, ◌≢◌, ◌⊎◌, ℕ, ◌<◌, inl, inr, Bool, true, false, Option, Some, None, List, [], ◌∷◌, length, slice_get, refl, sym, ap, subst, ◌∙◌, arith}
 use Rattle.index_model.specs.Order.{bound_of}
 use Rattle.index_model.specs.declared.entry.Entry.{Entry}

@@ -56,7 +56,8 @@ module _ (keys : Bool) (pages : List Page) (depth number block : ℕ) (deep : de
   abbrev ix : Index
   ix = index_of pages
 
-  -- what comes before a damage of the way is one of an earlier step, or of a lesser number, or of a level above
+  -- what comes before a damage of the way is one of an earlier step, or of a lesser number, or of a level
+  -- above
   way_first : (f : IsFirstOfPath ix depth number block) (other : Site ix) (n : ℕ) → IsDamage false keys other n → ComesBefore (rank other n) (0 ∷ depth ∷ 0 ∷ f.step ∷ number ∷ []) → ⊥
   way_first f (on_way d s e) n damage (inl lt) = omega (arith, lt)
   way_first f (on_way d s e) n damage (inr (same, inl lt)) = (above d lt).way s n damage

@@ -30,7 +30,8 @@ size : (ix : Index) (depth n : ℕ) → length (blocks ix depth n) ≡ n
 size ix depth zero = refl
 size ix depth (suc n) = (let r = size ix depth n in omega (arith, r))
 
--- how far the way was gone: nothing is damaged so far, it goes on, and its pages are marked beside those that were before
+-- how far the way was gone: nothing is damaged so far, it goes on, and its pages are marked beside those that
+-- were before
 pub record IsKeptFromReuse (pages : List Page) (depth : ℕ) (before seen : List Bool) (block step : ℕ) : Type 0 where
   pub block_is : block ≡ left_after_steps (index_of pages) depth step
   pub size : length seen ≡ length pages

@@ -1,5 +1,5 @@
--- What is judged of the downlinks of a page of a chain, where all chains are right. The first of them has the page's low for
--- its bound.
+-- What is judged of the downlinks of a page of a chain, where all chains are right. The first of them has the
+-- page's low for its bound.
 use Rattle.std.specs.Prelude.{◌≡◌, ◌≢◌, ◌⊎◌, ℕ, suc, ◌<◌, Bool, true, false, Some, List, slice_get, get_or}
 use Rattle.page_codec.specs.declared.page.Downlink.{Downlink}
 use Rattle.page_codec.specs.declared.page.PageState.TheVariants.{HalfDead}
@@ -75,7 +75,8 @@ pub record DownlinksAreNoted (links : List Downlink) (count : ℕ) (before after
   pub kept : (b : ℕ) → get_or before b false ≡ true → get_or after b false ≡ true
   pub new : (b : ℕ) → LeadsBefore links count b → get_or after b false ≡ true
 
--- Number by number, what is wrong with a page among its parents and children, all of which are on the level below.
+-- Number by number, what is wrong with a page among its parents and children, all of which are on the level
+-- below.
 pub record IsWrongAmong (at : ℕ → Node) (stops : List Stop) (linked : List Bool) (links : List Downlink) (top : ℕ)
     (node : Node) (stop : Stop) (number : ℕ) : Type 0 where
   pub is : ((number ≡ 7) × HasWrongBound at stops links)

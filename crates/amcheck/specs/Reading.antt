@@ -31,7 +31,8 @@ abbrev pub blocks_below : ℕ → List ℕ
 blocks_below zero = []
 blocks_below (suc n) = blocks_below n ++ n ∷ []
 
--- each page in use was brought into memory once, in the order of blocks, at what a frame costs; nothing else was written or forced
+-- each page in use was brought into memory once, in the order of blocks, at what a frame costs; nothing else
+-- was written or forced
 abbrev pub AreFetched : State → Memory → Memory → Backing → Backing → Type 0
 AreFetched st m m' old new = TakesFrames st.frames (pinned_blocks st.table) (blocks_below (length st.pages)) m m' old new
 
@@ -39,7 +40,8 @@ AreFetched st m m' old new = TakesFrames st.frames (pinned_blocks st.table) (blo
 abbrev pub without_first : List ℕ → ℕ → List ℕ → List ℕ
 without_first pinned count blocks = filter (is_block_among pinned) (take count blocks) ++ drop count blocks
 
--- of the blocks that wait some first ones don't any more, except for pinned ones; the others wait in their order
+-- of the blocks that wait some first ones don't any more, except for pinned ones; the others wait in their
+-- order
 pub record IsRestBut (pinned rest blocks : List ℕ) : Type 0 where
   pub count : ℕ
   pub is : rest ≡ without_first pinned count blocks

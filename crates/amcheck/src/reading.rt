@@ -65,8 +65,8 @@ impl Room {
     }
 }
 
-/// Reads each page in use once, and keeps what is judged of it; `progress` is told of each. Refused as [`PageStore::fetch`]: it
-/// takes no memory.
+/// Reads each page in use once, and keeps what is judged of it; `progress` is told of each. Refused as
+/// [`PageStore::fetch`]: it takes no memory.
 pub(crate) fn read_pages<S: PageStore, P: Progress>(
     store: &mut S,
     room: PageRoom,
