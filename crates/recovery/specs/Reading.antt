@@ -36,7 +36,8 @@ pub record AreInUse (limits : Format) (pages : List Page) (file : List ℕ) : Ty
   pub stand : StandFirst limits pages file
   pub end : IsEnd limits (length pages) file
 
--- in front of the block pages stand, and at its place no page that may be stored there; nor zeros, except for block 0
+-- in front of the block pages stand, and at its place no page that may be stored there; nor zeros, except for
+-- block 0
 pub record IsDamagedAt (limits : Format) (block : ℕ) (file : List ℕ) : Type 0 where
   pub before : List Page
   pub stored : AreStored limits 0 before
@@ -57,8 +58,8 @@ abbrev pub greatest_cycle : List Page → ℕ
 greatest_cycle [] = 0
 greatest_cycle (page ∷ pages) = max page.cycle (greatest_cycle pages)
 
--- what was read: pages that may be stored, no deletion number that counts, and the greatest cycle number; the pages
--- stand on the device, if it is honest
+-- what was read: pages that may be stored, no deletion number that counts, and the greatest cycle number; the
+-- pages stand on the device, if it is honest
 pub record HasReadPages (limits : Format) (honest : Bool) (file : List ℕ) (found : Found)
     : Type 0 where
   pub limits_are : limits_of_room found.room ≡ limits
