@@ -1,4 +1,5 @@
--- What a step of a session's call promises whatever the pages are, and what is followed of the call, step by step.
+-- What a step of a session's call promises whatever the pages are, and what is followed of the call, step by
+-- step.
 use Rattle.std.specs.Prelude.{◌≡◌, ℕ, suc, Bool, true, false, Option, None, List}
 use Rattle.index_model.specs.Actions.{Action}
 use Rattle.index_model.specs.Calls.{Call}
@@ -16,11 +17,13 @@ use Rattle.session_calls.specs.declared.op.Op.{Op}
 pub record StepAnswerMeans (is_stopped : Bool) (old new : State) (before after : Option Op) (answer : Answer) : Type 0 where
   -- which faults it may tell of
   pub faults : IsCaused (causes_of_slot_stepped_any old.limits.unique before) answer
-  -- once the entry of an insert is logged only a page that is blocked refuses it, and it ends with the number of that action
+  -- once the entry of an insert is logged only a page that is blocked refuses it, and it ends with the number
+  -- of that action
   pub logged : AnswersLogged (slot_add before) answer
   -- a fault that leaves a split unfinished leaves all as it was, but that the call is over
   pub unfinished : IncompleteChangesNothing old new before answer
-  -- a bulk delete or a cleanup that has finished tells what it has counted, and how many pages are in use, deleted and free
+  -- a bulk delete or a cleanup that has finished tells what it has counted, and how many pages are in use,
+  -- deleted and free
   pub stats : CountsStats old before answer
   -- while a scan has entries ready it tells how many, and changes nothing
   pub waits : WaitsToGive is_stopped old new before after answer
@@ -61,7 +64,8 @@ pub record IsFitted (st : State) (sets : DeadSets) (slot : Option Op) : Type 0 w
 pub record FittedStepFollows (old new : State) (before after : Option Op) (answer : Answer) : Type 0 where
   -- a call that was due comes to what is awaited at its last step, and each step before leaves one fewer
   pub due : (left : ℕ) → IsDueIn old before (suc left) → DueCountsDown old new before after left answer
-  -- where only pages had incomplete splits that its insert is to finish, only such are; and none after its end, unless it tells of a fault
+  -- where only pages had incomplete splits that its insert is to finish, only such are; and none after its
+  -- end, unless it tells of a fault
   pub incomplete : OnlyOwnAreIncomplete old before → LeavesOwnIncomplete new before after answer
   -- a scan that has read a leaf stands on it, and on none where it goes on to another page
   pub stands : StandsByAnswer new before after answer
@@ -72,8 +76,8 @@ pub record FittedStepFollows (old new : State) (before after : Option Op) (answe
 pub record EachStepFollows (sets : DeadSets) (old new : State) (before after : Option Op) (answer : Answer) : Type 0 where
   -- a bulk delete doesn't come past a leaf that another session has pinned, nor to its end
   pub waits : KeepsBeforePins old before after answer
-  -- where nobody else acts, what a bulk delete or a cleanup has counted are the entries that it has left; at its end it tells how many
-  -- there are, and a cleanup leaves no half-dead page
+  -- where nobody else acts, what a bulk delete or a cleanup has counted are the entries that it has left; at
+  -- its end it tells how many there are, and a cleanup leaves no half-dead page
   pub entries : CountsEntries sets old new before after answer
   -- a cleanup counts the pages that it deletes, and tells how many they were
   pub deletes : CountsPages old new before after answer

@@ -29,12 +29,12 @@ pub(crate) fn no_call_begins<S: PageStore>(store: &S) -> bool
     store.is_stopped() || store.begun() == u64::MAX
 }
 
-/// Begins a call of a session. `excluded` tells that it is a bulk delete or a cleanup, and a session runs one. Refused with
-/// `Stopped` (3) where no call begins; with `SessionBusy` (13) where the session has a call; with `VacuumRunning` (11) where it
-/// is excluded: nothing is changed then.
+/// Begins a call of a session. `excluded` tells that it is a bulk delete or a cleanup, and a session runs
+/// one. Refused with `Stopped` (3) where no call begins; with `SessionBusy` (13) where the session has a
+/// call; with `VacuumRunning` (11) where it is excluded: nothing is changed then.
 ///
-/// On its own, into a leaf with room, an insert takes three steps more than the root's level; the first entries of a scan
-/// are ready after two more.
+/// On its own, into a leaf with room, an insert takes three steps more than the root's level; the first
+/// entries of a scan are ready after two more.
 pub(crate) fn begin<S: PageStore>(
     store: &mut S,
     session: Session,

@@ -94,8 +94,8 @@ impl Op {
         }
     }
 
-    // One step. After an answer that is its last, what the session holds is still held. What the draft and the pages hold has no
-    // meaning.
+    // One step. After an answer that is its last, what the session holds is still held. What the draft and
+    // the pages hold has no meaning.
     pub(crate) fn step<S: PageStore, T: DeadRows>(
         &mut self,
         store: &mut S,

@@ -7,8 +7,8 @@ use std::marker::Model;
 
 /// What a session runs, if anything: contracts see an `Option`.
 ///
-/// A call that is over stays where it was, and counts no longer: so an insert begins in the room of the last one, and neither
-/// its beginning nor its end fills the room of the largest kind of call.
+/// A call that is over stays where it was, and counts no longer: so an insert begins in the room of the last
+/// one, and neither its beginning nor its end fills the room of the largest kind of call.
 #[derive(Drop)]
 pub struct Slot {
     pub(crate) is_running: bool,
