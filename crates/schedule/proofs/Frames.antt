@@ -1,4 +1,5 @@
--- What an event of one session leaves the others: the frame of a running call's event, of a beginning and of a refusal.
+-- What an event of one session leaves the others: the frame of a running call's event, of a beginning and of
+-- a refusal.
 use Rattle.std.proofs.Common.{◌≡◌, ◌≢◌, ℕ, suc, ◌-◌, ◌<◌, ◌≤◌, Bool, true, false, refl, Option, Some, None, List, ◌++◌, length, slice_get, slice_set, sym, ap, subst, arith, inl, inr, ◌∙◌, length-append}
 use Rattle.index_model.specs.Calls.{Ask, AskInsert, AskScan, AskBulkDelete, AskCleanup, Ending, Running, Added, Finished, Vacuumed, GivenUp, Failed, Call, Meets, MayAct, IsOwned, end_of}
 use Rattle.schedule.proofs.Imports.{unwrap_or, cases_eq, cases_lt, Effect, Add, Remove, Shape, Action, contents_after, is_there_after, Entry, Format, there_before, meets_later, Ghosts, OthersRely}

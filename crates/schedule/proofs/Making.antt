@@ -349,7 +349,8 @@ all_true true true one other = refl
 all_true true false one other = other
 all_true false b one other = one
 
--- where calls begin, and the session has none, a beginning is refused only while a vacuum runs that excludes it
+-- where calls begin, and the session has none, a beginning is refused only while a vacuum runs that excludes
+-- it
 only_excluded : (st : State) (backing : Backing) → no_call_begins st backing ≡ false → (excluded : Bool) (fault : Fault) → HasCause (causes_of_requesting excluded st backing false) fault
     → fault ≡ VacuumRunning
 only_excluded st backing alive excluded VacuumRunning h = refl

@@ -162,7 +162,8 @@ no_session s Fails stopped session fault h =
     one_of_few false s false true false Fails
     (record { device = λ k. absurd (false≢true k); stopped = stopped; vacuum = λ k. absurd (false≢true k); session = λ k. session; busy = λ k. absurd (false≢true k) }) fault h
 
--- what an insert leaves unfinished is never because its entry or its key was there, nor because another session stands in the way
+-- what an insert leaves unfinished is never because its entry or its key was there, nor because another
+-- session stands in the way
 not_there : (at : Circumstances) (fault : Fault) → HasCause (once_added at) fault → HasCause at fault × (fault ≢ Exists) × ((row : Row) → fault ≢ KeyExists row) × ((block : ℕ) → fault ≢ Blocked block)
 not_there at NoMemory h = (h, (λ e. cc), (λ r e. cc), λ b e. cc)
 not_there at Io h = (h, (λ e. cc), (λ r e. cc), λ b e. cc)

@@ -12,7 +12,8 @@ use Rattle.session_calls.specs.Slots.{slot_of}
 use Rattle.schedule.specs.TheoremMoments.{Moment, IsRunningCall}
 use Rattle.schedule.specs.TheoremRuns.{Fits}
 
--- a match that a scan over these moments may give after what it gave: it was there at one of them, and lies beyond all that was given
+-- a match that a scan over these moments may give after what it gave: it was there at one of them, and lies
+-- beyond all that was given
 pub record MayComeNext (start : Entry → Bool) (history : List Action) (range : Range) (began until : ℕ) (given : List Entry) : Type 0 where
   pub entry : Entry
   pub matched : matches range entry ≡ true

@@ -18,7 +18,8 @@ use Rattle.schedule.specs.TheoremMoments.{Moment, RunsOne, IsRunningCall, Explai
 use Rattle.schedule.specs.TheoremKinds.{Move, Forces, Flushes, Checkpoints, Kind, BeginsCall, MovesCall, MaintainsStore}
 use Rattle.schedule.specs.TheoremRefusals.{MoveFails, EventFails}
 
--- neither the pages, holdings and counts of the store are changed, nor what the sessions run, nor what tells of it
+-- neither the pages, holdings and counts of the store are changed, nor what the sessions run, nor what tells
+-- of it
 pub record IsSameState {S : Type 0} (g : Ghosts S) (old new : Moment S) : Type 0 where
   pub state_is : g.state new.store ≡ g.state old.store
   pub slots_is : new.slots ≡ old.slots
@@ -31,7 +32,8 @@ pub record CallIsBegun {S : Type 0} (session : ℕ) (request : Request) (old new
   pub history_is : new.history ≡ old.history
   pub calls_is : new.calls ≡ old.calls ++ begun_call session (asked_by old.sets request) (length old.history) ∷ []
 
--- one split is finished: one page no longer has an incomplete split, and one page at most is now that wasn't, one level higher
+-- one split is finished: one page no longer has an incomplete split, and one page at most is now that wasn't,
+-- one level higher
 pub record ClearsOneSplit (old new : ℕ → Node) : Type 0 where
   pub cleared : ℕ
   pub was : (old cleared).split ≡ true
@@ -52,15 +54,15 @@ ShapeMoves (AskInsert e) (Some Shape) old new = ClearsOneSplit old new
 ShapeMoves AskCleanup (Some Shape) old new = DeletesOneLeaf old new
 ShapeMoves ask effect old new = Unit {0}
 
--- a refusal has this cause, and so has the fault of a split that an insert leaves unfinished, which is neither that its entry or its key was
--- there nor that another session stands in the way
+-- a refusal has this cause, and so has the fault of a split that an insert leaves unfinished, which is
+-- neither that its entry or its key was there nor that another session stands in the way
 abbrev pub IsRefusedFor : (Fault → Type 0) → Answer → Type 0
 IsRefusedFor Fails (Refused fault) = Fails fault
 IsRefusedFor Fails (Added action (Some fault)) = Fails fault × (fault ≢ Exists) × ((row : Row) → fault ≢ KeyExists row) × ((block : ℕ) → fault ≢ Blocked block)
 IsRefusedFor Fails answer = Unit {0}
 
--- The session's running call goes on: one action at most is appended, which is its own, and the call is what the answer makes of it,
--- with the number of its Add, if it has one then. A refusal has its cause.
+-- The session's running call goes on: one action at most is appended, which is its own, and the call is what
+-- the answer makes of it, with the number of its Add, if it has one then. A refusal has its cause.
 pub record CallContinues {S : Type 0} (g : Ghosts S) (session : ℕ) (move : Move) (answer : Answer) (old new : Moment S) : Type 0 where
   pub op : Op
   pub runs : slice_get old.slots session ≡ Some (Some op)
@@ -81,8 +83,8 @@ pub record AllAreDurable {S : Type 0} (g : Ghosts S) (count : ℕ) (old new : Mo
   pub count_is : count ≡ length old.history
   pub durable : (g.backing new.store).durable ≡ count
 
--- What an event means by its answer. A session that runs nothing has no call to move: that is refused, and nothing is changed. A flush
--- tells which of the changed pages it wrote, the one that waited longest.
+-- What an event means by its answer. A session that runs nothing has no call to move: that is refused, and
+-- nothing is changed. A flush tells which of the changed pages it wrote, the one that waited longest.
 abbrev pub Means : {S : Type 0} → Ghosts S → Kind → Answer → Moment S → Moment S → Type 0
 Means g (BeginsCall session request) Begun old new = CallIsBegun session request old new
 Means g (BeginsCall session request) (Refused fault) old new = IsSameState g old new × EventFails g (BeginsCall session request) old new.store fault
@@ -103,7 +105,8 @@ IsDurable durable (Forced count) = count ≤ durable
 IsDurable durable (Checkpointed count) = count ≤ durable
 IsDurable durable answer = Unit {0}
 
--- an event of this kind with this answer: what it means, by a history and calls that explain the moment after it
+-- an event of this kind with this answer: what it means, by a history and calls that explain the moment after
+-- it
 pub record EventMeans {S : Type 0} (g : Ghosts S) (start : Entry → Bool) (kind : Kind) (answer : Answer) (old new : Moment S) : Type 0 where
   pub means : Means g kind answer old new
   pub sets : new.sets ≡ old.sets

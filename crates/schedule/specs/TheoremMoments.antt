@@ -1,4 +1,5 @@
--- The theorem's words: one moment of a store with its sessions, and when a history and a list of calls explain it.
+-- The theorem's words: one moment of a store with its sessions, and when a history and a list of calls
+-- explain it.
 use Rattle.std.specs.Prelude.{◌≡◌, ℕ, ◌<◌, Bool, true, Option, Some, List, length, slice_get}
 use Rattle.index_model.specs.Actions.{Action, contents_after, is_there_after, KeysDiffer}
 use Rattle.index_model.specs.Calls.{Running, Call, Meets, ActionsAreOwned}
@@ -16,7 +17,8 @@ pub record StoreAndSlots (S : Type 0) : Type 0 where
   pub slots : List (Option Op)
   pub sets : DeadSets
 
--- one moment: a store with its slots and sets, and the history of actions and the list of calls that tell of it
+-- one moment: a store with its slots and sets, and the history of actions and the list of calls that tell of
+-- it
 pub record Moment (S : Type 0) : Type 0 where
   pub store : S
   pub slots : List (Option Op)
