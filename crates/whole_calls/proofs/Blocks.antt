@@ -1,4 +1,5 @@
--- Which blocks are free: as told of another moment, at which the same pages are in use and the same calls run.
+-- Which blocks are free: as told of another moment, at which the same pages are in use and the same calls
+-- run.
 use Rattle.std.specs.Prelude.{slice_index}
 use Rattle.std.proofs.Common.{◌≡◌, ◌⊎◌, ℕ, zero, suc, Bool, true, false, not, ◌&&◌, ◌||◌, nat_le, Option, Some, None, List, [], ◌∷◌, length, slice_get, slice_set, refl, sym, ap, subst, inl, inr, ◌∙◌, unwrap_or}
 use Rattle.session_calls.proofs.Freeing.{go_running}
@@ -75,7 +76,8 @@ given_up_numbers {S} g start session now new fits is number = of (slice_get now.
         ∙ ap (λ (s : ℕ). slice_set (slice_set (g.state now.store).running s None) session number) (runs.runs.session ∙ runs.is.session_is)
         ∙ set_twice (g.state now.store).running session None number
 
--- the one store's pages and log are the other's, and so are the start numbers of its calls, except for the session's
+-- the one store's pages and log are the other's, and so are the start numbers of its calls, except for the
+-- session's
 pub record LeavesAll {S : Type 0} (g : Ghosts S) (session : ℕ) (old new : S) : Type 0 where
   pub backing : g.backing new ≡ g.backing old
   pub state : LeavesState (g.state old) (g.state new)

@@ -1,4 +1,5 @@
--- One step of a session's call after the making of room for it, and a call that is given up since the room can't be made.
+-- One step of a session's call after the making of room for it, and a call that is given up since the room
+-- can't be made.
 use Rattle.std.proofs.Common.{◌≡◌, ◌⊎◌, ℕ, ◌≤◌, zero, suc, Bool, true, false, not, Option, Some, None, List, [], ◌∷◌, ◌++◌, length, slice_get, slice_set, refl, sym, ap, subst, arith, inl, inr, ◌∙◌, unwrap_or}
 use Rattle.whole_calls.proofs.Composing.{is_later, joined_second, goes_once}
 use Rattle.whole_calls.proofs.Made.{made_alone, made_last, made_once, made_then, made_told}

@@ -1,4 +1,5 @@
--- Why a running call is refused: the causes of its events, told from the moment before the call to the moment after it.
+-- Why a running call is refused: the causes of its events, told from the moment before the call to the moment
+-- after it.
 use Rattle.std.proofs.Common.{◌≡◌, ◌≢◌, ◌⊎◌, ℕ, zero, suc, ◌+◌, ◌<◌, ◌≤◌, Bool, true, false, not, ◌&&◌, ◌||◌, ◌==◌, nat_lt, nat_le, Option, Some, None, List, [], ◌∷◌, ◌++◌, length, slice_get, refl, sym, ap, subst, arith, inl, inr, ◌∙◌, if◌then◌else◌, unwrap_or, is_none}
 use Rattle.latch_table.specs.Holdings.{Holding, Table, nothing_held, holding_of, holding_excludes, is_held_by_another}
 use Rattle.latch_table.specs.declared.mode.Mode.{Mode}
@@ -188,7 +189,8 @@ enough least_room old new images room few full = by_bool (nat_lt least_room 5) (
 nat_less : (a b c : ℕ) → a ≤ b → nat_lt b c ≡ true → nat_lt a c ≡ true
 nat_less a b c le h = (let k = ltb-true b c h in lt-ltb a c (omega (arith, k, le)))
 
--- the fault that an answer tells of: that it is refused for, or that keeps an insert's split from being finished
+-- the fault that an answer tells of: that it is refused for, or that keeps an insert's split from being
+-- finished
 abbrev fault_of : Answer → Option Fault
 fault_of (Refused fault) = Some fault
 fault_of (Added action unfinished) = unfinished

@@ -73,7 +73,8 @@ pub record Becomes {S : Type 0} (number : ℕ) (after : Call) (old new : Moment 
   pub history_is : new.history ≡ old.history
   pub calls_is : new.calls ≡ slice_set old.calls number after
 
--- the call has given one entry more; or it has finished, with all that it gave; or it is over, and no action is appended
+-- the call has given one entry more; or it has finished, with all that it gave; or it is over, and no action
+-- is appended
 abbrev pub GivenMeans : {S : Type 0} → ℕ → Call → Result (Option Entry) Fault → Moment S → Moment S → Type 0
 GivenMeans number call (Ok (Some entry)) old new = Becomes number (given_one call entry) old new
 GivenMeans number call (Ok None) old new = Becomes number (ended call EndsFinished (length old.history)) old new

@@ -20,9 +20,9 @@ abbrev pub IsOutcomeOf : List Answer → Option Answer → Type 0
 IsOutcomeOf answers None = Unit {0}
 IsOutcomeOf answers (Some answer) = IsAmong answers answer
 
--- There is a continuation of the history and of the calls that fits now, by a run of events of this session with these
--- answers. What the call came to is the answer of one of them, so a refusal has the cause of that event; and this is told
--- from the moment before to the moment after.
+-- There is a continuation of the history and of the calls that fits now, by a run of events of this session
+-- with these answers. What the call came to is the answer of one of them, so a refusal has the cause of that
+-- event; and this is told from the moment before to the moment after.
 pub record CallRuns {S : Type 0} (g : Ghosts S) (session : ℕ) (Tells : Moment S → Moment S → Type 0) (came : Option Answer)
     (old new : StoreAndSlots S) (start : Entry → Bool) (history : List Action) (calls : List Call) : Type 0 where
   pub then_history : List Action

@@ -64,13 +64,15 @@ abbrev pub IsOwnEffect : Call → Option Effect → Type 0
 IsOwnEffect call None = Unit {0}
 IsOwnEffect call (Some effect) = MayDo call.ask call.added effect
 
--- the call of this number has done these effects, which it was asked for, and still runs; no other call is changed
+-- the call of this number has done these effects, which it was asked for, and still runs; no other call is
+-- changed
 pub record HasContinued {S : Type 0} (number : ℕ) (call : Call) (effects : List Effect) (old new : Moment S) : Type 0 where
   pub own : AreOwnEffects call (length old.history) effects
   pub history_is : new.history ≡ old.history ++ acts_by number effects
   pub calls_is : new.calls ≡ slice_set old.calls number (noted_after call (length old.history) effects)
 
--- the call of this number has done these effects, and then a step with this one, if any, is told so; no other call is changed
+-- the call of this number has done these effects, and then a step with this one, if any, is told so; no other
+-- call is changed
 pub record CallAnswers {S : Type 0} (number : ℕ) (call : Call) (answer : Answer) (old new : Moment S) : Type 0 where
   pub before : List Effect
   pub last : Option Effect
@@ -88,8 +90,8 @@ pub record NothingIsDone {S : Type 0} (fault : Fault) (old new : Moment S) : Typ
   pub not_exists : fault ≢ Exists
   pub not_key_exists : (row : Row) → fault ≢ KeyExists row
 
--- the call of this number has gone on so far, and still runs; the room for a further step was refused, not because the entry or
--- its key was there
+-- the call of this number has gone on so far, and still runs; the room for a further step was refused, not
+-- because the entry or its key was there
 pub record IsHeldUp {S : Type 0} (number : ℕ) (call : Call) (answer : Answer) (old new : Moment S) : Type 0 where
   pub fault : Fault
   pub refused : answer ≡ Refused fault
@@ -174,8 +176,8 @@ inserted_call session entry count action ending until =
 abbrev pub IsEndOf : Inserted → Ending → Type 0
 IsEndOf inserted ending = (ending ≡ EndsAdded inserted.action inserted.unfinished) ⊎ ((ending ≡ GivenUp) × (inserted.unfinished ≢ None))
 
--- One action of the history adds the entry; it is that of this insert, whose call is over. Before and after it the insert
--- has changed the shape of the pages only.
+-- One action of the history adds the entry; it is that of this insert, whose call is over. Before and after
+-- it the insert has changed the shape of the pages only.
 pub record IsAddedNow {S : Type 0} (session : ℕ) (entry : Entry) (inserted : Inserted) (old new : Moment S) : Type 0 where
   pub before : ℕ
   pub behind : ℕ
@@ -185,7 +187,8 @@ pub record IsAddedNow {S : Type 0} (session : ℕ) (entry : Entry) (inserted : I
   pub end_is : IsEndOf inserted ending
   pub calls_is : new.calls ≡ old.calls ++ inserted_call session entry (length old.history) inserted.action ending (length new.history) ∷ []
 
--- the insert has changed the shape of the pages only; where the entry or its key was there, the call has ended with this
+-- the insert has changed the shape of the pages only; where the entry or its key was there, the call has
+-- ended with this
 pub record IsNotAdded {S : Type 0} (session : ℕ) (entry : Entry) (fault : Fault) (old new : Moment S) : Type 0 where
   pub shaped : ℕ
   pub history_is : new.history ≡ old.history ++ shapes (length old.calls) shaped

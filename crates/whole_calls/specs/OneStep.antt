@@ -28,8 +28,8 @@ abbrev pub cut_short : Option ℕ → Fault → Answer
 cut_short None fault = Refused fault
 cut_short (Some action) fault = Added action (Some fault)
 
--- the call of this number has made one step, with an action of this effect or none, which it was asked for; what is told of it; no other
--- call is changed
+-- the call of this number has made one step, with an action of this effect or none, which it was asked for;
+-- what is told of it; no other call is changed
 pub record HasStepped {S : Type 0} (number : ℕ) (call : Call) (answer : Answer) (old new : Moment S) : Type 0 where
   pub effect : Option Effect
   pub after : Call
@@ -39,8 +39,8 @@ pub record HasStepped {S : Type 0} (number : ℕ) (call : Call) (answer : Answer
   pub history_is : new.history ≡ old.history ++ acts_of number effect
   pub calls_is : new.calls ≡ slice_set old.calls number after
 
--- the checkpoint before a step was refused with this fault, and the call of this number is given up for it: no action is appended, and no
--- other call is changed
+-- the checkpoint before a step was refused with this fault, and the call of this number is given up for it:
+-- no action is appended, and no other call is changed
 pub record IsGivenUpFor {S : Type 0} (g : Ghosts S) (number : ℕ) (call : Call) (answer : Answer) (old new : Moment S) : Type 0 where
   pub fault : Fault
   pub cause : HasCause (causes_of_forced (g.backing old.store) (g.backing new.store)) fault

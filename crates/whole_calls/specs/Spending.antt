@@ -13,8 +13,9 @@ abbrev pub brought_by : Option ℕ → ℕ
 brought_by None = 33
 brought_by (Some action) = 0
 
--- how many actions the call may append, at most, after which its steps are counted anew: each split that is finished leaves
--- the unfinished ones weighing less. Those of a bulk delete and of a cleanup are counted through.
+-- how many actions the call may append, at most, after which its steps are counted anew: each split that is
+-- finished leaves the unfinished ones weighing less. Those of a bulk delete and of a cleanup are counted
+-- through.
 abbrev pub acts_left : State → Option Op → ℕ
 acts_left st None = weight st
 acts_left st (Some (Insert op)) = weight st + brought_by op.added
