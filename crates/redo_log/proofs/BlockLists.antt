@@ -76,7 +76,7 @@ inside-push blocks block size inside below k lt = ⊎_elim
     (λ last. subst (λ (b : ℕ). b < size) (sym (get_or_push blocks block 0 k (omega (arith, length-append blocks (block ∷ []), lt)))) below)
     (cases_lt k (length blocks))
 
--- where a table has each of them at its own place, they are distinct
+-- if a table has each of them at its own place, they are distinct
 distinct_placed : (places blocks : List ℕ) (from : ℕ) → ((k : ℕ) → k < length blocks → get_or places (get_or blocks k 0) 0 ≡ from + k) → AreDistinct blocks
 distinct_placed places [] from placed = tt
 distinct_placed places (b ∷ blocks) from placed = (

@@ -108,7 +108,7 @@ module _ (limits : Format) (start size at : ℕ) (gs : List (List Page)) (good :
   good_pushed : AreGroups limits (gs ++ g ∷ [])
   good_pushed = all-append (IsGroup limits) gs (g ∷ []) good (is, tt)
 
-  -- where the group stands, a crash lets it in or not
+  -- if the group stands, a crash lets it in or not
   pub lets_in : (n : DiskMoment) → OnDisk start (spelled_groups gs) n → OnDisk (start + at + 1) piece n → (c : List ℕ) → MayCrashTo n c
       → SpellsGroups limits (take size (drop start c)) gs ⊎ SpellsGroups limits (take size (drop start c)) (gs ++ g ∷ [])
   lets_in n on_gs on_piece c left =

@@ -45,7 +45,7 @@ is_ajar log = log.ajar
 abbrev pub groups_end : Log → ℕ
 groups_end log = log.at
 
--- where the group that waits would end with n images more, the closed gate after it among them
+-- if the group that waits would end with n images more, the closed gate after it among them
 abbrev pub end_with : Log → ℕ → ℕ
 end_with log n = log.at + (6 + 4096 * (waiting_count log + n))
 
@@ -62,7 +62,7 @@ pub record SameLog (old new : Log) : Type 0 where
   pub limits : limits_of new ≡ limits_of old
   pub actions : actions_of new ≡ actions_of old
 
--- refused with Io where the device failed once in this call, and with Stopped on a log that was
+-- refused with Io if the device failed once in this call, and with Stopped on a log that was
 -- stopped; nothing else fails
 abbrev pub IoOrStopped : {T : Type 0} → Result T Fault → Bool → ℕ → ℕ → Type 0
 IoOrStopped result was_stopped old new = MatchResult result (λ _. new ≡ old)
@@ -93,7 +93,7 @@ abbrev pub Waits : Log → List Page → Type 0
 Waits log waiting = AreLaid log.limits (waiting_blocks log) log.buffer.items waiting
 
 -- A group stands behind a gate that may be open. Its images and those of the groups are the last ones of a
--- part of the actions, which has every one that was forced. Where nothing was appended since, it is all that
+-- part of the actions, which has every one that was forced. If nothing was appended since, it is all that
 -- waits, and a read finds its gate open.
 pub record MayBeLetIn (log : Log) (m : DiskMoment) (acts : List (List Page)) (forced : ℕ) (groups : List (List Page)) (waiting : List Page)
     : Type 0 where

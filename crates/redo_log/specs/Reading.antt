@@ -18,7 +18,7 @@ use Rattle.redo_log.specs.declared.log.Replayed.{Replayed}
 abbrev pub bytes_at : List ℕ → ℕ → Option (List ℕ)
 bytes_at log at = if at == 0 then None else Some (slice_range log at (at + 4096))
 
--- of each block the bytes of the last of these images are noted, and none where there is no image
+-- of each block the bytes of the last of these images are noted, and none if there is no image
 -- of it
 pub record AreNoted (limits : Format) (log : List ℕ) (images : List Page) (lasts : List ℕ)
     : Type 0 where
@@ -82,7 +82,7 @@ pub record Replays (limits : Format) (m : DiskMoment) (log : Log) (images : List
 abbrev pub kept_image : Replayed → ℕ → Option (List ℕ)
 kept_image found block = bytes_at found.log.buffer.items (get_or found.lasts.items block 0)
 
--- it kept of each block the bytes of the last of these images, and none where there is no image of
+-- it kept of each block the bytes of the last of these images, and none if there is no image of
 -- it
 pub record HoldsLast (found : Replayed) (images : List Page) : Type 0 where
   pub each : (block : ℕ)

@@ -95,11 +95,11 @@ impl Log {
     }
 
     /// Takes the images of one action, which wait for the next `force`: each in the place of the
-    /// image of its block, where one waits. It answers the action's number, counted from 1 since
+    /// image of its block, if one waits. It answers the action's number, counted from 1 since
     /// the log was opened.
     ///
-    /// Refused, with nothing changed: on a stopped log, or where the greatest number was given
-    /// (`Stopped`); where the images of blocks that don't wait don't fit after those that wait
+    /// Refused, with nothing changed: on a stopped log, or if the greatest number was given
+    /// (`Stopped`); if the images of blocks that don't wait don't fit after those that wait
     /// (`LogFull`), which is never so up to `room()` of them.
     pub fn append(&mut self, images: &[Page]) -> Result<u64, Fault>
         requires images { AreImages (limits_of self.old) images.now }
@@ -146,7 +146,7 @@ impl Log {
     {}
 
     /// Closes the log, in which no gate is ajar: its groups no longer count, and what waits still waits.
-    /// Where no group is open the device isn't called, since a crash could leave a gate that is written as an
+    /// If no group is open the device isn't called, since a crash could leave a gate that is written as an
     /// open one, in front of old bytes.
     ///
     /// At `Io` the log is stopped; a stopped log answers `Stopped`.
@@ -194,8 +194,8 @@ impl Log {
     /// Opens the log that lies on a device, and keeps of each block the bytes of its last image in the
     /// open groups. It reads the log's range once, and judges each image once.
     ///
-    /// Refused: where the device fails (`Io`), where memory is refused (`NoMemory`), and with
-    /// `LogDamaged` exactly where an open group is none.
+    /// Refused: if the device fails (`Io`), if memory is refused (`NoMemory`), and with
+    /// `LogDamaged` exactly if an open group is none.
     pub fn replay<D: Device>(
         alloc: Global,
         device: &mut D,

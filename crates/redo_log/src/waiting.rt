@@ -9,7 +9,7 @@ use std::alloc::{AllocError, Global};
 /// The blocks whose images wait, each once. Its room was made with it.
 #[derive(Drop)]
 pub(crate) struct Waiting {
-    /// For each block a place. It waits where the list has it at that place; any other place says
+    /// For each block a place. It waits if the list has it at that place; any other place says
     /// nothing, so that nothing is cleared but the list.
     places: Vec<u32>,
     /// The blocks that wait, in the order of their images.
@@ -80,7 +80,7 @@ impl Waiting {
         count
     }
 
-    /// The place of the block's image: where none waits, a new one after the others, and then the
+    /// The place of the block's image: if none waits, a new one after the others, and then the
     /// block waits too.
     pub(crate) fn take(&mut self, block: u32) -> usize
         requires inside { block < length self.old.places.items }
