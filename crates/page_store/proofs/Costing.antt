@@ -32,7 +32,7 @@ same_memory old new pages changes =
 pub changes_same : (old new : Pool) → new ≡ old → HasSameChanges old new
 changes_same old new is = record { order = ap changed_of is; acts = λ block. ap (λ (p : Pool). act_of p block) is }
 
--- where none was found, none is there
+-- if none was found, none is there
 pub none_of : {A : Type 0} (o : Option A) (found : Bool) → found ≡ is_some o → found ≡ false → o ≡ None
 none_of None found is none = refl
 none_of (Some x) found is none = (let both : true ≡ false = sym is ∙ none in absurd cc)
@@ -200,7 +200,7 @@ module _ {D : Type 0} (g : Ghosts D) where
       ∙ (ap (λ (x : ℕ). record (backing_of (held_of g a)) { room = x; promised = b.promised }) room
       ∙ ap (λ (x : ℕ). record (backing_of (held_of g a)) { promised = x }) promised)))))
 
-  -- where it is, and the pages in memory too, a page is brought in as before
+  -- if it is, and the pages in memory too, a page is brought in as before
   pub gets_from : (pinned : List ℕ) (block : ℕ) (a b c : LoggedPages D g) → most_of b.pool ≡ most_of a.pool → memory_in b.pool ≡ memory_in a.pool → backing_of (held_of g b) ≡ backing_of (held_of g a)
       → GetsFrame g pinned block b c → GetsFrame g pinned block a c
   gets_from pinned block a b c most memory backing gets =

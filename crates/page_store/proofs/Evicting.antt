@@ -15,7 +15,7 @@ remove_next : (front rest : List ℕ) (b : ℕ) → remove (front ++ b ∷ rest)
 remove_next [] rest b = refl
 remove_next (x ∷ front) rest b = ap (λ (l : List ℕ). x ∷ l) (remove_next front rest b)
 
--- what is left where one was removed after these, is all without it
+-- what is left if one was removed after these, is all without it
 pub put_back : (xs front rest : List ℕ) (b : ℕ) → slice_get xs (length front) ≡ Some b → remove xs (length front) ≡ front ++ rest → xs ≡ front ++ b ∷ rest
 put_back [] front rest b at left = absurd cc
 put_back (x ∷ xs) [] rest b at left = cc

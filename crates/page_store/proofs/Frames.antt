@@ -22,7 +22,7 @@ kept_same old new pinned same = record {
   kept = λ block among there. ap is_some (same.places block) ∙ there;
 }
 
--- where a pinned block isn't held, the pinned blocks alone are more than the frames
+-- if a pinned block isn't held, the pinned blocks alone are more than the frames
 pub too_many : (pool : Pool) (pinned : List ℕ) (block : ℕ) → AreTooMany pool pinned → frame_of pool block ≡ None → has_block pinned block ≡ true → most_of pool < count_distinct pinned
 too_many pool pinned block many none among =
     let same : count_distinct (block ∷ pinned) ≡ count_distinct pinned = rw among refl in

@@ -47,7 +47,7 @@ before xs (suc k) b h = elim (has_next xs k b h) [
   | inr last ↦ (k, omega arith, last)
 ]
 
--- where no block stands twice, the next isn't one of those before
+-- if no block stands twice, the next isn't one of those before
 pub next_apart : (xs : List ℕ) (k b : ℕ) → BlocksAreApart xs → slice_get xs k ≡ Some b → has_block (take k xs) b ≡ true → ⊥
 next_apart xs k b apart at h =
     let there = before xs k b h in

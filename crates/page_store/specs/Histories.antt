@@ -27,7 +27,7 @@ pages_after h part = after_acts h.start (take part h.acts)
 abbrev pub pages_now : History → List Page
 pages_now h = after_acts h.start h.acts
 
--- each of these acts could be done where it was
+-- each of these acts could be done on the pages that those before it leave
 abbrev pub AreActs : Format → List Page → List (List Page) → Type 0
 AreActs limits pages [] = Unit {0}
 AreActs limits pages (changed ∷ acts) =

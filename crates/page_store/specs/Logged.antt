@@ -94,7 +94,7 @@ backing_of held = record {
 abbrev pub memory_in : Pool → Memory
 memory_in pool = record { held = pool_blocks pool; unwritten = act_of pool }
 
--- each block that has no image among these stands at its place: its page, or zeros where it has none
+-- each block that has no image among these stands at its place: its page, or zeros if it has none
 pub record AreHome (limits : Format) (images pages : List Page) (m : DiskMoment) : Type 0 where
   pub used : (block : ℕ) (page : Page) → slice_get pages block ≡ Some page
       → last_image images block ≡ None

@@ -41,7 +41,7 @@ pub record AreWrittenAhead (pinned : List ℕ) (durable place : ℕ) (old new : 
   pub others : (b : ℕ) → has_block (changed_of new) b ≡ true → act_of new b ≡ act_of old b
 
 module _ {D : Type 0} (g : Ghosts D) where
-  -- what a frame costs, where the pages of these blocks are pinned
+  -- what a frame costs, while the pages of these blocks are pinned
   abbrev pub CostsFrame : List ℕ → LoggedPages D g → LoggedPages D g → Type 0
   CostsFrame pinned old new =
       FrameCosts (most_of old.pool) pinned (memory_in old.pool) (memory_in new.pool)

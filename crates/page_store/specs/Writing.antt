@@ -18,7 +18,7 @@ abbrev pub AreSeen : Format → List Page → DiskMoment → Type 0
 AreSeen limits pages m = (block : ℕ) (page : Page) → slice_get pages block ≡ Some page
     → Has (place limits block) (page_bytes page) m.seen
 
--- What the pool holds of these pages, after so many acts: changed pages as the acts have left them; and where
+-- What the pool holds of these pages, after so many acts: changed pages as the acts have left them; and if
 -- the device kept its model, each as it is, and the others at their places.
 pub record HoldsPages (limits : Format) (pages : List Page) (acts : ℕ) (pool : Pool) (honest : Bool)
     (m : DiskMoment) : Type 0 where

@@ -1,4 +1,4 @@
-//! Pages are brought into memory, in the place of others where there is no room.
+//! Pages are brought into memory, in the place of others if there is no room.
 
 ghost use Rattle.std.specs.Prelude.{◌≡◌, ◌≢◌, ◌<◌, ◌≤◌, Some, None, Err, OnErr, IfOk, IfErr, OnOk, IsSome, is_some, ℕ, true, false, length, remove, slice_get, map, All};
 ghost use Rattle.buffer_pool.specs.Choices.{IsChoice};
@@ -21,7 +21,7 @@ use index_model::Fault;
 use page_codec::Page;
 
 impl<D: Device> LoggedPages<D> {
-    // Which frame is taken for another page, or which page is written first, where the pages of these blocks
+    // Which frame is taken for another page, or which page is written first, while the pages of these blocks
     // are pinned.
     fn choose(&mut self, pinned: &[u32]) -> Choice
         ensures quiet { IsSameButWritten D.Device self.old self.new }
@@ -136,7 +136,7 @@ impl<D: Device> LoggedPages<D> {
         Ok(())
     }
 
-    // A frame for another page, where the pages of these blocks are pinned: where no clean one is there, the
+    // A frame for another page, while the pages of these blocks are pinned: if no clean one is there, the
     // oldest changed page is written before, and some after it. Refused with `NoFrame`, `Io` and `Stopped`.
     fn free_frame(&mut self, pinned: &[u32]) -> Result<usize, Fault>
         ensures quiet { IsSameButWritten D.Device self.old self.new }
@@ -188,7 +188,7 @@ impl<D: Device> LoggedPages<D> {
     }
 
     // Decodes the page of a block in use that is not in memory. Refused with `Io`, and with `PageDamaged`
-    // where the device breaks its model.
+    // if the device breaks its model.
     fn read(&mut self, block: u32) -> Result<(), Fault>
         requires used { block < self.old.used }
         requires absent { frame_of self.old.pool block ≡ None }
@@ -209,8 +209,8 @@ impl<D: Device> LoggedPages<D> {
         read_page(&mut self.device, self.limits, block, &mut self.decoded)
     }
 
-    /// Brings the page of a block in use into memory, where the pages of these blocks are pinned. Refused
-    /// with `NoFrame`, `Io` and `Stopped`, and with `PageDamaged` where the device breaks its model.
+    /// Brings the page of a block in use into memory, while the pages of these blocks are pinned. Refused
+    /// with `NoFrame`, `Io` and `Stopped`, and with `PageDamaged` if the device breaks its model.
     pub fn fetch(&mut self, block: u32, pinned: &[u32]) -> Result<(), Fault>
         requires used { block < self.old.used }
         ensures quiet { IsSameButWritten D.Device self.old self.new }
@@ -250,7 +250,7 @@ impl<D: Device> LoggedPages<D> {
         page.copy_to(&mut self.decoded);
     }
 
-    // Decodes the page of a block that an act is to change, where the block is in use and the device gives
+    // Decodes the page of a block that an act is to change, if the block is in use and the device gives
     // it; else copies the page itself. Nobody looks at it before the act is done. Refused with `Io`.
     fn read_or_copy(&mut self, page: &Page) -> Result<(), Fault>
         requires stored { IsStored self.old.limits page.now.block page.now }
@@ -305,7 +305,7 @@ impl<D: Device> LoggedPages<D> {
         Ok(())
     }
 
-    /// Takes a frame for each of these pages, where the pages of these blocks are pinned, their own among
+    /// Takes a frame for each of these pages, while the pages of these blocks are pinned, their own among
     /// them. Refused with `NoFrame`, `Io` and `Stopped`.
     pub fn take_frames(&mut self, pages: &[Page], pinned: &[u32]) -> Result<(), Fault>
         requires actable { AreActable self.old.limits (length (pages_now self.old.history)) pages.now }

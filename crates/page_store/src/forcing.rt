@@ -241,7 +241,7 @@ impl<D: Device> LoggedPages<D> {
     }
 
     // Writes all changed pages to their places, in order, and syncs them. Those that were written are clean,
-    // also where a later one can't be. Refused with `Io`.
+    // also if a later one can't be. Refused with `Io`.
     fn write_all(&mut self) -> Result<(), Fault>
         requires alive { is_stopped self.old.log ≡ false }
         requires durable { self.old.durable ≡ self.old.acts }
@@ -290,7 +290,7 @@ impl<D: Device> LoggedPages<D> {
     }
 
     /// Makes all acts durable, writes each changed page to its place and closes the log. Refused with `Io`
-    /// and `Stopped`; where a page could not be written or synced, the log stays as it was.
+    /// and `Stopped`; if a page could not be written or synced, the log stays as it was.
     pub fn checkpoint(&mut self) -> Result<u64, Fault>
         ensures steps { Follows (held_of D.Device self.old) (held_of D.Device self.new) }
         ensures pages { SamePages D.Device self.old self.new }

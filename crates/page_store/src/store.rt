@@ -89,7 +89,7 @@ impl<D: Device> Store<D> {
 
     /// Does the next part of a force but for its last sync: writes what waits in the log, or syncs that and
     /// opens its gate. A sync of the device between two parts makes the next one's fast, and that of the
-    /// force at their end. Where an act comes between, what waits is written again. Refused with `Io` and
+    /// force at their end. If an act comes between, what waits is written again. Refused with `Io` and
     /// `Stopped`: the log is stopped then.
     pub fn advance(&mut self) -> Result<Advance, Fault>
         ensures steps { Continues (follows_by D.Device) self.old self.new }
@@ -134,7 +134,7 @@ impl<D: Device> Store<D> {
             (held_by D.Device self.now).trace image }
     {}
 
-    // Takes a frame for each of the pages, where not all are in memory. Refused with `NoFrame`, `Io` and
+    // Takes a frame for each of the pages, if not all are in memory. Refused with `NoFrame`, `Io` and
     // `Stopped`.
     fn take_frames(&mut self, pages: &[Page]) -> Result<(), Fault>
         requires few { length pages.now ≤ 4 }
