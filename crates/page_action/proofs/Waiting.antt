@@ -61,7 +61,7 @@ puts_count counted page place = elim (cases_lt page.block (length counted)) [
   | inr ge ↦ rw (le-ltb page.block (length counted) ge) (added counted page.block (number_to_count page.state page.deletion) (omega arith))
 ]
 
--- the number that waits where a page is written is that which counts, if it is deleted
+-- the number that waits once a page is written is that which counts, if it is deleted
 count_waits : (state : PageState) (number : ℕ) → waiting_number state number ≡ (if is_deleted_state state then Some (number_to_count state number) else None)
 count_waits Live number = refl
 count_waits HalfDead number = refl
@@ -113,7 +113,7 @@ write_waits limits used waiting pages counted (page ∷ changed) may most room s
     write_waits limits used (with_waiting waiting page) (with_page pages page) (with_count counted page) changed may.3 (omega (arith, with_page-longer limits pages page may.0.storable place))
     (omega (arith, length-set waiting page.block (waiting_number page.state page.deletion))) (length-with_count counted pages page same) at
 
--- where nothing is in use, nothing waits
+-- if nothing is in use, nothing waits
 pub none_wait : (n : ℕ) → AreWaiting (replicate n None) [] []
 none_wait n = record { each = none n }
   where

@@ -58,7 +58,7 @@ pub record IsWrittenFor (frames : ℕ) (pinned : List ℕ) (m m' : Memory) (old 
   pub left : (new.changed ≡ old.changed) ⊎ AreWrittenAfter frames pinned front behind m new
   pub others : (b : ℕ) → is_block_among new.changed b ≡ true → m'.unwritten b ≡ m.unwritten b
 
--- what a frame costs: nothing where one is free; else changed pages are written for it
+-- what a frame costs: nothing if one is free; else changed pages are written for it
 abbrev pub FrameCosts : ℕ → List ℕ → Memory → Memory → Backing → Backing → Type 0
 FrameCosts frames pinned m m' old new = CostsNothing m m' old new ⊎ IsWrittenFor frames pinned m m' old new
 
@@ -94,7 +94,7 @@ TakesFrames frames pinned (block ∷ blocks) m m' old new = (mid : Memory) × (b
 abbrev pub blocks_of : List Page → List ℕ
 blocks_of pages = map (λ page. page.block) pages
 
--- the pages of an act are brought into memory, where they and those that sessions have pinned stay
+-- the pages of an act are brought into memory, while they and those that sessions have pinned stay
 abbrev pub TakesActFrames : State → List Page → Memory → Memory → Backing → Backing → Type 0
 TakesActFrames st pages m m' old new =
     TakesFrames st.frames (blocks_of pages ++ pinned_blocks st.table) (blocks_of pages) m m' old new
