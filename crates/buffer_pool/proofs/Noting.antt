@@ -1,4 +1,4 @@
--- What a pool holds, and what is changed of it, where a page was changed or written.
+-- What a pool holds, and what is changed of it, after a page was changed or written.
 use Rattle.std.proofs.Common.{◌≡◌, ℕ, ◌+◌, ◌<◌, ◌≤◌, Bool, true, false, ◌||◌, cond, ltb, eqb, Option, Some, None, List, [], ◌∷◌, ◌++◌, length, get_or, set, take, drop, slice_get, refl, sym, ap, subst, inl, inr, ◌∙◌, arith, length-set}
 use Rattle.buffer_pool.specs.Orders.{waiting_in}
 use Rattle.buffer_pool.proofs.Imports.{IsSome, is_some, option_and_then, remove, cases_lt, cases_Bool, ltb-true, ltb-false, le-ltb, eqb-true, cond-true, cond-false, false_from_ne_true, length-map}
@@ -165,7 +165,7 @@ take_drop_apart blocks n block apart first =
     sym (get_or-drop n blocks b.0 block) ∙ (get_or_default (drop n blocks) b.0 block b.1 b.2 ∙ (b.3 ∙ eqb-true b.1 block b.4)) in
     apart a.0 (n + b.0) block (omega (arith, short)) less (one ∙ sym two))
 
--- a block that isn't among the first so many, is among all or none where it is after them
+-- a block that isn't among the first `n` is among all exactly if it is after them
 pub behind_is : (blocks : List ℕ) (n block : ℕ) → has_block (take n blocks) block ≡ false → has_block (drop n blocks) block ≡ has_block blocks block
 behind_is blocks n block off =
     sym (ap (λ (xs : List ℕ). has_block xs block) (sym (take-append-drop n blocks))
@@ -174,7 +174,7 @@ behind_is blocks n block off =
 none_below : (n : ℕ) → ltb 0 n ≡ false → n ≡ 0
 none_below n off = omega (arith, ltb-false 0 n off)
 
--- an act that is kept where it isn't 0, and is 0 only where it was, is kept
+-- an act that is kept if it isn't 0, and is 0 only if it was, is kept
 either_act : (new old : ℕ) → (0 < new → new ≡ old) → ltb 0 new ≡ ltb 0 old → new ≡ old
 either_act new old kept same =
     elim (cases_lt 0 new) [

@@ -33,7 +33,7 @@ module _ (keys : List ℕ) (first count : ℕ) (within : first + count ≤ lengt
       let there : get_or (window keys first count) k 0 ≡ get_or keys at 0 = window_at k (omega (arith, from, to)) ∙ ap (λ (n : ℕ). get_or keys n 0) (omega (arith, from)) in
       ap (has_block (window keys first count)) (sym there) ∙ has_block-at (window keys first count) k 0 (omega (arith, window_long, from, to))
 
--- where all wait, each is among them
+-- if all wait, each is among them
 pub all_wait : (keys : List ℕ) (first count b : ℕ) → first + count ≤ length keys → length keys ≤ count → has_block keys b ≡ true → has_block (window keys first count) b ≡ true
 all_wait keys first count b within long among =
     let none : first ≡ 0 = omega (arith, within, long) in

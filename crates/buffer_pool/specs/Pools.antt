@@ -35,7 +35,7 @@ unfoldable pub held_page : Pool → ℕ → Option Page
 held_page pool block =
     option_and_then (slice_get pool.pages.items) (frame_in (blocks_in pool.pages.items) block)
 
--- the act that changed the held page of the block last; 0 where it is as it was last read or written, or
+-- the act that changed the held page of the block last; 0 if it is as it was last read or written, or
 -- isn't held
 unfoldable pub act_of : Pool → ℕ → ℕ
 act_of pool block = act_in (blocks_in pool.pages.items) pool.acts.items block

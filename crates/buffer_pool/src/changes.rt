@@ -25,7 +25,7 @@ fn clean_frames(acts: &mut [u64], places: &[u32], written: &[u32])
     ensures many { length acts.new ≡ length acts.old }
     ensures kept { (at : ℕ) → 0 < slice_index acts.new at
         → slice_index acts.new at ≡ slice_index acts.old at }
-    // Whatever blocks the frames hold: where these and others were changed, the others are left.
+    // Whatever blocks the frames hold: if these and others were changed, the others are left.
     ensures left { (blocks others : List ℕ) → ArePlaces places.now blocks
         → AreChanged (written.now ++ others) blocks acts.old → AreChanged others blocks acts.new }
 {
@@ -70,7 +70,7 @@ impl Pool {
         Some((block, self.act(block)))
     }
 
-    /// The block of the page that was changed first, and the act that changed it last; none where no page is
+    /// The block of the page that was changed first, and the act that changed it last; none if no page is
     /// changed.
     pub fn oldest(&self) -> Option<(u32, u64)>
         ensures block { option_map (λ c. c.0) result ≡ slice_get (changed_of self.now) 0 }

@@ -114,7 +114,7 @@ impl Pool {
     ghost use Rattle.buffer_pool.specs.Pools.{HasSamePages, HasSameChanges};
     ghost use Rattle.buffer_pool.specs.Choices.{AreCleanPinned, IsFreeFrame, IsChoice};
 
-    /// Which frame may be taken for another page where the pages of these blocks are pinned, or which page is
+    /// Which frame may be taken for another page while the pages of these blocks are pinned, or which page is
     /// to be written first. No page is taken from its frame yet: only the hand moves, which goes round over
     /// the frames.
     pub fn choose(&mut self, pinned: &[u32]) -> Choice
@@ -140,7 +140,7 @@ impl Pool {
     }
 
     // A frame whose page is clean and isn't pinned: the first from the hand on that nobody looked at since
-    // the hand passed it, where there is one.
+    // the hand passed it, if there is one.
     fn free_frame(&mut self, pinned: &[u32]) -> Option<usize>
         ensures found { IfSome result (IsFreeFrame self.new pinned.now) }
         ensures none { IfNone result (AreCleanPinned self.new pinned.now) }

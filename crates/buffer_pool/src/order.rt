@@ -26,7 +26,7 @@ impl Order {
     ghost use Rattle.buffer_pool.specs.Frames.{has_block};
     ghost use Rattle.buffer_pool.specs.Orders.{waiting_in, width_of};
 
-    /// Room for the blocks below this number, of which none waits. Refused with `NoMemory` where it cannot be
+    /// Room for the blocks below this number, of which none waits. Refused with `NoMemory` if it cannot be
     /// had.
     pub fn new(alloc: Global, width: u32) -> Result<Order, Fault>
         ensures none { IfOk result (λ order. waiting_in order ≡ []) }
@@ -84,7 +84,7 @@ impl Order {
         }
     }
 
-    // Where those that wait stand at the end of the set, moves them to its beginning.
+    // If those that wait stand at the end of the set, moves them to its beginning.
     fn make_room(&mut self)
         requires few { length (waiting_in self.old) < width_of self.old }
         ensures waiting { waiting_in self.new ≡ waiting_in self.old }
