@@ -14,7 +14,7 @@ use std::marker::Model;
 #[derive(Drop)]
 pub struct LatchTable {
     holdings: [Held; 64],
-    /// How many sessions hold something. Where only the asking one does, none has to be asked.
+    /// How many sessions hold something. If only the asking one does, none has to be asked.
     holders: usize,
 }
 
@@ -103,7 +103,7 @@ impl LatchTable {
         !self.conflicts(session, block, mode) && !self.is_full(session)
     }
 
-    /// Takes a latch, or answers `Blocked` with the block and takes nothing: where another session holds what
+    /// Takes a latch, or answers `Blocked` with the block and takes nothing: if another session holds what
     /// excludes it, or the session has 8 latches.
     pub fn latch(&mut self, session: Session, block: u32, mode: Mode) -> Result<(), Fault>
         ensures ok { OnOk result (self.new ≡ latched self.old session block mode) }
