@@ -9,7 +9,7 @@ abbrev pub ◌>>=◌ : {A B : Type 0} → Option A → (A → Option B) → Opti
 None >>= f = None
 (Some x) >>= f = f x
 
--- no bound, where the offset and the length of the key are 0; the place before all rows of a key, where the
+-- no bound, if the offset and the length of the key are 0; the place before all rows of a key, if the
 -- offset alone is
 abbrev pub slot_from : ℕ → ℕ → ℕ → List ℕ → Option (Option Bound)
 slot_from len block offset key =

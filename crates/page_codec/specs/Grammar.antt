@@ -62,12 +62,12 @@ pub record IsDownlink (layout : Layout) (d : Downlink) : Type 0 where
   pub bound : IfSome d.bound (IsBoundIn layout)
   pub child : IsBlock d.child
 
--- the entry is less than the first of those after it, or, where it is the last, at most the high key
+-- the entry is less than the first of those after it, or, if it is the last, at most the high key
 abbrev pub EntryInPlace : Option Bound → Entry → List Entry → Type 0
 EntryInPlace high e [] = IsUpTo high e
 EntryInPlace high e (x ∷ xs) = EntryBefore e x
 
--- the downlink's bound is less than that of the first of those after it, or, where it is the last, than the
+-- the downlink's bound is less than that of the first of those after it, or, if it is the last, than the
 -- high key
 abbrev pub LinkInPlace : Option Bound → Downlink → List Downlink → Type 0
 LinkInPlace high d [] = Below high d

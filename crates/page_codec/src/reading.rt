@@ -88,7 +88,7 @@ fn entry(bytes: &[u8]) -> Option<Entry>
     Some(Entry { key, row })
 }
 
-// The bound in the first 71 bytes, or none, where they are zeros. A row of zeros is none: the place before
+// The bound in the first 71 bytes, or none, if they are zeros. A row of zeros is none: the place before
 // all rows of the key.
 fn slot(bytes: &[u8]) -> Option<Option<Bound>>
     requires { 71 ≤ length bytes.now }
