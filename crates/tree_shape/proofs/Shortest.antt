@@ -102,7 +102,7 @@ stands_before last key h = by (key_cmp last.key key) h
     by Equal e = absurd cc
     by Greater e = absurd cc
 
--- two keys can't be the same where one stands before the other
+-- two keys can't be the same if one stands before the other
 pub never_itself : (key : List ℕ) → IsKeyBefore key key → ⊥
 never_itself key h = clash (sym h ∙ rw (tied_itself nat_list_cmp_total key) refl)
   where
