@@ -65,7 +65,7 @@ abbrev pub IsRaised : State → State → ℕ → Option ℕ → Type 0
 IsRaised old new level None = Unit {0}
 IsRaised old new level (Some b) = (is_incomplete old b ≡ false) × (level_in new b ≡ level)
 
--- an entry is put on a leaf; where that is split for it, it has an incomplete split
+-- an entry is put on a leaf; if that is split for it, it has an incomplete split
 pub record SplitsALeaf (old new : State) : Type 0 where
   pub raised : Option ℕ
   pub leaf : IsRaised old new 0 raised
@@ -118,8 +118,8 @@ DeletesLeaves (Some (Add e)) old new = ⊥
 DeletesLeaves (Some (Remove es)) old new = ⊥
 DeletesLeaves (Some Shape) old new = DeletesALeaf old new
 
--- A step of this session's cleanup, with one act at most: the contents are as they were, the pages are a tree
--- again, where it acts one leaf goes on its way out of the tree, calls, limits and the cycle number are as
+-- A step of this session's cleanup, with one act at most: the contents are as they were, and the pages are a
+-- tree again; if it acts, one leaf goes on its way out of the tree; calls, limits and the cycle number are as
 -- they were, and every other session may rely on what it held.
 pub record CleanupEffect (session : ℕ) (effect : Option Effect) (old new : State) : Type 0 where
   pub changes : HasEffect effect old new
@@ -184,7 +184,7 @@ causes_of_acting st old new changed = record (causes_of_acted st old new changed
   log_is_full = lacks_room old new (map (λ page. page.block) changed);
 }
 
--- how many frames a step needs that writes these blocks: one where it only reads
+-- how many frames a step needs that writes these blocks: one if it only reads
 abbrev pub frames_for : List ℕ → ℕ
 frames_for [] = 1
 frames_for (block ∷ blocks) = suc (length blocks)
@@ -208,7 +208,7 @@ causes_of_working st old new session images frames takes splits = record nothing
   root_is_at_31 = splits && nat_le 31 (root_level st.pages);
 }
 
--- what may be so where a step is refused that only reads, whatever the pages are
+-- what may be so if a step is refused that only reads, whatever the pages are
 abbrev pub causes_of_reading_any : Circumstances
 causes_of_reading_any = record nothing_wrong {
   device_failed = true;

@@ -12,7 +12,7 @@ use Rattle.page_action.specs.States.{State, with_table}
 abbrev pub HoldsAlone : Table → ℕ → ℕ → Type 0
 HoldsAlone table session block = latches_exclude (holding_of table session).latches block Shared ≡ true
 
--- where one session holds a block alone, no other latches it
+-- if one session holds a block alone, no other latches it
 abbrev pub AreApart : Table → Type 0
 AreApart table = (session other block : ℕ) → session ≢ other → HoldsAlone table session block
     → latches_exclude (holding_of table other).latches block Exclusive ≡ false
