@@ -80,7 +80,7 @@ pub record IsArrived (page : Page) (aim : Bound → Bool) : Type 0 where
   pub alive : page.state ≡ Live
   pub within : is_within aim page.high ≡ true
 
--- where no page has an incomplete split, a page that covers what is looked for leads down at once to one that
+-- if no page has an incomplete split, a page that covers what is looked for leads down at once to one that
 -- does too
 abbrev pub LeadsStraight : State → (Bound → Bool) → ℕ → Position → Option NextPage → Type 0
 LeadsStraight st aim to position (Some (Going on)) =

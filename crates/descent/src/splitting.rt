@@ -19,9 +19,9 @@ use page_codec::Page;
 use tree_shape::may_be_mended;
 
 /// Reads the page to the right of one that is split, if there is one, into a page that stands ready, to mend
-/// its left link, and answers whether there is one. Refused as [`read_exclusive`](crate::look_to_change), and
-/// with `PageDamaged` for a page that has no left link to mend: the metapage, or a deleted page. Where none
-/// was read, what stands in the page has no meaning.
+/// its left link, and answers whether there is one. Refused as [`read_exclusive`](crate::read_exclusive), and
+/// with `PageDamaged` for a page that has no left link to mend: the metapage, or a deleted page. If none was
+/// read, what stands in the page has no meaning.
 pub fn read_right<S: PageStore>(
     store: &mut S,
     session: Session,
@@ -60,7 +60,7 @@ pub fn read_right<S: PageStore>(
     Ok(true)
 }
 
-/// The block of a new page, which no other session holds. Refused with `IndexFull` where there is none, and
+/// The block of a new page, which no other session holds. Refused with `IndexFull` if there is none, and
 /// with `Blocked`.
 pub fn take_block<S: PageStore>(store: &mut S, session: Session) -> Result<u32, Fault>
     ensures steps { Continues S.follows store.old store.new }
