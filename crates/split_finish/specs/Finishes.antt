@@ -25,7 +25,7 @@ use Rattle.split_finish.specs.declared.finish.Target.{Target}
 abbrev pub OnlyShapes : Option Effect → Type 0
 OnlyShapes effect = (effect ≡ None) ⊎ (effect ≡ Some Shape)
 
--- a step that goes on: where only targets had incomplete splits, only targets are
+-- a step that goes on: if only targets had incomplete splits, only targets are
 pub record FinishContinues (old new : State) (before after : FinishOp) : Type 0 where
   pub effect : Option Effect
   pub shapes : OnlyShapes effect
@@ -49,8 +49,8 @@ abbrev pub is_full_parent : ℕ → Option Page → Bool
 is_full_parent items None = false
 is_full_parent items (Some page) = nat_le items (length (links_of page.items))
 
--- the blocks that are written where the target's downlink is put on this page: that of the page, and of the
--- target, whose split is finished; where it is full, of its right half and its right sibling too
+-- the blocks that are written when the target's downlink is put on this page: that of the page, and of the
+-- target, whose split is finished; if it is full, of its right half and its right sibling too
 abbrev pub blocks_linked : State → Target → ℕ → Option Page → List ℕ
 blocks_linked st target parent None = parent ∷ target.block ∷ []
 blocks_linked st target parent (Some page) = if nat_le st.limits.items (length (links_of page.items))

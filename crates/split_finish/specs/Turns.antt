@@ -81,7 +81,7 @@ Turned st before after (Ok Done) = TurnIsOver st before
 Turned st before after (Err fault) =
     HasTree st → FinishInvariant st before → HasCause (causes_of_turned st before.target before.at) fault
 
--- ... where it may also answer that an act is to be done
+-- ... or it answers that an act is to be done
 abbrev pub TurnedOrReady : State → FinishOp → FinishOp → Result (Option FinishStep) Fault → Type 0
 TurnedOrReady st before after (Ok None) = Unit {0}
 TurnedOrReady st before after (Ok (Some step)) = Turned st before after (Ok step)

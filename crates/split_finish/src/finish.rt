@@ -87,7 +87,7 @@ impl FinishOp {
     }
 
     /// Makes one step. Refused with `Blocked` (4), and the same step may be made again; with `IndexFull` (8),
-    /// `Io` (2), `Stopped` (3), `LogFull` (9), `NoFrame` (10); with `TooTall` (19) where the root is split on
+    /// `Io` (2), `Stopped` (3), `LogFull` (9), `NoFrame` (10); with `TooTall` (19) if the root is split on
     /// level 31; with `PageDamaged` (17) on pages that are no tree. A refused step changes nothing. `pages`
     /// is room for the pages of an act: what they hold has no meaning, neither before nor after.
     pub fn step<S: PageStore>(

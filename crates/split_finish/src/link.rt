@@ -77,7 +77,7 @@ impl FinishOp {
         }
     }
 
-    // ... where the page is the target as it was read, and the parent is ready.
+    // ... if the page is the target as it was read, and the parent is ready.
     fn put_link<S: PageStore>(
         &mut self,
         store: &mut S,

@@ -78,7 +78,7 @@ impl FinishOp {
         }
     }
 
-    // ... where the page is the target as it was read, and the root.
+    // ... if the page is the target as it was read, and the root.
     fn put_root<S: PageStore>(
         &mut self,
         store: &mut S,
