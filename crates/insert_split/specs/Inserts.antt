@@ -146,7 +146,7 @@ causes_of_left st old new session e at = record (causes_of_inserting st old new 
   key_was_there = λ r. false;
 }
 
--- what may be so where a step of an insert of this entry is refused, whatever the pages are: its key only on
+-- what may be so if a step of an insert of this entry is refused, whatever the pages are: its key only on
 -- a unique index, and there only with another row
 abbrev pub causes_of_inserting_any : Bool → Entry → Circumstances
 causes_of_inserting_any unique e = record causes_of_splitting_any {
@@ -154,7 +154,7 @@ causes_of_inserting_any unique e = record causes_of_splitting_any {
   key_was_there = λ r. unique && not (same_entry (with_row e r) e);
 }
 
--- ... and where it leaves splits unfinished
+-- ... and if it leaves splits unfinished
 abbrev pub causes_of_left_any : Circumstances
 causes_of_left_any = record causes_of_splitting_any { is_held_by_another = λ b. false }
 
@@ -173,7 +173,7 @@ IsNoted (Some (Add x)) acts e before after =
 IsNoted (Some (Remove es)) acts e before after = ⊥
 IsNoted (Some Shape) acts e before after = after ≡ before
 
--- a step that goes on: where only pages had incomplete splits that it was to finish, only such are
+-- a step that goes on: if only pages had incomplete splits that it was to finish, only such are
 pub record InsertContinues (old new : State) (before after : InsertOp) : Type 0 where
   pub effect : Option Effect
   pub does : StepEffect before.session effect old new
@@ -215,7 +215,7 @@ pub record InsertStays (old new : State) (before after : InsertOp) : Type 0 wher
   pub state : new ≡ old
   pub op : after ≡ before
 
--- on a stopped log a step is refused; where the entry is logged, the insert ends with that
+-- on a stopped log a step is refused; if the entry is logged, the insert ends with that
 abbrev pub AnswersStopped : Option ℕ → Result InsertStep Fault → Type 0
 AnswersStopped None result = result ≡ Err Stopped
 AnswersStopped (Some action) result = result ≡ Ok (Added action (Some Stopped))
@@ -238,7 +238,7 @@ pub record InsertSteps {S : Type 0} (g : Ghosts S) (before after : InsertOp) (ol
   pub stepped : (g.backing new).honest ≡ true → IsInOrder (g.state old)
       → InsertInvariant (g.state old) before
       → InsertStepped (g.state old) (g.backing old) (g.state new) (g.backing new) before after result
-  -- where no page has an incomplete split and its leaf has room, each step is one nearer to the last
+  -- if no page has an incomplete split and its leaf has room, each step is one nearer to the last
   pub straight : (g.backing new).honest ≡ true → IsInOrder (g.state old)
       → InsertInvariant (g.state old) before → NoneIsIncomplete (g.state old).pages
       → IsStraight (g.state old) before.entry before.at → HasRoomFor (g.state old) before.entry

@@ -187,7 +187,7 @@ abbrev pub is_blocked : Fault → Bool
 is_blocked (Blocked b) = true
 is_blocked fault = false
 
--- an insert whose entry is logged is over with the fault, but where a page is blocked; any other is refused
+-- an insert whose entry is logged is over with the fault, unless a page is blocked; any other is refused
 abbrev pub EndsBy : Bool → Option ℕ → Fault → Result InsertStep Fault → Type 0
 EndsBy blocked None fault result = result ≡ Err fault
 EndsBy true (Some action) fault result = result ≡ Err fault

@@ -1,4 +1,5 @@
-//! Room on a leaf: a place on it, or two halves of it.
+//! The act by which an insert puts its entry on its leaf. If the leaf has room, the entry gets its place
+//! there. Else the leaf is split, and the entry stands on one of the halves.
 
 ghost use Rattle.std.specs.Prelude.{◌≡◌, ◌≤◌, ◌<◌, ◌+◌, [], ◌∷◌, true, false, suc, ℕ, Some, None, IfSome, IfNone, IfOk, IfErr, OnOk, OnErr, length, slice_get};
 ghost use Rattle.index_model.specs.Faults.{HasCause};
