@@ -80,7 +80,7 @@ causes_of_taking images st old new op = record nothing_wrong {
 }
 
 -- why a step of a bulk delete of this set of rows is refused, on pages that are a tree and a device that
--- keeps its model: it writes the page that it reads where that has dead entries
+-- keeps its model: it writes the page that it reads if that has dead entries
 abbrev pub causes_of_deleting : (Row → Bool) → State → Backing → Backing → BulkDeleteOp → Circumstances
 causes_of_deleting dead st old new op =
     causes_of_taking (block_if (has_dead dead st op) (next_block op.cursor op.backtrack)) st old new op
@@ -160,7 +160,7 @@ StaysBeforePins st before after result =
     → has_pin (holding_of st.table other).pins block ≡ true → before.cursor ≤ block
     → StaysBefore block after result
 
--- where nobody else acts, what it has counted are the entries that it has left; at the end all of them
+-- if nobody else acts, what it has counted are the entries that it has left; at the end all of them
 abbrev pub CountsOn : (Row → Bool) → State → BulkDeleteOp → Result BulkDeleteStep Fault → Type 0
 CountsOn dead new after (Ok Going) = IsCounted dead new after
 CountsOn dead new after (Ok (Finished stats)) =

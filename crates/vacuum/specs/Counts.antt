@@ -52,7 +52,7 @@ abbrev pub IsBelow : ℕ → Option Backtrack → Type 0
 IsBelow cursor None = Unit {0}
 IsBelow cursor (Some backtrack) = (backtrack.block < cursor) × (backtrack.from < cursor)
 
--- Where nobody else acted since it began: the pages before the cursor have no dead entry any more, and as
+-- If nobody else acted since it began: the pages before the cursor have no dead entry any more, and as
 -- many entries as it counted.
 pub record IsCounted (dead : Row → Bool) (st : State) (op : BulkDeleteOp) : Type 0 where
   pub counted : op.left ≡ entries_below st.pages op.cursor
