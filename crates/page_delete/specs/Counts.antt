@@ -1,4 +1,4 @@
--- What a cleanup counts, and what it has cleaned, where nobody else acts.
+-- What a cleanup counts, and what it has cleaned, if nobody else acts.
 use Rattle.std.specs.Prelude.{◌≡◌, ◌≢◌, ℕ, suc, ◌+◌, ◌<◌, ◌≤◌, Result, Ok, Err, length, slice_get}
 use Rattle.index_model.specs.declared.fault.Fault.{Fault}
 use Rattle.page_codec.specs.declared.page.PageState.TheVariants.{HalfDead}
@@ -31,7 +31,7 @@ come_to cursor (Down high position) = suc cursor
 come_to cursor (Judge high parent) = suc cursor
 come_to cursor Unlink = suc cursor
 
--- Where nobody else acted since it began: the pages before the cursor have as many entries as it counted, and
+-- If nobody else acted since it began: the pages before the cursor have as many entries as it counted, and
 -- none of them is half-dead; it has come to blocks in use alone, and has unlinked fewer pages than it went
 -- past.
 pub record IsCleaned (st : State) (op : CleanupOp) : Type 0 where

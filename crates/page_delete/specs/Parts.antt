@@ -130,7 +130,7 @@ PinnedLeafPagesStay session old new =
     → has_pin (holding_of old.table other).pins block ≡ true → WasLeaf new.pages block
 
 -- A part of a step that may do one act, by which a leaf goes on its way out of the tree: it answers whether
--- it did. Where it did not, nothing is changed, and there is a reason; nor where it is refused, and on pages
+-- it did. If it did not, nothing is changed, and there is a reason; nor if it is refused, and on pages
 -- in order there is a cause, by which pages it writes. Leaves that others have pinned stay.
 pub record IsTried {S : Type 0} (g : Ghosts S) (session : ℕ) (written : State → List ℕ)
     (sure : State → Type 0) (change : State → State → Type 0) (reason : State → Type 0)
@@ -182,7 +182,7 @@ pub record IsTakenRight (st : State) (honest : Bool) (session : ℕ) (page : Pag
   pub taken : IsTakenToChange st honest session block sibling
   pub links : sibling.left ≡ Some page.block
 
--- ... to its left: none where there is none
+-- ... to its left: none if there is none
 abbrev pub IsTakenLeft : State → Bool → ℕ → Page → Option ℕ → Option Page → Type 0
 IsTakenLeft st honest session page None None = Unit {0}
 IsTakenLeft st honest session page None (Some sibling) = ⊥

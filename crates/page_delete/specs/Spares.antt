@@ -1,4 +1,4 @@
--- Which empty leaves a cleanup leaves in the tree, where nobody else acts.
+-- Which empty leaves a cleanup leaves in the tree, if nobody else acts.
 use Rattle.std.specs.Prelude.{◌≡◌, ◌≢◌, ℕ, ◌<◌, Some, Result, Ok, Err, [], length, slice_get}
 use Rattle.index_model.specs.declared.bound.Bound.{Bound}
 use Rattle.index_model.specs.declared.fault.Fault.{Fault}
@@ -57,7 +57,7 @@ IsSought st cursor (Down high position) = MayGo st cursor high
 IsSought st cursor (Judge high parent) = MayGoFrom st cursor parent
 IsSought st cursor Unlink = state_in st cursor ≡ HalfDead
 
--- Where nobody else acted since it began, and no page was half-dead then: no page is, but one at the cursor
+-- If nobody else acted since it began, and no page was half-dead then: no page is, but one at the cursor
 -- that is to be unlinked next, and each empty leaf before the cursor has to stay.
 pub record IsSparing (st : State) (op : CleanupOp) : Type 0 where
   pub none_dead : (block : ℕ) → state_in st block ≡ HalfDead

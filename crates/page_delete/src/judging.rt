@@ -116,7 +116,7 @@ fn right_is_live<S: PageStore>(
     }
 }
 
-// The right sibling of a leaf, where its siblings allow that it is made half-dead.
+// The right sibling of a leaf, if its siblings allow that it is made half-dead.
 fn siblings_allow<S: PageStore>(
     store: &mut S,
     session: Session,
@@ -167,7 +167,7 @@ fn next_leads(links: &[Downlink], at: usize, right: u32) -> bool
     }
 }
 
-// The place of the downlink to the leaf, where it is to lead to the right sibling instead.
+// The place of the downlink to the leaf, if it is to lead to the right sibling instead.
 fn handing_place(parent: &Page, leaf: u32, right: u32) -> Option<usize>
     ensures some { IfSome result (IsHandingOn parent.now leaf right) }
     ensures none { IfNone result ((at : ℕ) → IsHandingOn parent.now leaf right at → ⊥) }

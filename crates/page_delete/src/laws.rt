@@ -13,7 +13,7 @@ pub fn cleanups_are_bounded()
 {}
 
 /// Does nothing: its clauses say that at the beginning of a cleanup nothing is counted, and no half-dead page
-/// is after it, nor, where there is none, an empty leaf that might go.
+/// is after it, nor, if there is none, an empty leaf that might go.
 pub fn nothing_is_cleaned()
     ensures counts { NothingIsCleaned }
     ensures spares { NothingIsSpared }

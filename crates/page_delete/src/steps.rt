@@ -72,7 +72,7 @@ impl CleanupOp {
     /// another session holds a latch or a pin is passed. After `Finished` and after each fault but `Blocked`
     /// the call is over, and its store's `end` is due.
     ///
-    /// Refused with `Blocked` (4) where another session holds a latch of a page that conflicts, and the same
+    /// Refused with `Blocked` (4) if another session holds a latch of a page that conflicts, and the same
     /// step may be made again; with `Io` (2), `Stopped` (3), `LogFull` (9), `NoFrame` (10); with
     /// `PageDamaged` (17) on pages that are no tree: for a sibling that does not link back, among others. A
     /// refused step changes nothing.
@@ -117,7 +117,7 @@ impl CleanupOp {
         Ok(CleanupStep::Going)
     }
 
-    // Reads the metapage: where there is a level above the leaves it goes to the root.
+    // Reads the metapage: if there is a level above the leaves it goes to the root.
     fn read_metapage<S: PageStore>(
         &mut self,
         store: &mut S,

@@ -101,7 +101,7 @@ impl CleanupOp {
     }
 
     // Goes on where the page of this block, on the way to the parent, leads it. Refused with `PageDamaged`
-    // where it leads nowhere.
+    // if it leads nowhere.
     pub fn turn_from_page(
         &mut self,
         next_page: Option<NextPage>,
