@@ -42,7 +42,7 @@ links_ascend page admitted = by page.items admitted.kind
 pub second_tells : (low : Option Bound) (page : Page) → IsPage page → (IsSecondBeyond low (links_of page.items) → ⊥) → HasNotBeyond low (node_of page)
 second_tells low page admitted h = inr (second_not low (links_of page.items) (links_ascend page admitted) h)
 
--- where both are beyond the low, all are
+-- if both are beyond the low, all are
 pub all_beyond : (low : Option Bound) (page : Page) → IsPage page → IsFirstBeyond low (entries_of page.items) → IsSecondBeyond low (links_of page.items) → HasNotBeyond low (node_of page) → ⊥
 all_beyond low page admitted first second has = by page.items admitted.kind first second has
   where

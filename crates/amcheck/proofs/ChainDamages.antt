@@ -44,7 +44,7 @@ stops_below met used before stops is some added =
 not_so : false ≡ true → ⊥
 not_so e = cc
 
--- where each level is clear, so is the index without its parents and children
+-- if each level is clear, so is the index without its parents and children
 pub sound_levels : (keys : Bool) (pages : List Page) → ((depth : ℕ) → depth ≤ (index_of pages).top → IsClearLevel (index_of pages) keys depth) → IsSound false keys pages
 sound_levels keys pages clear (on_way depth step deep) number damage = (clear depth deep).way step number damage
 sound_levels keys pages clear (on_chain h) number damage = (clear h.depth h.deep).chain h number refl damage
@@ -73,7 +73,7 @@ module _ (keys : Bool) (pages : List Page) (depth number block : ℕ) (deep : de
   way_first f (at_page h) n damage before = not_so damage.0
   way_first f (nowhere b) n damage before = not_so damage.0
 
-  -- ... and before one of the chain, where the way is clear
+  -- ... and before one of the chain, if the way is clear
   chain_first : (way : IsClearPath ix depth) (f : IsFirstOfChain ix keys depth number block) (other : Site ix) (n : ℕ) → IsDamage false keys other n
       → ComesBefore (rank other n) (rank (on_chain f.here) number) → ⊥
   chain_first way f (on_way d s e) n damage (inl lt) = omega (arith, lt)

@@ -7,7 +7,7 @@ use Rattle.amcheck.specs.declared.report.CheckFault.{CheckFault}
 use Rattle.amcheck.specs.declared.report.CheckFault.TheVariants.{Damage, Refused}
 use Rattle.amcheck.specs.declared.report.Report.{Report}
 
--- where there is no damage the report on the pages, and else the number and the block of the first one;
+-- if there is no damage the report on the pages, and else the number and the block of the first one;
 -- parents and children are seen or not, and what a unique index asks of bounds and keys on such an index
 -- alone
 abbrev pub IsAnswer : (parents keys : Bool) → List Page → Result Report CheckFault → Type 0

@@ -1,4 +1,4 @@
--- What is judged of the downlinks of a page of a chain, where all chains are right. The first of them has the
+-- What is judged of the downlinks of a page of a chain, if all chains are right. The first of them has the
 -- page's low for its bound.
 use Rattle.std.specs.Prelude.{◌≡◌, ◌≢◌, ◌⊎◌, ℕ, suc, ◌<◌, Bool, true, false, Some, List, slice_get, get_or}
 use Rattle.page_codec.specs.declared.page.Downlink.{Downlink}

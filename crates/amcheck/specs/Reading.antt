@@ -19,7 +19,7 @@ pub record RoomIsReady (room : Room) (used : ℕ) : Type 0 where
   pub places : room.places.items ≡ replicate used None
   pub linked : room.linked.items ≡ replicate used false
 
--- these were read, one for each block in use: pages as the format demands, and where the device kept its
+-- these were read, one for each block in use: pages as the format demands, and if the device kept its
 -- model those of the store
 pub record PagesAreRead (st : State) (backing : Backing) (pages : List Page) : Type 0 where
   pub count : length pages ≡ length st.pages

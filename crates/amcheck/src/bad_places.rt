@@ -86,7 +86,7 @@ pub(crate) fn find_bad(
         )
 }
 
-/// The number of a page that was met before: 2 where its left link isn't the page before, and else 3.
+/// The number of a page that was met before: 2 if its left link isn't the page before, and else 3.
 fn met_number(pages: &Pages, stop: &Stop) -> u8
     requires in_use { stop.now.block < length pages.now }
     ensures two { result ≡ 2 → (nodes_of pages.now stop.now.block).left ≢ stop.now.left }

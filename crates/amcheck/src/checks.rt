@@ -39,7 +39,7 @@ use std::thread::Threads;
 /// entry and no two entries share a key.
 ///
 /// Refused with `NoMemory` (1), and then nothing was read; with `Io` (2), `Stopped` (3); with `NoFrame` (10)
-/// where all frames are pinned; with `PageDamaged` (17) only where the device did not keep its model.
+/// if all frames are pinned; with `PageDamaged` (17) only if the device did not keep its model.
 pub fn check<R: Threads + Sync, S: PageStore, P: Progress>(
     rt: &R,
     alloc: Global,
@@ -49,7 +49,7 @@ pub fn check<R: Threads + Sync, S: PageStore, P: Progress>(
     ensures steps { Continues S.follows store.old store.new }
     ensures state { S.state store.new ≡ S.state store.old }
     ensures room { KeepsRoom (S.state store.old) (S.backing store.old) (S.backing store.new) }
-    // Nothing is forced or written except for the frames that the pages take, and the log isn't stopped where
+    // Nothing is forced or written except for the frames that the pages take, and the log isn't stopped if
     // a check answers.
     ensures frames { AreFetched (S.state store.old) (S.memory store.old) (S.memory store.new)
         (S.backing store.old) (S.backing store.new) }
@@ -89,7 +89,7 @@ pub fn check_one<S: PageStore, P: Progress>(
     ensures steps { Continues S.follows store.old store.new }
     ensures state { S.state store.new ≡ S.state store.old }
     ensures room { KeepsRoom (S.state store.old) (S.backing store.old) (S.backing store.new) }
-    // Nothing is forced or written except for the frames that the pages take, and the log isn't stopped where
+    // Nothing is forced or written except for the frames that the pages take, and the log isn't stopped if
     // a check answers.
     ensures frames { AreFetched (S.state store.old) (S.memory store.old) (S.memory store.new)
         (S.backing store.old) (S.backing store.new) }
@@ -135,7 +135,7 @@ pub fn check_parents<R: Threads + Sync, S: PageStore, P: Progress>(
     ensures steps { Continues S.follows store.old store.new }
     ensures state { S.state store.new ≡ S.state store.old }
     ensures room { KeepsRoom (S.state store.old) (S.backing store.old) (S.backing store.new) }
-    // Nothing is forced or written except for the frames that the pages take, and the log isn't stopped where
+    // Nothing is forced or written except for the frames that the pages take, and the log isn't stopped if
     // a check answers.
     ensures frames { AreFetched (S.state store.old) (S.memory store.old) (S.memory store.new)
         (S.backing store.old) (S.backing store.new) }
@@ -175,7 +175,7 @@ pub fn check_parents_one<S: PageStore, P: Progress>(
     ensures steps { Continues S.follows store.old store.new }
     ensures state { S.state store.new ≡ S.state store.old }
     ensures room { KeepsRoom (S.state store.old) (S.backing store.old) (S.backing store.new) }
-    // Nothing is forced or written except for the frames that the pages take, and the log isn't stopped where
+    // Nothing is forced or written except for the frames that the pages take, and the log isn't stopped if
     // a check answers.
     ensures frames { AreFetched (S.state store.old) (S.memory store.old) (S.memory store.new)
         (S.backing store.old) (S.backing store.new) }

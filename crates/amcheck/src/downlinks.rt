@@ -1,4 +1,4 @@
-//! What is judged of the downlinks of a page of a chain, where all chains are right.
+//! What is judged of the downlinks of a page of a chain, if all chains are right.
 
 ghost use Rattle.std.specs.Prelude.{◌≡◌, ◌+◌, ◌<◌, ◌≤◌, ◌↔◌, ℕ, suc, true, false, Some, IsTrue, IfNone, IfSome, length, slice_get};
 ghost use Rattle.page_codec.specs.declared.page.Downlink.{Downlink};

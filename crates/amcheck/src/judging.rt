@@ -32,7 +32,7 @@ struct Root {
     level: u8,
 }
 
-/// The root that the metapage, the page of block 0, names. Damage 1 of block 0, where there is no page.
+/// The root that the metapage, the page of block 0, names. Damage 1 of block 0, if there is no page.
 fn find_root(pages: &Pages) -> Result<Root, Damage>
     requires stand { StandAtTheirBlocks pages.now }
     ensures named { IfOk result (λ root. NamesRoot pages.now root.block root.level) }
@@ -57,7 +57,7 @@ fn find_root(pages: &Pages) -> Result<Root, Damage>
     }
 }
 
-/// Judges parents and children, where the chains of all levels are right, and at last the pages on no chain:
+/// Judges parents and children, if the chains of all levels are right, and at last the pages on no chain:
 /// the first damage, if there is one. No block was noted or marked before. Nothing here depends on keys.
 fn judge_parents(
     pages: &Pages,

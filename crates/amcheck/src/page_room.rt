@@ -61,7 +61,7 @@ impl PageRoom {
         })
     }
 
-    /// Keeps one page more, where there is room for so many.
+    /// Keeps one page more, if there is room for so many.
     pub(crate) fn add(&mut self, used: u32, page: &Page)
         requires room { HasPageRoom self.old used }
         requires more { length self.old.list.pages < used }

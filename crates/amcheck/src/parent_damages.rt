@@ -1,4 +1,4 @@
-//! The first damage of parents and children, where all chains are right.
+//! The first damage of parents and children, if all chains are right.
 
 ghost use Rattle.std.specs.Prelude.{◌≡◌, ◌<◌, ◌≤◌, ℕ, suc, true, false, IfNone, IfSome, length};
 ghost use Rattle.damages.specs.Damages.{index_of, IsSound, IsFirstDamage};
