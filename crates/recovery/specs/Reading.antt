@@ -15,7 +15,7 @@ use Rattle.recovery.specs.declared.reading.Found.{Found}
 abbrev pub block_bytes : Format → ℕ → List ℕ → List ℕ
 block_bytes limits block file = slice_range file (place limits block) (place limits block + 4096)
 
--- the bytes are those of the page, which the format admits; or zeros, where there is none
+-- the bytes are those of the page, which the format admits; or zeros, if there is none
 abbrev pub AreBytesOf : Option Page → List ℕ → Type 0
 AreBytesOf None bytes = bytes ≡ replicate 4096 0
 AreBytesOf (Some page) bytes = IsPage page × (bytes ≡ page_bytes page)
@@ -53,7 +53,7 @@ abbrev pub IsDamagedBlock : Format → Bool → List ℕ → Fault → Type 0
 IsDamagedBlock limits honest file fault = (block : ℕ) × (fault ≡ PageDamaged block)
     × (IsTrue honest → IsDamagedAt limits block file)
 
--- the greatest cycle number of these pages, 0 where there is none
+-- the greatest cycle number of these pages, 0 if there is none
 abbrev pub greatest_cycle : List Page → ℕ
 greatest_cycle [] = 0
 greatest_cycle (page ∷ pages) = max page.cycle (greatest_cycle pages)

@@ -176,9 +176,9 @@ fn read_index<D: Device>(alloc: Global, device: &mut D, frames: u32) -> Result<P
 /// Refused, tested in this order, with the device given back: with `BadLimits` (18) for other numbers of
 /// frames; with `BadSuper` (14) for a device of less than 4,096 bytes; with `BadSuper`, `BadVersion` (15) or
 /// `BadLimits` for what stands in place of a superblock; with `BadSuper` for a device shorter than the
-/// superblock says: up to here nothing is written. Then with `LogDamaged` (16) where an open group of the log
+/// superblock says: up to here nothing is written. Then with `LogDamaged` (16) if an open group of the log
 /// is none, and with `PageDamaged` (17) for the first block in use whose page is none that may stand there,
-/// or for block 0 where none is in use. A failed call of the device answers `Io` (2), a growth that was
+/// or for block 0 if none is in use. A failed call of the device answers `Io` (2), a growth that was
 /// refused `NoMemory` (1).
 ///
 /// It never changes which pages the bytes stand for: after a refusal, or a crash at any moment, it may be
