@@ -99,7 +99,7 @@ IsServable st (ToScan range) = Unit {0}
 IsServable st (ToBulk set) = ⊥
 IsServable st ToCleanup = ⊥
 
--- A call has begun: where no page has an incomplete split and its leaf can serve it, it is due after so many
+-- A call has begun: if no page has an incomplete split and its leaf can serve it, it is due after so many
 -- steps more than the root's level. What is left to do for it has a bound, whatever the pages are.
 pub record HasSteps (old new : State) (request : Request) (slot : Option Op) : Type 0 where
   pub due : NoneIsIncomplete old.pages → IsServable old request → IsDueIn new slot (root_level old.pages + steps_for request)

@@ -27,7 +27,7 @@ pub record StepAnswerMeans (is_stopped : Bool) (old new : State) (before after :
   pub stats : CountsStats old before answer
   -- while a scan has entries ready it tells how many, and changes nothing
   pub waits : WaitsToGive is_stopped old new before after answer
-  -- where it isn't the last of its call, each running call keeps its start number
+  -- if it isn't the last of its call, each running call keeps its start number
   pub starts : is_last answer ≡ false → new.running ≡ old.running
 
 -- a step, whatever the pages are
@@ -48,7 +48,7 @@ pub record StepAlways {S : Type 0} (g : Ghosts S) (old new : S) (before after : 
   -- it does one act at most, and only a call that writes does one
   pub kept : KeepsPages (g.state old) (g.state new)
   pub calm : OnlyWritersAct before (g.state old) (g.state new)
-  -- over a device that keeps its model less is left to do, where it goes on, and no more in any case
+  -- over a device that keeps its model less is left to do, if it goes on, and no more in any case
   pub less : (g.backing new).honest ≡ true → StepHasLessLeft (g.state old) (g.state new) before after answer
   pub no_more : (g.backing new).honest ≡ true → NoMoreIsLeft (g.state old) (g.state new) before after
 
@@ -64,10 +64,10 @@ pub record IsFitted (st : State) (sets : DeadSets) (slot : Option Op) : Type 0 w
 pub record FittedStepFollows (old new : State) (before after : Option Op) (answer : Answer) : Type 0 where
   -- a call that was due comes to what is awaited at its last step, and each step before leaves one fewer
   pub due : (left : ℕ) → IsDueIn old before (suc left) → DueCountsDown old new before after left answer
-  -- where only pages had incomplete splits that its insert is to finish, only such are; and none after its
+  -- if only pages had incomplete splits that its insert is to finish, only such are; and none after its
   -- end, unless it tells of a fault
   pub incomplete : OnlyOwnAreIncomplete old before → LeavesOwnIncomplete new before after answer
-  -- a scan that has read a leaf stands on it, and on none where it goes on to another page
+  -- a scan that has read a leaf stands on it, and on none if it goes on to another page
   pub stands : StandsByAnswer new before after answer
   -- a bulk delete or a cleanup that has finished tells how many deleted pages may be used again now
   pub frees : CountsFree new before answer
@@ -76,12 +76,12 @@ pub record FittedStepFollows (old new : State) (before after : Option Op) (answe
 pub record EachStepFollows (sets : DeadSets) (old new : State) (before after : Option Op) (answer : Answer) : Type 0 where
   -- a bulk delete doesn't come past a leaf that another session has pinned, nor to its end
   pub waits : KeepsBeforePins old before after answer
-  -- where nobody else acts, what a bulk delete or a cleanup has counted are the entries that it has left; at
+  -- if nobody else acts, what a bulk delete or a cleanup has counted are the entries that it has left; at
   -- its end it tells how many there are, and a cleanup leaves no half-dead page
   pub entries : CountsEntries sets old new before after answer
   -- a cleanup counts the pages that it deletes, and tells how many they were
   pub deletes : CountsPages old new before after answer
-  -- where nobody else holds a page, a cleanup leaves no empty leaf after it that might leave the tree
+  -- if nobody else holds a page, a cleanup leaves no empty leaf after it that might leave the tree
   pub spares : SparesLeaves old new before after answer
 
 -- what is followed of a call by its step

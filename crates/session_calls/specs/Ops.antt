@@ -187,7 +187,7 @@ runs_bulk_delete st = nat_lt 0 st.cycle
 abbrev pub causes_of_requesting : Bool → State → Backing → Bool → Circumstances
 causes_of_requesting excluded st old busy = record (causes_of_beginning st old busy) { vacuum_runs = excluded }
 
--- a fault that is left after has its cause
+-- the fault, if there is one, has its cause
 abbrev pub IsFaultCaused : Circumstances → Option Fault → Type 0
 IsFaultCaused at None = Unit {0}
 IsFaultCaused at (Some fault) = HasCause at fault
@@ -207,7 +207,7 @@ IsCaused at (Refused fault) = HasCause at fault
 IsCaused at (Added action unfinished) = IsFaultCaused (once_added at) unfinished
 IsCaused at answer = Unit {0}
 
--- what may be so where a step of this call is refused, on a unique index or another, whatever the pages are;
+-- what may be so if a step of this call is refused, on a unique index or another, whatever the pages are;
 -- the set that a bulk delete names may not be there
 abbrev pub causes_of_stepped_any : Bool → Op → Circumstances
 causes_of_stepped_any unique (Insert op) = causes_of_inserting_any unique op.entry

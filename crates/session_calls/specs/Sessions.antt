@@ -129,7 +129,7 @@ given_one call e = record call { given = call.given ++ e ∷ [] }
 abbrev pub Refuses : Fault → ℕ → Call → Call → Type 0
 Refuses fault count call after = after ≡ (if ends_call fault then ended call (Failed fault) count else call)
 
--- an insert whose Add is noted ends with it, as of now; where a fault left a split unfinished, no action is
+-- an insert whose Add is noted ends with it, as of now; if a fault left a split unfinished, no action is
 -- appended
 pub record EndsWithAdd (action : ℕ) (unfinished : Option Fault) (count : ℕ) (effect : Option Effect) (call after : Call) : Type 0 where
   pub noted_is : (noted call count effect).added ≡ Some action
@@ -173,8 +173,8 @@ abbrev pub NothingIsReady : Option Op → Type 0
 NothingIsReady None = Unit {0}
 NothingIsReady (Some op) = ready_of op ≡ []
 
--- where a step that goes on owes to leave less to do: each of a bulk delete and of a cleanup does, any other
--- where no act is done
+-- when a step that goes on owes to leave less to do: each of a bulk delete and of a cleanup does, any other
+-- if no act is done
 abbrev pub OwesLess : Option Op → State → State → Type 0
 OwesLess None old new = new.acts ≡ old.acts
 OwesLess (Some (Insert op)) old new = new.acts ≡ old.acts
@@ -182,7 +182,7 @@ OwesLess (Some (Scan op)) old new = new.acts ≡ old.acts
 OwesLess (Some (Bulk set op)) old new = Unit {0}
 OwesLess (Some (Cleanup op)) old new = Unit {0}
 
--- a step that ends no call leaves less to do: each `Going` that owes it, and each `Ready` where all that was
+-- a step that ends no call leaves less to do: each `Going` that owes it, and each `Ready` after all that was
 -- ready had been given
 abbrev pub StepHasLessLeft : State → State → Option Op → Option Op → Answer → Type 0
 StepHasLessLeft old new before after Going = OwesLess before old new → work_in new after < work_in old before
@@ -193,12 +193,12 @@ StepHasLessLeft old new before after answer = Unit {0}
 abbrev pub NoMoreIsLeft : State → State → Option Op → Option Op → Type 0
 NoMoreIsLeft old new before after = new.acts ≡ old.acts → work_in new after ≤ work_in old before
 
--- an entry that was given leaves less to do; where none is given, none is ready, and nothing is changed
+-- an entry that was given leaves less to do; if none is given, none is ready, and nothing is changed
 abbrev pub GivesLess : Option Op → Option Op → Answer → Type 0
 GivesLess before after (Gave (Some e)) = (most : ℕ) (pages : List Page) → work_left most pages after < work_left most pages before
 GivesLess before after answer = (after ≡ before) × NothingIsReady before
 
--- what is ready, where the slot runs a call
+-- what is ready, if the slot runs a call
 abbrev pub slot_ready : Option Op → List Entry
 slot_ready None = []
 slot_ready (Some op) = ready_of op
@@ -234,7 +234,7 @@ AnswersStep (Some (Cleanup op)) after (Finished stats) = Unit {0}
 AnswersStep before after (Refused fault) = Unit {0}
 AnswersStep before after answer = ⊥
 
--- only a scan gives: an entry, or none where none is ready; all else is refused
+-- only a scan gives: an entry, or none if none is ready; all else is refused
 abbrev pub AnswersNext : Option Op → Answer → Type 0
 AnswersNext (Some (Scan op)) (Gave entry) = Unit {0}
 AnswersNext (Some (Scan op)) answer = ⊥
@@ -246,7 +246,7 @@ abbrev pub AnswersEnd : Option Op → Answer → Type 0
 AnswersEnd (Some op) answer = answer ≡ Ended
 AnswersEnd None answer = answer ≡ Refused NoSession
 
--- what is answered where the session has no call to step
+-- what is answered if the session has no call to step
 abbrev pub no_call : Bool → Answer
 no_call is_stopped = if is_stopped then Refused Stopped else Refused NoSession
 
@@ -255,7 +255,7 @@ abbrev pub slot_add : Option Op → Option ℕ
 slot_add None = None
 slot_add (Some op) = add_of op
 
--- after a session's call has ended: what it held is let go; and where it was a bulk delete, none runs now
+-- after a session's call has ended: what it held is let go; and if it was a bulk delete, none runs now
 abbrev pub let_go : Bool → ℕ → State → State
 let_go false session st = after_end session st
 let_go true session st = after_stop_cycle (after_end session st)
@@ -306,7 +306,7 @@ OnlyOwnAreIncomplete st None = OnlyTargetsAreIncomplete st []
 OnlyOwnAreIncomplete st (Some op) = OnlyTargetsAreIncomplete st (op_targets op)
 
 -- Which pages have incomplete splits after a step, by what it answers: those alone whose splits the insert is
--- to finish yet; none where its entry is added and nothing is left unfinished; where a fault ends it, those
+-- to finish yet; none if its entry is added and nothing is left unfinished; if a fault ends it, those
 -- whose splits it was to finish.
 abbrev pub LeavesOwnIncomplete : State → Option Op → Option Op → Answer → Type 0
 LeavesOwnIncomplete new before after (Added action (Some fault)) = OnlyOwnAreIncomplete new before
@@ -352,7 +352,7 @@ pub record CallEffect (session : ℕ) (ask : Ask) (effect : Option Effect) (old 
   pub others : OthersRely session old new
 
 -- One event of a running call: it appends at most one action, which the call was asked for; what is told of
--- it; its cause; the pages match the longer history; what it does to their shape; the limits stay, and where
+-- it; its cause; the pages match the longer history; what it does to their shape; the limits stay, and if
 -- no action is logged, the pages; others may rely; the cycle number stays until a bulk delete ends, and with
 -- it leaves stay, or are split as a bulk delete needs, except for a cleanup's; those that others have pinned
 -- stay; the call goes on meeting its definition; what the slot holds then; and what a bulk delete is to
@@ -406,7 +406,7 @@ pub record StandsOnLeaf (st : State) (slot : Option Op) : Type 0 where
   pub live : IsLeafAt st.pages block page
   pub of_leaf : (e : Entry) → is_among (slot_ready slot) e ≡ true → is_among (entries_of page.items) e ≡ true
 
--- where a step leaves a scan that had nothing ready: on the leaf that it has read, or on none where it goes
+-- where a step leaves a scan that had nothing ready: on the leaf that it has read, or on none if it goes
 -- on
 abbrev pub StandsByAnswer : State → Option Op → Option Op → Answer → Type 0
 StandsByAnswer new (Some (Scan op)) after Going = leaf_of after ≡ None
@@ -455,7 +455,7 @@ CountsFree st (Some (Bulk set op)) (Finished stats) = stats.pages_free ≡ reusa
 CountsFree st (Some (Cleanup op)) (Finished stats) = stats.pages_free ≡ reusable_in st
 CountsFree st before answer = Unit {0}
 
--- as many more pages are deleted after a step of a cleanup as it has counted more, where it runs on
+-- as many more pages are deleted after a step of a cleanup as it has counted more, if it runs on
 abbrev pub CountsPagesOn : State → State → CleanupOp → Option Op → Type 0
 CountsPagesOn old new before (Some (Cleanup after)) = deleted_in new + before.deleted ≡ deleted_in old + after.deleted
 CountsPagesOn old new before after = Unit {0}
@@ -466,7 +466,7 @@ CountsPages old new (Some (Cleanup op)) after Going = CountsPagesOn old new op a
 CountsPages old new (Some (Cleanup op)) after (Finished stats) = deleted_in new + op.deleted ≡ deleted_in old + stats.pages_newly_deleted
 CountsPages old new before after answer = Unit {0}
 
--- where nobody else acts, what a bulk delete or a cleanup has counted are the entries that it has left; at
+-- if nobody else acts, what a bulk delete or a cleanup has counted are the entries that it has left; at
 -- the end all of them; and a cleanup leaves no half-dead page
 abbrev pub CountsEntries : DeadSets → State → State → Option Op → Option Op → Answer → Type 0
 CountsEntries sets old new (Some (Bulk set op)) after answer =
@@ -488,7 +488,7 @@ abbrev pub OnlyNeededAreLeft : State → Answer → Type 0
 OnlyNeededAreLeft st (Finished stats) = OnlyNeededStay st
 OnlyNeededAreLeft st answer = Unit {0}
 
--- where nobody else holds a page, and no page was half-dead when it began, a cleanup leaves no empty leaf
+-- if nobody else holds a page, and no page was half-dead when it began, a cleanup leaves no empty leaf
 -- that might leave the tree
 abbrev pub SparesLeaves : State → State → Option Op → Option Op → Answer → Type 0
 SparesLeaves old new (Some (Cleanup op)) after answer =
@@ -541,7 +541,7 @@ pub record SessionBegins (old new : State) (sets : DeadSets) (start : Entry → 
   pub leaves : new.cycle ≡ old.cycle → LeafPagesStay None old new
   pub deletions : IsOfSets sets request → SlotDeletions new sets start history number (length history) slot
 
--- what an operation runs after a step: nothing, where its answer is the last
+-- what an operation runs after a step: nothing, if its answer is the last
 abbrev pub slot_after : Answer → Op → Option Op
 slot_after answer op = if is_last answer then None else Some op
 

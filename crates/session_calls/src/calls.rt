@@ -89,7 +89,7 @@ impl Calls {
         at < self.slots.len() && self.slots[at].is_busy()
     }
 
-    /// The number of the action that added the entry of the session's insert, where it runs one whose entry
+    /// The number of the action that added the entry of the session's insert, if it runs one whose entry
     /// is added.
     pub fn added(&self, session: u32) -> Option<u64>
         ensures { result ≡ slot_add (slot_of self.now.slots.items session) }
@@ -101,7 +101,7 @@ impl Calls {
         self.slots[at].added()
     }
 
-    /// How many entries the session's scan has ready to be given. Where it runs none, there are none.
+    /// How many entries the session's scan has ready to be given. If it runs none, there are none.
     pub fn ready(&self, session: u32) -> u32
         ensures { result ≡ ready_count (slot_of self.now.slots.items session) }
     {
@@ -112,8 +112,8 @@ impl Calls {
         self.slots[at].ready()
     }
 
-    /// Begins a call of the session. Refused with the first of these that applies: `Stopped` (3), where the
-    /// log failed before or the count of calls begun is at its end; `NoSession` (12), where there is no such
+    /// Begins a call of the session. Refused with the first of these that applies: `Stopped` (3), if the
+    /// log failed before or the count of calls begun is at its end; `NoSession` (12), if there is no such
     /// session, or not the set of dead rows that is named; `SessionBusy` (13); `VacuumRunning` (11), for a
     /// bulk delete or a cleanup while a session runs either. Nothing is changed then.
     pub fn begin<S: PageStore, T: DeadRows>(
@@ -157,8 +157,8 @@ impl Calls {
         }
     }
 
-    /// Makes one step of the session's call. Where the answer ends the call it has none afterwards, and what
-    /// the session held is let go. Refused with `NoSession` (12), or `Stopped` (3), where it has none; a
+    /// Makes one step of the session's call. If the answer ends the call it has none afterwards, and what
+    /// the session held is let go. Refused with `NoSession` (12), or `Stopped` (3), if it has none; a
     /// refused step changes nothing, but that the call is over, unless it was refused with `Blocked` (4) or
     /// `NoSession`.
     ///
@@ -191,7 +191,7 @@ impl Calls {
     }
 
     /// Takes the next entry that the session's scan has ready, if there is one. Refused with `NoSession` (12)
-    /// where it runs none. Nothing else is changed.
+    /// if it runs none. Nothing else is changed.
     pub fn next(&mut self, session: u32) -> Answer
         ensures idle { has_call self.old.slots.items session ≡ false
             → (result ≡ no_call false) × (self.new ≡ self.old) }
@@ -205,7 +205,7 @@ impl Calls {
     }
 
     /// Gives the session's call up: nothing is logged, and what it held is let go. Refused with `NoSession`
-    /// (12) where it has none.
+    /// (12) if it has none.
     pub fn end<S: PageStore>(&mut self, store: &mut S, session: u32) -> Answer
         ensures steps { Continues S.follows store.old store.new }
         ensures idle { has_call self.old.slots.items session ≡ false
@@ -248,8 +248,8 @@ fn is_of_sets<T: DeadRows>(sets: &[T], request: &Request) -> bool
     }
 }
 
-// The session that may begin a call: refused where no call begins, then where there is none of this number or
-// the set that is named isn't there, then where it has a call.
+// The session that may begin a call: refused if no call begins, then if there is none of this number or
+// the set that is named isn't there, then if it has a call.
 fn find(is_stopped: bool, has_set: bool, slots: &[Slot], session: u32) -> Result<Session, Fault>
     requires few { length slots.now ≤ 64 }
     ensures { result ≡ session_to_begin is_stopped has_set (slice_get slots.now session) session }

@@ -20,7 +20,7 @@ use index_model::{DeadRows, Fault};
 use page_action::PageStore;
 use page_codec::Page;
 
-/// Makes one step of a session's call. Where the answer ends the call, the slot is empty afterwards, and what
+/// Makes one step of a session's call. If the answer ends the call, the slot is empty afterwards, and what
 /// the session held is let go. A slot with no call is refused with `NoSession` (12), or `Stopped` (3). A
 /// refused step changes nothing, but that the call is over, unless it was refused with `Blocked` or
 /// `NoSession`.
@@ -64,7 +64,7 @@ pub(crate) fn step<S: PageStore, T: DeadRows>(
     answer
 }
 
-// Lets go what the session of a call holds that ends; and where it is a bulk delete, none runs now.
+// Lets go what the session of a call holds that ends; and if it is a bulk delete, none runs now.
 fn let_go<S: PageStore>(store: &mut S, op: &Op)
     ensures steps { Continues S.follows store.old store.new }
     ensures backing { S.backing store.new ≡ S.backing store.old }

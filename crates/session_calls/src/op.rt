@@ -74,7 +74,7 @@ impl Op {
         matches!(self, Op::Bulk { .. })
     }
 
-    /// The number of the action that added its entry, where it is an insert whose entry is added.
+    /// The number of the action that added its entry, if it is an insert whose entry is added.
     pub fn added(&self) -> Option<u64>
         ensures { result ≡ add_of self.now }
     {

@@ -58,7 +58,7 @@ impl Slot {
         }
     }
 
-    /// The number of the action that added its call's entry, where that is an insert whose entry is added.
+    /// The number of the action that added its call's entry, if that is an insert whose entry is added.
     pub fn added(&self) -> Option<u64>
         ensures { result ≡ slot_add self.now }
     {
