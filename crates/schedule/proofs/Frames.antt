@@ -126,7 +126,7 @@ module _ {S : Type 0} (g : Ghosts S) (start : Entry → Bool) (old : Moment S) (
   cycle_by : (g.state store).cycle ≡ cycle_after (asked_of old.sets op) slot (g.state old.store).cycle
   cycle_by = subst (λ (x : Ask). (g.state store).cycle ≡ cycle_after x slot (g.state old.store).cycle) runs.runs.ask cycle
 
-  -- where another session runs a bulk delete, this one runs neither that nor a cleanup, and leaves stay
+  -- if another session runs a bulk delete, this one runs neither that nor a cleanup, and leaves stay
   stay_for : (u : ℕ) → u ≢ session → slot_vacuums (slot_of old.slots u) ≡ true → LeafPagesStay effect (g.state old.store) (g.state store)
   stay_for u ne theirs_runs = by (is_vacuum op) refl
     where

@@ -203,7 +203,7 @@ refused_for at Fails fails (Checkpointed k) h = tt
 refused_for at Fails fails (Refused fault) h = fails fault h
 
 module _ {S : Type 0} (g : Ghosts S) (start : Entry → Bool) (old : Moment S) (fits : Fits g start old) (new : Moment S) where
-  -- asking for the next entry is refused where the call is no scan
+  -- asking for the next entry is refused if the call is no scan
   next_fails : (session : ℕ) (ask : Ask) (op : Op) (fault : Fault) → HasCause (causes_of_asked_next ask) fault → MoveFails g Takes session ask op old new.store fault
   next_fails session (AskScan range) op fault h = absurd (no_cause fault h)
   next_fails session (AskInsert e) op fault h = no_session false (MoveFails g Takes session (AskInsert e) op old new.store) (λ k. absurd (false≢true k)) tt fault h

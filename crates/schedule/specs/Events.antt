@@ -77,7 +77,7 @@ pub record Stays {S : Type 0} (g : Ghosts S) (answer : Answer) (old new : Moment
   pub refused : answer ≡ Refused fault
   pub still : IsSameState g old new
 
--- what is answered where so many actions are durable; a flush tells no such number
+-- what is answered if so many actions are durable; a flush tells no such number
 abbrev pub kept_answer : Upkeep → ℕ → Option Answer
 kept_answer Forces count = Some (Forced count)
 kept_answer Flushes count = None
@@ -99,7 +99,7 @@ pub record UpkeepIsDone {S : Type 0} (g : Ghosts S) (upkeep : Upkeep) (answer : 
   pub tells : UpkeepAnswerMeans g upkeep answer old new
   pub still : IsSameState g old new
 
--- What was done for the store, whatever the pages are: these are as they were; where it is told as done, so
+-- What was done for the store, whatever the pages are: these are as they were; if it is told as done, so
 -- many acts were done, and all are durable; a refusal has its cause.
 pub record StoreIsKept {S : Type 0} (g : Ghosts S) (upkeep : Upkeep) (answer : Answer) (old new : S) : Type 0 where
   pub state_is : g.state new ≡ g.state old
@@ -180,7 +180,7 @@ Happens g start (BeginsCall session request) answer old new = MayBegin g (slice_
 Happens g start (MovesCall session move) answer old new = MovesOn g start (has_call old.slots session) session answer old new
 Happens g start (MaintainsStore upkeep) answer old new = UpkeepIsDone g upkeep answer old new ⊎ Stays g answer old new
 
--- the circumstances where there is no such session, or no call in it
+-- the circumstances if there is no such session, or no call in it
 abbrev pub causes_of_no_call : Bool → Circumstances
 causes_of_no_call is_stopped = record nothing_wrong { is_stopped = is_stopped; no_such_session = true }
 
@@ -248,7 +248,7 @@ abbrev pub EventAnswerMeans : Kind → Bool → State → State → Option Op �
 EventAnswerMeans (MovesCall session Steps) is_stopped old new before after answer = StepAnswerMeans is_stopped old new before after answer
 EventAnswerMeans kind is_stopped old new before after answer = Unit {0}
 
--- where the log failed before, this is refused with Stopped, whatever else is so
+-- if the log failed before, this is refused with Stopped, whatever else is so
 abbrev pub RefusesStopped : Bool → Answer → Type 0
 RefusesStopped is_stopped answer = is_stopped ≡ true → answer ≡ Refused Stopped
 
@@ -426,7 +426,7 @@ KeepsPinnedLeaves kind old new =
     (session block : ℕ) (page : Page) → (IsOfSession session kind → ⊥) → IsLeafAt old.pages block page
     → has_pin (holding_of old.table session).pins block ≡ true → WasLeaf new.pages block
 
--- What an event leaves as it was: the limits and the number of frames; and where it appends no action, the
+-- What an event leaves as it was: the limits and the number of frames; and if it appends no action, the
 -- pages. So an event of others that appends no action costs a call that is due no step.
 pub record SameButForActs {S : Type 0} (g : Ghosts S) (kind : Kind) (old new : Moment S) : Type 0 where
   pub limits : (g.state new.store).limits ≡ (g.state old.store).limits
@@ -458,7 +458,7 @@ pub record EventAlso {S : Type 0} (g : Ghosts S) (start : Entry → Bool) (kind 
   pub leaves : KeepsPinnedLeaves kind (g.state old.store) (g.state new.store)
   -- no low of a page that isn't deleted rises
   pub lows : NoLowRises (g.state old.store).pages (g.state new.store).pages
-  -- the limits and the number of frames are as they were; so are the pages, where it appends no action
+  -- the limits and the number of frames are as they were; so are the pages, if it appends no action
   pub quiet : SameButForActs g kind old new
   -- a number that it answers as durable is
   pub durable : IsDurable (g.backing new.store).durable answer

@@ -39,7 +39,7 @@ pub record IsFreeSession {S : Type 0} (g : Ghosts S) (now : Moment S) (session :
   pub none : (number : ℕ) (call : Call) → IsRunningCall now.calls session number call → ⊥
   pub idle : IsIdle (g.state now.store) session
 
--- the slot of a session is empty where the session is free, and else has what its running call runs
+-- the slot of a session is empty if the session is free, and else has what its running call runs
 abbrev pub SlotMatches : {S : Type 0} → Ghosts S → (Entry → Bool) → Moment S → ℕ → Option Op → Type 0
 SlotMatches g start now session None = IsFreeSession g now session
 SlotMatches g start now session (Some op) = SlotRuns g start now session op

@@ -20,7 +20,7 @@ pub record MayComeNext (start : Entry → Bool) (history : List Action) (range :
   pub was_there : ThereAtSomeMoment start history began until entry
   pub beyond : IsPast (last_or None given) entry
 
--- where a session's scan has an entry ready, another match may come next
+-- if a session's scan has an entry ready, another match may come next
 abbrev pub ReadyMayComeNext : {S : Type 0} → Ghosts S → Type 0
 ReadyMayComeNext {S} g =
     (start : Entry → Bool) (now : Moment S) (session number : ℕ) (call : Call) (range : Range) → Fits g start now → IsRunningCall now.calls session number call

@@ -72,7 +72,7 @@ pub record IsStillDue {S : Type 0} (g : Ghosts S) (session steps gone : ℕ) (la
   pub due : IsDueIn (g.state last.store) (slot_of last.slots session) (suc left)
   pub sum : gone + suc left ≡ steps
 
--- In time: a call begins where no page has an incomplete split and its leaf can serve it, and then no action
+-- In time: a call begins while no page has an incomplete split and its leaf can serve it, and then no action
 -- is logged. Of its steps, blocked ones not counted, fewer than the root's level and a few go on, 2 of a
 -- scan, 3 of an insert: the next one after these brings what is awaited (`CountsDown`), entries that are
 -- ready, or the entry added and nothing left unfinished, unless the device, the log or the frames hinder it.
@@ -113,8 +113,8 @@ OthersLogNothing g start session told [] (answer ∷ answers) first last run = �
 OthersLogNothing g start session told (event ∷ events) [] first last run = ⊥
 
 -- Over a run in which no other session appends an action, and no call of this one is given up or ended by a
--- fault: where at first only those pages have incomplete splits that the session's insert is to finish, so it
--- is at last. So none has an incomplete split where the session runs nothing then.
+-- fault: if at first only those pages have incomplete splits that the session's insert is to finish, so it
+-- is at last. So none has an incomplete split if the session runs nothing then.
 abbrev pub SplitsAreFinished : {S : Type 0} → Ghosts S → Type 0
 SplitsAreFinished {S} g =
     (start : Entry → Bool) (told : List Answer) (events : List Event) (answers : List Answer) (first last : Moment S) (run : IsRun g start told events answers first last) (session : ℕ)
@@ -132,14 +132,14 @@ abbrev pub NoneBegins : ℕ → List Event → List Answer → Type 0
 NoneBegins session (event ∷ events) (answer ∷ answers) = BeginsNone session (kind_of event) answer × NoneBegins session events answers
 NoneBegins session events answers = Unit {0}
 
--- an event is a step of the session that goes on, or that tells of entries ready where so many, none, were
--- before: 1, else 0
+-- 1 for a step of the session that goes on, or that tells of entries ready while none was ready before; else
+-- 0
 abbrev pub spends : ℕ → Kind → Answer → ℕ → ℕ
 spends session (MovesCall of Steps) Going ready = if of == session then 1 else 0
 spends session (MovesCall of Steps) (Ready count) zero = if of == session then 1 else 0
 spends session kind answer ready = 0
 
--- how many of the session's steps in a run go on, or tell of entries ready where all that were had been taken
+-- how many of the session's steps in a run go on, or tell of entries ready after all that were had been taken
 abbrev pub steps_spent : {S : Type 0} (g : Ghosts S) (start : Entry → Bool) (session : ℕ) (told : List Answer) (events : List Event) (answers : List Answer) (first last : Moment S)
     → IsRun g start told events answers first last → ℕ
 steps_spent g start session told [] answers first last run = 0
@@ -148,7 +148,7 @@ steps_spent g start session told (event ∷ events) (answer ∷ answers) first l
 steps_spent g start session told (event ∷ events) [] first last run = 0
 
 -- Over a run in which no action is logged, over a device that keeps its model, each step of the session's
--- call that goes on, or that tells of entries ready where all that were had been taken, is one of those that
+-- call that goes on, or that tells of entries ready after all that were had been taken, is one of those that
 -- were left to do for it: fewer than 2^42 at each moment (`work_is_bounded`).
 abbrev pub WorkIsSpent : {S : Type 0} → Ghosts S → Type 0
 WorkIsSpent {S} g =

@@ -68,7 +68,7 @@ abbrev pub ScansStandOnLeaves : {S : Type 0} → Ghosts S → Type 0
 ScansStandOnLeaves {S} g =
     (start : Entry → Bool) (now : Moment S) (session block : ℕ) → Fits g start now → StandsOn session block now → HasLeaf g block now
 
--- In a run at whose beginning and before each event of which a scan stands on a leaf: where no bulk delete
+-- In a run at whose beginning and before each event of which a scan stands on a leaf: if no bulk delete
 -- has come to it at first, none has at last, none finishes, and it is a live leaf still.
 abbrev pub BulkDeletesWait : {S : Type 0} → Ghosts S → Type 0
 BulkDeletesWait {S} g =

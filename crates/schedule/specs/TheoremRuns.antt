@@ -24,7 +24,7 @@ AreDurable durable [] = Unit {0}
 AreDurable durable (answer ∷ answers) = IsDurable durable answer × AreDurable durable answers
 
 -- One event with its answer: what it means, and what it also leaves; and what a crash at any moment of it
--- leaves, where the history was kept before.
+-- leaves, if the history was kept before.
 pub record EventIsRun {S : Type 0} (g : Ghosts S) (start : Entry → Bool) (event : Event) (answer : Answer) (old new : Moment S) : Type 0 where
   pub means : EventMeans g start (kind_of event) answer old new
   pub also : EventAlso g start (kind_of event) answer old new
@@ -47,10 +47,10 @@ pub record Ran {S : Type 0} (g : Ghosts S) (start : Entry → Bool) (events : Li
   -- what was acknowledged is durable
   pub acknowledged : AreDurable (g.backing last.store).durable answers
   pub follows : g.follows first.store last.store
-  -- what a crash at any moment of the run leaves, where the history was kept before
+  -- what a crash at any moment of the run leaves, if the history was kept before
   pub crash : KeepsHistory g start first → IsCrashSafe g start first last
 
--- where the device has kept its model up to now, this holds of whatever fitted before
+-- if the device has kept its model up to now, this holds of whatever fitted before
 abbrev pub ForEachHistory : {S : Type 0} → Ghosts S → StoreAndSlots S → StoreAndSlots S → ((Entry → Bool) → List Action → List Call → Type 0) → Type 0
 ForEachHistory g old new goes =
     (g.backing new.store).honest ≡ true → (start : Entry → Bool) (history : List Action) (calls : List Call)

@@ -41,7 +41,7 @@ pub fn refused_calls_fit<S: PageStore>()
     ensures { RefusedCallsFit S.PageStore }
 {}
 
-/// Does nothing: its clause says that where a running scan has an entry ready, there is a match beyond all
+/// Does nothing: its clause says that if a running scan has an entry ready, there is a match beyond all
 /// that it gave, which was there at some moment since it began.
 pub fn ready_entries_may_come_next<S: PageStore>()
     ensures { ReadyMayComeNext S.PageStore }
@@ -60,7 +60,7 @@ pub fn lows_stay<S: PageStore>()
 {}
 
 /// Does nothing: its clause says that a scan's entries are ready at its step whose number is the root's level
-/// and 2, and an insert whose leaf has room is added at the root's level and 3, where no page has an
+/// and 2, and an insert whose leaf has room is added at the root's level and 3, if no page has an
 /// incomplete split and no action is logged meanwhile.
 pub fn calls_come_in_time<S: PageStore>()
     ensures { CallsComeInTime S.PageStore }
@@ -79,7 +79,7 @@ pub fn work_is_spent<S: PageStore>()
     ensures { WorkIsSpent S.PageStore }
 {}
 
-/// Does nothing: its clause says that where an insert added its entry to a unique index, no entry of its key
+/// Does nothing: its clause says that if an insert added its entry to a unique index, no entry of its key
 /// was there just before. That two entries never share a key is said of each moment that fits.
 pub fn added_keys_are_new<S: PageStore>()
     ensures { AddedKeysAreNew S.PageStore }

@@ -18,7 +18,7 @@ use page_action::PageStore;
 use session_calls::{Answer, Calls, Request};
 
 /// Does one event on a store with the calls of its sessions, and answers what the event gave, a refusal among
-/// the answers. Where several refusals apply, the first of `Stopped` (3), `NoSession` (12), `SessionBusy`
+/// the answers. If several refusals apply, the first of `Stopped` (3), `NoSession` (12), `SessionBusy`
 /// (13) and `VacuumRunning` (11) is answered; a count of calls at its end is refused with `Stopped` too. The
 /// sets of dead rows are those that calls name by their places, the same at each event.
 pub fn one<S: PageStore, T: DeadRows>(
@@ -67,7 +67,7 @@ pub fn begin<S: PageStore, T: DeadRows>(
 }
 
 /// Makes one step of a session's call, as `one` does for the event `Step`, and as quickly as can be. Refused
-/// with `NoSession` (12), or `Stopped` (3), where it has none; else as the step of an insert, a scan, a bulk
+/// with `NoSession` (12), or `Stopped` (3), if it has none; else as the step of an insert, a scan, a bulk
 /// delete or a cleanup is. A refused step changes nothing, but that the call is over, unless it was refused
 /// with `Blocked` (4) or `NoSession`.
 pub fn step<S: PageStore, T: DeadRows>(
@@ -85,7 +85,7 @@ pub fn step<S: PageStore, T: DeadRows>(
 }
 
 /// Takes the next entry that a session's scan has ready, as `one` does for the event `Next`, and as quickly
-/// as can be. Refused with `NoSession` (12) where it runs none: nothing is changed then.
+/// as can be. Refused with `NoSession` (12) if it runs none: nothing is changed then.
 pub fn next<S: PageStore, T: DeadRows>(
     store: &mut S,
     calls: &mut Calls,
@@ -101,7 +101,7 @@ pub fn next<S: PageStore, T: DeadRows>(
 }
 
 /// Does these events one after the other, each as `one` does, and puts an answer for each after the answers
-/// that are there. Refused with `NoMemory` (1) where there is no room for the answers: nothing is done then.
+/// that are there. Refused with `NoMemory` (1) if there is no room for the answers: nothing is done then.
 pub fn run<S: PageStore, T: DeadRows>(
     store: &mut S,
     calls: &mut Calls,
