@@ -148,7 +148,7 @@ room_goes {g = g} laws {session} {least_room} {answer} {Both} {a = a} {b} {c} st
     (goes_once laws {Tells = StepsOnce g session least_room answer} (Step session) refl makes (λ start h hc k kc honest fits does. steps_once least_room fits does honest promise))
     (λ start h hc k kc l lc fx fy fz. joins (snapshot_of a h hc) (snapshot_of b k kc) (snapshot_of c l lc) (is_later g laws steps) (is_later g laws then_steps))
 
--- the step itself, where room is made for it
+-- the step itself, if room is made for it
 pub is_step_made : {S : Type 0} {g : Ghosts S} {session least_room : ℕ} {answer : Answer} {st : State} {mid new : StoreAndSlots S} → g.state mid.store ≡ st
     → RoomIsMade least_room st.limits (g.backing mid.store) → EventEffect g (MovesCall session Steps) answer mid new → IsStepMade g session least_room answer mid new
 is_step_made {g = g} {least_room = least_room} {mid = mid} is room makes =
@@ -229,7 +229,7 @@ same_list (x ∷ xs) [] long at = absurd (omega (arith, long))
 same_list (x ∷ xs) (y ∷ ys) long at = ap (λ (o : Option Op). o ∷ xs) (same_some (Some x) x y refl (at 0))
     ∙ ap (λ (l : List (Option Op)). y ∷ l) (same_list xs ys (omega (arith, long)) (λ i. at (suc i)))
 
--- the slots are the same where one session's is, and all others
+-- the slots are the same if one session's is, and all others
 same_slots : (xs ys : List (Option Op)) (session : ℕ) → length xs ≡ length ys → OthersStay session ys xs → slot_of xs session ≡ slot_of ys session → xs ≡ ys
 same_slots [] [] session long others own = refl
 same_slots [] (y ∷ ys) session long others own = absurd (omega (arith, long))

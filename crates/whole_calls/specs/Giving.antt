@@ -13,7 +13,7 @@ use Rattle.session_calls.specs.declared.op.Op.{Op}
 use Rattle.schedule.specs.TheoremMoments.{Moment, IsRunningCall}
 use Rattle.whole_calls.specs.Meanings.{IsSameHistory, StepMeans}
 
--- where the scan is to go on, or has given an entry, less is left to do
+-- if the scan is to go on, or has given an entry, less is left to do
 abbrev pub LessIsLeft : State → State → Option Op → Option Op → Answer → Type 0
 LessIsLeft old new before after Going = work_in new after < work_in old before
 LessIsLeft old new before after (Ready count) = work_in new after < work_in old before
@@ -44,7 +44,7 @@ AnswersSeek Done = Unit {0}
 AnswersSeek (Refused fault) = Unit {0}
 AnswersSeek answer = ⊥
 
--- what a scan gives that came to this: an entry, none where it has given all, or a refusal
+-- what a scan gives that came to this: an entry, none if it has given all, or a refusal
 abbrev pub given_of : Answer → Result (Option Entry) Fault
 given_of (Gave (Some entry)) = Ok (Some entry)
 given_of Done = Ok None

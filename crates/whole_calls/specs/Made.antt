@@ -16,8 +16,8 @@ use Rattle.whole_calls.specs.Going.{IsAmong}
 use Rattle.whole_calls.specs.Meanings.{RoomIsMade}
 use Rattle.whole_calls.specs.declared.inserted.Inserted.{Inserted}
 
--- the log's room is as an event asks: a checkpoint is made only where there is room for fewer images than
--- these; a step only where there is room for so many, or the whole room; and nothing else is done for the
+-- the log's room is as an event asks: a checkpoint is made only if there is room for fewer images than
+-- these; a step only if there is room for so many, or the whole room; and nothing else is done for the
 -- store
 abbrev pub HasItsRoom : ℕ → Kind → Format → Backing → Type 0
 HasItsRoom least_room (MaintainsStore Checkpoints) limits backing = backing.room < least_room
@@ -25,7 +25,7 @@ HasItsRoom least_room (MaintainsStore upkeep) limits backing = ⊥
 HasItsRoom least_room (MovesCall session Steps) limits backing = RoomIsMade least_room limits backing
 HasItsRoom least_room kind limits backing = Unit {0}
 
--- these events are made one after the other, with these answers, each where the log's room is as it asks
+-- these events are made one after the other, with these answers, each when the log's room is as it asks
 abbrev pub AreMade : {S : Type 0} → Ghosts S → ℕ → List Event → List Answer → StoreAndSlots S → StoreAndSlots S → Type 0
 AreMade g least_room [] [] first last = first ≡ last
 AreMade {S} g least_room (event ∷ events) (answer ∷ answers) first last =
@@ -34,7 +34,7 @@ AreMade {S} g least_room (event ∷ events) (answer ∷ answers) first last =
 AreMade g least_room [] (answer ∷ answers) first last = ⊥
 AreMade g least_room (event ∷ events) [] first last = ⊥
 
--- The call is made of events of this session and of checkpoints, whatever the pages are, each where the log's
+-- The call is made of events of this session and of checkpoints, whatever the pages are, each when the log's
 -- room is as it asks. What it came to, it came to by their answers.
 pub record IsMadeOf {S : Type 0} (g : Ghosts S) (session least_room : ℕ) (CallOutcome : List Answer → Type 0) (old new : StoreAndSlots S) : Type 0 where
   pub events : List Event

@@ -37,7 +37,7 @@ MayAnswer (AskBulkDelete dead) (Finished stats) = Unit {0}
 MayAnswer AskCleanup (Finished stats) = Unit {0}
 MayAnswer ask answer = ⊥
 
--- what the call may come to that a session runs, whatever the pages are; where it runs none, only a refusal
+-- what the call may come to that a session runs, whatever the pages are; if it runs none, only a refusal
 abbrev pub MayComeTo : DeadSets → Option Op → Answer → Type 0
 MayComeTo sets None (Refused fault) = Unit {0}
 MayComeTo sets None answer = ⊥
@@ -152,12 +152,13 @@ abbrev pub NextMeans : {S : Type 0} → ℕ → Request → Answer → Moment S 
 NextMeans session request answer old new =
     StepMeans (length old.calls) (first_call session request old) answer (with_one_call old (first_call session request old)) new
 
--- an insert that is refused: where its entry is added, that fault is left after
+-- what an insert answers to this fault: if its entry is added, the fault stands in `unfinished`; else it is
+-- refused
 abbrev pub left_behind : Option ℕ → Fault → Result Inserted Fault
 left_behind (Some action) fault = Ok (record { action = action; unfinished = Some fault })
 left_behind None fault = Err fault
 
--- what an insert answers that came to this, by the number of its Add, where it still runs and has one
+-- what an insert answers that came to this, by the number of its Add, if it still runs and has one
 abbrev pub outcome_of : Answer → Option ℕ → Result Inserted Fault
 outcome_of (Added action unfinished) added = Ok (record { action = action; unfinished = unfinished })
 outcome_of (Refused fault) added = left_behind added fault
@@ -172,7 +173,8 @@ abbrev pub inserted_call : ℕ → Entry → ℕ → ℕ → Ending → ℕ → 
 inserted_call session entry count action ending until =
     ended (record (begun_call session (AskInsert entry) count) { added = Some action }) ending until
 
--- how the call of an insert has ended: with its answer; or given up, because of the fault that is left after
+-- how the call of an insert has ended: with its answer; or it was given up, because of the fault in
+-- `unfinished`
 abbrev pub IsEndOf : Inserted → Ending → Type 0
 IsEndOf inserted ending = (ending ≡ EndsAdded inserted.action inserted.unfinished) ⊎ ((ending ≡ GivenUp) × (inserted.unfinished ≢ None))
 
@@ -187,7 +189,7 @@ pub record IsAddedNow {S : Type 0} (session : ℕ) (entry : Entry) (inserted : I
   pub end_is : IsEndOf inserted ending
   pub calls_is : new.calls ≡ old.calls ++ inserted_call session entry (length old.history) inserted.action ending (length new.history) ∷ []
 
--- the insert has changed the shape of the pages only; where the entry or its key was there, the call has
+-- the insert has changed the shape of the pages only; if the entry or its key was there, the call has
 -- ended with this
 pub record IsNotAdded {S : Type 0} (session : ℕ) (entry : Entry) (fault : Fault) (old new : Moment S) : Type 0 where
   pub shaped : ℕ
@@ -201,7 +203,7 @@ abbrev pub InsertMeans : {S : Type 0} → ℕ → Entry → Result Inserted Faul
 InsertMeans session entry (Ok inserted) old new = IsAddedNow session entry inserted old new
 InsertMeans session entry (Err fault) old new = IsNotAdded session entry fault old new
 
--- what making room came to, where it was refused
+-- what making room came to, if it was refused
 abbrev pub room_outcome : Result (Unit {0}) Fault → Option Answer
 room_outcome (Ok made) = None
 room_outcome (Err fault) = Some (Refused fault)

@@ -57,13 +57,13 @@ SessionOneStepMeans g session answer old new =
 pub record OneStepIsRun {S : Type 0} (g : Ghosts S) (session least_room : ℕ) (answer : Answer) (old new : Moment S) : Type 0 where
   -- the session's call has made a step, or is given up
   pub told : SessionOneStepMeans g session answer old new
-  -- where it has none, nothing is told
+  -- if it has none, nothing is told
   pub idle : HasNone session old → IsSameHistory old new
   -- why it is refused
   pub caused : CallIsCaused g session least_room (is_full_vacuum (slot_of old.slots session)) answer old new
-  -- where it goes on, fewer steps are left
+  -- if it goes on, fewer steps are left
   pub fewer : TakesFewer (g.state old.store) (g.state new.store) (slot_of old.slots session) (slot_of new.slots session) answer
-  -- where it finishes, it tells how many pages there are
+  -- if it finishes, it tells how many pages there are
   pub stats : FinishCounts g session answer old new
 
 -- what holds of one step of a session's call whatever the pages are
@@ -86,12 +86,12 @@ abbrev pub OneStepComesTo : Answer → List Answer → Type 0
 OneStepComesTo answer answers =
     IsAmong answers answer ⊎ ((action : ℕ) × (fault : Fault) × (answer ≡ Added action (Some fault)) × IsAmong answers (Refused fault))
 
--- the step itself, where the log has room for so many images
+-- the step itself, if the log has room for so many images
 pub record IsStepMade {S : Type 0} (g : Ghosts S) (session least_room : ℕ) (answer : Answer) (old new : StoreAndSlots S) : Type 0 where
   pub room : RoomIsMade least_room (g.state old.store).limits (g.backing old.store)
   pub makes : EventEffect g (MovesCall session Steps) answer old new
 
--- a checkpoint before a step, where the log has too little room
+-- a checkpoint before a step, if the log has too little room
 pub record IsRoomTried {S : Type 0} (g : Ghosts S) (least_room : ℕ) (answer : Answer) (old new : StoreAndSlots S) : Type 0 where
   pub short : (g.backing old.store).room < least_room
   pub makes : EventEffect g (MaintainsStore Checkpoints) answer old new

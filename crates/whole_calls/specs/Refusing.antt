@@ -42,10 +42,10 @@ is_full_vacuum (Some (Scan op)) = false
 is_full_vacuum (Some (Bulk set op)) = is_counted_out op
 is_full_vacuum (Some (Cleanup op)) = is_cleanup_full op
 
--- What may be the cause where a running call is refused between these moments, at a step or at the checkpoint
+-- What may be the cause if a running call is refused between these moments, at a step or at the checkpoint
 -- before it: a device call failed meanwhile; the log had failed before, or a counter is at its end; another
 -- session runs a call, and may hold a page or a frame; there are fewer frames than one act needs. The log is
--- full only where less room is asked for than one image more than an act has.
+-- full only if less room is asked for than one image more than an act has.
 abbrev pub causes_of_gone : {S : Type 0} → Ghosts S → ℕ → ℕ → Bool → StoreAndSlots S → S → Circumstances
 causes_of_gone g session least_room counts_full old new = record nothing_wrong {
   device_failed = has_failed (g.backing old.store) (g.backing new);
@@ -77,7 +77,7 @@ has_no_block session number st = is_out_of_blocks (with_number session number st
 abbrev pub is_tall : State → Bool
 is_tall st = nat_le 31 (root_level st.pages)
 
--- What may be the cause where a call is refused that was asked this and has this start number, or leaves a
+-- What may be the cause if a call is refused that was asked this and has this start number, or leaves a
 -- split unfinished: of an insert that may also be that its entry was there, on a unique index that its key
 -- was, that no block can be had while it runs, or that the root is on level 31.
 abbrev pub causes_of_asked : {S : Type 0} → Ghosts S → ℕ → ℕ → Option ℕ → Bool → Ask → StoreAndSlots S → S → Circumstances

@@ -27,7 +27,7 @@ acts_left st (Some (Cleanup op)) = 0
 abbrev pub steps_left : State → Option Op → ℕ
 steps_left st slot = acts_left st slot * 4398046511104 + work_in st slot
 
--- where the call goes on, within limits that are allowed, fewer steps are left
+-- if the call goes on, within limits that are allowed, fewer steps are left
 abbrev pub TakesFewer : State → State → Option Op → Option Op → Answer → Type 0
 TakesFewer old new before after answer =
     old.limits.pages ≤ 65536 → answer ≡ Going → steps_left new after < steps_left old before

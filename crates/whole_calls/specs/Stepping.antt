@@ -43,8 +43,8 @@ FinishCounts g session answer old new =
     (number : ℕ) (call : Call) → IsRunningCall old.calls session number call → (stats : VacuumStats) → answer ≡ Finished stats → StatsCountFor call.ask (g.state new.store) stats
 
 -- What a step of the session's call tells, or the refusal of the room for it; why it is refused; what is
--- counted on; that fewer steps are left where it goes on, and each running call keeps its start number then;
--- and the statistics where it finishes, after which the session runs nothing.
+-- counted on; that fewer steps are left if it goes on, and each running call keeps its start number then;
+-- and the statistics if it finishes, after which the session runs nothing.
 pub record StepIsRun {S : Type 0} (g : Ghosts S) (session least_room : ℕ) (answer : Answer) (old new : Moment S) : Type 0 where
   pub told : SessionStepMeans session answer old new
   pub caused : CallIsCaused g session least_room (is_full_vacuum (slot_of old.slots session)) answer old new

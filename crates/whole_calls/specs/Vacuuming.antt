@@ -82,7 +82,7 @@ pub data Followed : Type 0 where
   of_cleanup : Followed
   -- the pages that a cleanup deletes, beside so many that were deleted before
   of_deleted : (was : ℕ) → Followed
-  -- where nobody else holds a page, the empty leaves that a cleanup leaves
+  -- if nobody else holds a page, the empty leaves that a cleanup leaves
   of_leaves : Followed
 
 -- such a vacuum runs, and what it has counted are the entries that it has left; a cleanup leaves no half-dead
@@ -131,7 +131,7 @@ StatsCountAs of_cleanup st result = StatsCountCleaned st result
 StatsCountAs (of_deleted was) st result = StatsCountDeleted was st result
 StatsCountAs of_leaves st result = ResultLeavesNeeded st result
 
--- where nobody else acts: a bulk delete or a cleanup that goes on counts on, also after a refusal that hasn't
+-- if nobody else acts: a bulk delete or a cleanup that goes on counts on, also after a refusal that hasn't
 -- ended it; and at its end it tells how many entries there are
 abbrev pub CountsThrough : Followed → DeadSets → State → State → Option Op → Option Op → Answer → Type 0
 CountsThrough what sets old new before after Going = IsCountedAs what sets old before → IsCountedAs what sets new after
@@ -150,7 +150,7 @@ pub record IsUndisturbed (st : State) (session : ℕ) : Type 0 where
   pub none_dead : (block : ℕ) → state_in st block ≢ HalfDead
 
 -- what may be followed from the beginning of what is asked for: of the leaves that a cleanup leaves only
--- where it is undisturbed
+-- if it is undisturbed
 abbrev pub FollowsFrom : Followed → Request → State → ℕ → Type 0
 FollowsFrom of_bulk_delete (ToBulk set) st session = Unit {0}
 FollowsFrom of_cleanup ToCleanup st session = Unit {0}

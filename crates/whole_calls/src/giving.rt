@@ -22,7 +22,7 @@ use page_action::PageStore;
 use schedule::next;
 use session_calls::{Answer, Calls, Request};
 
-// The next entry that the session's scan has ready; where none is, one step of it.
+// The next entry that the session's scan has ready; if none is, one step of it.
 fn advance<S: PageStore, T: DeadRows>(
     store: &mut S,
     calls: &mut Calls,
@@ -98,8 +98,8 @@ fn given(came: Answer) -> Result<Option<Entry>, Fault>
     }
 }
 
-/// The next entry of the session's scan, or None where it has given all; it is over then, and where
-/// it is refused: as a step of it is, and with `Io` (2) or `Stopped` (3) where a checkpoint before
+/// The next entry of the session's scan, or None if it has given all; it is over then, and if
+/// it is refused: as a step of it is, and with `Io` (2) or `Stopped` (3) if a checkpoint before
 /// a step is; over a device that breaks its model also with `PageDamaged(0)` (17), after 2^64 - 1
 /// steps.
 pub fn give<S: PageStore, T: DeadRows>(

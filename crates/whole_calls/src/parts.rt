@@ -15,7 +15,7 @@ use page_action::PageStore;
 use session_calls::{Answer, Calls};
 
 /// So many steps of the session's call: until one doesn't answer `Going`, and that answer; after the last,
-/// `Going`. No steps do nothing. Where a step is refused with `Blocked` (4), or a checkpoint before a step is
+/// `Going`. No steps do nothing. If a step is refused with `Blocked` (4), or a checkpoint before a step is
 /// refused, the call runs on, and the next part tries that step again; any other refusal of a step ends it.
 pub fn take_steps<S: PageStore, T: DeadRows>(
     store: &mut S,
