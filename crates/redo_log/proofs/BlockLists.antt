@@ -163,7 +163,7 @@ new_count-new blocks p ps new =
     once true e = omega arith
     once false e = omega arith
 
--- so many are after them then
+-- then the blocks are more by the new ones of these pages
 pub length-with_blocks : (blocks : List ℕ) (ps : List Page) → length (with_blocks blocks ps) ≡ length blocks + new_count blocks ps
 length-with_blocks blocks [] = omega arith
 length-with_blocks blocks (p ∷ ps) = ⊎_elim

@@ -78,7 +78,7 @@ with_image-new (q ∷ qs) p new =
     let parts = or_parts (q.block == p.block) (is_among_blocks (image_blocks qs) p.block) new in
     with_image-there q qs p parts.0 ∙ ap (λ (l : List Page). q ∷ l) (with_image-new qs p parts.1)
 
--- the first of two lists, and so many of the second
+-- the first of two lists, and the first `m` of the second
 take_after : (front more : List ℕ) (n m : ℕ) → n ≡ length front + m → take n (front ++ more) ≡ front ++ take m more
 take_after front more n m e = ap (λ (k : ℕ). take k (front ++ more)) e ∙ take-append-add front more m
 

@@ -105,8 +105,8 @@ pub record MayBeLetIn (log : Log) (m : DiskMoment) (acts : List (List Page)) (fo
   pub same : SameImages (images_of (groups ++ group ∷ [])) (images_of (take part acts))
   pub whole : is_written log ≡ true → (group ≡ waiting) × Has (log_start + log.at) (1 ∷ []) m.seen
 
--- the log keeps these actions, of which the first so many are forced: on the disk stand the last
--- images of these, and the last images of the others wait
+-- the log keeps these actions, of which the first `forced` are forced: on the disk stand the last images of
+-- these, and the last images of the others wait
 pub record LogHolds (log : Log) (m : DiskMoment) (acts : List (List Page)) (forced : ℕ) : Type 0 where
   pub alive : log.stopped ≡ false
   pub groups : List (List Page)

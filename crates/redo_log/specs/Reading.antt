@@ -27,7 +27,7 @@ pub record AreNoted (limits : Format) (log : List ℕ) (images : List Page) (las
   pub each : (block : ℕ)
       → bytes_at log (get_or lasts block 0) ≡ option_map page_bytes (last_image images block)
 
--- so many images stand there, and were noted after any others
+-- `count` images stand there, and were noted after any others
 pub record NotesImages (limits : Format) (log : List ℕ) (at count : ℕ) (old new : List ℕ)
     : Type 0 where
   pub images : List Page
@@ -36,7 +36,7 @@ pub record NotesImages (limits : Format) (log : List ℕ) (at count : ℕ) (old 
   pub noted : (before : List Page) → AreNoted limits log before old
       → AreNoted limits log (before ++ images) new
 
--- a group of so many images stands there, with something after it, and they were noted so
+-- a group of `count` images stands there, with something after it, and they were noted so
 pub record NotesGroup (limits : Format) (log : List ℕ) (at count : ℕ) (old new : List ℕ)
     : Type 0 where
   pub group : List Page

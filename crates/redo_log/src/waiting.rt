@@ -22,7 +22,7 @@ pub(crate) struct Waiting {
 }
 
 impl Waiting {
-    /// None wait, of so many pages, and there is room for so many of them, 4,096 at most.
+    /// None of the `pages` pages wait, and there is room for `room` of them, 4,096 at most.
     pub(crate) fn new(alloc: Global, pages: u32, room: u32) -> Result<Waiting, AllocError>
         requires { room ≤ 4096 }
         ensures blocks { IfOk result (λ w. w.blocks.items ≡ []) }
