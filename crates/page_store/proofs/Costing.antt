@@ -41,7 +41,7 @@ none_of (Some x) found is none = (let both : true ≡ false = sym is ∙ none in
 pub not_there : (pool : Pool) (block : ℕ) → IsPool pool → frame_of pool block ≡ None → has_block (pool_blocks pool) block ≡ true → ⊥
 not_there pool block is none among = (let both : true ≡ false = sym among ∙ (is.there block ∙ ap is_some none) in cc)
 
--- the blocks of the first so many pages and one more
+-- the blocks of the first `i` pages and one more
 pub blocks_next : (pages : List Page) (i : ℕ) (page : Page) → slice_get pages i ≡ Some page
     → map (λ (p : Page). p.block) (take (i + 1) pages) ≡ map (λ (p : Page). p.block) (take i pages) ++ page.block ∷ []
 blocks_next pages i page at = ap (λ (n : ℕ). map (λ (p : Page). p.block) (take n pages)) (add-one i) ∙ by pages i at

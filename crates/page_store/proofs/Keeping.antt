@@ -161,7 +161,7 @@ module _ (limits : Format) (pages : List Page) (acts : ℕ) (pool : Pool) (hones
         | inr ne ↦ inl (written.others b (λ e. ne (e ∙ index)))
       ]
 
-  -- the first so many are noted as written
+  -- the first `count` are noted as written
   pub first_noted : (new : Pool) (count : ℕ) → AreWrittenUpTo limits pool count m → AreWritten pool new count
       → (b : ℕ) → (act_of new b ≡ act_of pool b) ⊎ ((act_of new b ≡ 0) × ((page : Page) → slice_get pages b ≡ Some page → Has (place limits b) (page_bytes page) m.seen))
   first_noted new count home written b = elim (bool_cases (has_block (take count (changed_of pool)) b)) [

@@ -107,7 +107,7 @@ pub record AreHome (limits : Format) (images pages : List Page) (m : DiskMoment)
 abbrev pub is_named : List (List Page) → ℕ → Bool
 is_named acts block = is_some (last_image (images_of acts) block)
 
--- the log keeps the acts after the first so many, whose pages stand at home except for those that the log has
+-- the log keeps the acts after the first `base`, whose pages stand at home except for those that the log has
 -- an image of; of these each is unwritten since its last act, or a read gives it at its place
 pub record IsKept (log : Log) (m : DiskMoment) (unwritten : ℕ → ℕ) (h : History) (durable : ℕ)
     : Type 0 where

@@ -33,7 +33,7 @@ pub record RestartsTo (limits : Format) (image : List ℕ) (pages : List Page) :
   pub unused : (block : ℕ) → length pages ≤ block → block < limits.pages
       → StandsAtHome limits (images_of groups) block (replicate 4096 0) image
 
--- they restart to the pages after some prefix of the acts, of at least so many
+-- they restart to the pages after some prefix of the acts, of at least `least` acts
 pub record RestartsToPart (limits : Format) (h : History) (least : ℕ) (image : List ℕ)
     : Type 0 where
   pub part : ℕ

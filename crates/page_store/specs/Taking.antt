@@ -27,8 +27,8 @@ pub record IsWrittenNext (pinned : List ℕ) (durable place : ℕ) (old new : Po
   pub written : IsWritten old new place
   pub others : (b : ℕ) → has_block (changed_of new) b ≡ true → act_of new b ≡ act_of old b
 
--- Of the changed pages some right after so many were written, of which none is pinned, and whose acts were
--- durable already: at most a quarter of what there are frames.
+-- Some changed pages from this place of their order on were written, of which none is pinned, and whose acts
+-- were durable already: at most a quarter of what there are frames.
 pub record AreWrittenAhead (pinned : List ℕ) (durable place : ℕ) (old new : Pool) : Type 0 where
   pub front : List ℕ
   pub more : List ℕ
@@ -74,7 +74,7 @@ abbrev pub FrameFails : Pool → List ℕ → Bool → ℕ → ℕ → Fault →
 FrameFails pool pinned stopped old new fault =
     ((fault ≡ NoFrame) × AreTooMany pool pinned) ⊎ WritingFails stopped old new fault
 
--- no frame is had beside so many blocks, or a device call failed, or the log had failed before
+-- there are fewer frames than these blocks, or a device call failed, or the log had failed before
 abbrev pub TakingFails : Pool → List ℕ → Bool → ℕ → ℕ → Fault → Type 0
 TakingFails pool blocks stopped old new fault =
     ((fault ≡ NoFrame) × (most_of pool < count_distinct blocks)) ⊎ WritingFails stopped old new fault

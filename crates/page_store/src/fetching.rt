@@ -108,9 +108,9 @@ impl<D: Device> LoggedPages<D> {
         Ok(true)
     }
 
-    // Writes the changed pages after so many of their order, until one is pinned or has acts that aren't
-    // durable, at most a quarter of what there are frames: so that clean ones are there for the pages that
-    // are read next. Refused with `Io`.
+    // Writes the changed pages from this place of their order on, until one is pinned or has acts that aren't
+    // durable, at most a quarter of what there are frames. So clean ones are there for the pages that are
+    // read next. Refused with `Io`.
     fn write_ahead(&mut self, place: usize, pinned: &[u32]) -> Result<(), Fault>
         requires alive { is_stopped self.old.log ≡ false }
         requires place { place ≤ length (changed_of self.old.pool) }

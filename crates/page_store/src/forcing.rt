@@ -209,7 +209,7 @@ impl<D: Device> LoggedPages<D> {
         Ok(())
     }
 
-    // Notes that the first so many changed pages stand at their places.
+    // Notes that the first `count` changed pages stand at their places.
     fn note_first_written(&mut self, count: usize)
         requires few { count ≤ length (changed_of self.old.pool) }
         requires home { AreWrittenUpTo self.old.limits self.old.pool count

@@ -43,7 +43,7 @@ impl StoreRoom {
     ghost use Rattle.page_action.specs.Stored.{IsStored};
     ghost use Rattle.page_store.specs.Rooms.{limits_of_room, frames_of_room, pages_of_room, counts_of_room};
 
-    /// The room for an index of these limits, of which so many pages are held at once, with no page in use.
+    /// The room for an index of these limits, of which `frames` pages are held at once, with no page in use.
     /// Refused with `BadLimits`, and with `NoMemory` if the room cannot be had.
     pub fn new(alloc: Global, limits: Format, frames: u32) -> Result<StoreRoom, Fault>
         ensures limits { IfOk result (λ room. limits_of_room room ≡ limits) }

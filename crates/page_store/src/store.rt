@@ -16,8 +16,8 @@ use redo_log::{Advance, Log};
 use std::io::Error;
 
 /// The pages of an index over a device: a log makes acts durable, and a crash leaves the pages after some
-/// prefix of the acts, with all that were durable. Of the pages in use at most so many are held in memory as
-/// the store has frames, and nothing allocates.
+/// prefix of the acts, with all that were durable. Memory holds at most as many of the pages in use as the
+/// store has frames, and nothing allocates.
 #[derive(Drop)]
 pub struct Store<D: Device> {
     pub(crate) held: LoggedPages<D>,
