@@ -151,7 +151,7 @@ written_is old new place at less is most pages places acts changed =
           (λ held. other (sym (block_there old b at (frame_back old b at held)) ∙ block_there old block at is));
     }
 
--- a block that stands once isn't both among the first so many and after them
+-- a block that stands once isn't both among the first `n` and after them
 pub take_drop_apart : (blocks : List ℕ) (n block : ℕ) → BlocksAreApart blocks → has_block (take n blocks) block ≡ true → has_block (drop n blocks) block ≡ false
 take_drop_apart blocks n block apart first =
     false_from_ne_true (has_block (drop n blocks) block) (λ second.
@@ -182,7 +182,7 @@ either_act new old kept same =
       | inr ge ↦ omega (arith, ge, ltb-false 0 old (sym same ∙ le-ltb 0 new ge))
     ]
 
--- the first so many changed pages were written
+-- the first `count` changed pages were written
 pub many_written : (old new : Pool) (count : ℕ) → new.most ≡ old.most → new.pages.items ≡ old.pages.items → new.places.items ≡ old.places.items
     → (waiting_in new.changed) ≡ drop count (waiting_in old.changed)
     → ((at : ℕ) → 0 < get_or new.acts.items at 0 → get_or new.acts.items at 0 ≡ get_or old.acts.items at 0) → AreWritten old new count
@@ -206,7 +206,7 @@ many_written old new count most pages places changed kept =
       ];
     }
 
--- each of the first so many changed pages has a place
+-- each of the first `count` changed pages has a place
 pub first_placed : (pool : Pool) (count : ℕ) (changed : List ℕ) (k d : ℕ) → changed ≡ (waiting_in pool.changed) → k < length (take count changed)
     → (0 < get_or pool.places.items (get_or (take count changed) k d) 0) × (get_or pool.places.items (get_or (take count changed) k d) 0 ≤ length pool.acts.items)
 first_placed pool count changed k d is less =

@@ -107,7 +107,7 @@ pub record IsWritten (old new : Pool) (place : ℕ) : Type 0 where
   pub others : (block : ℕ) → block ≢ slice_index (changed_of old) place
       → act_of new block ≡ act_of old block
 
--- so many pages, the first of the order, were written
+-- the first `count` pages of the order were written
 pub record AreWritten (old new : Pool) (count : ℕ) : Type 0 where
   pub pages : HasSamePages old new
   pub order : changed_of new ≡ drop count (changed_of old)

@@ -122,7 +122,7 @@ impl Pool {
         self.acts[at] = 0;
     }
 
-    /// The first so many changed pages of the order were written: they are clean, and the others keep their
+    /// The first `count` changed pages of the order were written: they are clean, and the others keep their
     /// order.
     #[tactic(auto, unfolding(crate::specs::Pools::changed_of))]
     pub fn note_first_written(&mut self, count: usize)

@@ -13,7 +13,7 @@ use std::alloc::Global;
 pub(crate) struct Order {
     // Each block, once.
     blocks: IndexSet<u32>,
-    // From here on so many wait.
+    // From here on `count` blocks wait.
     first: usize,
     count: usize,
     ghost within: { first + count ≤ index_set_len blocks },
@@ -120,7 +120,7 @@ impl Order {
         self.count -= 1;
     }
 
-    /// Takes the first so many out of it.
+    /// Takes the first `count` blocks out of it.
     pub fn drop_first(&mut self, count: usize)
         requires { count ≤ length (waiting_in self.old) }
         ensures waiting { waiting_in self.new ≡ drop count (waiting_in self.old) }

@@ -9,8 +9,8 @@ use index_model::Fault;
 use page_codec::Page;
 use std::alloc::Global;
 
-/// At most so many pages, each of another block, and of each whether it was changed since it was last read or
-/// written.
+/// A bounded number of pages, each of another block, and of each whether it was changed since it was last
+/// read or written.
 #[derive(Drop)]
 pub struct Pool {
     // The page in each frame that is in use.
@@ -42,7 +42,7 @@ impl Pool {
     ghost use Rattle.std.specs.Prelude.{[], ℕ, ◌<◌, None, Some, IfSome, IfNone, IfOk, IfErr, is_some};
     ghost use Rattle.buffer_pool.specs.Pools.{most_of, reach_of, pool_count, page_at, frame_of, held_page, changed_of, CanBeTaken, HasSamePages, HasSameChanges, IsPut, IsPool};
 
-    /// A pool of so many frames, for pages of the blocks below `pages`, that holds none. Refused with
+    /// A pool of `frames` frames, for pages of the blocks below `pages`, that holds none. Refused with
     /// `NoMemory` if the room cannot be had.
     #[tactic(auto, unfolding(crate::specs::Pools::most_of, crate::specs::Pools::reach_of, crate::specs::Pools::pool_count, crate::specs::Pools::held_page, crate::specs::Pools::changed_of))]
     pub fn new(alloc: Global, frames: u32, pages: u32) -> Result<Pool, Fault>
