@@ -3,7 +3,7 @@
 use Rattle.std.specs.Prelude.{◌≡◌, ℕ, zero, suc, ◌+◌, ◌*◌, ◌≤◌, ◌<◌, Option, List, length}
 use Rattle.free_blocks.specs.Numbers.{number_at, lesser}
 
--- the leftmost of the nodes that stand so many levels under a node
+-- the leftmost of the nodes that stand this number of levels under a node
 abbrev pub leftmost : ℕ → ℕ → ℕ
 leftmost node zero = node
 leftmost node (suc levels) = leftmost (2 * node) levels
@@ -17,7 +17,7 @@ IsWinner tree node =
 abbrev pub AreWinners : ℕ → List (Option ℕ) → Type 0
 AreWinners size tree = (node : ℕ) → 1 ≤ node → node < size → IsWinner tree node
 
--- the tree of so many blocks, and of their number at most
+-- a winner tree of at most `size` blocks, which are its nodes from `size` on
 pub record IsWinnerTree (size : ℕ) (tree : List (Option ℕ)) : Type 0 where
   pub least : size ≤ length tree
   pub most : length tree ≤ 2 * size

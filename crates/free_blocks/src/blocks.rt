@@ -29,7 +29,7 @@ impl Model for FreeBlocks {
 impl FreeBlocks {
     ghost use Rattle.free_blocks.specs.Numbers.{number_at, IsLowest, AreBeyond};
 
-    /// So many blocks, at most 65,536, none of them free. Refused if the memory for them is.
+    /// `places` blocks, at most 65,536, none of them free. Refused if the memory for them is.
     pub fn new(alloc: Global, places: u32) -> Result<FreeBlocks, AllocError>
         requires few { places ≤ 65536 }
         ensures made { IfOk result (λ free. free ≡ replicate places None) }

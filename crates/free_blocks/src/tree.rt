@@ -14,7 +14,7 @@ pub(crate) struct Shape {
 }
 
 impl Shape {
-    /// The least tree that has so many places.
+    /// The least tree that has this number of places.
     pub(crate) fn new(places: u32) -> Shape
         requires few { places ≤ 65536 }
         ensures places { places ≤ result.size }
