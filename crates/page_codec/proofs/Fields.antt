@@ -41,13 +41,13 @@ unfoldable pub downlink_at : List ℕ → Option Downlink
 downlink_at bytes =
     slot_at bytes >>= λ b. Some (record { bound = b; child = little_number 4 (drop 71 bytes) })
 
--- so many items, each in so many bytes
+-- a number of items, each in as many bytes as the next number says
 unfoldable pub items_at : {A : Type 0} → (List ℕ → Option A) → ℕ → ℕ → List ℕ → Option (List A)
 items_at item width zero bytes = Some []
 items_at item width (suc n) bytes =
     item bytes >>= λ x. items_at item width n (drop width bytes) >>= λ xs. Some (x ∷ xs)
 
--- so many items of the kind that this byte names
+-- `count` items of the kind that this byte names
 unfoldable pub items_of : ℕ → ℕ → List ℕ → Option Items
 items_of kind count bytes =
     if nat_lt 50 count then None

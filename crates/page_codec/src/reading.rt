@@ -138,7 +138,7 @@ fn put(list: &mut ArrayVec<Entry, 50>, at: usize, entry: Entry)
     }
 }
 
-// Reads so many entries over those that stand there: to clear these first would take longer. Never inlined,
+// Reads `count` entries over those that stand there: to clear these first would take longer. Never inlined,
 // so that its loop has all registers.
 #[inline(never)]
 fn entries(count: usize, bytes: &[u8], into: &mut ArrayVec<Entry, 50>) -> bool
@@ -160,7 +160,7 @@ fn entries(count: usize, bytes: &[u8], into: &mut ArrayVec<Entry, 50>) -> bool
     true
 }
 
-// Reads so many downlinks.
+// Reads `count` downlinks.
 fn downlinks(count: usize, bytes: &[u8]) -> Option<ArrayVec<Downlink, 50>>
     requires count { count ≤ 50 }
     requires room { 75 * count ≤ length bytes.now }
