@@ -142,7 +142,7 @@ pub record IsOneActAtMost (old new : State) : Type 0 where
   pub begun : new.begun ≡ old.begun
   pub running : new.running ≡ old.running
 
--- one of the first so many blocks may be used again
+-- one of the blocks below a number may be used again
 abbrev pub any_is_reusable : State → ℕ → Bool
 any_is_reusable st zero = false
 any_is_reusable st (suc block) = is_reusable st block || any_is_reusable st block
@@ -194,8 +194,8 @@ abbrev pub sibling : Option ℕ → List ℕ
 sibling None = []
 sibling (Some block) = block ∷ []
 
--- Why a step is refused that reads pages of a tree, and may do an act that writes these blocks, and needs so
--- many frames beside those that are pinned; and whether it may take a block, and split the root.
+-- Why a step is refused that reads pages of a tree, and may do an act that writes these blocks, and needs
+-- `frames` frames beside those that are pinned; and whether it may take a block, and split the root.
 abbrev pub causes_of_working : State → Backing → Backing → ℕ → List ℕ → ℕ → Bool → Bool → Circumstances
 causes_of_working st old new session images frames takes splits = record nothing_wrong {
   device_failed = has_failed old new;
