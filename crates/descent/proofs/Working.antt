@@ -35,7 +35,7 @@ pub apart_few : (blocks pins : List ℕ) → count_apart (blocks ++ pins) ≤ le
 apart_few [] pins = omega arith
 apart_few (b ∷ blocks) pins = counted_one (has_pin (blocks ++ pins) b) (count_apart (blocks ++ pins)) (length blocks) (count_apart pins) (apart_few blocks pins)
 
--- with so many blocks the frames fall short, so they fall short of so many
+-- if the frames fall short of these blocks, they fall short of `most`
 pub frames_short : (frames : ℕ) (blocks pins : List ℕ) (most : ℕ) → length blocks ≤ most → nat_lt frames (count_apart (blocks ++ pins)) ≡ true → nat_lt frames (most + count_apart pins) ≡ true
 frames_short frames blocks pins most le h =
     let few = apart_few blocks pins in

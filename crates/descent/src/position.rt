@@ -77,7 +77,7 @@ fn is_passed(page: &Page, aim: &SearchKey) -> bool
     !is_live(page.state) || !aim.is_within(&page.high)
 }
 
-// The page to the right, unless so many moves were made.
+// The page to the right, unless `most` moves were made.
 fn go_right(page: &Page, position: &Position, most: u32) -> Option<Position>
     ensures { result ≡ right_of page.now position.now most }
 {
