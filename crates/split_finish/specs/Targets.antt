@@ -106,7 +106,7 @@ walk_left most (Down position) = way_left most position
 walk_left most (Link position) = 0
 walk_left most Root = 0
 
--- what is left to do, in steps, while the pages are as they are and there are at most so many
+-- what is left to do, in steps, while the pages are as they are and there are `most` at most
 abbrev pub finish_left : ℕ → List Page → FinishOp → ℕ
 finish_left most pages op =
     walks_left (nodes_of pages) op * suc (walk_length most) + walk_left most op.at
