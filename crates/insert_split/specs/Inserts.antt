@@ -78,7 +78,7 @@ abbrev pub targets_at : InsertAt → List Target
 targets_at (Coming stage) = []
 targets_at (Finishing op) = targets_of op
 
--- what is left to do, in steps, while the pages are as they are and there are at most so many
+-- what is left to do, in steps, while the pages are as they are and there are `most` at most
 abbrev pub insert_left : ℕ → List Page → InsertAt → ℕ
 insert_left most pages (Coming Start) = 33 * suc (walk_length most) + walk_length most
 insert_left most pages (Coming (At position)) = 33 * suc (walk_length most) + way_left most position
