@@ -50,7 +50,7 @@ pub struct ScanOp {
 pub enum ScanStep {
     /// There are more steps to make.
     Going,
-    /// So many entries are ready to be given.
+    /// Entries are ready to be given: their number.
     Ready(u32),
     /// All is given.
     Done,
