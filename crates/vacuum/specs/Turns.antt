@@ -22,7 +22,7 @@ TurnsTo cycle most from moves page None = (block : ℕ) → LeadsBack cycle from
 TurnsTo cycle most from moves page (Some backtrack) = LeadsBack cycle from page backtrack.block
     × (backtrack.from ≡ from) × (backtrack.moves ≡ suc moves) × (moves < most)
 
--- so many moves were made
+-- the leaf leads back, and `most` moves back were made already
 pub record TurnsNoMore (cycle most from moves : ℕ) (page : Page) : Type 0 where
   pub block : ℕ
   pub leads : LeadsBack cycle from page block
