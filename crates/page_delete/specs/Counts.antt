@@ -41,7 +41,7 @@ pub record IsCleaned (st : State) (op : CleanupOp) : Type 0 where
   pub within : come_to op.cursor op.at ≤ length st.pages
   pub fewer : op.deleted < op.cursor
 
--- all pages in use have so many entries, and none of them is half-dead
+-- all pages in use have `count` entries, and none of them is half-dead
 pub record AllIsCleaned (st : State) (count : ℕ) : Type 0 where
   pub counted : count ≡ entries_below st.pages (length st.pages)
   pub none_dead : (block : ℕ) → block < length st.pages → state_in st block ≢ HalfDead

@@ -26,7 +26,7 @@ fresh_cleanup session = record {
 abbrev pub turned_to : CleanupOp → CleanupAt → CleanupOp
 turned_to op at = record op { at = at }
 
--- the cleanup after the page at the cursor, on which it counted so many entries
+-- the cleanup after the page at the cursor, on which it counted `count` entries
 abbrev pub moved_past : CleanupOp → ℕ → CleanupOp
 moved_past op count = record op { cursor = suc op.cursor; at = Look; left = op.left + count }
 

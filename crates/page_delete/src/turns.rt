@@ -48,7 +48,7 @@ fn count_entries(page: &Page) -> u64
 }
 
 impl CleanupOp {
-    // Goes on after the page at the cursor, on which it counted so many entries, at most 50.
+    // Goes on after the page at the cursor, on which it counted `count` entries, at most 50.
     pub fn pass(&mut self, count: u64)
         requires room { cleanup_counted_out self.old ≡ false }
         requires few { count ≤ 50 }
