@@ -11,7 +11,7 @@ level_there pages level depth block sum on = record { after_meta = on.after_meta
 pub level_back : (pages : List Page) (level depth block : ℕ) → level + depth ≡ (index_of pages).top → IsOnLevel (index_of pages) depth block → places.PageIsOnLevel pages level block
 level_back pages level depth block sum on = record { after_meta = on.after_meta; in_use = on.in_use; level_is = (let l = on.level_is in omega arith) }
 
--- the blocks of the first so many steps
+-- the blocks of a number of steps, the first ones
 abbrev blocks : Index → ℕ → ℕ → List ℕ
 blocks ix depth zero = []
 blocks ix depth (suc n) = left_after_steps ix depth n ∷ blocks ix depth n

@@ -69,7 +69,7 @@ pub record HasExtra (at : ℕ → Node) (stops : List Stop) (linked : List Bool)
   pub there : slice_get links item ≡ Some link
   pub wrong : IsExtra at stops linked link.child ⊎ LeadsBefore links item link.child
 
--- beside the blocks that were marked before those are to which one of the first so many leads
+-- beside the blocks that were marked before those are to which one of the first `count` leads
 pub record DownlinksAreNoted (links : List Downlink) (count : ℕ) (before after : List Bool) : Type 0 where
   pub from : (b : ℕ) → get_or after b false ≡ true → (get_or before b false ≡ true) ⊎ LeadsBefore links count b
   pub kept : (b : ℕ) → get_or before b false ≡ true → get_or after b false ≡ true

@@ -8,7 +8,7 @@ use Rattle.page_action.specs.Stored.{AreStored}
 use Rattle.amcheck.specs.Marks.{IsMet}
 use Rattle.amcheck.specs.declared.reading.Room.{Room}
 
--- there is room to check so many pages, and no block was seen or met
+-- there is room to check `used` pages, and no block was seen or met
 pub record RoomIsReady (room : Room) (used : ℕ) : Type 0 where
   pub met : IsMet room.met used
   pub none : room.met.blocks.items ≡ []
@@ -36,7 +36,7 @@ blocks_below (suc n) = blocks_below n ++ n ∷ []
 abbrev pub AreFetched : State → Memory → Memory → Backing → Backing → Type 0
 AreFetched st m m' old new = TakesFrames st.frames (pinned_blocks st.table) (blocks_below (length st.pages)) m m' old new
 
--- these blocks without the first so many, except for those of them that are pinned
+-- these blocks without the first `count`, except for those of them that are pinned
 abbrev pub without_first : List ℕ → ℕ → List ℕ → List ℕ
 without_first pinned count blocks = filter (is_block_among pinned) (take count blocks) ++ drop count blocks
 
