@@ -22,7 +22,7 @@ use Rattle.recovery.specs.Superblock.{IsNoSuperblock}
 use Rattle.recovery.specs.declared.opening.Parts.{Parts}
 use Rattle.recovery.specs.declared.opening.Refused.{Refused}
 
--- so many pages may be asked to be in memory: 16 to 1,024
+-- this number of pages may be asked to be in memory: 16 to 1,024
 abbrev pub AreFrames : ℕ → Type 0
 AreFrames frames = (16 ≤ frames) × (frames ≤ 1024)
 
@@ -102,7 +102,7 @@ pub record AreSamePages (pages : List Page) (m : DiskMoment) (parts : Parts) : T
 abbrev pub IsNoMemoryOrIo : Fault → Type 0
 IsNoMemoryOrIo fault = (fault ≡ NoMemory) ⊎ (fault ≡ Io)
 
--- the state as it is opened with its pages, for so many frames: as many as the limits allow, one or more,
+-- the state as it is opened with its pages, for `frames` frames: as many as the limits allow, one or more,
 -- each one that may be stored; no deletion number counts, and the last cycle number is the greatest of the
 -- pages
 pub record IsFreshlyOpened (frames : ℕ) (st : State) : Type 0 where

@@ -25,7 +25,7 @@ abbrev pub StandFirst : Format → List Page → List ℕ → Type 0
 StandFirst limits pages file = (block : ℕ) (page : Page) → slice_get pages block ≡ Some page
     → block_bytes limits block file ≡ page_bytes page
 
--- after so many blocks none is in use: there is no block more, or zeros stand at the place of the next one
+-- after `used` blocks none is in use: there is no block more, or zeros stand at the place of the next one
 abbrev pub IsEnd : Format → ℕ → List ℕ → Type 0
 IsEnd limits used file = (used ≡ limits.pages) ⊎ (block_bytes limits used file ≡ replicate 4096 0)
 

@@ -168,10 +168,10 @@ fn read_index<D: Device>(alloc: Global, device: &mut D, frames: u32) -> Result<P
     restore(alloc, device, limits, frames)
 }
 
-/// Opens the index on the device, after any crash, for so many pages in memory at once (16 to 1,024), its
-/// frames. It reads the superblock, syncs the device, reads the log, writes the last image of each block in
-/// its open groups to its place, syncs them, closes the log, and reads the pages of the blocks in use. Its
-/// room is then that of an empty log, (`log_bytes` - 6) / 4,096 images. After it, nothing takes memory.
+/// Opens the index on the device, after any crash, for `frames` pages in memory at once (16 to 1,024). It
+/// reads the superblock, syncs the device, reads the log, writes the last image of each block in its open
+/// groups to its place, syncs them, closes the log, and reads the pages of the blocks in use. Its room is
+/// then that of an empty log, (`log_bytes` - 6) / 4,096 images. After it, nothing takes memory.
 ///
 /// Refused, tested in this order, with the device given back: with `BadLimits` (18) for other numbers of
 /// frames; with `BadSuper` (14) for a device of less than 4,096 bytes; with `BadSuper`, `BadVersion` (15) or
