@@ -28,7 +28,7 @@ IsKeyAbsent st e =
     st.limits.unique ≡ true → (r : Row) → entry_on_live_leaf st.pages (with_row e r) ≡ false
 
 -- no page has an incomplete split, neither the entry nor, on a unique index, its key is there, its leaf has
--- room, the insert is on its way: after so many steps it is added
+-- room, the insert is on its way: after `steps` steps it is added
 pub record InsertIsDue (st : State) (op : InsertOp) (steps : ℕ) : Type 0 where
   pub steps_are : steps ≡ insert_steps st.pages op.at
   pub whole : NoneIsIncomplete st.pages
@@ -37,7 +37,7 @@ pub record InsertIsDue (st : State) (op : InsertOp) (steps : ℕ) : Type 0 where
   pub key_absent : IsKeyAbsent st op.entry
   pub room : HasRoomFor st op.entry
 
--- no page has an incomplete split, nothing waits, the scan is on its way: after so many steps entries are
+-- no page has an incomplete split, nothing waits, the scan is on its way: after `steps` steps entries are
 -- ready
 pub record ScanIsDue (st : State) (op : ScanOp) (steps : ℕ) : Type 0 where
   pub steps_are : steps ≡ scan_steps st.pages op.at
@@ -45,8 +45,8 @@ pub record ScanIsDue (st : State) (op : ScanOp) (steps : ℕ) : Type 0 where
   pub position : IsOnFrontierWay st op.frontier op.at
   pub none : waiting op ≡ []
 
--- the call answers after so many steps more, while the pages stay as they are; of a bulk delete and of a
--- cleanup nothing is said
+-- the call answers after this number of steps more, while the pages stay as they are; of a bulk delete and of
+-- a cleanup nothing is said
 abbrev pub IsDueIn : State → Option Op → ℕ → Type 0
 IsDueIn st None steps = ⊥
 IsDueIn st (Some (Insert op)) steps = InsertIsDue st op steps
@@ -54,7 +54,7 @@ IsDueIn st (Some (Scan op)) steps = ScanIsDue st op steps
 IsDueIn st (Some (Bulk set op)) steps = ⊥
 IsDueIn st (Some (Cleanup op)) steps = ⊥
 
--- a step has left the pages and the limits as they were, and the call is due after so many more
+-- a step has left the pages and the limits as they were, and the call is due after `steps` more
 pub record StaysDue (old new : State) (slot : Option Op) (steps : ℕ) : Type 0 where
   pub pages : new.pages ≡ old.pages
   pub limits : new.limits ≡ old.limits
@@ -77,7 +77,7 @@ IsHindered old new slot steps LogFull = Unit {0}
 IsHindered old new slot steps NoFrame = Unit {0}
 IsHindered old new slot steps fault = ⊥
 
--- A step of a call that is due, with so many steps left after it: the last brings what is awaited, and each
+-- A step of a call that is due, with `left` steps left after it: the last brings what is awaited, and each
 -- before it answers `Going` and leaves one fewer.
 abbrev pub DueCountsDown : State → State → Option Op → Option Op → ℕ → Answer → Type 0
 DueCountsDown old new before after left Going = (0 < left) × StaysDue old new after left
@@ -99,8 +99,8 @@ IsServable st (ToScan range) = Unit {0}
 IsServable st (ToBulk set) = ⊥
 IsServable st ToCleanup = ⊥
 
--- A call has begun: if no page has an incomplete split and its leaf can serve it, it is due after so many
--- steps more than the root's level. What is left to do for it has a bound, whatever the pages are.
+-- A call has begun: if no page has an incomplete split and its leaf can serve it, it is due after a few steps
+-- more than the root's level (`steps_for`). What is left to do for it has a bound, whatever the pages are.
 pub record HasSteps (old new : State) (request : Request) (slot : Option Op) : Type 0 where
   pub due : NoneIsIncomplete old.pages → IsServable old request → IsDueIn new slot (root_level old.pages + steps_for request)
   pub bounded : work_in new slot < 281474976710656

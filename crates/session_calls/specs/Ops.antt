@@ -255,8 +255,7 @@ AnswersLogged (Some action) (Added number unfinished) = number ≡ action
 AnswersLogged (Some action) (Refused fault) = is_blocked fault ≡ true
 AnswersLogged (Some action) answer = Unit {0}
 
--- what is left to do for a call on these pages, of which there are at most so many: steps, and entries to
--- give
+-- what is left to do for a call on these pages, of which there are `most` at most: steps, and entries to give
 abbrev pub op_work : ℕ → List Page → Op → ℕ
 op_work most pages (Insert op) = insert_left most pages op.at
 op_work most pages (Scan op) = scan_left most pages op

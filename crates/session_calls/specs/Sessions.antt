@@ -38,7 +38,7 @@ use Rattle.session_calls.specs.declared.op.Op.TheVariants.{Insert, Scan, Bulk, C
 use Rattle.session_calls.specs.declared.request.Request.{Request}
 
 -- the contents of the pages are those after the history, the acts are as many as its actions, all is in
--- order, and each running call began before so many calls had begun
+-- order, and each running call's start number is below the count of calls begun
 pub record Matches (st : State) (start : Entry → Bool) (history : List Action) : Type 0 where
   pub contents : (e : Entry) → entry_on_live_leaf st.pages e ≡ contents_after start history e
   pub count : st.acts ≡ length history
@@ -113,11 +113,11 @@ add_after added action (Some (Add e)) = Some action
 add_after added action (Some (Remove es)) = added
 add_after added action (Some Shape) = added
 
--- the call after an event of this effect, with so many actions before it: its Add is noted
+-- the call after an event of this effect, with `count` actions before it: its Add is noted
 abbrev pub noted : Call → ℕ → Option Effect → Call
 noted call count effect = record call { added = add_after call.added (suc count) effect }
 
--- the call, ended so with so many actions
+-- the call, ended so when there are `count` actions
 abbrev pub ended : Call → Ending → ℕ → Call
 ended call ending count = record call { ending = ending; until = count }
 
@@ -141,7 +141,7 @@ pub record OnlyBecomes (effect : Option Effect) (becomes after : Call) : Type 0 
   pub none : effect ≡ None
   pub after_is : after ≡ becomes
 
--- What an answer says of the effect of an event, and of the call before and after it, with so many actions
+-- What an answer says of the effect of an event, and of the call before and after it, with `count` actions
 -- before.
 abbrev pub AnswerMeans : Answer → ℕ → Option Effect → Call → Call → Type 0
 AnswerMeans Begun count effect call after = ⊥
@@ -158,8 +158,7 @@ AnswerMeans (Flushed block) count effect call after = ⊥
 AnswerMeans (Checkpointed count') count effect call after = ⊥
 AnswerMeans (Refused fault) count effect call after = (effect ≡ None) × Refuses fault count call after
 
--- what is left to do for a call on these pages, of which there are at most so many: steps, and entries to
--- give
+-- what is left to do for a call on these pages, of which there are `most` at most: steps, and entries to give
 abbrev pub work_left : ℕ → List Page → Option Op → ℕ
 work_left most pages None = 0
 work_left most pages (Some op) = op_work most pages op
@@ -439,7 +438,7 @@ CountsStats st (Some (Bulk set op)) (Finished stats) = stats ≡ stats_of st op
 CountsStats st (Some (Cleanup op)) (Finished stats) = stats ≡ cleanup_stats st op
 CountsStats st before answer = Unit {0}
 
--- how many of the first so many blocks may be used again
+-- how many of the blocks below a number may be used again
 abbrev pub reusable_count : State → ℕ → ℕ
 reusable_count st zero = 0
 reusable_count st (suc block) = (if is_reusable st block then 1 else 0) + reusable_count st block
@@ -529,9 +528,9 @@ BeginsBy old old_backing new session request excluded before after Begun = IsBeg
 BeginsBy old old_backing new session request excluded before after (Refused fault) = IsNotBegun old old_backing new excluded before after fault
 BeginsBy old old_backing new session request excluded before after answer = ⊥
 
--- a call that has begun over a history of so many actions: the pages match it still, others may rely, the
--- call meets its definition, and the slot runs it; except for a bulk delete's the cycle number stays; and all
--- that is due to it is to come
+-- a call that has begun over this history: the pages match it still, others may rely, the call meets its
+-- definition, and the slot runs it; except for a bulk delete's the cycle number stays; and all that is due to
+-- it is to come
 pub record SessionBegins (old new : State) (sets : DeadSets) (start : Entry → Bool) (history : List Action) (number session : ℕ) (request : Request) (slot : Option Op) : Type 0 where
   pub world : Matches new start history
   pub others : OthersRely session old new

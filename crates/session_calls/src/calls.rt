@@ -38,8 +38,8 @@ impl Calls {
     ghost use Rattle.session_calls.specs.Sessions.{ready_count, slot_add, no_call};
     ghost use Rattle.session_calls.specs.Slots.{slot_of, has_call, one_vacuums, is_of_sets, session_to_begin, ChangesSlot, SlotBegins, SlotSteps, SlotGives, SlotEnds};
 
-    /// So many sessions, of which none runs a call. Refused with `BadLimits` (18) unless it is 1 to 64, and
-    /// with `NoMemory` (1).
+    /// `sessions` sessions, of which none runs a call. Refused with `BadLimits` (18) unless their number is 1
+    /// to 64, and with `NoMemory` (1).
     pub fn new(alloc: Global, sessions: u32) -> Result<Calls, Fault>
         ensures slots { IfOk result (λ calls. calls.slots.items ≡ replicate sessions None) }
         ensures few { OnOk result ((1 ≤ sessions) × (sessions ≤ 64)) }
