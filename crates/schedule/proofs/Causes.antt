@@ -330,7 +330,7 @@ module _ {S : Type 0} (g : Ghosts S) (old : Moment S) (new : S) where
   at_end : (count : ℕ) → is_at_end count ≡ true → count ≡ 18446744073709551615
   at_end count h = eqb-true count 18446744073709551615 h
 
-  -- the frames of a step that looks at so many pages
+  -- the frames of a step that looks at `frames` pages, 4 at most
   few_frames : (frames : ℕ) → frames ≤ 4 → nat_lt (g.state old.store).frames (frames + count_apart (pinned_blocks (g.state old.store).table)) ≡ true
       → (g.state old.store).frames < 4 + length (pinned_blocks (g.state old.store).table)
   few_frames frames le h =

@@ -45,7 +45,7 @@ refused_becomes TooTall count call = refl
 refused_becomes DeviceTooSmall count call = refl
 refused_becomes (KeyExists r) count call = refl
 
--- no action is appended: so many there are then as before
+-- no action is appended: there are as many as before
 same_count : (effect : Option Effect) (count n : ℕ) → effect ≡ None → n ≡ act_count effect + count → count ≡ n
 same_count effect count n none is = let zero_is : act_count effect ≡ 0 = ap act_count none in omega arith
 

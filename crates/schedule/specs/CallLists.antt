@@ -16,7 +16,7 @@ use Rattle.schedule.specs.TheoremRuns.{Fits}
 abbrev pub with_one_call : {S : Type 0} → Moment S → Call → Moment S
 with_one_call now call = record now { calls = now.calls ++ call ∷ [] }
 
--- a call that was refused as it began, so many actions being there then
+-- a call that was refused as it began, when there were `count` actions
 abbrev pub refused_call : ℕ → Ask → Fault → ℕ → Call
 refused_call session ask fault count = ended (begun_call session ask count) (Failed fault) count
 

@@ -77,13 +77,13 @@ pub record Stays {S : Type 0} (g : Ghosts S) (answer : Answer) (old new : Moment
   pub refused : answer ≡ Refused fault
   pub still : IsSameState g old new
 
--- what is answered if so many actions are durable; a flush tells no such number
+-- what is answered if `count` actions are durable; a flush tells no such number
 abbrev pub kept_answer : Upkeep → ℕ → Option Answer
 kept_answer Forces count = Some (Forced count)
 kept_answer Flushes count = None
 kept_answer Checkpoints count = Some (Checkpointed count)
 
--- all actions are durable, and so many
+-- all actions are durable, and the answer tells their number
 pub record UpkeepIsDurable {S : Type 0} (g : Ghosts S) (upkeep : Upkeep) (answer : Answer) (old new : Moment S) : Type 0 where
   pub told : kept_answer upkeep (length old.history) ≡ Some answer
   pub durable : (g.backing new.store).durable ≡ length old.history
@@ -99,8 +99,8 @@ pub record UpkeepIsDone {S : Type 0} (g : Ghosts S) (upkeep : Upkeep) (answer : 
   pub tells : UpkeepAnswerMeans g upkeep answer old new
   pub still : IsSameState g old new
 
--- What was done for the store, whatever the pages are: these are as they were; if it is told as done, so
--- many acts were done, and all are durable; a refusal has its cause.
+-- What was done for the store, whatever the pages are: these are as they were; if it is told as done, it
+-- tells how many acts were done, and all are durable; a refusal has its cause.
 pub record StoreIsKept {S : Type 0} (g : Ghosts S) (upkeep : Upkeep) (answer : Answer) (old new : S) : Type 0 where
   pub state_is : g.state new ≡ g.state old
   pub number : (count : ℕ) → kept_answer upkeep count ≡ Some answer → count ≡ (g.state old).acts

@@ -59,10 +59,10 @@ pub record OneVacuums (st : State) (slots : List (Option Op)) : Type 0 where
   pub alone : (session other : ℕ) → slot_vacuums (slot_of slots session) ≡ true → slot_vacuums (slot_of slots other) ≡ true → session ≡ other
   pub cycle : runs_bulk_delete st ≡ one_is_bulk_delete slots
 
--- what is known between events: pages and holdings are in order, and each running call began before so many
--- calls had begun; each session's running call knows what it needs of the pages, and what it is to remove
--- still; a session without one holds nothing, and has no start number; and which session runs a bulk delete
--- or a cleanup, if one does
+-- what is known between events: pages and holdings are in order, and each running call's start number is
+-- below the count of calls begun; each session's running call knows what it needs of the pages, and what it
+-- is to remove still; a session without one holds nothing, and has no start number; and which session runs a
+-- bulk delete or a cleanup, if one does
 pub record Invariant {S : Type 0} (g : Ghosts S) (start : Entry → Bool) (now : Moment S) : Type 0 where
   pub order : IsInOrder (g.state now.store)
   pub starts : StartsAreBelow (g.state now.store)

@@ -65,8 +65,8 @@ abbrev pub steps_gone : ℕ → List Event → List Answer → ℕ
 steps_gone session (event ∷ events) (answer ∷ answers) = goes_on session (kind_of event) answer + steps_gone session events answers
 steps_gone session events answers = 0
 
--- after a run from the beginning of a session's call on, one step more at least is to be made, and so many
--- are made and to be made in sum
+-- after a run from the beginning of a session's call on, one step more at least is to be made; those that
+-- were made and those that are to be made are `steps` in sum
 pub record IsStillDue {S : Type 0} (g : Ghosts S) (session steps gone : ℕ) (last : Moment S) : Type 0 where
   pub left : ℕ
   pub due : IsDueIn (g.state last.store) (slot_of last.slots session) (suc left)

@@ -22,7 +22,7 @@ pub record KeepsHistory {S : Type 0} (g : Ghosts S) (start : Entry → Bool) (no
   pub parts : (part : ℕ) → part ≤ length now.history → ArePagesAfter (g.state now.store).limits.unique start (take part now.history) (g.past now.store part)
   pub durable : (g.backing now.store).durable ≤ length now.history
 
--- these bytes restart to pages whose contents are those after a prefix of the history, of at least so many
+-- these bytes restart to pages whose contents are those after a prefix of the history, of at least `least`
 -- actions
 pub record RestartsToPrefix {S : Type 0} (g : Ghosts S) (start : Entry → Bool) (least : ℕ) (now : Moment S) (image : List ℕ) : Type 0 where
   pub part : ℕ

@@ -77,7 +77,7 @@ pub record CallContinues {S : Type 0} (g : Ghosts S) (session : ℕ) (move : Mov
   pub shape : ShapeMoves call.ask effect (nodes_of (g.state old.store).pages) (nodes_of (g.state new.store).pages)
   pub caused : IsRefusedFor (MoveFails g move session call.ask op old new.store) answer
 
--- so many actions there are, and all are durable
+-- there are `count` actions, and all are durable
 pub record AllAreDurable {S : Type 0} (g : Ghosts S) (count : ℕ) (old new : Moment S) : Type 0 where
   pub still : IsSameState g old new
   pub count_is : count ≡ length old.history
