@@ -6,7 +6,7 @@ use Rattle.session_calls.proofs.Freeing.{go_running}
 use Rattle.whole_calls.proofs.Imports.{is_deleted, others_began_after, is_reusable, any_is_reusable, is_out_of_blocks, InsertOp, is_bulk_delete, start_number, op_after_call, after_slot, let_go}
 use Rattle.whole_calls.proofs.Imports.{Insert, running_of, Entry, Format, State, Ghosts, Page, session_of, Op, Moment, Fits, slot_of, SlotRuns, with_number, has_no_block}
 
--- one of the first so many blocks may be used again
+-- one of the first `n` blocks may be used again
 same_reusable : (a b : State) → a.pages ≡ b.pages → a.counted ≡ b.counted → a.running ≡ b.running → (n : ℕ) → any_is_reusable a n ≡ any_is_reusable b n
 same_reusable a b pages counted running zero = refl
 same_reusable a b pages counted running (suc n) =

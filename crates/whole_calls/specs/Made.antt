@@ -16,9 +16,8 @@ use Rattle.whole_calls.specs.Going.{IsAmong}
 use Rattle.whole_calls.specs.Meanings.{RoomIsMade}
 use Rattle.whole_calls.specs.declared.inserted.Inserted.{Inserted}
 
--- the log's room is as an event asks: a checkpoint is made only if there is room for fewer images than
--- these; a step only if there is room for so many, or the whole room; and nothing else is done for the
--- store
+-- the log's room is as an event asks: a checkpoint is made only if there is room for fewer images than these;
+-- a step only if there is room for `least_room`, or the whole room; and nothing else is done for the store
 abbrev pub HasItsRoom : ℕ → Kind → Format → Backing → Type 0
 HasItsRoom least_room (MaintainsStore Checkpoints) limits backing = backing.room < least_room
 HasItsRoom least_room (MaintainsStore upkeep) limits backing = ⊥

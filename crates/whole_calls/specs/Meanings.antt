@@ -48,7 +48,7 @@ abbrev pub acts_by : ℕ → List Effect → List Action
 acts_by number [] = []
 acts_by number (effect ∷ effects) = (record { by = number; effect = effect }) ∷ acts_by number effects
 
--- the call after events of these effects, with so many actions before the first: its Add is noted
+-- the call after events of these effects, with `count` actions before the first: its Add is noted
 abbrev pub noted_after : Call → ℕ → List Effect → Call
 noted_after call count [] = call
 noted_after call count (effect ∷ effects) = noted_after (noted call count (Some effect)) (suc count) effects
@@ -164,11 +164,11 @@ outcome_of (Added action unfinished) added = Ok (record { action = action; unfin
 outcome_of (Refused fault) added = left_behind added fault
 outcome_of answer added = Err NoSession
 
--- so many changes of the pages' shape, by the call of this number
+-- `count` changes of the pages' shape, by the call of this number
 abbrev pub shapes : ℕ → ℕ → List Action
 shapes number count = replicate count (record { by = number; effect = Shape })
 
--- the insert's call with this Add, ended so with so many actions
+-- the insert's call with this Add, begun after `count` actions and ended so after `until` actions
 abbrev pub inserted_call : ℕ → Entry → ℕ → ℕ → Ending → ℕ → Call
 inserted_call session entry count action ending until =
     ended (record (begun_call session (AskInsert entry) count) { added = Some action }) ending until
@@ -208,6 +208,6 @@ abbrev pub room_outcome : Result (Unit {0}) Fault → Option Answer
 room_outcome (Ok made) = None
 room_outcome (Err fault) = Some (Refused fault)
 
--- there is room for so many images, or the log is empty
+-- there is room for `least` images, or the log is empty
 abbrev pub RoomIsMade : ℕ → Format → Backing → Type 0
 RoomIsMade least limits backing = (least ≤ backing.room) ⊎ LogIsClosed limits backing

@@ -86,7 +86,7 @@ abbrev pub OneStepComesTo : Answer → List Answer → Type 0
 OneStepComesTo answer answers =
     IsAmong answers answer ⊎ ((action : ℕ) × (fault : Fault) × (answer ≡ Added action (Some fault)) × IsAmong answers (Refused fault))
 
--- the step itself, if the log has room for so many images
+-- the step itself, if the log has room for `least_room` images
 pub record IsStepMade {S : Type 0} (g : Ghosts S) (session least_room : ℕ) (answer : Answer) (old new : StoreAndSlots S) : Type 0 where
   pub room : RoomIsMade least_room (g.state old.store).limits (g.backing old.store)
   pub makes : EventEffect g (MovesCall session Steps) answer old new

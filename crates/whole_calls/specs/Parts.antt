@@ -26,13 +26,13 @@ pub record OneStepMore (Before : List Answer → Type 0) (answer : Answer) (answ
   pub ends : StepComesTo answer last
   pub answers_are : answers ≡ before ++ last
 
--- these are the answers of exactly so many steps, after each of which the call went on; of none there is no
--- answer
+-- these are the answers of exactly this number of steps, after each of which the call went on; of none there
+-- is no answer
 abbrev pub StepsGoOn : ℕ → List Answer → Type 0
 StepsGoOn zero answers = answers ≡ []
 StepsGoOn (suc count) answers = OneStepMore (StepsGoOn count) Going answers
 
--- What a part came to that was to make so many steps. If the call goes on, it has made exactly so many; else
+-- What a part came to that was to make `count` steps. If the call goes on, it has made exactly as many; else
 -- fewer went on, and the next one answered this. So a part of no steps does nothing.
 abbrev pub PartComesTo : ℕ → Answer → List Answer → Type 0
 PartComesTo count Going answers = StepsGoOn count answers

@@ -80,7 +80,7 @@ pub data Followed : Type 0 where
   of_bulk_delete : Followed
   -- those that a cleanup counts, and the half-dead pages
   of_cleanup : Followed
-  -- the pages that a cleanup deletes, beside so many that were deleted before
+  -- the pages that a cleanup deletes, beside `was` pages that were deleted before
   of_deleted : (was : ℕ) → Followed
   -- if nobody else holds a page, the empty leaves that a cleanup leaves
   of_leaves : Followed
@@ -114,7 +114,7 @@ abbrev pub StatsCountCleaned : State → Result VacuumStats Fault → Type 0
 StatsCountCleaned st (Ok stats) = AllIsCleaned st stats.num_index_tuples
 StatsCountCleaned st (Err fault) = Unit {0}
 
--- the statistics tell how many pages are deleted now, beside so many that were deleted before
+-- the statistics tell how many pages are deleted now, beside `was` pages that were deleted before
 abbrev pub StatsCountDeleted : ℕ → State → Result VacuumStats Fault → Type 0
 StatsCountDeleted was st (Ok stats) = deleted_in st ≡ was + stats.pages_newly_deleted
 StatsCountDeleted was st (Err fault) = Unit {0}
