@@ -1,4 +1,4 @@
-//! The log.
+//! The log: it is opened and closed, and takes the images of actions.
 
 ghost use Rattle.std.specs.Prelude.{◌⊎◌, ◌≡◌, ◌≤◌, ◌<◌, ◌+◌, ◌*◌, ◌/◌, ◌^◌, ℕ, suc, true, false, Err, IsTrue, IsErrOf, OnOk, OnErr, IfOk, IfErr, is_err, length, slice_index, vec_capacity};
 ghost use Rattle.std.specs.Bool.{OnTrue, OnFalse};
@@ -149,7 +149,8 @@ impl Log {
     /// If no group is open the device isn't called, since a crash could leave a gate that is written as an
     /// open one, in front of old bytes.
     ///
-    /// At `Io` the log is stopped; a stopped log answers `Stopped`.
+    /// Refused with `Io` (2) if a device call fails: the log is stopped then. Refused with `Stopped` (3) on a
+    /// stopped log.
     pub fn reset<D: Device>(&mut self, device: &mut D) -> Result<(), Fault>
         requires range { log_end (limits_of self.old) ≤ length (D.trace device.old).now.seen }
         requires shut { is_ajar self.old ≡ false }
@@ -250,7 +251,7 @@ impl Log {
 pub struct Replayed {
     /// Its buffer has the bytes that were read: nothing waits in it as yet.
     pub log: Log,
-    /// For each block where its last image lies in these bytes, 0 for a block without one.
+    /// For each block, where its last image lies in these bytes; 0 for a block without one.
     lasts: Vec<u32>,
     ghost inside: { (k : ℕ) → k < length lasts.items
         → slice_index lasts.items k + 4096 ≤ length log.buffer.items },
