@@ -81,7 +81,7 @@ impl<D: Device> LoggedPages<D> {
     }
 
     // Writes the changed page at this place of their order, if one is there that isn't pinned and whose acts
-    // are durable: whether it did. Refused with `Io`; the page is changed then as before.
+    // are durable. Answers whether it did. Refused with `Io`; the page is changed then as before.
     fn write_next(&mut self, place: usize, pinned: &[u32]) -> Result<bool, Fault>
         requires alive { is_stopped self.old.log ≡ false }
         ensures quiet { IsSameButWritten D.Device self.old self.new }

@@ -53,7 +53,8 @@ impl<D: Device> LoggedPages<D> {
         Ok(self.acts)
     }
 
-    /// Does the next part of a force but for its last sync, as the log does. Refused with `Io` and `Stopped`.
+    /// Does the next part of a force, except for its last sync, as the log does. Refused with `Io` and
+    /// `Stopped`.
     pub fn advance(&mut self) -> Result<Advance, Fault>
         ensures steps { Follows (held_of D.Device self.old) (held_of D.Device self.new) }
         ensures pages { SamePages D.Device self.old self.new }

@@ -1,4 +1,4 @@
-//! The store.
+//! The store: pages over a log and a device, and the calls that run over them.
 
 ghost use Rattle.std.specs.Prelude.{◌≡◌, ◌≤◌, length};
 ghost use Rattle.page_action.specs.Waiting.{AreWaiting};
@@ -87,9 +87,9 @@ impl<D: Device> Store<D> {
         }
     }
 
-    /// Does the next part of a force but for its last sync: writes what waits in the log, or syncs that and
-    /// opens its gate. A sync of the device between two parts makes the next one's fast, and that of the
-    /// force at their end. If an act comes between, what waits is written again. Refused with `Io` and
+    /// Does the next part of a force, except for its last sync: it writes what waits in the log, or it syncs
+    /// that and opens its gate. A sync of the device between two parts makes the next one's fast, and that of
+    /// the force at their end. If an act comes between, what waits is written again. Refused with `Io` and
     /// `Stopped`: the log is stopped then.
     pub fn advance(&mut self) -> Result<Advance, Fault>
         ensures steps { Continues (follows_by D.Device) self.old self.new }
@@ -104,8 +104,8 @@ impl<D: Device> Store<D> {
         self.held.advance()
     }
 
-    /// What the system said of the last call of the device that failed, if the device is of a system. No
-    /// clause tells of it.
+    /// What the operating system said of the last device call that failed, if the device is one of an
+    /// operating system. No clause speaks of it.
     pub fn error(&self) -> Option<Error> {
         self.held.device.error()
     }
@@ -117,8 +117,8 @@ impl<D: Device> Store<D> {
         self.held.device
     }
 
-    /// Does nothing: what a crash may have left since an own device's store was as `first`, and what its
-    /// pages were then.
+    /// Does nothing: its clause says what a crash may have left since the store was as `first`, over a device
+    /// of its own, and what its pages were then.
     pub fn crash_law(&self)
         ensures restarts { (first : Held) (image : List ℕ) → IsOwn first
             → Follows first (held_by D.Device self.now)

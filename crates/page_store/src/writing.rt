@@ -48,8 +48,8 @@ pub(crate) fn write_page<D: Device>(
     put_page(device, page_place(&limits, block), page)
 }
 
-/// Reads the page of these bytes into the place of another: whether it is one that may be stored at this
-/// block.
+/// Reads the page of these bytes into the place of another, and answers whether it is one that may be stored
+/// at this block.
 fn decode_stored(bytes: &[u8; 4096], limits: Format, block: u32, page: &mut Page) -> bool
     ensures stored { IsTrue result → IsStored limits block page.new }
     ensures found { IsTrue result → bytes.now ≡ page_bytes page.new }
