@@ -7,10 +7,10 @@ use latch_table::LatchTable;
 use std::alloc::Global;
 use std::marker::Model;
 
-/// What sessions 0 to 63 have.
+/// What sessions 0 to 63 have: the start numbers of their running calls, their latches and their pins.
 #[derive(Drop)]
 pub(crate) struct Sessions {
-    /// Of each the start number of its running call.
+    /// The start number of each session's running call.
     pub(crate) running: [Option<u64>; 64],
     pub(crate) table: LatchTable,
 }
