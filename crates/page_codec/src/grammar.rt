@@ -1,4 +1,4 @@
-//! Which pages the format admits, judged.
+//! Judges whether the format admits a page.
 
 ghost use Rattle.std.specs.Prelude.{◌≡◌, ◌↔◌, ◌≤◌, IsTrue, IfSome, List, length};
 ghost use Rattle.std.specs.List.{AllByRecursion};
