@@ -45,8 +45,8 @@ pub fn read_shared<S: PageStore>(store: &mut S, session: Session, block: u32) ->
     store.fetch(block)
 }
 
-/// Asks whether another session's hold on the page conflicts, and takes nothing: a step is one moment, so
-/// what it latched for itself alone it would let go at once. Refused with `Blocked` (4).
+/// Asks whether another session's hold on the page conflicts, and takes no latch. A step is one moment: what
+/// it latched for itself alone, it would let go at once. Refused with `Blocked` (4).
 pub fn check_latch<S: PageStore>(
     store: &mut S,
     session: Session,
@@ -100,8 +100,8 @@ pub fn read_exclusive<S: PageStore>(
     store.page(block)
 }
 
-/// Reads two pages that the step may change into two that stand ready: no other session holds them. Refused
-/// with `Stopped`, then with `Blocked` for the first page before the second, then with the faults of
+/// Reads two pages that no other session holds, and that the step may change, into two that stand ready.
+/// Refused with `Stopped`, then with `Blocked` for the first page before the second, then with the faults of
 /// [`PageStore::fetch`] likewise: what stands in the two has no meaning then.
 pub fn read_both<S: PageStore>(
     store: &mut S,

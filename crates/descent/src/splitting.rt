@@ -18,10 +18,10 @@ use page_action::{PageStore, find_misplaced};
 use page_codec::Page;
 use tree_shape::may_be_mended;
 
-/// Reads the page to the right of one that is split, if there is one, into a page that stands ready, to mend
-/// its left link, and answers whether there is one. Refused as [`read_exclusive`](crate::read_exclusive), and
-/// with `PageDamaged` for a page that has no left link to mend: the metapage, or a deleted page. If none was
-/// read, what stands in the page has no meaning.
+/// Reads the right sibling of a page that is split, if there is one, into a page that stands ready. The
+/// sibling's left link is to be mended. Answers whether there is one. Refused as
+/// [`read_exclusive`](crate::read_exclusive), and with `PageDamaged` for a page that has no left link to
+/// mend: the metapage, or a deleted page. If none was read, what stands in the page has no meaning.
 pub fn read_right<S: PageStore>(
     store: &mut S,
     session: Session,
