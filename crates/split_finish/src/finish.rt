@@ -1,4 +1,4 @@
-//! The call, and which step it makes next.
+//! The call that finishes splits, and which step it makes next.
 
 ghost use Rattle.std.specs.Prelude.{◌≡◌, [], IfErr};
 ghost use Rattle.index_model.specs.Faults.{HasCause};
