@@ -96,8 +96,8 @@ impl ScanOp {
     /// Makes one step. While entries are ready it answers their number and changes nothing. After `Done` and
     /// after each fault but `Blocked` the call is over, and its store's `end` is due.
     ///
-    /// Refused with `Blocked`, and the same step may be made again; with `Io`, `Stopped`, `NoFrame`; with
-    /// `PageDamaged` on pages that are no tree. A refused step changes nothing.
+    /// Refused with `Blocked` (4), and the same step may be made again; with `Io` (2), `Stopped` (3),
+    /// `NoFrame` (10); with `PageDamaged` (17) on pages that are no tree. A refused step changes nothing.
     pub fn step<S: PageStore>(&mut self, store: &mut S) -> Result<ScanStep, Fault>
         ensures all { ScanSteps S.PageStore self.old self.new store.old store.new result }
         ensures faults { IfErr result (HasCause causes_of_reading_any) }
