@@ -261,7 +261,7 @@ fn try_beside<S: PageStore>(
 }
 
 impl CleanupOp {
-    // Makes the leaf at the cursor half-dead, if it is to be: whether it did.
+    // Makes the leaf at the cursor half-dead, if it is to be. Answers whether it did.
     pub fn try_leaf<S: PageStore>(&self, store: &mut S, parent: u32) -> Result<bool, Fault>
         ensures all { IsTried S.PageStore self.now.session (blocks_judged self.now.cursor parent)
             (BlocksAreInUse self.now.cursor parent) (LeafDies self.now.cursor)

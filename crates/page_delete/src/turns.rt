@@ -1,4 +1,4 @@
-//! Where what it reads leads a cleanup.
+//! Where a cleanup goes after a page that it has read.
 
 ghost use Rattle.std.specs.Prelude.{◌≡◌, ◌≤◌, ◌↔◌, IsTrue, false, Some, length};
 ghost use Rattle.page_codec.specs.declared.page.PageState.TheVariants.{HalfDead};

@@ -196,7 +196,7 @@ fn unlink_dead<S: PageStore>(
 }
 
 impl CleanupOp {
-    // Unlinks the page at the cursor, if it is half-dead: whether it did.
+    // Unlinks the page at the cursor, if it is half-dead. Answers whether it did.
     pub fn try_unlink<S: PageStore>(&self, store: &mut S) -> Result<bool, Fault>
         ensures all { IsTried S.PageStore self.now.session (blocks_unlinked_at self.now.cursor)
             (IsInUse self.now.cursor) (PageIsDeleted self.now.cursor) (IsNotDead self.now.cursor)
