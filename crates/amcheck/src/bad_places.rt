@@ -127,8 +127,8 @@ fn damage_at_end(
     }
 }
 
-/// The first damage of the chain of a level, along which these stops were made. The first bad one of them is
-/// found so.
+/// The first damage of the chain of a level, along which these stops were made. `find` finds the first bad
+/// stop.
 pub(crate) fn first_in_chain<F: Fn(&Pages, bool, Option<u32>, &[Stop]) -> Option<usize>>(
     find: &F,
     pages: &Pages,

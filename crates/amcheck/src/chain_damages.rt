@@ -98,8 +98,8 @@ fn keep(chains: &mut Vec<Stop>, stops: &[Stop])
 }
 
 /// The first damage of the chains of all levels, from the root's to the leaves. No block was seen or met
-/// before; `stops` and `chains` have room for a stop at each page in use. If there is no damage `chains`
-/// has the stops of all levels. What a unique index asks of bounds and keys is judged if `keys`.
+/// before; `stops` and `chains` have room for a stop at each page in use. If there is no damage `chains` has
+/// the stops of all levels. What a unique index asks of bounds and keys is judged if `keys` is true.
 pub(crate) fn find_chain_damage<F: Fn(&Pages, bool, Option<u32>, &[Stop]) -> Option<usize>>(
     find: &F,
     pages: &Pages,

@@ -24,7 +24,7 @@ pub(crate) struct PageRoom {
     pub(crate) list: PageList,
 }
 
-/// Keeps a page after these, if it has downlinks: where it is kept.
+/// Keeps a page after these, if it has downlinks, and answers where it is kept.
 fn keep_links(whole: &mut Vec<Page>, page: &Page) -> Option<u32>
     requires room { length whole.old.items < vec_capacity whole.old }
     requires few { length whole.old.items < 2 ^ 32 }

@@ -21,7 +21,7 @@ fn is_key_bound(bound: &Option<Bound>) -> bool
     }
 }
 
-/// Whether so are the bounds of all these downlinks.
+/// Whether the same holds of the bounds of all these downlinks.
 fn are_key_links(links: &[Downlink]) -> bool
     ensures { IsTrue result ↔ AllByRecursion IsKeyLink links.now }
 {
