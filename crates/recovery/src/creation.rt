@@ -167,10 +167,10 @@ fn write_index<D: Device>(device: &mut D, limits: &Format) -> Result<(), Fault>
 /// the metapage, one empty leaf, and zeros in all other blocks, all of it synced. Of the log it writes the
 /// first gate alone: what stands after that stays, and so do bytes after the last block.
 ///
-/// Refused, with the device as it was: limits out of their ranges (`BadLimits`); a device shorter than
-/// 4,096 + `log_bytes` + 4,096 * `pages` bytes (`DeviceTooSmall`). A failed device call answers `Io`; then,
-/// and after a crash inside of it, the device is to be made anew, by this call, which takes any bytes. It
-/// takes no memory.
+/// Refused, with the device as it was: with `BadLimits` (18) for limits out of their ranges; with
+/// `DeviceTooSmall` (20) for a device of fewer than 4,096 + `log_bytes` + 4,096 * `pages` bytes. Refused with
+/// `Io` (2) if a device call fails. After that, and after a crash during the call, the index is to be made
+/// anew: this call takes a device with any bytes. It takes no memory.
 pub fn create<D: Device>(device: &mut D, limits: &Limits) -> Result<(), Fault>
     ensures made { OnOk result (IsEmptyIndex (made limits.now) (D.trace device.new).now) }
     // So it can be opened, also after a crash.
