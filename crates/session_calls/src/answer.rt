@@ -1,4 +1,4 @@
-//! Answers.
+//! What events of a session answer.
 
 use index_model::{Entry, Fault, VacuumStats};
 

@@ -1,4 +1,4 @@
-//! Beginnings.
+//! How a session's call begins.
 
 ghost use Rattle.std.specs.Prelude.{◌≡◌, ◌<◌, ◌≤◌, true, false, Bool, List, ℕ, OnOk, OnErr, IfErr, Err, Some, length};
 ghost use Rattle.index_model.specs.Actions.{Action};
@@ -33,8 +33,8 @@ pub(crate) fn no_call_begins<S: PageStore>(store: &S) -> bool
 /// one. Refused with `Stopped` (3) if no call begins; with `SessionBusy` (13) if the session has a
 /// call; with `VacuumRunning` (11) if it is excluded: nothing is changed then.
 ///
-/// On its own, into a leaf with room, an insert takes three steps more than the root's level; the first
-/// entries of a scan are ready after two more.
+/// An insert that runs alone, into a leaf with room, takes three steps more than the root's level. The first
+/// entries of a scan that runs alone are ready after two steps more than that level.
 pub(crate) fn begin<S: PageStore>(
     store: &mut S,
     session: Session,

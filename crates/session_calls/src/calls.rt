@@ -17,9 +17,9 @@ use std::alloc::Global;
 /// The running call of each of 1 to 64 sessions, which has one at most. After it is made, nothing takes
 /// memory.
 ///
-/// Of what its calls promise: a session that runs nothing is refused, and nothing is changed (`idle`,
-/// `not_begun`); else its slot alone is changed, and what the clause's word says holds of what it was and is
-/// (`changes`).
+/// What its calls promise has one form. A session that runs nothing is refused, and nothing is changed
+/// (`idle`, `not_begun`). Else the session's slot alone is changed, and the clause's word speaks of the slot
+/// before and after (`changes`).
 #[derive(Drop)]
 pub struct Calls {
     slots: Vec<Slot>,
@@ -157,10 +157,9 @@ impl Calls {
         }
     }
 
-    /// Makes one step of the session's call. If the answer ends the call it has none afterwards, and what
-    /// the session held is let go. Refused with `NoSession` (12), or `Stopped` (3), if it has none; a
-    /// refused step changes nothing, but that the call is over, unless it was refused with `Blocked` (4) or
-    /// `NoSession`.
+    /// Makes one step of the session's call. If the answer ends the call it has none afterwards, and what the
+    /// session held is let go. Refused with `NoSession` (12), or `Stopped` (3), if it has none. A refused
+    /// step ends the call, unless it was refused with `Blocked` (4) or `NoSession`. It changes nothing else.
     ///
     /// A call that was asked for the rows of a set knows it by its place among the sets. These are the same
     /// at each step.

@@ -22,8 +22,8 @@ use page_codec::Page;
 
 /// Makes one step of a session's call. If the answer ends the call, the slot is empty afterwards, and what
 /// the session held is let go. A slot with no call is refused with `NoSession` (12), or `Stopped` (3). A
-/// refused step changes nothing, but that the call is over, unless it was refused with `Blocked` or
-/// `NoSession`.
+/// refused step ends the call, unless it was refused with `Blocked` (4) or `NoSession`. It changes nothing
+/// else.
 ///
 /// A call that was asked for the rows of a set knows it by its place among the sets. These are the same at
 /// each of its steps. What the draft and the pages hold has no meaning.
