@@ -68,8 +68,8 @@ pub fn begin<S: PageStore, T: DeadRows>(
 
 /// Makes one step of a session's call, as `one` does for the event `Step`, and as quickly as can be. Refused
 /// with `NoSession` (12), or `Stopped` (3), if it has none; else as the step of an insert, a scan, a bulk
-/// delete or a cleanup is. A refused step changes nothing, but that the call is over, unless it was refused
-/// with `Blocked` (4) or `NoSession`.
+/// delete or a cleanup is. A refused step ends the call, unless it was refused with `Blocked` (4) or
+/// `NoSession`. It changes nothing else.
 pub fn step<S: PageStore, T: DeadRows>(
     store: &mut S,
     calls: &mut Calls,
