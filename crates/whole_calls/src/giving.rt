@@ -98,10 +98,10 @@ fn given(came: Answer) -> Result<Option<Entry>, Fault>
     }
 }
 
-/// The next entry of the session's scan, or None if it has given all; it is over then, and if
-/// it is refused: as a step of it is, and with `Io` (2) or `Stopped` (3) if a checkpoint before
-/// a step is; over a device that breaks its model also with `PageDamaged(0)` (17), after 2^64 - 1
-/// steps.
+/// The next entry of the session's scan, or None if it has given all: the scan is over then. A refusal ends
+/// it too. It is refused as a step of it is, and with `Io` (2) or `Stopped` (3) if a checkpoint before a step
+/// is refused so. Over a device that breaks its model it is also refused with `PageDamaged(0)` (17), after
+/// 2^64 - 1 steps.
 pub fn give<S: PageStore, T: DeadRows>(
     store: &mut S,
     calls: &mut Calls,

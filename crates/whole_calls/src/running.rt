@@ -1,6 +1,7 @@
 //! Calls that run to their end. Before each step for which the log has room for fewer than
 //! `least_room` images a checkpoint is made; one that is refused counts as the refusal of the step.
-//! With 0 none is made. Each step is given the sets of dead rows that calls name by their places.
+//! If `least_room` is 0, no checkpoint is made. Each step is given the sets of dead rows that calls name by
+//! their places.
 
 ghost use Rattle.std.specs.Prelude.{◌≡◌, ◌≢◌, ◌≤◌, ℕ, true, List, Option, Some, None, OnOk, OnErr, IfErr, map, slice_get};
 ghost use Rattle.index_model.specs.Faults.{HasCause};
@@ -98,8 +99,8 @@ pub(crate) fn step<S: PageStore, T: DeadRows>(
     }
 }
 
-// Steps of the session's call until one doesn't answer `Going`, and that answer. Over a device that
-// breaks its model also refused with `PageDamaged(0)` (17), after 2^64 - 1 steps.
+// Makes steps of the session's call until one doesn't answer `Going`, and gives that answer. Over a device
+// that breaks its model it is also refused with `PageDamaged(0)` (17), after 2^64 - 1 steps.
 fn finish<S: PageStore, T: DeadRows>(
     store: &mut S,
     calls: &mut Calls,
@@ -283,10 +284,10 @@ pub fn give_up<S: PageStore, T: DeadRows>(
     let _answer = one(store, calls, sets, Event::End(session));
 }
 
-/// An insert, run to its end in a session. Refused as the beginning of a call is: with `Stopped`
-/// (3), `NoSession` (12), `SessionBusy` (13), in this order; nothing is changed then. If a step
-/// of it is refused, it is given up: refused then too, unless its entry is added, when the fault
-/// stands in `unfinished`.
+/// An insert, run to its end in a session. Refused as the beginning of a call is: with `Stopped` (3),
+/// `NoSession` (12), `SessionBusy` (13), in this order; nothing is changed then. If a step of it is refused,
+/// it is given up. The insert is refused then too, unless its entry is added: then the fault stands in
+/// `unfinished`.
 pub fn insert<S: PageStore, T: DeadRows>(
     store: &mut S,
     calls: &mut Calls,
