@@ -1,4 +1,4 @@
-//! A group is written behind a closed gate and synced. Then its gate is opened, and that is synced.
+//! A group is written after a closed gate and synced. Then its gate is opened, and that is synced.
 
 ghost use Rattle.std.specs.Prelude.{◌⊎◌, ◌≡◌, ◌+◌, ◌*◌, ◌<◌, ◌≤◌, ℕ, suc, [], ◌∷◌, true, false, Err, IsTrue, IfOk, OnOk, OnErr, is_err, length};
 ghost use Rattle.device.specs.Disk.{CountsFailures};
@@ -41,7 +41,7 @@ impl Log {
     ghost use Rattle.redo_log.specs.Kept.{limits_of, is_stopped, is_written, is_ajar, actions_of, waiting_count, waiting_blocks, groups_end, end_with};
     ghost use Rattle.redo_log.specs.Kept.{KeepsActions, ForcesAll, RestartsThroughout, SameLog, ChangesItsRange, IoOrStopped};
 
-    // Closes the gate if it may be open: the group behind it is out of date.
+    // Closes the gate if it may be open: the group after it is out of date.
     fn shut_gate<D: Device>(&mut self, device: &mut D) -> Result<(), Fault>
         requires range { log_end (limits_of self.old) ≤ length (D.trace device.old).now.seen }
         requires alive { is_stopped self.old ≡ false }
@@ -71,7 +71,7 @@ impl Log {
         Ok(())
     }
 
-    // Writes the group that waits behind its gate, which is closed.
+    // Writes the group that waits after its gate, which is closed.
     fn write_body<D: Device>(&mut self, device: &mut D) -> Result<(), Fault>
         requires range { log_end (limits_of self.old) ≤ length (D.trace device.old).now.seen }
         requires alive { is_stopped self.old ≡ false }
@@ -102,7 +102,7 @@ impl Log {
         Ok(())
     }
 
-    // Writes the group that waits behind its gate, which stays closed, if that isn't done. Answers whether a
+    // Writes the group that waits after its gate, which stays closed, if that isn't done. Answers whether a
     // group stands there: if not, none waits.
     fn write_group<D: Device>(&mut self, device: &mut D) -> Result<bool, Fault>
         requires range { log_end (limits_of self.old) ≤ length (D.trace device.old).now.seen }

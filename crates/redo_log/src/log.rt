@@ -25,9 +25,9 @@ pub struct Log {
     pub(crate) at: usize,
     pub(crate) actions: u64,
     pub(crate) stopped: bool,
-    /// The group that waits stands on the device behind its gate, and nothing was appended since.
+    /// The group that waits stands on the device after its gate, and nothing was appended since.
     pub(crate) written: bool,
-    /// That gate may be open, and behind it stands a group that no sync has let in.
+    /// That gate may be open, and after it stands a group that no sync has let in.
     pub(crate) ajar: bool,
     /// The blocks whose images wait, one image for each.
     pub(crate) waiting: Waiting,
