@@ -126,8 +126,8 @@ pub record IsKept (log : Log) (m : DiskMoment) (unwritten : ℕ → ℕ) (h : Hi
       → unwritten block ≡ 0 → is_named (drop base h.acts) block ≡ true
       → Has (place (limits_of log) block) (page_bytes page) m.seen
 
--- the pages are those after all acts of the history, a crash leaves a prefix of them with all durable ones,
--- and while the log has not failed it keeps them
+-- the pages are those after all acts of the history; a crash leaves a prefix of the acts, with all durable
+-- ones; while the log has not failed it keeps them
 pub record IsOwn (held : Held) : Type 0 where
   pub start_stored : AreStored (limits_of held.log) 0 held.history.start
   pub start_few : length held.history.start ≤ (limits_of held.log).pages
