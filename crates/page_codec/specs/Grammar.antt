@@ -140,8 +140,8 @@ pub record IsLeaf (p : Page) (es : List Entry) : Type 0 where
   pub count : length es ≤ 50
   pub rest : IsLeafIn p.state p es
 
--- an internal page: level 1 to 31, live, a high key exactly if there is a right link, the
--- incomplete split only with a right link, 1 to 50 downlinks of which the first has minus infinity
+-- an internal page: it is live and of level 1 to 31; it has a high key exactly if it has a right link, and an
+-- incomplete split only with one; it has 1 to 50 downlinks, of which the first has minus infinity
 pub record IsInternal (p : Page) (ds : List Downlink) : Type 0 where
   pub block : IsBlock p.block
   pub level : (0 < p.level) × (p.level ≤ 31)
