@@ -89,9 +89,9 @@ MovesFlags (Some (Add e)) old new = SplitsALeaf old new
 MovesFlags (Some (Remove es)) old new = FlagsMove None None old new
 MovesFlags (Some Shape) old new = FinishesASplit old new
 
--- A step of this session's call, with one effect at most: the pages are a tree again, flags move as the
--- effect says, leaves stay or are split as a bulk delete beside it needs, calls and limits are as they were,
--- and every other session may rely on what it held.
+-- A step of this session's call, with one effect at most: the pages are a tree again; flags move as the
+-- effect says; leaves stay, or are split as a bulk delete beside it needs; calls and limits are as they were;
+-- every other session may rely on what it held.
 pub record StepEffect (session : ℕ) (effect : Option Effect) (old new : State) : Type 0 where
   pub changes : HasEffect effect old new
   pub flags : MovesFlags effect old new
