@@ -104,8 +104,9 @@ pub record IsSplittable (st : State) (page : Page) : Type 0 where
   pub mendable : RightIsMendable st page.right
   pub apart : page.right ≢ Some page.block
 
--- the pages are the halves of the leaf with the entry, parted by their separator, the right one on a new
--- block, both of the second layout and with this cycle number, and this page
+-- the pages are the two halves of the leaf with the entry, and this third page; the halves are parted by
+-- their separator, the right one is on a new block, and both are of the second layout and carry this cycle
+-- number
 pub record AreParted (page : Page) (e : Entry) (new cycle : ℕ) (rest : Page) (pages : List Page)
     : Type 0 where
   pub left : Page
