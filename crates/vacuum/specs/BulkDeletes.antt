@@ -168,10 +168,10 @@ CountsOn dead new after (Ok (Finished stats)) =
 CountsOn dead new after (Err fault) = IsCounted dead new after
 
 -- A step of a bulk delete of this set of rows. On any pages: it does one act at most and holds nothing after
--- it, a refused one changes nothing, a stopped log refuses it, each that goes on leaves less to do, and the
--- statistics are told as they are. Over a device that keeps its model: what is due to be removed is to come
--- still, and is gone at the end; it doesn't come past a leaf that another session has pinned. On pages in
--- order: what it does, and why it is refused.
+-- it; a refused one changes nothing; a stopped log refuses it; each that goes on leaves less to do; the
+-- statistics are right. Over a device that keeps its model: what is due to be removed is to come still, and
+-- is gone at the end; it doesn't come past a leaf that another session has pinned. On pages in order: what it
+-- does, and why it is refused.
 pub record BulkDeleteSteps {S : Type 0} (g : Ghosts S) (dead : Row → Bool)
     (before after : BulkDeleteOp) (old new : S) (result : Result BulkDeleteStep Fault) : Type 0
   where
