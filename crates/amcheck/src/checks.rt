@@ -33,10 +33,10 @@ use std::thread::Threads;
 /// known from its format.
 ///
 /// Over a device that kept its model, a report means that each level, from the root's to the leaves, is one
-/// chain of pages, linked both ways, whose bounds and entries ascend; and its numbers are those of the pages.
-/// On a unique index it also means that no page of a chain has a whole entry as a bound, or two entries of
-/// one key. On pages that are a B-link tree no damage is found, if, on a unique index, no bound is a whole
-/// entry and no two entries share a key.
+/// chain of pages. The chain is linked both ways, and its bounds and entries ascend. The numbers of the
+/// report are those of the pages. On a unique index it also means that no page of a chain has a whole entry
+/// as a bound, or two entries of one key. On pages that are a B-link tree no damage is found, if, on a unique
+/// index, no bound is a whole entry and no two entries share a key.
 ///
 /// Refused with `NoMemory` (1), and then nothing was read; with `Io` (2), `Stopped` (3); with `NoFrame` (10)
 /// if all frames are pinned; with `PageDamaged` (17) only if the device did not keep its model.
