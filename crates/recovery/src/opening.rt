@@ -169,17 +169,18 @@ fn read_index<D: Device>(alloc: Global, device: &mut D, frames: u32) -> Result<P
 }
 
 /// Opens the index on the device, after any crash, for `frames` pages in memory at once (16 to 1,024). It
-/// reads the superblock, syncs the device, reads the log, writes the last image of each block in its open
-/// groups to its place, syncs them, closes the log, and reads the pages of the blocks in use. Its room is
-/// then that of an empty log, (`log_bytes` - 6) / 4,096 images. After it, nothing takes memory.
+/// reads the superblock, syncs the device and reads the log. It writes the last image of each block in the
+/// log's open groups to its place, syncs these, and closes the log. Then it reads the pages of the blocks in
+/// use. Its room is then that of an empty log, (`log_bytes` - 6) / 4,096 images. After it, nothing takes
+/// memory.
 ///
 /// Refused, tested in this order, with the device given back: with `BadLimits` (18) for other numbers of
 /// frames; with `BadSuper` (14) for a device of less than 4,096 bytes; with `BadSuper`, `BadVersion` (15) or
 /// `BadLimits` for what stands in place of a superblock; with `BadSuper` for a device shorter than the
 /// superblock says: up to here nothing is written. Then with `LogDamaged` (16) if an open group of the log
-/// is none, and with `PageDamaged` (17) for the first block in use whose page is none that may stand there,
-/// or for block 0 if none is in use. A failed call of the device answers `Io` (2), a growth that was
-/// refused `NoMemory` (1).
+/// isn't one of the format; with `PageDamaged` (17) for the first block in use whose page may not stand
+/// there, or for block 0 if no block is in use. A failed call of the device answers `Io` (2), a growth that
+/// was refused `NoMemory` (1).
 ///
 /// It never changes which pages the bytes stand for: after a refusal, or a crash at any moment, it may be
 /// called again.
