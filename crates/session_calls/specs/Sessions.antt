@@ -37,8 +37,8 @@ use Rattle.session_calls.specs.declared.op.Op.{Op}
 use Rattle.session_calls.specs.declared.op.Op.TheVariants.{Insert, Scan, Bulk, Cleanup}
 use Rattle.session_calls.specs.declared.request.Request.{Request}
 
--- the contents of the pages are those after the history, the acts are as many as its actions, all is in
--- order, and each running call's start number is below the count of calls begun
+-- the contents of the pages are those after the history; the acts are as many as its actions; all is in
+-- order; each running call's start number is below the count of calls begun
 pub record Matches (st : State) (start : Entry → Bool) (history : List Action) : Type 0 where
   pub contents : (e : Entry) → entry_on_live_leaf st.pages e ≡ contents_after start history e
   pub count : st.acts ≡ length history
