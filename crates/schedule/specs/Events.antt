@@ -385,8 +385,8 @@ pub record EventAlways {S : Type 0} (g : Ghosts S) (kind : Kind) (answer : Answe
   pub left : IsLeftByEvent g kind old new
   -- a beginning that is refused has its cause
   pub causes : BeginningIsCaused g kind answer old
-  -- ... the first that there is of a log that has failed or a count of calls at its end, no such session or
-  -- set, a session with a call, and another vacuum that runs
+  -- ... the first of these that is so: the log has failed or the count of calls is at its end; there is no
+  -- such session or set; the session has a call; another vacuum runs
   pub order : RefusesInOrder g kind answer old
   -- what has begun is the call that was asked for, before its first step
   pub fresh : StartsFresh kind answer (slot_of new.slots (session_at kind))

@@ -122,7 +122,7 @@ AllLead st [] = Unit {0}
 AllLead st (kept ∷ numbers) = NumberLeads st kept × AllLead st numbers
 
 -- At each moment that fits, and so at each of a run, each page number that a running call keeps leads on to
--- its page, past none that `fresh` may name: no page that a call still comes to is used for another one
+-- its page. It leads past none that `fresh` may name. So a page that a call still comes to isn't reused
 -- meanwhile.
 abbrev pub NumbersLeadOn : {S : Type 0} → Ghosts S → Type 0
 NumbersLeadOn {S} g =

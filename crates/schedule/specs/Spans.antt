@@ -74,8 +74,9 @@ pub record IsStillDue {S : Type 0} (g : Ghosts S) (session steps gone : ℕ) (la
 
 -- In time: a call begins while no page has an incomplete split and its leaf can serve it, and then no action
 -- is logged. Of its steps, blocked ones not counted, fewer than the root's level and a few go on, 2 of a
--- scan, 3 of an insert: the next one after these brings what is awaited (`CountsDown`), entries that are
--- ready, or the entry added and nothing left unfinished, unless the device, the log or the frames hinder it.
+-- scan, 3 of an insert: the next one after these brings what is awaited (`CountsDown`), unless the device,
+-- the log or the frames hinder it. Of a scan, entries are ready; of an insert, the entry is added and nothing
+-- is left unfinished.
 abbrev pub CallsComeInTime : {S : Type 0} → Ghosts S → Type 0
 CallsComeInTime {S} g =
     (start : Entry → Bool) (told : List Answer) (event : Event) (events : List Event) (answers : List Answer) (first last : Moment S) (session : ℕ) (request : Request)
@@ -147,9 +148,9 @@ steps_spent g start session told (event ∷ events) (answer ∷ answers) first l
     spends session (kind_of event) answer (ready_count (slot_of first.slots session)) + steps_spent g start session (told ++ answer ∷ []) events answers run.1.0 last run.1.2
 steps_spent g start session told (event ∷ events) [] first last run = 0
 
--- Over a run in which no action is logged, over a device that keeps its model, each step of the session's
--- call that goes on, or that tells of entries ready after all that were had been taken, is one of those that
--- were left to do for it: fewer than 2^42 at each moment (`work_is_bounded`).
+-- Take a run in which no action is logged, over a device that keeps its model. Each step of the session's
+-- call that goes on is one of those that were left to do for it. So is each that tells of entries ready after
+-- all that were ready had been taken. Fewer than 2^42 are left at each moment (`work_is_bounded`).
 abbrev pub WorkIsSpent : {S : Type 0} → Ghosts S → Type 0
 WorkIsSpent {S} g =
     (start : Entry → Bool) (told : List Answer) (events : List Event) (answers : List Answer) (first last : Moment S) → Fits g start first → (run : IsRun g start told events answers first last)

@@ -77,8 +77,8 @@ BulkDeletesWait {S} g =
     → StandsOn session block first → NoneHasCome block first → NoneFinishes g start told events answers first last run × NoneHasCome block last × HasLeaf g block last
 
 -- A bulk delete that begins while another session's scan stands on a leaf doesn't finish while it stands
--- there: in a run that begins with this beginning, and before each event of which the scan stands on the
--- leaf, no bulk delete finishes, none has come to the leaf at last, and it is a live leaf still.
+-- there. Take a run that begins with this beginning, and before each event of which the scan stands on the
+-- leaf. In it no bulk delete finishes; none has come to the leaf at last, and it is a live leaf still.
 abbrev pub BegunBulkDeletesWait : {S : Type 0} → Ghosts S → Type 0
 BegunBulkDeletesWait {S} g =
     (start : Entry → Bool) (told : List Answer) (vacuumer set : ℕ) (events : List Event) (answers : List Answer) (first last : Moment S) → Fits g start first

@@ -54,15 +54,15 @@ ShapeMoves (AskInsert e) (Some Shape) old new = ClearsOneSplit old new
 ShapeMoves AskCleanup (Some Shape) old new = DeletesOneLeaf old new
 ShapeMoves ask effect old new = Unit {0}
 
--- a refusal has this cause, and so has the fault of a split that an insert leaves unfinished, which is
--- neither that its entry or its key was there nor that another session stands in the way
+-- a refusal has this cause, and so has the fault of a split that an insert leaves unfinished; that fault is
+-- not that its entry or its key was there, nor that another session stands in the way
 abbrev pub IsRefusedFor : (Fault → Type 0) → Answer → Type 0
 IsRefusedFor Fails (Refused fault) = Fails fault
 IsRefusedFor Fails (Added action (Some fault)) = Fails fault × (fault ≢ Exists) × ((row : Row) → fault ≢ KeyExists row) × ((block : ℕ) → fault ≢ Blocked block)
 IsRefusedFor Fails answer = Unit {0}
 
--- The session's running call goes on: one action at most is appended, which is its own, and the call is what
--- the answer makes of it, with the number of its Add, if it has one then. A refusal has its cause.
+-- The session's running call goes on. One action at most is appended, which is its own. The call is what the
+-- answer makes of it, with the number of its Add, if it has one then. A refusal has its cause.
 pub record CallContinues {S : Type 0} (g : Ghosts S) (session : ℕ) (move : Move) (answer : Answer) (old new : Moment S) : Type 0 where
   pub op : Op
   pub runs : slice_get old.slots session ≡ Some (Some op)

@@ -23,8 +23,9 @@ pub fn scans_stand_on_leaves<S: PageStore>()
     ensures { ScansStandOnLeaves S.PageStore }
 {}
 
-/// Does nothing: its clauses say that a bulk delete that began while another session's scan stood on a leaf
-/// doesn't finish while it stands there, and that one that hasn't come to the leaf doesn't come past it.
+/// Does nothing: its clauses say what a scan that stands on a leaf keeps other sessions' bulk deletes from.
+/// One that began meanwhile doesn't finish while the scan stands there. One that hasn't come to the leaf
+/// doesn't come past it.
 pub fn bulk_deletes_wait_for_scans<S: PageStore>()
     ensures begun { BegunBulkDeletesWait S.PageStore }
     ensures running { BulkDeletesWait S.PageStore }
@@ -47,8 +48,8 @@ pub fn ready_entries_may_come_next<S: PageStore>()
     ensures { ReadyMayComeNext S.PageStore }
 {}
 
-/// Does nothing: its clause says that at each moment that fits, each page number that a running call keeps
-/// leads by right links to the page that it is kept for, past none that `fresh` may name.
+/// Does nothing: its clause says where the page numbers lead that a running call keeps, at each moment that
+/// fits. Each leads by right links to the page that it is kept for, past none that `fresh` may name.
 pub fn numbers_lead_on<S: PageStore>()
     ensures { NumbersLeadOn S.PageStore }
 {}
@@ -66,9 +67,9 @@ pub fn calls_come_in_time<S: PageStore>()
     ensures { CallsComeInTime S.PageStore }
 {}
 
-/// Does nothing: its clause says that an insert leaves no page with an incomplete split that it began to
-/// split, over a run in which no other session's event appends an action, unless a fault ends it or stands in
-/// its answer, or it is given up.
+/// Does nothing: its clause says that an insert leaves no split unfinished that it began. It says so over a
+/// run in which no other session's event appends an action, unless a fault ends the insert or stands in its
+/// answer, or the insert is given up.
 pub fn splits_are_finished<S: PageStore>()
     ensures { SplitsAreFinished S.PageStore }
 {}
