@@ -55,8 +55,8 @@ causes_of_gone g session least_room counts_full old new = record nothing_wrong {
   frames_are_pinned = another_runs old.slots session || nat_lt (g.state new).frames 4;
 }
 
--- ... of an insert also that its entry was there, or another row of its key, that no block can be had or that
--- the root is on level 31, as far as these say so
+-- ... of an insert also these, as far as the arguments say so: its entry was there, or another row of its
+-- key; no block can be had; the root is on level 31
 abbrev pub causes_of_inserted : {S : Type 0} → Ghosts S → ℕ → ℕ → Bool → (Row → Bool) → Bool → Bool → StoreAndSlots S → S → Circumstances
 causes_of_inserted g session least_room was_there key_was no_block tall old new = record (causes_of_gone g session least_room false old new) {
   entry_was_there = was_there;
@@ -77,9 +77,9 @@ has_no_block session number st = is_out_of_blocks (with_number session number st
 abbrev pub is_tall : State → Bool
 is_tall st = nat_le 31 (root_level st.pages)
 
--- What may be the cause if a call is refused that was asked this and has this start number, or leaves a
--- split unfinished: of an insert that may also be that its entry was there, on a unique index that its key
--- was, that no block can be had while it runs, or that the root is on level 31.
+-- What may be the cause if a call is refused that was asked this and has this start number, or leaves a split
+-- unfinished. Of an insert it may also be one of these: its entry was there; on a unique index, its key was
+-- there; no block can be had while it runs; the root is on level 31.
 abbrev pub causes_of_asked : {S : Type 0} → Ghosts S → ℕ → ℕ → Option ℕ → Bool → Ask → StoreAndSlots S → S → Circumstances
 causes_of_asked g session least_room number counts_full (AskInsert e) old new =
     causes_of_inserted g session least_room true (λ r. (g.state new).limits.unique) (has_no_block session number (g.state new)) (is_tall (g.state new)) old new
