@@ -52,7 +52,7 @@ pub record MayRely (session : ℕ) (old new : State) : Type 0 where
 abbrev pub OthersRely : ℕ → State → State → Type 0
 OthersRely session old new = (other : ℕ) → other ≢ session → MayRely other old new
 
--- whether the page of the block has an incomplete split: its split isn't finished
+-- whether the page of the block has an incomplete split: its right half has no downlink yet
 abbrev pub is_incomplete : State → ℕ → Bool
 is_incomplete st block = (nodes_of st.pages block).split
 
@@ -60,19 +60,19 @@ is_incomplete st block = (nodes_of st.pages block).split
 abbrev pub level_in : State → ℕ → ℕ
 level_in st block = (nodes_of st.pages block).level
 
--- a page has an incomplete split that wasn't, if there is one, and it is of this level
+-- the page, if there is one, had no incomplete split before, and is of this level
 abbrev pub IsRaised : State → State → ℕ → Option ℕ → Type 0
 IsRaised old new level None = Unit {0}
 IsRaised old new level (Some b) = (is_incomplete old b ≡ false) × (level_in new b ≡ level)
 
--- an entry is put on a leaf; if that is split for it, it has an incomplete split
+-- an entry is put on a leaf; if the leaf is split for it, the leaf has an incomplete split
 pub record SplitsALeaf (old new : State) : Type 0 where
   pub raised : Option ℕ
   pub leaf : IsRaised old new 0 raised
   pub moves : FlagsMove raised None old new
   pub most : weight new ≤ weight old + 32
 
--- a split is finished: one page's flag is cleared, and one page at most has an incomplete split, one level
+-- a split is finished: one page has no incomplete split any more, and one page at most gets one, one level
 -- higher; so less is left to do
 pub record FinishesASplit (old new : State) : Type 0 where
   pub cleared : ℕ
