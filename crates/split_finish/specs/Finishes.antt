@@ -25,7 +25,7 @@ use Rattle.split_finish.specs.declared.finish.Target.{Target}
 abbrev pub OnlyShapes : Option Effect → Type 0
 OnlyShapes effect = (effect ≡ None) ⊎ (effect ≡ Some Shape)
 
--- a step that goes on: if only targets had incomplete splits, only targets are
+-- a step that goes on: if only targets had incomplete splits, only targets have them still
 pub record FinishContinues (old new : State) (before after : FinishOp) : Type 0 where
   pub effect : Option Effect
   pub shapes : OnlyShapes effect

@@ -65,7 +65,7 @@ abbrev pub ends_at : Option Bound → Bound → Bool
 ends_at None bound = false
 ends_at (Some high) bound = is_eq (bound_cmp high bound)
 
--- the target is as its page says: with an incomplete split, and with this high key
+-- the target is as its page says: the page has an incomplete split, and this high key
 abbrev pub is_as_read : (ℕ → Node) → Target → Bool
 is_as_read at target =
     (at target.block).split && ends_at (at target.block).high target.separator

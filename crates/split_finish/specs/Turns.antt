@@ -54,7 +54,7 @@ pub record TurnContinues (st : State) (before after : FinishOp) : Type 0 where
   pub flags : OnlyTargetsAreIncomplete st (targets_of before) → OnlyTargetsAreIncomplete st (targets_of after)
 
 -- the last turn: the only target needn't be finished, so as much was left to do as before the first step for
--- it; and if only targets had incomplete splits, no page is
+-- it; if only targets had incomplete splits, no page has one
 pub record TurnIsOver (st : State) (before : FinishOp) : Type 0 where
   pub over : 34 * suc (walk_length st.limits.pages) ≤ finish_left st.limits.pages st.pages before
   pub flags : OnlyTargetsAreIncomplete st (targets_of before) → (block : ℕ) → is_incomplete st block ≡ false
