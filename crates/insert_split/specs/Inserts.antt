@@ -173,7 +173,8 @@ IsNoted (Some (Add x)) acts e before after =
 IsNoted (Some (Remove es)) acts e before after = ⊥
 IsNoted (Some Shape) acts e before after = after ≡ before
 
--- a step that goes on: if only pages had incomplete splits that it was to finish, only such are
+-- a step that goes on: if no other pages had incomplete splits than those that it was to finish, no others
+-- have them now
 pub record InsertContinues (old new : State) (before after : InsertOp) : Type 0 where
   pub effect : Option Effect
   pub does : StepEffect before.session effect old new
@@ -182,8 +183,8 @@ pub record InsertContinues (old new : State) (before after : InsertOp) : Type 0 
   pub flags : OnlyTargetsAreIncomplete old (targets_at before.at)
       → OnlyTargetsAreIncomplete new (targets_at after.at)
 
--- what the end of an insert leaves unfinished: nothing, and then no page has an incomplete split if only
--- those were that it was to finish; or a fault, which has its cause
+-- what the end of an insert leaves unfinished: nothing, and then no page has an incomplete split, if only
+-- those had one that it was to finish; or a split, because of a fault that has its cause
 abbrev pub IsLeft : State → Backing → State → Backing → InsertOp → Option Effect → Option Fault
     → Type 0
 IsLeft old old_backing new new_backing before effect None =
