@@ -31,12 +31,12 @@ pub record IsEmptyLeaf (st : State) (block : ℕ) : Type 0 where
   pub leaf : (nodes_of st.pages block).level ≡ 0
   pub empty : (nodes_of st.pages block).entries ≡ []
 
--- it is the rightmost leaf, or with an incomplete split, or right after one with an incomplete split, or the
--- last child of its parent
+-- it is the rightmost leaf, has an incomplete split, stands right after a page with one, or is the last child
+-- of its parent
 abbrev pub HasToStay : State → ℕ → Type 0
 HasToStay st block = MustStay (nodes_of st.pages) (length st.pages) block
 
--- an empty leaf that may die, so far as its own page tells, with this high key
+-- an empty leaf with this high key that may leave the tree, by what its own page says
 pub record MayGo (st : State) (block : ℕ) (high : Bound) : Type 0 where
   pub leaf : Page
   pub found : slice_get st.pages block ≡ Some leaf
