@@ -64,8 +64,8 @@ pub record IsFitted (st : State) (sets : DeadSets) (slot : Option Op) : Type 0 w
 pub record FittedStepFollows (old new : State) (before after : Option Op) (answer : Answer) : Type 0 where
   -- a call that was due comes to what is awaited at its last step, and each step before leaves one fewer
   pub due : (left : ℕ) → IsDueIn old before (suc left) → DueCountsDown old new before after left answer
-  -- if only pages had incomplete splits that its insert is to finish, only such are; and none after its
-  -- end, unless it tells of a fault
+  -- if no other pages had incomplete splits than those that its insert is to finish, no others have them now;
+  -- and none has one after its end, unless its answer names a fault
   pub incomplete : OnlyOwnAreIncomplete old before → LeavesOwnIncomplete new before after answer
   -- a scan that has read a leaf stands on it, and on none if it goes on to another page
   pub stands : StandsByAnswer new before after answer
