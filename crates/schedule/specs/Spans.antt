@@ -114,8 +114,8 @@ OthersLogNothing g start session told [] (answer ∷ answers) first last run = �
 OthersLogNothing g start session told (event ∷ events) [] first last run = ⊥
 
 -- Over a run in which no other session appends an action, and no call of this one is given up or ended by a
--- fault: if at first only those pages have incomplete splits that the session's insert is to finish, so it
--- is at last. So none has an incomplete split if the session runs nothing then.
+-- fault: if at first only those pages have incomplete splits that the session's insert is to finish, the same
+-- holds at last. So no page has an incomplete split if the session runs nothing then.
 abbrev pub SplitsAreFinished : {S : Type 0} → Ghosts S → Type 0
 SplitsAreFinished {S} g =
     (start : Entry → Bool) (told : List Answer) (events : List Event) (answers : List Answer) (first last : Moment S) (run : IsRun g start told events answers first last) (session : ℕ)

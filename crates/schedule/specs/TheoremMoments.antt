@@ -26,7 +26,7 @@ pub record Moment (S : Type 0) : Type 0 where
   pub history : List Action
   pub calls : List Call
 
--- the moment of this store with its slots and sets, told by this history and these calls
+-- the moment of this store with its slots and sets, this history and these calls
 abbrev pub snapshot_of : {S : Type 0} → StoreAndSlots S → List Action → List Call → Moment S
 snapshot_of here history calls = record { store = here.store; slots = here.slots; sets = here.sets; history = history; calls = calls }
 
@@ -47,7 +47,7 @@ pub record HasOneCall (calls : List Call) (session : ℕ) : Type 0 where
   pub is : IsRunningCall calls session number call
   pub only : (other : ℕ) (c : Call) → IsRunningCall calls session other c → other ≡ number
 
--- the history and the calls explain the moment: from these contents at the start
+-- the history and the calls explain the moment, from these contents at the start
 pub record Explains {S : Type 0} (g : Ghosts S) (start : Entry → Bool) (now : Moment S) : Type 0 where
   -- the contents of the pages are those after the history
   pub contents : (e : Entry) → entry_on_live_leaf (g.state now.store).pages e ≡ contents_after start now.history e

@@ -30,8 +30,8 @@ pub record IsHeldByAnother (table : Table) (session : ℕ) (ask : Ask) (block : 
   pub held : slice_get table other ≡ Some holding
   pub stands : BlocksCall ask holding block
 
--- no block is unused, and the page of each deleted one may still be come to by a running call, which began
--- before it was deleted
+-- no block is unused; to each deleted page a running call may still come, which began before the page was
+-- deleted
 pub record HasNoBlock (st : State) : Type 0 where
   pub used : st.limits.pages ≤ length st.pages
   pub kept : (block : ℕ) → (nodes_of st.pages block).state ≡ Deleted

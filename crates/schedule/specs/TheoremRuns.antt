@@ -13,12 +13,12 @@ use Rattle.schedule.specs.Events.{EventAlso}
 use Rattle.schedule.specs.TheoremCrashes.{KeepsHistory, IsCrashSafe}
 use Rattle.schedule.specs.declared.event.Event.{Event}
 
--- the history and the calls fit the moment: they explain it, and what keeps them so is known
+-- the history and the calls fit the moment: they explain it, and what keeps it so holds too
 pub record Fits {S : Type 0} (g : Ghosts S) (start : Entry → Bool) (now : Moment S) : Type 0 where
   pub explains : Explains g start now
   pub invariant : Invariant g start now
 
--- each number of actions that was answered as durable is not above this
+-- each number of actions that these answers give as durable is at most this
 abbrev pub AreDurable : ℕ → List Answer → Type 0
 AreDurable durable [] = Unit {0}
 AreDurable durable (answer ∷ answers) = IsDurable durable answer × AreDurable durable answers
@@ -31,7 +31,7 @@ pub record EventIsRun {S : Type 0} (g : Ghosts S) (start : Entry → Bool) (even
   pub crash : KeepsHistory g start old → IsCrashSafe g start old new
 
 -- A run after these answers: events with an answer each, from one moment to another, each store following the
--- one before. Before each event, every number of actions that was told as durable is.
+-- one before. Before each event, at least as many actions are durable as each answer so far gave.
 abbrev pub IsRun : {S : Type 0} → Ghosts S → (Entry → Bool) → List Answer → List Event → List Answer → Moment S → Moment S → Type 0
 IsRun g start told [] [] first last = first ≡ last
 IsRun {S} g start told (event ∷ events) (answer ∷ answers) first last =
