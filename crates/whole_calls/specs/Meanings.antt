@@ -71,8 +71,8 @@ pub record HasContinued {S : Type 0} (number : ℕ) (call : Call) (effects : Lis
   pub history_is : new.history ≡ old.history ++ acts_by number effects
   pub calls_is : new.calls ≡ slice_set old.calls number (noted_after call (length old.history) effects)
 
--- the call of this number has done these effects, and then a step with this one, if any, is told so; no other
--- call is changed
+-- the call of this number has done some effects, and then one step with this answer, with one more effect or
+-- none; no other call is changed
 pub record CallAnswers {S : Type 0} (number : ℕ) (call : Call) (answer : Answer) (old new : Moment S) : Type 0 where
   pub before : List Effect
   pub last : Option Effect
