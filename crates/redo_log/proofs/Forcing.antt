@@ -288,7 +288,7 @@ module _ (old mid : Log) (t u v : Trace) (same : SameLog old mid) where
       goes_on _ t u v first (goes_weaker _ _ u v (λ m only. only_more 4096 size t.now u.now m before only)
       (subst (λ (l : Format). ChangesItsRange l u v) same.limits second))
 
--- if the group that waits would end, it does after parts of a force that leave the end and what waits
+-- parts of a force that leave the end and what waits leave the place where the group that waits would end
 module _ {T E : Type 0} (old mid new : Log) (r : Result T E) (end : groups_end mid ≡ groups_end old) (blocks : waiting_blocks mid ≡ waiting_blocks old) where
   end_stays : (n : ℕ) → end_with mid n ≡ end_with old n
   end_stays n = omega (arith, end, ap length blocks)

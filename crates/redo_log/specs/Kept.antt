@@ -45,7 +45,7 @@ is_ajar log = log.ajar
 abbrev pub groups_end : Log → ℕ
 groups_end log = log.at
 
--- if the group that waits would end with n images more, the closed gate after it among them
+-- where the group that waits would end with `n` images more, the closed gate after it included
 abbrev pub end_with : Log → ℕ → ℕ
 end_with log n = log.at + (6 + 4096 * (waiting_count log + n))
 

@@ -104,13 +104,13 @@ pub record IsOpened (limits : Format) (log : Log) : Type 0 where
   pub waiting : waiting_count log ≡ 0
   pub alive : is_stopped log ≡ false
 
--- a failed read answers Io, and nothing else fails; the others are a growth that was refused, and
--- damage
+-- a failed read answers Io, and no other call of the device fails; else memory was refused, or the log is
+-- damaged
 abbrev pub ReplayFails : {T : Type 0} → Result T Fault → ℕ → ℕ → Type 0
 ReplayFails result old new = MatchResult result (λ _. new ≡ old)
     (λ e. ((e ≡ Io) × (new ≡ suc old)) ⊎ (((e ≡ NoMemory) ⊎ (e ≡ LogDamaged)) × (new ≡ old)))
 
--- no groups are spelled in the log's range: an open group there is none
+-- the log's range spells no groups: an open group there isn't one of the format
 abbrev pub IsDamaged : Format → DiskMoment → Type 0
 IsDamaged limits m =
     (groups : List (List Page)) → SpellsGroups limits (log_range limits m.seen) groups → ⊥
