@@ -1,4 +1,4 @@
--- Frames while pages are brought into memory, and why none is had.
+-- Frames while pages are brought into memory, and why none can be had.
 use Rattle.std.proofs.Common.{◌≡◌, ◌≢◌, inl, inr, ℕ, zero, suc, ◌<◌, true, Some, None, Result, Ok, Err, List, [], ◌∷◌, ◌++◌, map, slice_get, get_or, refl, sym, ap, subst, ◌∙◌}
 use Rattle.buffer_pool.specs.Pools.{most_of, frame_of, HasSamePages, IsPut}
 use Rattle.page_store.proofs.Pooling.{first_has, later_has}

@@ -1,4 +1,4 @@
--- What is held while frames are taken for other pages, and why none is had.
+-- What is held while frames are taken for other pages, and why none can be had.
 use Rattle.std.specs.Prelude.{◌≡◌, ◌⊎◌, ℕ, ◌<◌, ◌≤◌, ◌/◌, Bool, true, false, Some, None, IsSome, List, ◌∷◌, ◌++◌, length, slice_get, All}
 use Rattle.index_model.specs.declared.fault.Fault.{Fault}
 use Rattle.index_model.specs.declared.fault.Fault.TheVariants.{Io, Stopped, NoFrame, PageDamaged}
@@ -69,7 +69,7 @@ abbrev pub WritingFails : Bool → ℕ → ℕ → Fault → Type 0
 WritingFails stopped old new fault =
     ((fault ≡ Io) × (old < new)) ⊎ ((fault ≡ Stopped) × (stopped ≡ true))
 
--- no frame is had for another page: all are pinned, or a changed page could not be written before
+-- no frame can be had for another page: all are pinned, or a changed page could not be written before
 abbrev pub FrameFails : Pool → List ℕ → Bool → ℕ → ℕ → Fault → Type 0
 FrameFails pool pinned stopped old new fault =
     ((fault ≡ NoFrame) × AreTooMany pool pinned) ⊎ WritingFails stopped old new fault
