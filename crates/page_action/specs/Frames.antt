@@ -76,8 +76,9 @@ pub record TakesUnused (frames block : ℕ) (m m' : Memory) : Type 0 where
   pub unused : length m.held < frames
   pub held : m'.held ≡ m.held ++ block ∷ []
 
--- A page is brought into memory, or isn't, since a call failed or no frame is had. One that is there costs
--- nothing; another takes an unused frame before that of another page, and costs what that frame does.
+-- A page is brought into memory; or it isn't, because a call failed or no frame can be had. A page that is
+-- there costs nothing; another takes an unused frame before that of another page, and costs what that frame
+-- does.
 pub record TakesFrame (frames : ℕ) (pinned : List ℕ) (block : ℕ) (m m' : Memory) (old new : Backing) : Type 0 where
   pub there : is_block_among m.held block ≡ true → (m' ≡ m) × (new ≡ old)
   pub cost : FrameCosts frames pinned m m' old new
