@@ -23,7 +23,8 @@ pub record ReadsAndWrites {D : Type 0} (g : Ghosts D) (old new : D) : Type 0 whe
   pub len : length (g.trace new).now.seen ≡ length (g.trace old).now.seen
   pub honest : IsTrue (g.is_honest new) → IsTrue (g.is_honest old)
 
--- refused with Io if a call of the device failed, once; or with no failure, for this reason
+-- it is refused with Io if a call of the device failed, once; or it is refused for this reason, and no call
+-- failed
 abbrev pub IsIoOr : (Fault → Type 0) → ℕ → ℕ → Fault → Type 0
 IsIoOr reason old new fault = ((fault ≡ Io) × (new ≡ suc old)) ⊎ (reason fault × (new ≡ old))
 

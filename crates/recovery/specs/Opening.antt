@@ -48,16 +48,16 @@ abbrev pub HasGroups : Format → List ℕ → Type 0
 HasGroups limits file =
     (groups : List (List Page)) × SpellsGroups limits (log_range limits file) groups
 
--- refused before anything is done: frames out of their range; or else a device of less than 4,096 bytes; or
--- else what stands in front
+-- it is refused before anything is done: for frames out of their range; or else for a device of less than
+-- 4,096 bytes; or else for what stands in front
 abbrev pub IsFrontRefusal : Bool → ℕ → List ℕ → Fault → Type 0
 IsFrontRefusal honest frames file fault =
     ((fault ≡ BadLimits) × (AreFrames frames → ⊥))
     ⊎ (AreFrames frames × (((fault ≡ BadSuper) × (length file < 4096))
     ⊎ ((4096 ≤ length file) × IsFrontFault fault × (IsTrue honest → IsNoFront file fault))))
 
--- refused after that: a growth was refused; or an open group of the log is none, and nothing was written; or
--- a block is damaged
+-- it is refused after that: memory was refused; or an open group of the log isn't one of the format, and
+-- nothing was written; or a block is damaged
 abbrev pub IsRestoreRefusal : Format → Bool → Trace → Trace → Fault → Type 0
 IsRestoreRefusal limits honest old new fault =
     (fault ≡ NoMemory)
