@@ -13,7 +13,7 @@ abbrev pub IsWinner : List (Option ℕ) → ℕ → Type 0
 IsWinner tree node =
     number_at tree node ≡ lesser (number_at tree (2 * node)) (number_at tree (2 * node + 1))
 
--- each inner node has; the nodes from `size` on are the blocks
+-- each inner node has it; the nodes from `size` on are the blocks
 abbrev pub AreWinners : ℕ → List (Option ℕ) → Type 0
 AreWinners size tree = (node : ℕ) → 1 ≤ node → node < size → IsWinner tree node
 
