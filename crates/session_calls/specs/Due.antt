@@ -27,8 +27,8 @@ abbrev pub IsKeyAbsent : State → Entry → Type 0
 IsKeyAbsent st e =
     st.limits.unique ≡ true → (r : Row) → entry_on_live_leaf st.pages (with_row e r) ≡ false
 
--- no page has an incomplete split, neither the entry nor, on a unique index, its key is there, its leaf has
--- room, the insert is on its way: after `steps` steps it is added
+-- after `steps` steps the entry is added: no page has an incomplete split; neither the entry nor, on a unique
+-- index, its key is there; its leaf has room; the insert is on its way
 pub record InsertIsDue (st : State) (op : InsertOp) (steps : ℕ) : Type 0 where
   pub steps_are : steps ≡ insert_steps st.pages op.at
   pub whole : NoneIsIncomplete st.pages
@@ -37,8 +37,8 @@ pub record InsertIsDue (st : State) (op : InsertOp) (steps : ℕ) : Type 0 where
   pub key_absent : IsKeyAbsent st op.entry
   pub room : HasRoomFor st op.entry
 
--- no page has an incomplete split, nothing waits, the scan is on its way: after `steps` steps entries are
--- ready
+-- after `steps` steps entries are ready: no page has an incomplete split, nothing waits, and the scan is on
+-- its way
 pub record ScanIsDue (st : State) (op : ScanOp) (steps : ℕ) : Type 0 where
   pub steps_are : steps ≡ scan_steps st.pages op.at
   pub whole : NoneIsIncomplete st.pages
@@ -60,8 +60,8 @@ pub record StaysDue (old new : State) (slot : Option Op) (steps : ℕ) : Type 0 
   pub limits : new.limits ≡ old.limits
   pub due : IsDueIn new slot steps
 
--- what the call was to come to: an insert, that its entry is added, and nothing left unfinished; a scan, that
--- entries are ready
+-- the answer is what the call was to come to: of an insert, its entry is added and nothing is left
+-- unfinished; of a scan, entries are ready
 abbrev pub IsAwaited : Option Op → Answer → Type 0
 IsAwaited (Some (Insert op)) (Added action unfinished) = unfinished ≡ None
 IsAwaited (Some (Scan op)) (Ready count) = Unit {0}
@@ -91,8 +91,8 @@ steps_for (ToScan range) = 2
 steps_for (ToBulk set) = 0
 steps_for ToCleanup = 0
 
--- a request that its leaf can serve at once: of an insert, neither the entry nor, on a unique index, its key
--- is there, and its leaf has room
+-- the leaf can serve the request at once: of an insert, neither the entry nor, on a unique index, its key is
+-- there, and its leaf has room
 abbrev pub IsServable : State → Request → Type 0
 IsServable st (ToInsert e) = (entry_on_live_leaf st.pages e ≡ false) × IsKeyAbsent st e × HasRoomFor st e
 IsServable st (ToScan range) = Unit {0}

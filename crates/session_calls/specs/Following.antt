@@ -20,7 +20,7 @@ pub record StepAnswerMeans (is_stopped : Bool) (old new : State) (before after :
   -- once the entry of an insert is logged only a page that is blocked refuses it, and it ends with the number
   -- of that action
   pub logged : AnswersLogged (slot_add before) answer
-  -- a fault that leaves a split unfinished leaves all as it was, but that the call is over
+  -- a fault that leaves a split unfinished ends the call; it changes nothing else
   pub unfinished : IncompleteChangesNothing old new before answer
   -- a bulk delete or a cleanup that has finished tells what it has counted, and how many pages are in use,
   -- deleted and free
@@ -34,7 +34,7 @@ pub record StepAnswerMeans (is_stopped : Bool) (old new : State) (before after :
 pub record StepAlways {S : Type 0} (g : Ghosts S) (old new : S) (before after : Option Op) (answer : Answer) : Type 0 where
   -- without a call nothing is done
   pub idle : before ≡ None → (answer ≡ no_call (g.backing old).stopped) × (new ≡ old)
-  -- a refusal changes nothing, but that the call is over, unless it was refused with Blocked or NoSession
+  -- a refusal ends the call, unless it is one with Blocked or NoSession; it changes nothing else
   pub refused : RefusalChangesNothing (g.state old) (g.state new) before after answer
   -- on a stopped log it is refused for that, or an insert whose entry is logged ends so
   pub stopped : (g.backing old).stopped ≡ true → StoppedAnswersFirst (slot_add before) answer
@@ -48,7 +48,7 @@ pub record StepAlways {S : Type 0} (g : Ghosts S) (old new : S) (before after : 
   -- it does one act at most, and only a call that writes does one
   pub kept : KeepsPages (g.state old) (g.state new)
   pub calm : OnlyWritersAct before (g.state old) (g.state new)
-  -- over a device that keeps its model less is left to do, if it goes on, and no more in any case
+  -- over a device that keeps its model, less is left to do if it goes on, and never more
   pub less : (g.backing new).honest ≡ true → StepHasLessLeft (g.state old) (g.state new) before after answer
   pub no_more : (g.backing new).honest ≡ true → NoMoreIsLeft (g.state old) (g.state new) before after
 

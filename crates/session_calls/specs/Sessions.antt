@@ -272,13 +272,13 @@ pub record StepIsRefused (old new : State) (op : Op) (after : Option Op) (fault 
   pub state : new ≡ (if ends_call fault then op_after_call op old else old)
   pub slot_is : after ≡ (if ends_call fault then None else Some op)
 
--- a refused step changes nothing, but that the call is over, unless it was refused with Blocked or NoSession
+-- a refused step ends the call, unless it was refused with Blocked or NoSession; it changes nothing else
 abbrev pub RefusalChangesNothing : State → State → Option Op → Option Op → Answer → Type 0
 RefusalChangesNothing old new (Some op) after (Refused fault) = StepIsRefused old new op after fault
 RefusalChangesNothing old new None after answer = (new ≡ old) × (after ≡ None)
 RefusalChangesNothing old new (Some op) after answer = Unit {0}
 
--- a step that tells of a fault which leaves a split unfinished has changed nothing, but that the call is over
+-- a step whose answer names a fault that leaves a split unfinished ends the call; it changes nothing else
 abbrev pub IncompleteChangesNothing : State → State → Option Op → Answer → Type 0
 IncompleteChangesNothing old new (Some op) (Added action (Some fault)) = new ≡ op_after_call op old
 IncompleteChangesNothing old new before answer = Unit {0}
@@ -333,10 +333,10 @@ MovesShape (AskInsert e) effect old new = MovesFlags effect old new
 MovesShape (AskScan range) effect old new = MovesFlags effect old new
 MovesShape (AskBulkDelete dead) effect old new = MovesFlags effect old new
 
--- A step of a session's call, by what was asked, with one effect at most: the pages are a tree again; what it
--- does to their shape; leaves stay, or are split as a bulk delete beside it needs, except for a cleanup's,
--- and those that others have pinned stay in any case; calls, limits and the cycle number are as they were,
--- and every other session may rely on what it held.
+-- A step of a session's call, by what was asked, with one effect at most. The pages are a tree again, and
+-- their shape changes as what was asked allows. Leaves stay, or are split as a bulk delete beside it needs,
+-- unless the call is a cleanup. Leaves that others have pinned always stay. Calls, limits and the cycle
+-- number are as they were, and every other session may rely on what it held.
 pub record CallEffect (session : ℕ) (ask : Ask) (effect : Option Effect) (old new : State) : Type 0 where
   pub changes : HasEffect effect old new
   pub shape : MovesShape ask effect old new
@@ -350,12 +350,12 @@ pub record CallEffect (session : ℕ) (ask : Ask) (effect : Option Effect) (old 
   pub order : IsInOrder new
   pub others : OthersRely session old new
 
--- One event of a running call: it appends at most one action, which the call was asked for; what is told of
--- it; its cause; the pages match the longer history; what it does to their shape; the limits stay, and if
--- no action is logged, the pages; others may rely; the cycle number stays until a bulk delete ends, and with
--- it leaves stay, or are split as a bulk delete needs, except for a cleanup's; those that others have pinned
--- stay; the call goes on meeting its definition; what the slot holds then; and what a bulk delete is to
--- remove still.
+-- One event of a running call. It appends at most one action, which the call was asked for. Its answer means
+-- what it says, and a refusal has its cause. The pages match the longer history, and their shape changes as
+-- what was asked allows. The limits stay; so do the pages, if no action is logged. Others may rely on what
+-- they held. The cycle number stays until a bulk delete ends. While it stays, leaves stay too, or are split
+-- as a bulk delete needs, unless the call is a cleanup. Leaves that others have pinned stay. The call goes on
+-- meeting its definition. It says what the slot holds then, and what a bulk delete is to remove still.
 pub record SessionEvent (at : Circumstances) (old new : State) (sets : DeadSets) (start : Entry → Bool) (history : List Action) (number : ℕ)
     (call : Call) (slot : Option Op) (answer : Answer) : Type 0 where
   pub effect : Option Effect

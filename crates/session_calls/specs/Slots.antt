@@ -48,8 +48,8 @@ is_of_sets sets (ToScan range) = true
 is_of_sets sets (ToBulk set) = nat_lt set (length sets)
 is_of_sets sets ToCleanup = true
 
--- the session that may begin a call, if calls begin at all, there is such a session and the set that is
--- named, and it has no call: refused for the first of these that isn't so
+-- The session may begin a call if calls begin at all, if there is such a session and the set that is named,
+-- and if the session has no call. Else it is refused for the first of these that isn't so.
 abbrev pub session_to_begin : Bool → Bool → Option (Option Op) → ℕ → Result ℕ Fault
 session_to_begin true has_set slot session = Err Stopped
 session_to_begin false has_set None session = Err NoSession
