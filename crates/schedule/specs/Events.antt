@@ -266,8 +266,8 @@ pub record IsSameStore {S : Type 0} (g : Ghosts S) (old new : StoreAndSlots S) :
   pub state_is : g.state new.store ≡ g.state old.store
   pub slots_is : new.slots ≡ old.slots
 
--- a refused event changes nothing, but that a step ends its call, unless it was refused with Blocked or
--- NoSession
+-- a refused event changes nothing, except that a refused step ends its call, unless it was refused with
+-- Blocked or NoSession
 abbrev pub RefusalKeeps : {S : Type 0} → Ghosts S → Kind → Answer → StoreAndSlots S → StoreAndSlots S → Type 0
 RefusalKeeps g (MovesCall session Steps) answer old new =
     RefusalChangesNothing (g.state old.store) (g.state new.store) (slot_of old.slots session) (slot_of new.slots session) answer
@@ -367,7 +367,8 @@ pub record EventAlways {S : Type 0} (g : Ghosts S) (kind : Kind) (answer : Answe
   pub stands : MoveStands kind (slot_of old.slots (session_at kind)) (slot_of new.slots (session_at kind))
   -- what the answer of a step says
   pub tells : EventAnswerMeans kind (g.backing old.store).stopped (g.state old.store) (g.state new.store) (slot_of old.slots (session_at kind)) (slot_of new.slots (session_at kind)) answer
-  -- a refusal changes nothing, but that a step ends its call unless it was refused with Blocked or NoSession
+  -- a refusal changes nothing, except that a refused step ends its call, unless it was refused with Blocked
+  -- or NoSession
   pub refused : RefusalKeeps g kind answer old new
   -- on a log that has failed, a beginning, a step, a force, a flush and a checkpoint are refused for that
   -- before all else
@@ -441,8 +442,8 @@ pub record GrowsByOne (old new : List Action) : Type 0 where
   pub is : new ≡ old ++ acts
   pub few : length acts ≤ 1
 
--- What an event also leaves, beside what it means. Two of its sentences no other word has: a next and an end
--- append no action (`calm`), and what is durable stays so (`later`).
+-- What an event also leaves, beside what it means. Two of its sentences stand in no other word: a next and an
+-- end append no action (`calm`), and what is durable stays so (`later`).
 pub record EventAlso {S : Type 0} (g : Ghosts S) (start : Entry → Bool) (kind : Kind) (answer : Answer) (old new : Moment S) : Type 0 where
   -- what holds of it whatever the pages are
   pub always : EventAlways g kind answer (here_at old) (here_at new)

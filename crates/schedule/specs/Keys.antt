@@ -1,4 +1,4 @@
--- What a unique index is told to be by each moment that fits.
+-- What each moment that fits says of a unique index.
 use Rattle.std.specs.Prelude.{◌≡◌, ℕ, suc, Bool, true, false, Some, slice_get}
 use Rattle.index_model.specs.Actions.{is_there_after}
 use Rattle.index_model.specs.Calls.{AskInsert, Call}
