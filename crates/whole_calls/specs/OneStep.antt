@@ -23,7 +23,8 @@ use Rattle.whole_calls.specs.Spending.{TakesFewer}
 use Rattle.whole_calls.specs.Stepping.{FinishCounts}
 use Rattle.whole_calls.specs.Meanings.{MayAnswer, IsOwnEffect, IsSameHistory, HasNone, RoomIsMade}
 
--- what a call answers that is given up for a fault: an insert whose entry is added leaves it unfinished
+-- what a call answers that is given up for a fault: an insert whose entry is added has the fault in
+-- `unfinished`; any other call is refused with it
 abbrev pub cut_short : Option ℕ → Fault → Answer
 cut_short None fault = Refused fault
 cut_short (Some action) fault = Added action (Some fault)
@@ -81,7 +82,8 @@ pub record OneStepAlways {S : Type 0} (g : Ghosts S) (session : ℕ) (answer : A
   -- one that is blocked changes neither pages, calls and holdings nor a slot
   pub blocked : (block : ℕ) → answer ≡ Refused (Blocked block) → IsSameStore g old new
 
--- one of these answers was this; or the entry is added, and one was the refusal that it leaves unfinished
+-- one of these answers was this; or the entry is added, and one of them was the refusal with the fault in
+-- `unfinished`
 abbrev pub OneStepComesTo : Answer → List Answer → Type 0
 OneStepComesTo answer answers =
     IsAmong answers answer ⊎ ((action : ℕ) × (fault : Fault) × (answer ≡ Added action (Some fault)) × IsAmong answers (Refused fault))

@@ -93,9 +93,9 @@ CallIsCaused g session least_room counts_full answer old new =
     (number : ℕ) (call : Call) → IsRunningCall old.calls session number call
     → IsCaused (causes_of_asked g session least_room (start_number (g.state old.store) session) counts_full call.ask (here_at old) new.store) answer
 
--- why a call is refused that is run from its beginning on: for one of these causes, or since it wasn't begun:
--- the log had failed or a counter was at its end; there is no such session, or no such set; the session has a
--- call; a bulk delete or a cleanup runs
+-- why a call is refused that is run from its beginning on: for one of these causes, or because it couldn't
+-- begin: the log had failed or a counter was at its end; there is no such session, or no such set; the
+-- session has a call; a bulk delete or a cleanup runs
 abbrev pub causes_of_called : {S : Type 0} → Ghosts S → ℕ → Request → StoreAndSlots S → Circumstances → Circumstances
 causes_of_called g session request old at = record at {
   is_stopped = at.is_stopped || is_at_end (g.state old.store).begun;
@@ -104,8 +104,8 @@ causes_of_called g session request old at = record at {
   session_has_a_call = is_busy (slot_of old.slots session);
 }
 
--- why an insert answers this that is run to its end in the session: for its refusal, and for what it leaves
--- unfinished; its start number was the count of calls begun before it
+-- why an insert answers this that is run to its end in the session: a refusal has its cause, and so has the
+-- fault in `unfinished`; the insert's start number was the count of calls begun before it
 abbrev pub InsertCallIsCaused : {S : Type 0} → Ghosts S → ℕ → ℕ → Entry → StoreAndSlots S → S → Result Inserted Fault → Type 0
 InsertCallIsCaused g session least_room entry old new (Ok inserted) =
     IsFaultCaused (causes_of_inserted g session least_room false (λ r. false) (has_no_block session (Some (g.state old.store).begun) (g.state new)) (is_tall (g.state new)) old new) inserted.unfinished
