@@ -107,9 +107,9 @@ CleanupHasLessLeft old new before after (Err fault) = Unit {0}
 -- A step of a cleanup. On any pages: it does one act at most and holds nothing after it; a refused one
 -- changes nothing; a stopped log refuses it; each that goes on leaves less to do; the statistics are right.
 -- Over a device that keeps its model: live leaves that others have pinned stay; it counts the pages that it
--- deletes; if nobody else acts, it counts the entries, and leaves no half-dead page after it; on pages in
--- order: what it does, where it goes on, why it is refused, and, if nobody else holds a page, which empty
--- leaves stay.
+-- deletes; if nobody else acts, it counts the entries, and leaves no half-dead page that it has passed. On
+-- pages in order: what it does, where it goes on, why it is refused, and, if nobody else holds a page, which
+-- empty leaves stay.
 pub record CleanupSteps {S : Type 0} (g : Ghosts S) (before after : CleanupOp) (old new : S)
     (result : Result CleanupStep Fault) : Type 0 where
   pub steps : Continues g.follows old new
