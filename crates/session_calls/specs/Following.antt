@@ -81,7 +81,8 @@ pub record EachStepFollows (sets : DeadSets) (old new : State) (before after : O
   pub entries : CountsEntries sets old new before after answer
   -- a cleanup counts the pages that it deletes, and tells how many they were
   pub deletes : CountsPages old new before after answer
-  -- if nobody else holds a page, a cleanup leaves no empty leaf after it that might leave the tree
+  -- if nobody else holds a page, a cleanup leaves no empty leaf that it has passed and that might leave the
+  -- tree
   pub spares : SparesLeaves old new before after answer
 
 -- what is followed of a call by its step

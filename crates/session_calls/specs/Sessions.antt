@@ -412,8 +412,8 @@ StandsByAnswer new (Some (Scan op)) after Going = leaf_of after ≡ None
 StandsByAnswer new (Some (Scan op)) after (Ready count) = waiting op ≡ [] → StandsOnLeaf new after
 StandsByAnswer new before after answer = Unit {0}
 
--- what it has counted are the entries that it has left, if it is a bulk delete that runs on; a cleanup leaves
--- no half-dead page after it either
+-- what it has counted are the entries that it has left, if it is a bulk delete that runs on; a cleanup also
+-- leaves no half-dead page that it has passed
 abbrev pub SlotIsCounted : DeadSets → State → Option Op → Type 0
 SlotIsCounted sets st None = Unit {0}
 SlotIsCounted sets st (Some (Insert op)) = Unit {0}
@@ -474,7 +474,7 @@ CountsEntries sets old new (Some (Cleanup op)) after answer =
     CleanupInvariant old op → IsCleaned old op → SlotIsCounted sets new after × CountsAllCleaned new answer
 CountsEntries sets old new before after answer = Unit {0}
 
--- a cleanup that runs on leaves no empty leaf after it that might leave the tree
+-- a cleanup that runs on leaves no empty leaf that it has passed and that might leave the tree
 abbrev pub SlotIsSparing : State → Option Op → Type 0
 SlotIsSparing st None = Unit {0}
 SlotIsSparing st (Some (Insert op)) = Unit {0}
