@@ -86,7 +86,8 @@ pub data Followed : Type 0 where
   of_leaves : Followed
 
 -- such a vacuum runs, and what it has counted are the entries that it has left; a cleanup leaves no half-dead
--- page after it, nor an empty leaf that might leave the tree, and has counted the pages that it has deleted
+-- page that it has passed, nor an empty leaf that might leave the tree, and has counted the pages that it has
+-- deleted
 abbrev pub IsCountedAs : Followed → DeadSets → State → Option Op → Type 0
 IsCountedAs what sets st None = ⊥
 IsCountedAs what sets st (Some (Insert op)) = ⊥
