@@ -146,7 +146,7 @@ impl Log {
     {}
 
     /// Closes the log, in which no gate is ajar: its groups no longer count, and what waits still waits.
-    /// If no group is open the device isn't called, since a crash could leave a gate that is written as an
+    /// If no group is open the device isn't called, because a crash could leave a gate that is written as an
     /// open one, in front of old bytes.
     ///
     /// Refused with `Io` (2) if a device call fails: the log is stopped then. Refused with `Stopped` (3) on a
