@@ -43,8 +43,8 @@ pub record AreWrittenAfter (frames : ℕ) (pinned front behind : List ℕ) (m : 
   pub each : All (λ b. (is_block_among pinned b ≡ false) × (m.unwritten b ≤ new.durable)) more
 
 -- No frame is free: all are in use, and each clean page is pinned. So the first changed page that isn't
--- pinned is written, and some after it; or none is, since a call of the device failed. The log is forced for
--- that first page alone, if its act isn't durable.
+-- pinned is written, and some after it; or none is, because a call of the device failed. The log is forced
+-- for that first page alone, if its act isn't durable.
 pub record IsWrittenFor (frames : ℕ) (pinned : List ℕ) (m m' : Memory) (old new : Backing) : Type 0 where
   pub full : length m.held ≡ frames
   pub clean : All (λ b. is_block_among old.changed b ≡ false → is_block_among pinned b ≡ true) m.held
