@@ -7,7 +7,7 @@ use index_model::Fault;
 use indexmap::IndexSet;
 use std::alloc::Global;
 
-/// Some of the blocks below a number, in an order. It takes no memory once it is made, since its set never
+/// Some of the blocks below a number, in an order. It takes no memory once it is made, because its set never
 /// loses a key: those that wait stand side by side somewhere in it.
 #[derive(Drop)]
 pub(crate) struct Order {
