@@ -22,7 +22,7 @@ detour_few at target (Down position) = omega arith
 detour_few at target (Link position) = one_at_most (is_ready (at position.block) (suc target.level) target.separator)
 detour_few at target Root = one_at_most _
 
--- the walks that are left are few, since the targets are no more than levels
+-- the walks that are left are few, because the targets are no more than levels
 walks_few : (at : ℕ → Node) (op : FinishOp) → length op.below.items ≤ 31 → walks_left at op ≤ 66
 walks_few at op few =
     let many = length-append op.below.items (op.target ∷ []) in
