@@ -1,4 +1,4 @@
--- What keeps the theorem: what is known of a moment between its events. It needs no reading, since a world
+-- What keeps the theorem: what is known of a moment between its events. It needs no reading, because a world
 -- begins with it and each event keeps it.
 use Rattle.std.specs.Prelude.{◌≡◌, ℕ, Bool, true, false, Option, Some, None, List, slice_get}
 use Rattle.std.specs.List.{list_any}
