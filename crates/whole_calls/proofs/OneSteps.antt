@@ -1,4 +1,4 @@
--- One step of a session's call after the making of room for it, and a call that is given up since the room
+-- One step of a session's call after the making of room for it, and a call that is given up because the room
 -- can't be made.
 use Rattle.std.proofs.Common.{◌≡◌, ◌⊎◌, ℕ, ◌≤◌, zero, suc, Bool, true, false, not, Option, Some, None, List, [], ◌∷◌, ◌++◌, length, slice_get, slice_set, refl, sym, ap, subst, arith, inl, inr, ◌∙◌, unwrap_or}
 use Rattle.whole_calls.proofs.Composing.{is_later, joined_second, goes_once}
@@ -87,7 +87,7 @@ module _ {S : Type 0} {g : Ghosts S} (session least_room : ℕ) {x y : Moment S}
         calls_is = rw (sym room.silent.calls_is) h.calls_is;
       }
 
-  -- a call that is given up, since the room couldn't be made
+  -- a call that is given up because the room couldn't be made
   pub given_up_goes : {start : Entry → Bool} (fault : Fault) (added : Option ℕ) {z : Moment S} → Fits g start y
       → HasCause (causes_of_forced (g.backing x.store) (g.backing y.store)) fault → added ≡ slot_add (slot_of y.slots session)
       → LeavesAll g session y.store z.store → EndMeans session y z → OneStepIsRun g session least_room (cut_short added fault) x z
